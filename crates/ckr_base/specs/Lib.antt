@@ -1,0 +1,4 @@
+pub mod Grammar
+pub mod CodeText
+pub mod Roomy
+pub mod Words
