@@ -1,0 +1,2 @@
+mod Called
+pub mod Fronts

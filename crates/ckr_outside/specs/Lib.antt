@@ -1,0 +1,13 @@
+pub mod Adapters
+pub mod Changes
+pub mod Disk
+pub mod Faults
+pub mod Front
+pub mod Images
+pub mod MemDisk
+pub mod Memory
+pub mod Moments
+pub mod Plan
+pub mod Ranges
+pub mod Stop
+pub mod Within
