@@ -1,0 +1,16 @@
+pub mod Statements
+pub mod Fields
+pub mod Parting
+pub mod Whole
+pub mod Cutting
+pub mod CutRuns
+pub mod CutLaw
+pub mod Filled
+pub mod Grouping
+pub mod Operands
+pub mod Stored
+pub mod Sessions
+pub mod Proved
+pub mod Opened
+pub mod Examples
+pub mod Decks
