@@ -1,0 +1,261 @@
+//! Numbers and words in a text.
+ghost use Rattle.std.specs.Prelude.{◌≡◌, ◌+◌, ◌-◌, ◌≤◌, not, IsTrue, length, take, drop, slice_get, bytes_eq};
+ghost use Rattle.std.specs.Option.{option_copied};
+ghost use Rattle.std.specs.List.{list_all};
+ghost use Rattle.ckr_base.specs.Grammar.{is_digit, is_name_byte, is_text_of};
+ghost use Rattle.ckr_statements.specs.Field.{parts_of};
+ghost use Rattle.ckr_statements.specs.Tables.{is_among, words};
+ghost use Rattle.ckr_jcl.specs.Text.{number_in_digits, number_value, before, behind, is_mark, is_enclosed, enclosed, in_parentheses, in_apostrophes, begins_list, begins_quoted, opened, item_at, is_special, is_word, is_empty_or};
+
+use arrayvec::ArrayVec;
+use ckr_statements::part_length;
+
+/// Whether each byte is a digit.
+pub(crate) fn are_digits(text: &[u8]) -> bool
+    ensures { result ≡ list_all is_digit text.now }
+{
+    text.iter().all(|byte| byte.is_ascii_digit())
+}
+
+/// What at most 9 digits stand for.
+pub(crate) fn number_in_digits(text: &[u8]) -> u32
+    requires digits { IsTrue (list_all is_digit text.now) }
+    requires short { length text.now ≤ 9 }
+    ensures { result ≡ number_in_digits text.now }
+{
+    let mut number: u32 = 0;
+    for digit in text {
+        number = number * 10 + u32::from(*digit - b'0');
+    }
+    number
+}
+
+/// What 1 to 9 digits stand for.
+#[tactic(auto, unfolding(crate::specs::Text::number_value))]
+pub(crate) fn number_value(text: &[u8]) -> Option<u32>
+    ensures { result ≡ number_value text.now }
+{
+    if text.is_empty() || text.len() > 9 || !are_digits(text) {
+        return None;
+    }
+    Some(number_in_digits(text))
+}
+
+/// A copy of a text that has room in `N` bytes.
+pub(crate) fn copy_of<const N: usize>(text: &[u8]) -> ArrayVec<u8, N>
+    requires { length text.now ≤ N }
+    ensures { result.items ≡ text.now }
+{
+    match ArrayVec::try_from(text) {
+        Ok(copy) => copy,
+        Err(_) => unreachable!(),
+    }
+}
+
+/// A to Z, 0 to 9, `@`, `#` or `$`.
+pub(crate) const fn is_name_byte(byte: u8) -> bool
+    ensures { result ≡ is_name_byte byte }
+{
+    (b'A' <= byte && byte <= b'Z')
+        || (b'0' <= byte && byte <= b'9')
+        || byte == b'@'
+        || byte == b'#'
+        || byte == b'$'
+}
+
+/// Whether each byte may stand in a name.
+pub(crate) fn are_name_bytes(text: &[u8]) -> bool
+    ensures { result ≡ list_all is_name_byte text.now }
+{
+    text.iter().all(|byte| is_name_byte(*byte))
+}
+
+/// How many bytes stand before the first mark.
+pub(crate) fn length_before(mark: u8, text: &[u8]) -> usize
+    ensures before { take result text.now ≡ before mark text.now }
+    ensures behind { drop (result + 1) text.now ≡ behind mark text.now }
+    ensures bound { result ≤ length text.now }
+{
+    let mut at: usize = 0;
+    for byte in text {
+        if *byte == mark {
+            return at;
+        }
+        at += 1;
+    }
+    at
+}
+
+/// What stands before the first mark.
+pub(crate) fn before(mark: u8, text: &[u8]) -> &[u8]
+    ensures { result.now ≡ before mark text.now }
+{
+    &text[..length_before(mark, text)]
+}
+
+/// What stands behind the first mark; nothing where there is none.
+pub(crate) fn behind(mark: u8, text: &[u8]) -> &[u8]
+    ensures { result.now ≡ behind mark text.now }
+{
+    let length = length_before(mark, text);
+    if length == text.len() {
+        return &[];
+    }
+    &text[length + 1..]
+}
+
+/// Whether the first byte is a mark.
+fn is_first(mark: u8, text: &[u8]) -> bool
+    ensures { result ≡ is_mark mark (slice_get text.now 0) }
+{
+    match text.first() {
+        Some(byte) => *byte == mark,
+        None => false,
+    }
+}
+
+/// Whether the last byte is a mark.
+fn is_last(mark: u8, text: &[u8]) -> bool
+    ensures { result ≡ is_mark mark (slice_get text.now (length text.now - 1)) }
+{
+    match text.last() {
+        Some(byte) => *byte == mark,
+        None => false,
+    }
+}
+
+/// Whether a text begins with a mark and ends with another one.
+#[tactic(auto, unfolding(crate::specs::Text::is_enclosed))]
+fn is_enclosed(left: u8, right: u8, text: &[u8]) -> bool
+    ensures { result ≡ is_enclosed left right text.now }
+{
+    is_first(left, text) && is_last(right, text)
+}
+
+/// What stands between a first byte and a last one.
+#[tactic(auto, unfolding(crate::specs::Text::enclosed))]
+fn enclosed(left: u8, right: u8, text: &[u8]) -> Option<&[u8]>
+    ensures { option_copied result ≡ enclosed left right text.now }
+{
+    if text.len() < 2 || !is_enclosed(left, right, text) {
+        return None;
+    }
+    Some(&text[1..text.len() - 1])
+}
+
+/// Whether a text is a word.
+pub(crate) fn is_spelled(word: &[u8], text: &[u8]) -> bool
+    ensures { result ≡ bytes_eq word.now text.now }
+{
+    word == text
+}
+
+/// What stands in the parentheses around a text.
+pub(crate) fn in_parentheses(text: &[u8]) -> Option<&[u8]>
+    ensures { option_copied result ≡ in_parentheses text.now }
+{
+    enclosed(b'(', b')', text)
+}
+
+/// What stands in the apostrophes around a text.
+pub(crate) fn in_apostrophes(text: &[u8]) -> Option<&[u8]>
+    ensures { option_copied result ≡ in_apostrophes text.now }
+{
+    enclosed(b'\'', b'\'', text)
+}
+
+/// Whether a text begins with a parenthesis.
+pub(crate) fn begins_list(text: &[u8]) -> bool
+    ensures { result ≡ begins_list text.now }
+{
+    matches!(text, [b'(', ..])
+}
+
+/// Whether a text begins with an apostrophe.
+pub(crate) fn begins_quoted(text: &[u8]) -> bool
+    ensures { result ≡ begins_quoted text.now }
+{
+    matches!(text, [b'\'', ..])
+}
+
+/// The items of a list in parentheses, or of a text that stands without them.
+pub(crate) fn opened(text: &[u8]) -> Option<&[u8]>
+    ensures { option_copied result ≡ opened text.now }
+{
+    if begins_list(text) {
+        return in_parentheses(text);
+    }
+    Some(text)
+}
+
+/// How many items a list has.
+pub(crate) fn item_count(list: &[u8]) -> usize
+    ensures { result ≡ length (parts_of list.now) }
+{
+    let mut count: usize = 1;
+    let mut rest = list;
+    loop {
+        let length = part_length(rest);
+        if length == rest.len() {
+            return count;
+        }
+        count += 1;
+        rest = &rest[length + 1..];
+    }
+}
+
+/// An item of a list by its place from 0; nothing where there is none.
+pub(crate) fn item_at(place: usize, list: &[u8]) -> &[u8]
+    ensures { result.now ≡ item_at place (parts_of list.now) }
+{
+    let length = part_length(list);
+    if place == 0 {
+        return &list[..length];
+    }
+    if length == list.len() {
+        return &[];
+    }
+    item_at(place - 1, &list[length + 1..])
+}
+
+/// Whether a byte parts or encloses the items of a list.
+const fn is_special(byte: u8) -> bool
+    ensures { result ≡ is_special byte }
+{
+    byte == b',' || byte == b'(' || byte == b')' || byte == b'\''
+}
+
+/// Whether no byte is special.
+fn are_plain(text: &[u8]) -> bool
+    ensures { result ≡ list_all (λ byte. not (is_special byte)) text.now }
+{
+    text.iter().all(|byte| !is_special(*byte))
+}
+
+/// Whether a text is a word without special bytes.
+pub(crate) fn is_word(text: &[u8]) -> bool
+    ensures { result ≡ is_word text.now }
+{
+    !text.is_empty() && are_plain(text)
+}
+
+/// Whether a text is empty, or the one word that may stand there.
+pub(crate) fn is_empty_or(most: &[u8], text: &[u8]) -> bool
+    ensures { result ≡ is_empty_or most.now text.now }
+{
+    text.is_empty() || is_spelled(text, most)
+}
+
+/// Whether a key is among the words of a text.
+pub(crate) fn is_among(table: &[u8], key: &[u8]) -> bool
+    ensures { result ≡ is_among (words table.now) key.now }
+{
+    if is_spelled(key, before(b' ', table)) {
+        return true;
+    }
+    let length = length_before(b' ', table);
+    if length == table.len() {
+        return false;
+    }
+    is_among(&table[length + 1..], key)
+}
