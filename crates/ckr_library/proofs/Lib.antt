@@ -1,0 +1,6 @@
+pub mod Filings
+pub mod Laws
+pub mod Ordered
+pub mod Points
+pub mod Shelves
+pub mod Spreads

@@ -1,0 +1,5 @@
+pub mod Catalog
+pub mod Named
+pub mod Places
+pub mod Shelves
+pub mod Spread

@@ -1,0 +1,26 @@
+-- How the items of a library are read as its catalog.
+use Rattle.std.specs.Prelude.{ℕ, Bool, List, map}
+use Rattle.std.specs.Ordering.{is_gt}
+use Rattle.std.specs.FinMap.Entries.{is_sorted}
+use Rattle.ckr_library.specs.declared.shelf.Held.{Held}
+use Rattle.ckr_library.specs.Catalog.{Holding}
+use Rattle.ckr_library.specs.Named.{Name, Named, name_cmp}
+use Rattle.ckr_library.specs.Places.{lead}
+
+abbrev pub holding_of : Held → Holding
+holding_of held = record { set = held.set; kept = held.kept.items }
+
+-- an item as the entry of its name
+abbrev pub entry_of : Held → Name × Holding
+entry_of held = (held.name, holding_of held)
+
+abbrev pub entries_of : List Held → Named Holding
+entries_of items = map entry_of items
+
+-- whether the items stand in ascending order of their names, each name once
+abbrev pub are_in_order : List Held → Bool
+are_in_order items = is_sorted name_cmp (entries_of items)
+
+-- the place of a name: before it stand the lower names alone
+abbrev pub place_in : Name → List Held → ℕ
+place_in name items = lead (λ (held : Held). is_gt (name_cmp name held.name)) items

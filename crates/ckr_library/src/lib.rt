@@ -1,0 +1,15 @@
+//! The library: which data sets there are, and what each is.
+#![tactic(auto)]
+
+mod library;
+mod sets;
+mod shelf;
+mod spread;
+#[cfg(test)]
+mod tests;
+mod uses;
+
+pub use library::Library;
+pub use sets::{Content, DataSet, Extent, Kept, Part, Stamp};
+pub use spread::Span;
+pub use uses::{Use, Uses};

@@ -1,0 +1,147 @@
+//! The data sets by name.
+ghost use Rattle.std.specs.Prelude.{◌≡◌, ◌+◌, ◌<◌, ◌≤◌, [], None, IsOk, IsTrue, OnOk, OnErr, slice_get};
+ghost use Rattle.std.specs.Option.{option_copied};
+ghost use Rattle.ckr_library.specs.Catalog.{set_of, kept_of, fresh_holding, with_catalog, with_length, with_stamp, HasSet};
+ghost use Rattle.ckr_library.specs.Named.{are_named_in_order, names_of, with_entry, without_entry, with_changed};
+ghost use Rattle.ckr_library.specs.Spread.{spread_on};
+
+use crate::shelf::Shelf;
+use crate::spread::{Span, Spread};
+use crate::{DataSet, Kept, Stamp};
+use ckr_base::{DsName, NoMemory};
+use std::alloc::Global;
+use std::marker::Model;
+
+/// The data sets, each under its name, in ascending order of the names. A look-up halves.
+#[derive(Debug, Drop)]
+pub struct Library {
+    shelf: Shelf,
+    spread: Spread,
+}
+
+impl Model for Library {
+    ghost use Rattle.std.specs.Prelude.{◌≡◌, ◌/◌, min};
+    ghost use Rattle.ckr_library.specs.Catalog.{Catalog};
+    ghost use Rattle.ckr_library.specs.Spread.{spans_of_all};
+
+    ghost Value = { Catalog };
+
+    ghost view = { λ a. record { sets = a.shelf.sets; room = min a.shelf.room (a.spread.room / 25) } };
+
+    ghost invariant = { λ a. a.spread.spans ≡ spans_of_all a.shelf.sets };
+}
+
+impl Library {
+    /// No data sets. It takes no memory.
+    pub fn new(alloc: Global) -> Library
+        ensures { result.sets ≡ [] }
+    {
+        Library {
+            shelf: Shelf::new(alloc),
+            spread: Spread::new(alloc),
+        }
+    }
+
+    /// The data set of a name. `None` where the name isn't there.
+    pub fn get(&self, name: &DsName) -> Option<&DataSet>
+        ensures { option_copied result ≡ set_of self.now name.now }
+    {
+        match self.shelf.find(name) {
+            Some(held) => Some(&held.set),
+            None => None,
+        }
+    }
+
+    /// The checkpoint entries that the data set of a name keeps, in order, and none for a name that isn't there.
+    pub fn entries(&self, name: &DsName) -> &[Kept]
+        ensures { result.now ≡ kept_of self.now name.now }
+    {
+        match self.shelf.find(name) {
+            Some(held) => held.kept.as_slice(),
+            None => &[],
+        }
+    }
+
+    /// The name at a place in ascending order, counted from 0. `None` where there are at most `place` names.
+    pub fn name_at(&self, place: u32) -> Option<&DsName>
+        ensures name { option_copied result ≡ slice_get (names_of self.now.sets) place }
+        ensures order { IsTrue (are_named_in_order self.now.sets) }
+    {
+        self.shelf.name_at(place)
+    }
+
+    /// The bytes of a volume that the extents of all data sets take, in ascending order of their starts.
+    pub fn spans_on(&self, volume: u8) -> &[Span]
+        ensures { result.now ≡ spread_on volume self.now.sets }
+    {
+        self.spread.on(volume)
+    }
+
+    /// Makes room for `more` further names, so that as many calls of `insert` take no memory.
+    ///
+    /// `NoMemory`: the data sets and the room are as before.
+    pub fn reserve(&mut self, more: u32) -> Result<(), NoMemory>
+        ensures sets { self.new.sets ≡ self.old.sets }
+        ensures ok { OnOk result (more ≤ self.new.room) }
+        ensures room { self.old.room ≤ self.new.room }
+        ensures succeeds { more ≤ self.old.room → IsOk result }
+    {
+        self.shelf.reserve(more)?;
+        self.spread.reserve(more)?;
+        Ok(())
+    }
+
+    /// Adds a data set, with no entry kept. It takes no memory where there is room.
+    ///
+    /// `NoMemory`: nothing has changed.
+    pub fn insert(&mut self, name: DsName, set: DataSet) -> Result<(), NoMemory>
+        requires absent { set_of self.old name ≡ None }
+        requires fits { set.length ≤ set.space }
+        ensures ok { OnOk result (self.new.sets ≡ with_entry name (fresh_holding set) self.old.sets) }
+        ensures err { OnErr result (self.new.sets ≡ self.old.sets) }
+        ensures succeeds { 0 < self.old.room → IsOk result }
+        ensures room { self.old.room ≤ self.new.room + 1 }
+    {
+        self.reserve(1)?;
+        self.spread.file_set(&set);
+        self.shelf.insert(name, set);
+        Ok(())
+    }
+
+    /// Takes a data set out.
+    pub fn remove(&mut self, name: &DsName)
+        requires { HasSet self.old name.now (λ _. Unit {0}) }
+        ensures sets { self.new.sets ≡ without_entry name.now self.old.sets }
+        ensures room { self.old.room ≤ self.new.room }
+    {
+        let set = self.shelf.remove(name);
+        self.spread.unfile_set(&set);
+    }
+
+    /// Sets the catalog mark of a data set. The rest stays.
+    pub fn set_catalog(&mut self, name: &DsName, on: bool)
+        requires { HasSet self.old name.now (λ _. Unit {0}) }
+        ensures sets { self.new.sets ≡ with_changed name.now (with_catalog on) self.old.sets }
+        ensures room { self.new.room ≡ self.old.room }
+    {
+        self.shelf.set_catalog(name, on);
+    }
+
+    /// Sets the stamp of a data set. The rest stays.
+    pub fn set_stamp(&mut self, name: &DsName, stamp: Stamp)
+        requires { HasSet self.old name.now (λ _. Unit {0}) }
+        ensures sets { self.new.sets ≡ with_changed name.now (with_stamp stamp) self.old.sets }
+        ensures room { self.new.room ≡ self.old.room }
+    {
+        self.shelf.set_stamp(name, stamp);
+    }
+
+    /// Sets the length of a data set, in records, and drops the entries that end beyond it. The rest stays.
+    pub fn set_length(&mut self, name: &DsName, length: u32)
+        requires { HasSet self.old name.now (λ set. length ≤ set.space) }
+        ensures sets { self.new.sets ≡ with_changed name.now (with_length length) self.old.sets }
+        ensures room { self.new.room ≡ self.old.room }
+    {
+        self.shelf.set_length(name, length);
+    }
+}

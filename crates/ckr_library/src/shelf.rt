@@ -1,0 +1,209 @@
+//! The data sets in the order of their names.
+ghost use Rattle.std.specs.Prelude.{◌≡◌, ◌+◌, ◌<◌, ◌≤◌, [], None, Some, IsOk, IsTrue, OnOk, OnErr, length, slice_get, filter};
+ghost use Rattle.std.specs.Option.{option_copied, option_map};
+ghost use Rattle.std.specs.Ordering.{is_gt, is_eq};
+ghost use Rattle.ckr_library.specs.Catalog.{set_of, ends_within, fresh_holding, with_catalog, with_length, with_stamp, HasSet};
+ghost use Rattle.ckr_library.specs.Named.{name_cmp, are_named_in_order, names_of, entry_at, with_entry, without_entry, with_changed};
+ghost use Rattle.ckr_library.specs.Shelves.{holding_of, entries_of, are_in_order, place_in};
+
+use crate::{DataSet, Kept, Stamp};
+use ckr_base::{DsName, NoMemory};
+use std::alloc::Global;
+use std::marker::Model;
+
+/// A data set under its name, with the checkpoint entries that it keeps.
+#[derive(Debug, Drop)]
+pub(crate) struct Held {
+    pub(crate) name: DsName,
+    pub(crate) set: DataSet,
+    pub(crate) kept: Vec<Kept>,
+}
+
+/// The data sets, each under its name, in ascending order of the names.
+#[derive(Debug, Drop)]
+pub(crate) struct Shelf {
+    items: Vec<Held>,
+}
+
+impl Model for Shelf {
+    ghost use Rattle.std.specs.Prelude.{◌-◌, IsTrue, vec_len, vec_capacity};
+    ghost use Rattle.ckr_library.specs.Catalog.{Catalog};
+
+    ghost Value = { Catalog };
+
+    ghost use Rattle.ckr_library.specs.Shelves.{entries_of, are_in_order};
+
+    ghost view = { λ a. record { sets = entries_of a.items.items; room = vec_capacity a.items - vec_len a.items } };
+
+    ghost invariant = { λ a. IsTrue (are_in_order a.items.items) };
+}
+
+impl Shelf {
+    /// No data sets.
+    pub(crate) fn new(alloc: Global) -> Shelf
+        ensures { result.sets ≡ [] }
+    {
+        Shelf {
+            items: Vec::new(alloc),
+        }
+    }
+
+    /// What stands under a name.
+    pub(crate) fn find(&self, name: &DsName) -> Option<&Held>
+        ensures { option_map holding_of (option_copied result) ≡ entry_at self.now.sets name.now }
+    {
+        find(self.items.as_slice(), name)
+    }
+
+    /// The name at a place in ascending order, counted from 0.
+    pub(crate) fn name_at(&self, place: u32) -> Option<&DsName>
+        ensures name { option_copied result ≡ slice_get (names_of self.now.sets) place }
+        ensures order { IsTrue (are_named_in_order self.now.sets) }
+    {
+        match item_at(self.items.as_slice(), place as usize) {
+            Some(held) => Some(&held.name),
+            None => None,
+        }
+    }
+
+    /// Makes room for `more` further names.
+    pub(crate) fn reserve(&mut self, more: u32) -> Result<(), NoMemory>
+        ensures sets { self.new.sets ≡ self.old.sets }
+        ensures ok { OnOk result (more ≤ self.new.room) }
+        ensures room { self.old.room ≤ self.new.room }
+        ensures succeeds { more ≤ self.old.room → IsOk result }
+    {
+        self.items.reserve(more as usize)?;
+        Ok(())
+    }
+
+    /// Adds a data set, with no entry kept. There is room for it.
+    pub(crate) fn insert(&mut self, name: DsName, set: DataSet)
+        requires absent { set_of self.old name ≡ None }
+        requires room { 0 < self.old.room }
+        ensures sets { self.new.sets ≡ with_entry name (fresh_holding set) self.old.sets }
+        ensures room { self.old.room ≤ self.new.room + 1 }
+    {
+        let place = place_of(self.items.as_slice(), &name);
+        let kept = Vec::new(*self.items.allocator());
+        match self.items.insert(place, Held { name, set, kept }) {
+            Ok(()) => {}
+            Err(_) => unreachable!(),
+        }
+    }
+
+    /// Takes a data set out.
+    pub(crate) fn remove(&mut self, name: &DsName) -> DataSet
+        requires { HasSet self.old name.now (λ _. Unit {0}) }
+        ensures order { IsTrue (are_named_in_order self.old.sets) }
+        ensures set { Some result ≡ set_of self.old name.now }
+        ensures sets { self.new.sets ≡ without_entry name.now self.old.sets }
+        ensures room { self.old.room ≤ self.new.room }
+    {
+        let place = place_of(self.items.as_slice(), name);
+        self.items.remove(place).set
+    }
+
+    /// Sets the catalog mark of a data set.
+    pub(crate) fn set_catalog(&mut self, name: &DsName, on: bool)
+        requires { HasSet self.old name.now (λ _. Unit {0}) }
+        ensures order { IsTrue (are_named_in_order self.old.sets) }
+        ensures sets { self.new.sets ≡ with_changed name.now (with_catalog on) self.old.sets }
+        ensures room { self.new.room ≡ self.old.room }
+    {
+        let place = place_of(self.items.as_slice(), name);
+        self.items[place].set.cataloged = on;
+    }
+
+    /// Sets the stamp of a data set.
+    pub(crate) fn set_stamp(&mut self, name: &DsName, stamp: Stamp)
+        requires { HasSet self.old name.now (λ _. Unit {0}) }
+        ensures order { IsTrue (are_named_in_order self.old.sets) }
+        ensures sets { self.new.sets ≡ with_changed name.now (with_stamp stamp) self.old.sets }
+        ensures room { self.new.room ≡ self.old.room }
+    {
+        let place = place_of(self.items.as_slice(), name);
+        self.items[place].set.stamp = stamp;
+    }
+
+    /// Sets the length of a data set, and drops the entries that end beyond it.
+    pub(crate) fn set_length(&mut self, name: &DsName, length: u32)
+        requires { HasSet self.old name.now (λ _. Unit {0}) }
+        ensures order { IsTrue (are_named_in_order self.old.sets) }
+        ensures sets { self.new.sets ≡ with_changed name.now (with_length length) self.old.sets }
+        ensures room { self.new.room ≡ self.old.room }
+    {
+        let place = place_of(self.items.as_slice(), name);
+        cut(&mut self.items[place], length);
+    }
+}
+
+/// Sets the length of an item, and drops the entries that end beyond it.
+fn cut(held: &mut Held, length: u32)
+    ensures name { held.new.name ≡ held.old.name }
+    ensures holding { holding_of held.new ≡ with_length length (holding_of held.old) }
+{
+    held.set.length = length;
+    drop_beyond(&mut held.kept, length);
+}
+
+/// Drops the entries that end beyond a length.
+fn drop_beyond(kept: &mut Vec<Kept>, length: u32)
+    ensures { kept.new.items ≡ filter (ends_within length) kept.old.items }
+{
+    kept.retain(|entry| ends_within(entry, length));
+}
+
+/// Whether an entry ends at this length or before. An entry takes records of 256 bytes.
+fn ends_within(kept: &Kept, length: u32) -> bool
+    ensures { result ≡ ends_within length kept.now }
+{
+    kept.place as u64 + (kept.bytes as u64 + 255) / 256 <= length as u64
+}
+
+/// Whether the first name stands above the second one.
+fn is_above(name: &DsName, other: &DsName) -> bool
+    ensures { result ≡ is_gt (name_cmp name.now other.now) }
+{
+    name.cmp(other).is_gt()
+}
+
+/// Whether the names are the same.
+fn is_same(name: &DsName, other: &DsName) -> bool
+    ensures { result ≡ is_eq (name_cmp name.now other.now) }
+{
+    name.cmp(other).is_eq()
+}
+
+/// The item at a place.
+fn item_at(items: &[Held], place: usize) -> Option<&Held>
+    ensures { option_copied result ≡ slice_get items.now place }
+{
+    items.get(place)
+}
+
+/// The place of a name among the items, found by halving.
+fn place_of(items: &[Held], name: &DsName) -> usize
+    requires { IsTrue (are_in_order items.now) }
+    ensures place { result ≡ place_in name.now items.now }
+    ensures bound { result ≤ length items.now }
+{
+    items.partition_point(|held| is_above(name, &held.name))
+}
+
+/// The item of a name.
+fn find<'a>(items: &'a [Held], name: &DsName) -> Option<&'a Held>
+    requires { IsTrue (are_in_order items.now) }
+    ensures { option_map holding_of (option_copied result) ≡ entry_at (entries_of items.now) name.now }
+{
+    match item_at(items, place_of(items, name)) {
+        Some(held) => {
+            if is_same(name, &held.name) {
+                Some(held)
+            } else {
+                None
+            }
+        }
+        None => None,
+    }
+}
