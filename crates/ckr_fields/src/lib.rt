@@ -1,0 +1,16 @@
+//! The fields of the formats on disk, both ways: each value has one spelling, and nothing else is read.
+#![tactic(auto)]
+
+mod error;
+mod reading;
+mod writing;
+
+pub use error::ReadError;
+pub use reading::Fields;
+pub use writing::{
+    put_byte, put_bytes, put_code, put_flag, put_four_bytes, put_record_bytes, put_short_text,
+    put_two_bytes,
+};
+
+#[cfg(test)]
+mod tests;
