@@ -1,0 +1,11 @@
+pub mod Addresses
+pub mod Allotted
+pub mod Header
+pub mod Kept
+pub mod Lists
+pub mod Places
+pub mod Records
+pub mod Same
+pub mod Space
+pub mod Spots
+pub mod Stands
