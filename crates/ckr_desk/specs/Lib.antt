@@ -1,0 +1,5 @@
+pub mod CopyJob
+pub mod Turning
+pub mod Submitting
+pub mod Kept
+pub mod Filing

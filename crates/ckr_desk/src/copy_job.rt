@@ -1,0 +1,168 @@
+//! The form of job that the desk runs.
+ghost use Rattle.std.specs.Prelude.{◌≡◌, ◌≤◌, ◌<◌, ◌^◌, IfOk, IfSome};
+ghost use Rattle.ckr_desk.specs.CopyJob.{HasRoom, is_new_cataloged, is_no_parm, room_for, is_unplaced, is_output, copied, copy_between, copy_dds, is_plain_step, copy_steps, is_plain_job, copy_job_of};
+
+use ckr_base::{DsName, Duplicate, Name8, NoMemory};
+use ckr_jcl::{After, Cards, Dd, Disp, Job, Kind, Origin, Parm, Role, Status, Step};
+use std::alloc::Global;
+
+/// A job of one step: COPY of in-stream records into a new data set, which is cataloged at the step's end.
+#[derive(Debug, Drop)]
+pub struct CopyJob {
+    pub name: Name8,
+    pub step: Name8,
+    pub set: DsName,
+    pub records: Cards,
+    /// The space of the data set, in records, which holds them all.
+    pub space: u32,
+}
+
+/// Whether no PARM was given.
+fn is_no_parm(parm: &Parm) -> bool
+    ensures { result ≡ is_no_parm parm.now }
+{
+    parm.chk == 0 && parm.cancel == 0 && parm.ids.len() == 0
+}
+
+/// Whether it is `DISP=(NEW,CATLG)`.
+fn is_new_cataloged(disp: Disp) -> bool
+    ensures { result ≡ is_new_cataloged disp }
+{
+    matches!(disp.status, Status::New)
+        && matches!(disp.normal, Some(After::Catlg))
+        && disp.abnormal.is_none()
+}
+
+/// The space, where it holds so many records.
+fn room_for(count: usize, space: Option<u32>) -> Option<u32>
+    ensures value { result ≡ room_for count space }
+    ensures room { IfSome result (λ room. (count ≤ room) × (room < 2 ^ 32)) }
+{
+    match space {
+        Some(space) if count <= space as usize => Some(space),
+        _ => None,
+    }
+}
+
+/// Whether the DD names no volume, and has records of 80 bytes.
+fn is_unplaced(dd: &Dd) -> bool
+    ensures { result ≡ is_unplaced dd.now }
+{
+    dd.volumes.is_empty() && dd.lrecl == 80
+}
+
+/// Whether the DD is that of a new, cataloged data set of records of 80 bytes.
+#[tactic(auto, unfolding(crate::specs::CopyJob::is_output))]
+fn is_output(dd: &Dd) -> bool
+    ensures { result ≡ is_output dd.now }
+{
+    matches!(dd.role, Role::Writes) && is_new_cataloged(dd.disp) && is_unplaced(dd)
+}
+
+fn copied(
+    alloc: Global,
+    name: &Name8,
+    step: &Name8,
+    input: &Origin,
+    output: &Dd,
+) -> Result<Option<CopyJob>, NoMemory>
+    ensures job { IfOk result (λ job. job ≡ copied name.now step.now input.now output.now.origin output.now) }
+    ensures room { IfOk result HasRoom }
+{
+    let (Origin::InStream(records), Origin::Named(set)) = (input, &output.origin) else {
+        return Ok(None);
+    };
+    if !is_output(output) {
+        return Ok(None);
+    }
+    let Some(space) = room_for(records.as_slice().len(), output.space) else {
+        return Ok(None);
+    };
+    Ok(Some(CopyJob {
+        name: name.copied(),
+        step: step.copied(),
+        set: set.copied(),
+        records: records.duplicate(alloc)?,
+        space,
+    }))
+}
+
+#[tactic(auto, unfolding(crate::specs::CopyJob::copy_between))]
+fn copy_between(
+    alloc: Global,
+    name: &Name8,
+    step: &Name8,
+    input: &Dd,
+    output: &Dd,
+) -> Result<Option<CopyJob>, NoMemory>
+    ensures job { IfOk result (λ job. job ≡ copy_between name.now step.now input.now output.now) }
+    ensures room { IfOk result HasRoom }
+{
+    if !matches!(input.role, Role::Reads) {
+        return Ok(None);
+    }
+    copied(alloc, name, step, &input.origin, output)
+}
+
+/// The two DDs stand in either order.
+fn copy_dds(
+    alloc: Global,
+    name: &Name8,
+    step: &Name8,
+    dds: &[Dd],
+) -> Result<Option<CopyJob>, NoMemory>
+    ensures job { IfOk result (λ job. job ≡ copy_dds name.now step.now dds.now) }
+    ensures room { IfOk result HasRoom }
+{
+    let [first, second] = dds else {
+        return Ok(None);
+    };
+    if matches!(first.role, Role::Reads) {
+        copy_between(alloc, name, step, first, second)
+    } else {
+        copy_between(alloc, name, step, second, first)
+    }
+}
+
+#[tactic(auto, unfolding(crate::specs::CopyJob::is_plain_step))]
+fn is_plain_step(step: &Step) -> bool
+    ensures { result ≡ is_plain_step step.now }
+{
+    matches!(step.program, Kind::Copy)
+        && step.rd.is_none()
+        && (step.cond.as_slice().is_empty() && is_no_parm(&step.parm))
+}
+
+fn copy_steps(alloc: Global, name: &Name8, steps: &[Step]) -> Result<Option<CopyJob>, NoMemory>
+    ensures job { IfOk result (λ job. job ≡ copy_steps name.now steps.now) }
+    ensures room { IfOk result HasRoom }
+{
+    let [step] = steps else {
+        return Ok(None);
+    };
+    if !is_plain_step(step) {
+        return Ok(None);
+    }
+    copy_dds(alloc, name, &step.name, step.dds.as_slice())
+}
+
+#[tactic(auto, unfolding(crate::specs::CopyJob::is_plain_job))]
+fn is_plain_job(job: &Job) -> bool
+    ensures { result ≡ is_plain_job job.now }
+{
+    job.rd.is_none()
+        && job.cond.as_slice().is_empty()
+        && (job.restart.is_none() && job.syschk.is_none())
+}
+
+/// The copy that the job is. `None` exactly where it isn't of the form.
+#[tactic(auto, unfolding(crate::specs::CopyJob::copy_job_of))]
+pub(crate) fn copy_job_of(alloc: Global, job: &Job) -> Result<Option<CopyJob>, NoMemory>
+    ensures job { IfOk result (λ copy. copy ≡ copy_job_of job.now) }
+    ensures room { IfOk result HasRoom }
+{
+    if !is_plain_job(job) {
+        return Ok(None);
+    }
+    copy_steps(alloc, &job.name, job.steps.as_slice())
+}
