@@ -1,0 +1,10 @@
+pub mod Waiting
+pub mod Serving
+pub mod Streams
+pub mod Steps
+pub mod Told
+pub mod Finish
+pub mod Feeds
+pub mod Ends
+pub mod Asked
+pub mod Cards

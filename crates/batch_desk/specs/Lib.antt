@@ -1,0 +1,10 @@
+pub mod Orders
+pub mod Calls
+pub mod Texts
+pub mod Serves
+pub mod Sessions
+pub mod Stream
+pub mod Flows
+pub mod Served
+pub mod Words
+pub mod Closing
