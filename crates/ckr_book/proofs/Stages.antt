@@ -4,7 +4,7 @@ use Rattle.std.proofs.lemmas.Bool.{cases_eq, and_from, and_left, le-leb, ne_eqb}
 use Rattle.std.proofs.lemmas.List.{append-nil, take_at, drop_at, drop_more, drop-drop}
 use Rattle.std.proofs.lemmas.Nat.{from_be_bytes-to_be_bytes_4}
 use Rattle.ckr_book.specs.Records.{body_length, body, is_whole, records_from, end_from, starts_open, written_record}
-use Rattle.ckr_book.specs.Book.{IsBeforeOrAfter}
+use Rattle.ckr_book.specs.Book.{IsBeforeOrAfter, ends_closed}
 use Rattle.ckr_book.proofs.Grammar.{records_whole, records_not, end_whole, end_not, end_within, end_dropped, records_cut, end_cut}
 
 pub length-written_record : (bytes : List ℕ) → length (written_record bytes) ≡ length bytes + 5
@@ -110,8 +110,11 @@ module _ (old new bytes rest : List ℕ) (as_long : length new ≡ length old) (
         ap (λ (l : List ℕ). starts_open l) next,
       )
 
-  pub with_any_gate : IsBeforeOrAfter (records_from 0 old) bytes (records_from 0 new)
+  pub with_any_gate : IsBeforeOrAfter (records_from 0 old) bytes (records_from 0 new) × ends_closed new
   with_any_gate = elim (cases_eq (get_or new (end_from 0 old) 0) 1) [
-    | inl is ↦ inr (with_open_gate is).0
-    | inr not ↦ inl (still_closed old new as_long front (ap (λ (l : List ℕ). starts_open l) (tail (get_or new (end_from 0 old) 0) refl) ∙ shut (get_or new (end_from 0 old) 0) (written_record bytes ++ rest) not)).0
+    | inl is ↦ (inr (with_open_gate is).0, ap (λ (k : ℕ). starts_open (drop k new)) (with_open_gate is).1 ∙ (with_open_gate is).2)
+    | inr not ↦ (inl (still_closed old new as_long front (its_gate not)).0, ap (λ (k : ℕ). starts_open (drop k new)) (still_closed old new as_long front (its_gate not)).1 ∙ its_gate not)
   ]
+    where
+      its_gate : (get_or new (end_from 0 old) 0 ≡ 1 → ⊥) → starts_open (drop (end_from 0 old) new) ≡ false
+      its_gate not = ap (λ (l : List ℕ). starts_open l) (tail (get_or new (end_from 0 old) 0) refl) ∙ shut (get_or new (end_from 0 old) 0) (written_record bytes ++ rest) not

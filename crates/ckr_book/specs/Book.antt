@@ -38,6 +38,10 @@ SamePlace old new = (new.start ≡ old.start) × (new.size ≡ old.size)
 abbrev pub room_of : OpenBook → ℕ
 room_of book = book.size - book.end
 
+-- the first gate that stands before no whole record is closed
+abbrev pub ends_closed : List ℕ → Type 0
+ends_closed bytes = starts_open (drop (end_from 0 bytes) bytes) ≡ false
+
 -- the book ends at the first closed gate of the image
 pub record IsOpenOn (book : OpenBook) (image : List ℕ) : Type 0 where
   pub end : end_from 0 (part book.start book.size image) ≡ book.end

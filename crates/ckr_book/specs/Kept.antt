@@ -1,7 +1,7 @@
 -- A book stands on where the disk is changed elsewhere.
 use Rattle.std.specs.Prelude.{◌≡◌, ◌≤◌, ◌+◌, ◌⊎◌, ℕ, List, drop}
-use Rattle.std.proofs.Common.{⊎_elim, sym, ◌∙◌, ap}
-use Rattle.ckr_outside.specs.Disk.{SameOutside, ChangesWithin, OnlyReads, part}
+use Rattle.std.proofs.Common.{⊎_elim, sym, ◌∙◌, ap, subst}
+use Rattle.ckr_outside.specs.Disk.{SameOutside, ChangesWithin, Only, OnlyReads, part}
 use Rattle.ckr_outside.specs.Ranges.{part_before, part_behind}
 use Rattle.ckr_outside.specs.Within.{images_within}
 use Rattle.ckr_book.specs.Records.{records_from, end_from, starts_open}
@@ -46,4 +46,13 @@ module _ {D : Type 0} (told : Type 0) (content : D → List ℕ) (may_leave : D 
   stands_read book old new reads stands = record {
     open_on = λ image now. stands.open_on image (reads.none_new image now);
     list = λ image now. stands.list image (reads.none_new image now) ∙ sym (ap (λ (l : List ℕ). records_of book l) reads.same);
+  }
+
+module _ {D : Type 0} (told : Type 0) (content : D → List ℕ) (may_leave : D → List ℕ → Type 0) where
+  -- or where each image is what the disk reads, as after a sync
+  pub stands_on_content : (book : OpenBook) (disk : D) → Only (content disk) (may_leave disk) → ((image : List ℕ) → may_leave disk image → told)
+      → (told → IsOpenOn book (content disk)) → StandsOn content may_leave book disk
+  stands_on_content book disk only tells is_open = record {
+    open_on = λ image now. subst (λ (l : List ℕ). IsOpenOn book l) (sym (only image now)) (is_open (tells image now));
+    list = λ image now. ap (λ (l : List ℕ). records_of book l) (only image now);
   }

@@ -1,9 +1,10 @@
 //! Records one after another, each behind a gate that is opened once the record stands whole on the disk.
-ghost use Rattle.std.specs.Prelude.{◌≡◌, ◌<◌, ◌≤◌, ◌+◌, ◌-◌, [], ◌∷◌, ◌++◌, length, drop, OnOk, OnErr, IfOk, IfErr, IfSome};
+ghost use Rattle.std.specs.Prelude.{◌≡◌, ◌<◌, ◌≤◌, ◌+◌, ◌-◌, ◌^◌, [], ◌∷◌, ◌++◌, length, drop, OnOk, OnErr, IfOk, IfErr, IfSome};
 ghost use Rattle.ckr_outside.specs.Disk.{Overwrites, Only, OnlyReads, EachSince, ChangesWithin, HasCause, part};
 ghost use Rattle.ckr_outside.specs.Faults.{Rose};
 ghost use Rattle.ckr_book.specs.Records.{body_length, written_record};
-ghost use Rattle.ckr_book.specs.Book.{IsInside, SamePlace, records_of, room_of, IsOpenOn, StandsOn, IsBeforeOrAfter, NextGate, GateCause, OpeningCause, AppendCause};
+ghost use Rattle.ckr_book.specs.Book.{IsInside, SamePlace, records_of, room_of, IsOpenOn, StandsOn, IsBeforeOrAfter, ends_closed, NextGate, GateCause, OpeningCause, AppendCause};
+ghost use Rattle.ckr_book.specs.Next.{RecordUpTo};
 
 use crate::error::BookError;
 use ckr_outside::{Disk, Failed};
@@ -72,6 +73,20 @@ impl Book {
         })
     }
 
+    /// The book whose records were read one by one up to its first closed gate, at the place `end`. It makes no call of
+    /// the disk.
+    pub fn ending_at(at: u64, length: u32, end: u32) -> Book
+        requires within { end ≤ length }
+        requires fits { at + length < 2 ^ 64 }
+        ensures { result ≡ record { start = at; size = length; end = end } }
+    {
+        Book {
+            start: at,
+            size: length,
+            end,
+        }
+    }
+
     /// Reads bytes of the book from this place on, counted from its first byte. It fails only where the disk fails.
     pub fn read_at<D: Disk>(&self, disk: &mut D, place: u32, buf: &mut [u8]) -> Result<(), Failed>
         requires inside { IsInside self.now (D.size disk.old) }
@@ -110,6 +125,10 @@ impl Book {
             IsBeforeOrAfter (records_of self.old (D.content disk.old)) bytes.now (records_of self.old image)) }
         ensures changes { ChangesWithin D.told D.content D.may_leave D.moment D.left_since
             self.old.start self.old.size disk.old disk.new }
+
+        // Each of them opens again: a closed gate stands behind its list.
+        ensures opens_again { EachSince D.moment D.left_since disk.old disk.new (λ image.
+            ends_closed (part self.old.start self.old.size image)) }
 
         ensures place { SamePlace self.old self.new }
         ensures room { OnOk result (room_of self.new + (length bytes.now + 5) ≡ room_of self.old) }
@@ -163,7 +182,7 @@ impl Book {
 }
 
 /// Looks at the gate at this place: whether it is closed, or where the next one is.
-fn next_gate<D: Disk>(
+pub(crate) fn next_gate<D: Disk>(
     disk: &mut D,
     at: u64,
     length: u32,
@@ -172,7 +191,8 @@ fn next_gate<D: Disk>(
     requires inside { at + length ≤ D.size disk.old }
     requires place { place ≤ length }
     ensures next { D.told → IfOk result (NextGate (part at length (D.content disk.old)) place) }
-    ensures forward { IfOk result (λ found. IfSome found (λ next. (place < next) × (next ≤ length))) }
+    ensures stands { D.told → IfOk result (RecordUpTo (part at length (D.content disk.old)) place) }
+    ensures forward { IfOk result (λ found. IfSome found (λ next. (place + 5 ≤ next) × (next ≤ length))) }
     ensures only_reads { OnlyReads D.content D.may_leave D.moment D.left_since disk.old disk.new }
     ensures size { D.size disk.new ≡ D.size disk.old }
     ensures faults { D.faults disk.old ≤ D.faults disk.new }

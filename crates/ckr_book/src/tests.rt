@@ -1,10 +1,11 @@
-//! A book whose disk is stopped at each call of an append.
+//! A book whose disk is stopped at each call of an append, and its records one by one.
 ghost use Rattle.std.specs.Prelude.{◌≡◌, ◌≤◌, IfOk, length};
 ghost use Rattle.ckr_outside.specs.MemDisk.{content_of};
 
-use crate::{Book, BookError};
+use crate::{Book, BookError, NextError, next_record};
 use ckr_outside::{Disk, MemDisk, Pick};
 use std::alloc::Global;
+use std::process::Abort;
 use std::test::Fail;
 
 /// Opens a book of 64 bytes from byte 8 on, and appends three records, of 3, 0 and 5 bytes. Opening makes two calls,
@@ -77,4 +78,50 @@ fn a_record_that_does_not_fit_is_refused(rt: HostRuntime) -> Result<(), Fail> {
         Some(BookError::Bad { offset: 15 })
     );
     Ok(())
+}
+
+/// The record at a gate, and the place of the next gate.
+fn is_found<D: Disk>(
+    rt: &impl Abort,
+    alloc: Global,
+    disk: &mut D,
+    place: u32,
+    expected: Option<(&[u8], u32)>,
+) -> Result<(), Fail>
+    requires size { 72 ≤ D.size disk.old }
+    requires place { place ≤ 64 }
+    ensures { D.size disk.new ≡ D.size disk.old }
+{
+    let found = next_record(alloc, disk, 8, 64, place)?;
+    match (&found, expected) {
+        (Some(found), Some((bytes, next))) => {
+            assert_eq!(rt; found.bytes.as_slice(), bytes);
+            assert_eq!(rt; found.next, next);
+        }
+        (found, expected) => assert!(rt; found.is_none() && expected.is_none()),
+    }
+    Ok(())
+}
+
+/// Reads three records one by one, and a gate that is open before no whole record.
+fn read_one_by_one<D: Disk>(rt: &impl Abort, alloc: Global, disk: &mut D) -> Result<(), Fail>
+    requires { 72 ≤ D.size disk.old }
+{
+    is_found(rt, alloc, disk, 0, Some((b"ABC", 8)))?;
+    is_found(rt, alloc, disk, 8, Some((b"", 13)))?;
+    is_found(rt, alloc, disk, 13, Some((b"THIRD", 23)))?;
+    is_found(rt, alloc, disk, 23, None)?;
+    is_found(rt, alloc, disk, 64, None)?;
+    assert!(rt; Book::ending_at(8, 64, 23) == Book::open_on(disk, 8, 64)?);
+    disk.write_at(8 + 23, &[1, 255, 255, 255, 255])?;
+    let bad = next_record(alloc, disk, 8, 64, 23).err();
+    assert_eq!(rt; bad, Some(NextError::Bad));
+    Ok(())
+}
+
+#[test]
+fn records_one_by_one(rt: HostRuntime) -> Result<(), Fail> {
+    let mut disk = MemDisk::new(rt.alloc(), 80, Vec::new(rt.alloc()), None)?;
+    append_three(&mut disk)?;
+    read_one_by_one(&rt, rt.alloc(), &mut disk)
 }

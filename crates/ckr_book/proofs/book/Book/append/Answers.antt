@@ -1,7 +1,7 @@
 use Rattle.std.proofs.Common.{◌≡◌, ◌+◌, ◌-◌, List, ℕ, length, ap, sym, ◌∙◌, subst, arith}
 use Rattle.ckr_outside.specs.Within.{within_wider, within_twice}
 use Rattle.ckr_book.specs.Book.{OpenBook, IsOpenOn, records_of}
-use Rattle.ckr_book.proofs.Steps.{staged_since, either_since, now_listed, now_open}
+use Rattle.ckr_book.proofs.Steps.{staged_since, either_since, the_list, the_gate, now_listed, now_open}
 use Rattle.ckr_book.proofs.book.Book.append.Goals as goal
 
 pub returns-in_err-stage-clause-any_moment : goal.returns-in_err-stage-clause-any_moment
@@ -11,8 +11,22 @@ returns-in_err-stage-clause-any_moment g c =
     let disk = c.args.disk.now in
     let book = c.args.self.now in
     let sized = λ (image : List ℕ) (is : d.may_leave disk image). laws.sized disk (d.moment disk) image (laws.counts_now disk (d.moment disk) image (omega arith) is) in
-    staged_since d.told d.content d.may_leave d.size book disk c.args.bytes.now c.requires.inside (omega arith) (omega arith) c.requires.stands sized
-    d.moment d.left_since c.gate-gate.result c.gate-gate.ensures.place c.stage.new.disk c.stage.ensures.changes.since
+    the_list d.told d.content d.may_leave d.size book disk c.args.bytes.now c.requires.inside (omega arith) (omega arith) c.requires.stands sized
+    d.moment d.left_since c.gate-gate.result c.gate-gate.ensures.place c.stage.new.disk
+    (staged_since d.told d.content d.may_leave d.size book disk c.args.bytes.now c.requires.inside (omega arith) (omega arith) c.requires.stands sized
+    d.moment d.left_since c.gate-gate.result c.gate-gate.ensures.place c.stage.new.disk c.stage.ensures.changes.since)
+
+pub returns-in_err-stage-clause-opens_again : goal.returns-in_err-stage-clause-opens_again
+returns-in_err-stage-clause-opens_again g c =
+    let d = g.D.Disk in
+    let laws = g.met.D.Disk g.world.𝓛 g.world.𝓜 g.world.𝓡 ((λ s x. x), (λ x. x), (λ x. x), λ x. x) in
+    let disk = c.args.disk.now in
+    let book = c.args.self.now in
+    let sized = λ (image : List ℕ) (is : d.may_leave disk image). laws.sized disk (d.moment disk) image (laws.counts_now disk (d.moment disk) image (omega arith) is) in
+    the_gate d.told d.content d.may_leave d.size book disk c.args.bytes.now c.requires.inside (omega arith) (omega arith) c.requires.stands sized
+    d.moment d.left_since c.gate-gate.result c.gate-gate.ensures.place c.stage.new.disk
+    (staged_since d.told d.content d.may_leave d.size book disk c.args.bytes.now c.requires.inside (omega arith) (omega arith) c.requires.stands sized
+    d.moment d.left_since c.gate-gate.result c.gate-gate.ensures.place c.stage.new.disk c.stage.ensures.changes.since)
 
 pub returns-in_err-stage-clause-changes : goal.returns-in_err-stage-clause-changes
 returns-in_err-stage-clause-changes g c =
@@ -27,9 +41,24 @@ returns-in_err-open_gate-clause-any_moment g c =
     let disk = c.args.disk.now in
     let book = c.args.self.now in
     let sized = λ (image : List ℕ) (is : d.may_leave disk image). laws.sized disk (d.moment disk) image (laws.counts_now disk (d.moment disk) image (omega arith) is) in
-    either_since d.told d.content d.may_leave d.size book disk c.args.bytes.now c.requires.inside (omega arith) (omega arith) c.requires.stands sized
+    the_list d.told d.content d.may_leave d.size book disk c.args.bytes.now c.requires.inside (omega arith) (omega arith) c.requires.stands sized
+    d.moment d.left_since c.gate-gate.result c.gate-gate.ensures.place c.open_gate.new.disk
+    (either_since d.told d.content d.may_leave d.size book disk c.args.bytes.now c.requires.inside (omega arith) (omega arith) c.requires.stands sized
     d.moment d.left_since c.gate-gate.result c.gate-gate.ensures.place c.stage.new.disk c.stage.ensures.changes.since c.in_ok-stage.ensures.written c.in_ok-stage.ensures.durable
-    (laws.reads_an_image disk) (laws.tells c.stage.new.disk) c.open_gate.new.disk c.open_gate.ensures.changes.since
+    (laws.reads_an_image disk) (laws.tells c.stage.new.disk) c.open_gate.new.disk c.open_gate.ensures.changes.since)
+
+pub returns-in_err-open_gate-clause-opens_again : goal.returns-in_err-open_gate-clause-opens_again
+returns-in_err-open_gate-clause-opens_again g c =
+    let d = g.D.Disk in
+    let laws = g.met.D.Disk g.world.𝓛 g.world.𝓜 g.world.𝓡 ((λ s x. x), (λ x. x), (λ x. x), λ x. x) in
+    let disk = c.args.disk.now in
+    let book = c.args.self.now in
+    let sized = λ (image : List ℕ) (is : d.may_leave disk image). laws.sized disk (d.moment disk) image (laws.counts_now disk (d.moment disk) image (omega arith) is) in
+    the_gate d.told d.content d.may_leave d.size book disk c.args.bytes.now c.requires.inside (omega arith) (omega arith) c.requires.stands sized
+    d.moment d.left_since c.gate-gate.result c.gate-gate.ensures.place c.open_gate.new.disk
+    (either_since d.told d.content d.may_leave d.size book disk c.args.bytes.now c.requires.inside (omega arith) (omega arith) c.requires.stands sized
+    d.moment d.left_since c.gate-gate.result c.gate-gate.ensures.place c.stage.new.disk c.stage.ensures.changes.since c.in_ok-stage.ensures.written c.in_ok-stage.ensures.durable
+    (laws.reads_an_image disk) (laws.tells c.stage.new.disk) c.open_gate.new.disk c.open_gate.ensures.changes.since)
 
 pub returns-in_err-open_gate-clause-changes : goal.returns-in_err-open_gate-clause-changes
 returns-in_err-open_gate-clause-changes g c =
@@ -47,9 +76,24 @@ returns-clause-any_moment g c =
     let disk = c.args.disk.now in
     let book = c.args.self.now in
     let sized = λ (image : List ℕ) (is : d.may_leave disk image). laws.sized disk (d.moment disk) image (laws.counts_now disk (d.moment disk) image (omega arith) is) in
-    either_since d.told d.content d.may_leave d.size book disk c.args.bytes.now c.requires.inside (omega arith) (omega arith) c.requires.stands sized
+    the_list d.told d.content d.may_leave d.size book disk c.args.bytes.now c.requires.inside (omega arith) (omega arith) c.requires.stands sized
+    d.moment d.left_since c.gate-gate.result c.gate-gate.ensures.place c.open_gate.new.disk
+    (either_since d.told d.content d.may_leave d.size book disk c.args.bytes.now c.requires.inside (omega arith) (omega arith) c.requires.stands sized
     d.moment d.left_since c.gate-gate.result c.gate-gate.ensures.place c.stage.new.disk c.stage.ensures.changes.since c.in_ok-stage.ensures.written c.in_ok-stage.ensures.durable
-    (laws.reads_an_image disk) (laws.tells c.stage.new.disk) c.open_gate.new.disk c.open_gate.ensures.changes.since
+    (laws.reads_an_image disk) (laws.tells c.stage.new.disk) c.open_gate.new.disk c.open_gate.ensures.changes.since)
+
+pub returns-clause-opens_again : goal.returns-clause-opens_again
+returns-clause-opens_again g c =
+    let d = g.D.Disk in
+    let laws = g.met.D.Disk g.world.𝓛 g.world.𝓜 g.world.𝓡 ((λ s x. x), (λ x. x), (λ x. x), λ x. x) in
+    let disk = c.args.disk.now in
+    let book = c.args.self.now in
+    let sized = λ (image : List ℕ) (is : d.may_leave disk image). laws.sized disk (d.moment disk) image (laws.counts_now disk (d.moment disk) image (omega arith) is) in
+    the_gate d.told d.content d.may_leave d.size book disk c.args.bytes.now c.requires.inside (omega arith) (omega arith) c.requires.stands sized
+    d.moment d.left_since c.gate-gate.result c.gate-gate.ensures.place c.open_gate.new.disk
+    (either_since d.told d.content d.may_leave d.size book disk c.args.bytes.now c.requires.inside (omega arith) (omega arith) c.requires.stands sized
+    d.moment d.left_since c.gate-gate.result c.gate-gate.ensures.place c.stage.new.disk c.stage.ensures.changes.since c.in_ok-stage.ensures.written c.in_ok-stage.ensures.durable
+    (laws.reads_an_image disk) (laws.tells c.stage.new.disk) c.open_gate.new.disk c.open_gate.ensures.changes.since)
 
 pub returns-clause-changes : goal.returns-clause-changes
 returns-clause-changes g c =
