@@ -1,0 +1,8 @@
+//! The disk of an open desk: its events, and the records of its data sets, until it fails.
+#![tactic(auto)]
+
+mod error;
+mod store;
+
+pub use error::{StoreError, Unopened};
+pub use store::Store;
