@@ -1,0 +1,11 @@
+pub mod CopyJob
+pub mod Course
+pub mod Turning
+pub mod Fitting
+pub mod Following
+pub mod Submitting
+pub mod Listing
+pub mod Keeping
+pub mod Moving
+pub mod Leaving
+pub mod Spelled
