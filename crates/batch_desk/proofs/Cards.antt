@@ -1,5 +1,5 @@
 -- The cards that a session keeps.
-use Rattle.std.proofs.Common.{◌≡◌, ◌≤◌, ◌+◌, ◌*◌, ◌%◌, ℕ, List, [], ◌∷◌, ◌++◌, length, ap, ◌∙◌, arith, length-append, Result, Ok, Err, OnOk}
+use Rattle.std.proofs.Common.{◌≡◌, ◌≤◌, ◌+◌, ◌*◌, ◌%◌, ℕ, List, [], ◌++◌, length, ap, ◌∙◌, arith, length-append, Result, Ok, Err, OnOk}
 use Rattle.ckr_statements.specs.declared.cutter.Line.{Line}
 use Rattle.ckr_statements.specs.declared.cutter.Line.TheVariants.{Starts, Card, Ends, Command, Stray, Ignored}
 use Rattle.ckr_statements.specs.Card.{stored_line}

@@ -1,53 +1,53 @@
 -- How a call ends.
-use Rattle.std.proofs.Common.{◌≡◌, ◌<◌, ℕ, Bool, true, false, List, [], ◌∷◌, length, take, Option, None, Some, IfSome, IfErr, Result, Ok, Err, sym, ap, subst, ◌∙◌, arith, length-append, append-nil, unwrap_or, IfOk, ◌++◌}
-use Rattle.std.specs.Io.KnownBytes.{Appends, Consumes, IsAtEnd}
-use Rattle.std.proofs.lemmas.List.{take-append-le}
-use Rattle.batch_desk.specs.declared.flow.Stop.{Stop}
-use Rattle.batch_desk.specs.declared.flow.Stop.TheVariants.{Source, Sink, Memory, Limit}
-use Rattle.ckr_outside.specs.Front.{AppendsFront}
-use Rattle.batch_desk.specs.Stream.{text_of, ended_text}
-use Rattle.batch_desk.specs.Served.{IsServed, IsStopped, Faults}
-use Rattle.batch_desk.specs.Closing.{status_of}
+use Rattle.std.proofs.Common.{◌≡◌, ◌≤◌, ℕ, Bool, List, [], ◌++◌, Option, Result, Ok, Err, unwrap_or, sym, subst}
+use Rattle.ckr_desk.specs.Sound.{IsTrusted}
+use Rattle.ckr_desk.specs.State.{State, DeskState, state_of}
+use Rattle.batch_desk.specs.declared.stop.Stop.{Stop}
+use Rattle.batch_desk.specs.declared.stop.Stop.TheVariants as Stops
+use Rattle.batch_desk.specs.Served.{StopCause, StopsAt, Serving, faults_of}
+use Rattle.batch_desk.proofs.Halting.{rose_earlier}
 
--- more bytes were told to be there than a stream may have
-long : (left rest old new : Option (List ℕ)) (taken : List ℕ) → Consumes left rest taken → length taken ≡ 16_777_217 → Appends old new (ended_text (take 16_777_216 taken))
-    → IfSome left (λ all. (16_777_216 < length all) × Appends old new (ended_text (take 16_777_216 all)))
-long None rest old new taken given count written = tt
-long (Some all) None old new taken given count written = absurd given
-long (Some all) (Some ys) old new taken given count written = (
-  omega (arith, ap length given, length-append taken ys, count),
-  subst (λ (l : List ℕ). Appends old new (ended_text l)) (sym (ap (take 16_777_216) given ∙ take-append-le 16_777_216 taken ys (omega (arith, count)))) written,
-)
+-- the disk's faults are counted from an earlier moment on
+cause_counted : (stop : Stop) (a b c d before between now : ℕ) (taken : List ℕ) → before ≤ between → StopCause stop (faults_of a b c d between now) taken → StopCause stop (faults_of a b c d before now) taken
+cause_counted Stops.Source a b c d before between now taken later cause = cause
+cause_counted Stops.Limit a b c d before between now taken later cause = cause
+cause_counted Stops.Sink a b c d before between now taken later cause = cause
+cause_counted Stops.Memory a b c d before between now taken later cause = tt
+cause_counted Stops.Book a b c d before between now taken later cause = tt
+cause_counted Stops.Disk a b c d before between now taken later cause = rose_earlier before between now later cause
 
-pub at_limit : (r : Result Bool Stop) (faults : Faults) (left rest old new : Option (List ℕ)) (status : ℕ) → status ≡ status_of r → status ≡ 9
-    → IfErr r (λ stop. IsStopped stop faults left rest old new)
-    → IfSome left (λ all. (16_777_216 < length all) × Appends old new (ended_text (take 16_777_216 all)))
-at_limit (Ok false) faults left rest old new status is nine stopped = absurd (omega arith)
-at_limit (Ok true) faults left rest old new status is nine stopped = absurd (omega arith)
-at_limit (Err Source) faults left rest old new status is nine stopped = absurd (omega arith)
-at_limit (Err Sink) faults left rest old new status is nine stopped = absurd (omega arith)
-at_limit (Err Memory) faults left rest old new status is nine stopped = absurd (omega arith)
-at_limit (Err Limit) faults left rest old new status is nine stopped = long left rest old new stopped.taken stopped.given stopped.cause.0 stopped.cause.1
+stops_counted : (stop : Stop) (a b c d before between now : ℕ) (state : State) (taken all : List ℕ) (old new : Option (List ℕ))
+    → StopsAt stop (faults_of a b c d between now) state taken all old new → StopsAt stop (faults_of a b c d before now) state taken all old new
+stops_counted Stops.Source a b c d before between now state taken all old new so = so
+stops_counted Stops.Limit a b c d before between now state taken all old new so = so
+stops_counted Stops.Sink a b c d before between now state taken all old new so = so
+stops_counted Stops.Memory a b c d before between now state taken all old new so = so
+stops_counted Stops.Book a b c d before between now state taken all old new so = so
+stops_counted Stops.Disk a b c d before between now state taken all old new so = so
 
--- a stream that was read to its end
-whole_front : (left rest old new : Option (List ℕ)) (all : List ℕ) → Consumes left rest all → IsAtEnd rest → Appends old new (text_of all)
-    → IfSome left (λ bytes. AppendsFront old new (text_of bytes))
-whole_front None rest old new all given end written = tt
-whole_front (Some bytes) None old new all given end written = absurd given
-whole_front (Some bytes) (Some more) old new all given end written =
-    let same : bytes ≡ all = given ∙ ap (λ l. all ++ l) end ∙ append-nil all in
-    (text_of all, [], ap text_of same ∙ sym (append-nil (text_of all)), written)
+-- the same of a disk that was opened before
+pub serving_from : (trusted trusted' : Type 0) (state : State) (outcome : Result Bool Stop) (a b c d before between now : ℕ) (left rest old new : Option (List ℕ))
+    → before ≤ between → (trusted' → trusted)
+    → Serving trusted state outcome (faults_of a b c d between now) left rest old new → Serving trusted' state outcome (faults_of a b c d before now) left rest old new
+serving_from trusted trusted' state (Ok refused) a b c d before between now left rest old new later holds s = record {
+  all = s.all;
+  given = s.given;
+  end = s.end;
+  few = s.few;
+  answered = λ h. s.answered (holds h);
+}
+serving_from trusted trusted' state (Err stop) a b c d before between now left rest old new later holds s = record {
+  taken = s.taken;
+  given = s.given;
+  cause = cause_counted stop a b c d before between now s.taken later s.cause;
+  stops = λ h. stops_counted stop a b c d before between now state s.taken (s.taken ++ unwrap_or rest []) old new (s.stops (holds h));
+}
 
--- a stream that was not
-stopped_front : (left rest old new : Option (List ℕ)) (taken : List ℕ) → Consumes left rest taken → AppendsFront old new (text_of (taken ++ unwrap_or rest []))
-    → IfSome left (λ bytes. AppendsFront old new (text_of bytes))
-stopped_front None rest old new taken given front = tt
-stopped_front (Some bytes) None old new taken given front = absurd given
-stopped_front (Some bytes) (Some more) old new taken given front = subst (λ (l : List ℕ). AppendsFront old new (text_of l)) (sym given) front
-
--- at each end a front of the whole text is written
-pub front_of : (r : Result Bool Stop) (faults : Faults) (left rest old new : Option (List ℕ))
-    → IfOk r (λ refused. IsServed refused left rest old new) → IfErr r (λ stop. IsStopped stop faults left rest old new)
-    → IfSome left (λ bytes. AppendsFront old new (text_of bytes))
-front_of (Ok refused) faults left rest old new served stopped = whole_front left rest old new served.all served.given served.end served.written
-front_of (Err stop) faults left rest old new served stopped = stopped_front left rest old new stopped.taken stopped.given stopped.front
+-- the same of the desk that was handed in, and of the disk that is handed back
+pub serving_by : {D : Type 0} (told : Type 0) (content : D → List ℕ) (may_leave : D → List ℕ → Type 0) (faults : D → ℕ) (inside desk : DeskState D) (end disk : D) (outcome : Result Bool Stop) (a b c d : ℕ) (left rest old new : Option (List ℕ))
+    → inside ≡ desk → disk ≡ end
+    → Serving (IsTrusted told content may_leave inside) (state_of inside) outcome (faults_of a b c d (faults inside.store.disk) (faults end)) left rest old new
+    → Serving (IsTrusted told content may_leave desk) (state_of desk) outcome (faults_of a b c d (faults desk.store.disk) (faults disk)) left rest old new
+serving_by {D = D} told content may_leave faults inside desk end disk outcome a b c d left rest old new is back s =
+    subst (λ (w : DeskState D). Serving (IsTrusted told content may_leave w) (state_of w) outcome (faults_of a b c d (faults w.store.disk) (faults disk)) left rest old new) is
+    (subst (λ (w : D). Serving (IsTrusted told content may_leave inside) (state_of inside) outcome (faults_of a b c d (faults inside.store.disk) (faults w)) left rest old new) (sym back) s)

@@ -1,24 +1,89 @@
 -- How a call ends.
-use Rattle.std.specs.Prelude.{ℕ, Bool, true, false, ◌≡◌, ◌⊎◌, List, Option, Result, Ok, Err}
-use Rattle.std.specs.Io.KnownBytes.{Appends, Consumes}
-use Rattle.batch_desk.specs.declared.flow.Stop.{Stop}
-use Rattle.batch_desk.specs.declared.flow.Stop.TheVariants.{Source, Sink, Memory, Limit}
-use Rattle.batch_desk.specs.Stream.{ended_text}
+use Rattle.std.specs.Prelude.{◌≡◌, ℕ, Bool, true, false, List, Option, Result, Ok, Err}
+use Rattle.std.specs.Io.KnownBytes.{Keeps}
+use Rattle.ckr_outside.specs.Faults.{Rose}
+use Rattle.ckr_volumes.specs.declared.layout.Layout.{Layout}
+use Rattle.ckr_formatting.specs.declared.formatting.Outcome.{Outcome}
+use Rattle.ckr_formatting.specs.declared.formatting.Outcome.TheVariants as Outcomes
+use Rattle.ckr_formatting.specs.Formats.{Ends, CausedBy}
+use Rattle.ckr_desk.specs.declared.error.OpenError.{OpenError}
+use Rattle.ckr_desk.specs.declared.error.OpenError.TheVariants as OpenErrors
+use Rattle.ckr_desk.specs.Replaying.{OpenCause}
+use Rattle.ckr_desk.specs.Sound.{Sound}
+use Rattle.ckr_desk.specs.State.{State}
+use Rattle.batch_desk.specs.declared.stop.Stop.{Stop}
+use Rattle.batch_desk.specs.declared.stop.Stop.TheVariants as Stops
+use Rattle.batch_desk.specs.Served.{Faults, Serving}
 
-abbrev pub status_of : Result Bool Stop → ℕ
-status_of (Ok false) = 0
-status_of (Ok true) = 8
-status_of (Err Source) = 4
-status_of (Err Sink) = 5
-status_of (Err Memory) = 7
-status_of (Err Limit) = 9
+-- a disk tells what it holds, and whatever a stop leaves of it opens with what its events have committed
+pub record AllSound {D : Type 0} (told : Type 0) (may_leave : D → List ℕ → Type 0) (size : D → ℕ) (disk : D) : Type 0 where
+  pub tells : told
+  pub sound : (image : List ℕ) → may_leave disk image → Sound (size disk) image
 
--- what is written is the text of the items that ended within the bytes taken
-pub record HasTakenText (left rest old new : Option (List ℕ)) : Type 0 where
-  pub taken : List ℕ
-  pub given : Consumes left rest taken
-  pub written : Appends old new (ended_text taken)
+-- ---- a stream
 
--- the statuses of a stream that was served
-abbrev pub IsServingStatus : ℕ → Type 0
-IsServingStatus status = (status ≡ 0) ⊎ (status ≡ 4) ⊎ (status ≡ 5) ⊎ (status ≡ 7) ⊎ (status ≡ 8) ⊎ (status ≡ 9)
+-- the disk isn't opened; or the stream is served to its end, or up to a cause
+pub data RunEnd : Type 0 where
+  NotOpened : (error : OpenError) → RunEnd
+  Ended : (outcome : Result Bool Stop) → RunEnd
+
+abbrev pub opening_status : OpenError → ℕ
+opening_status OpenErrors.NoMemory = 7
+opening_status OpenErrors.Fault = 6
+opening_status _ = 2
+
+abbrev pub serving_status : Result Bool Stop → ℕ
+serving_status (Ok false) = 0
+serving_status (Ok true) = 8
+serving_status (Err Stops.Book) = 3
+serving_status (Err Stops.Source) = 4
+serving_status (Err Stops.Sink) = 5
+serving_status (Err Stops.Disk) = 6
+serving_status (Err Stops.Memory) = 7
+serving_status (Err Stops.Limit) = 9
+
+abbrev pub status_of : RunEnd → ℕ
+status_of (NotOpened error) = opening_status error
+status_of (Ended outcome) = serving_status outcome
+
+-- the disk isn't opened for this cause, and nothing is taken or written
+pub record IsNotOpened (told : Type 0) (opening : Result State OpenError) (error : OpenError) (faults : Faults) (left rest old new : Option (List ℕ)) : Type 0 where
+  pub cause : OpenCause (Rose faults.disk_before faults.disk_now) told opening error
+  pub takes_nothing : Keeps left rest
+  pub writes_nothing : Keeps old new
+
+-- the disk is opened in a state of the desk, from which the stream is served
+pub record IsOpened (told trusted : Type 0) (opening : Result State OpenError) (outcome : Result Bool Stop) (faults : Faults) (left rest old new : Option (List ℕ)) : Type 0 where
+  pub state : State
+  pub opened : told → opening ≡ Ok state
+  pub serving : Serving trusted state outcome faults left rest old new
+
+abbrev pub EndsSo : Type 0 → Type 0 → Result State OpenError → RunEnd → Faults → Option (List ℕ) → Option (List ℕ) → Option (List ℕ) → Option (List ℕ) → Type 0
+EndsSo told trusted opening (NotOpened error) faults left rest old new = IsNotOpened told opening error faults left rest old new
+EndsSo told trusted opening (Ended outcome) faults left rest old new = IsOpened told trusted opening outcome faults left rest old new
+
+-- how a run ended with a status
+pub record HasRun (told trusted : Type 0) (opening : Result State OpenError) (status : ℕ) (faults : Faults) (left rest old new : Option (List ℕ)) : Type 0 where
+  pub end : RunEnd
+  pub is : status ≡ status_of end
+  pub so : EndsSo told trusted opening end faults left rest old new
+
+-- ---- formatting
+
+abbrev pub formatting_status : Outcome → ℕ
+formatting_status Outcomes.Formatted = 0
+formatting_status Outcomes.SourceFailed = 4
+formatting_status Outcomes.SinkFailed = 5
+formatting_status Outcomes.DiskFailed = 6
+formatting_status Outcomes.NoMemory = 7
+formatting_status Outcomes.Refused = 8
+formatting_status Outcomes.TooLong = 9
+
+-- How a disk was formatted with a status: what was read, done and written. `formatted` says that the disk is formatted by a
+-- layout, `same` that it is as before; `sound` that whatever a stop leaves of it opens.
+pub record HasFormatted (told : Type 0) (size : ℕ) (formatted : Layout → Type 0) (same sound : Type 0) (status : ℕ) (faults : Faults) (left rest old new : Option (List ℕ)) : Type 0 where
+  pub outcome : Outcome
+  pub is : status ≡ formatting_status outcome
+  pub ends : Ends outcome left rest size formatted same old new
+  pub cause : CausedBy outcome (Rose faults.source_before faults.source_now) (Rose faults.sink_before faults.sink_now) (Rose faults.disk_before faults.disk_now)
+  pub opens : outcome ≡ Outcomes.Formatted → told → sound

@@ -1,7 +1,9 @@
 pub mod Orders
 pub mod Calls
 pub mod Texts
+pub mod Turning
 pub mod Serves
+pub mod Keeping
 pub mod Sessions
 pub mod Stream
 pub mod Flows

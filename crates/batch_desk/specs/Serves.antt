@@ -1,13 +1,96 @@
--- What serving requests does.
-use Rattle.std.specs.Prelude.{◌≡◌, ℕ, ◌||◌, List, ◌++◌}
+-- What serving requests does, and what is left of it where it stops.
+use Rattle.std.specs.Prelude.{◌≡◌, ◌⊎◌, ℕ, Bool, true, false, ◌||◌, List, ◌∷◌, ◌++◌, Option}
 use Rattle.std.specs.List.{flat_map, list_any}
-use Rattle.batch_desk.specs.declared.office.Office.{Office}
+use Rattle.std.specs.Io.KnownBytes.{Appends}
+use Rattle.ckr_outside.specs.Faults.{Rose}
+use Rattle.ckr_outside.specs.Front.{AppendsFront}
+use Rattle.ckr_course.specs.declared.reply.Reply.{Reply}
+use Rattle.ckr_desk.specs.State.{State, state_of}
 use Rattle.ckr_statements.specs.Session.{Handed}
-use Rattle.batch_desk.specs.Calls.{calls, after_all, is_refusal}
+use Rattle.batch_desk.specs.declared.office.Office.{Office}
+use Rattle.batch_desk.specs.declared.stop.Halt.{Halt}
+use Rattle.batch_desk.specs.declared.stop.Halt.TheVariants as Halts
+use Rattle.batch_desk.specs.declared.stop.Stop.{Stop}
+use Rattle.batch_desk.specs.declared.stop.Stop.TheVariants as Stops
+use Rattle.batch_desk.specs.Calls.{calls, after_all, all_fit, replies_of, is_refusal, BrokenOff}
 use Rattle.batch_desk.specs.Texts.{answer_text}
 
--- from old to new the office served the requests, and the text grew by what is answered
-pub record Serves (old new : Office) (requests : List Handed) (before now : List ℕ) : Type 0 where
-  pub desk : new.desk ≡ after_all old.desk requests
-  pub refused : new.refused ≡ (old.refused || list_any is_refusal (calls old.desk requests))
-  pub text : now ≡ before ++ flat_map answer_text (calls old.desk requests)
+-- the desk between two calls, and whether a line or a deck was refused
+pub record View : Type 0 where
+  pub state : State
+  pub refused : Bool
+
+abbrev pub seen : {D : Type 0} → Office D → View
+seen office = record { state = state_of office.desk; refused = office.refused }
+
+-- the text of what is answered to requests
+abbrev pub text_to : State → List Handed → List ℕ
+text_to state requests = flat_map answer_text (calls state requests)
+
+-- from old to new the requests were served, all of them, and the text grew by what is answered
+pub record Serves (old new : View) (requests : List Handed) (before now : List ℕ) : Type 0 where
+  pub fits : all_fit old.state requests ≡ true
+  pub state : new.state ≡ after_all old.state requests
+  pub refused : new.refused ≡ (old.refused || list_any is_refusal (calls old.state requests))
+  pub text : now ≡ before ++ text_to old.state requests
+
+-- One of the requests was broken off, and the text is that of what was answered before: to the requests before it all, and
+-- of its own replies the first ones.
+pub record BreaksOff (state : State) (requests : List Handed) (text : List ℕ) : Type 0 where
+  pub served : List Handed
+  pub broken : Handed
+  pub more : List Handed
+  pub split : requests ≡ served ++ broken ∷ more
+  pub fits : all_fit state served ≡ true
+  pub replies : List Reply
+  pub later : List Reply
+  pub given : replies_of (after_all state served) broken ≡ replies ++ later
+  pub told : text ≡ text_to state served ++ answer_text (BrokenOff replies)
+
+-- serving requests stopped, and this is what the text grew by; it isn't told where memory ran out
+abbrev pub HaltsSo : Halt → State → List Handed → List ℕ → List ℕ → Type 0
+HaltsSo Halts.Memory state requests before now = Unit {0}
+HaltsSo Halts.Book state requests before now = (all_fit state requests ≡ false) × (now ≡ before ++ text_to state requests)
+HaltsSo Halts.Disk state requests before now = (text : List ℕ) × (now ≡ before ++ text) × BreaksOff state requests text
+
+-- only a disk whose faults rose is told to have failed
+abbrev pub HaltCause : Halt → ℕ → ℕ → Type 0
+HaltCause Halts.Memory before now = Unit {0}
+HaltCause Halts.Book before now = Unit {0}
+HaltCause Halts.Disk before now = Rose before now
+
+-- why the records of a data set weren't listed, and nothing of them is told
+abbrev pub ListHalt : Halt → ℕ → ℕ → List ℕ → List ℕ → Type 0
+ListHalt Halts.Memory faults faults' before now = Unit {0}
+ListHalt Halts.Book faults faults' before now = ⊥
+ListHalt Halts.Disk faults faults' before now = Rose faults faults' × (now ≡ before)
+
+-- ---- what is written then
+
+-- the whole text is written, or the sink failed and a front of it is
+abbrev pub WritesSo : ℕ → ℕ → Option (List ℕ) → Option (List ℕ) → List ℕ → Type 0
+WritesSo before now old new text = Appends old new text ⊎ (Rose before now × AppendsFront old new text)
+
+-- Serving requests stopped, and this is written of their text; the sink's faults are counted before and now.
+abbrev pub StopsWithin : Stop → ℕ → ℕ → State → List Handed → Option (List ℕ) → Option (List ℕ) → Type 0
+StopsWithin Stops.Source before now state requests old new = ⊥
+StopsWithin Stops.Limit before now state requests old new = ⊥
+StopsWithin Stops.Sink before now state requests old new = AppendsFront old new (text_to state requests)
+StopsWithin Stops.Memory before now state requests old new = AppendsFront old new (text_to state requests)
+StopsWithin Stops.Book before now state requests old new = (all_fit state requests ≡ false) × WritesSo before now old new (text_to state requests)
+StopsWithin Stops.Disk before now state requests old new = (text : List ℕ) × BreaksOff state requests text × WritesSo before now old new text
+
+-- why serving requests stopped: the faults of the sink and of the disk are counted before and now
+abbrev pub Caused : Stop → ℕ → ℕ → ℕ → ℕ → Type 0
+Caused Stops.Source sink sink' disk disk' = ⊥
+Caused Stops.Limit sink sink' disk disk' = ⊥
+Caused Stops.Sink sink sink' disk disk' = Rose sink sink'
+Caused Stops.Memory sink sink' disk disk' = Unit {0}
+Caused Stops.Book sink sink' disk disk' = Unit {0}
+Caused Stops.Disk sink sink' disk disk' = Rose disk disk'
+
+-- what was answered before the serving stopped is written, as far as the sink takes it
+abbrev pub RestWritten : Halt → Stop → ℕ → ℕ → Option (List ℕ) → Option (List ℕ) → List ℕ → Type 0
+RestWritten Halts.Memory stop before now old new text = (stop ≡ Stops.Memory) × (new ≡ old)
+RestWritten Halts.Book stop before now old new text = (stop ≡ Stops.Book) × WritesSo before now old new text
+RestWritten Halts.Disk stop before now old new text = (stop ≡ Stops.Disk) × WritesSo before now old new text

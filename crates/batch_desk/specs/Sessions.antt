@@ -7,11 +7,11 @@ use Rattle.ckr_statements.specs.Session.{Session as Standing}
 use Rattle.batch_desk.specs.declared.session.Session.{Session}
 
 -- where the cutting stands
-abbrev pub standing_of : Session → Standing
+abbrev pub standing_of : {D : Type 0} → Session D → Standing
 standing_of s = record { state = s.cutter; cards = s.deck.items; number = s.number + 1 }
 
 -- the open deck has whole cards, and no more of them than lines
-pub record HasWholeCards (s : Session) : Type 0 where
+pub record HasWholeCards {D : Type 0} (s : Session D) : Type 0 where
   pub whole : length s.deck.items % 81 ≡ 0
   pub few : length s.deck.items ≤ 81 * s.number
 

@@ -1,49 +1,23 @@
 //! The stream in pieces, and the text that goes to the sink.
-ghost use Rattle.std.specs.Prelude.{◌≡◌, ◌<◌, ◌≤◌, ◌+◌, ◌*◌, ◌^◌, [], ◌∷◌, OnOk, OnErr, IfOk, IfErr, length};
-ghost use Rattle.std.specs.List.{flat_map};
+ghost use Rattle.std.specs.Prelude.{◌≡◌, ◌<◌, ◌≤◌, ◌+◌, ◌*◌, ◌^◌, [], ◌∷◌, OnOk, OnErr, IfOk, IfErr, None, false, length};
 ghost use Rattle.std.specs.Str.Lines.{strip_carriage_return};
 ghost use Rattle.std.specs.Io.KnownBytes.{Appends};
 ghost use Rattle.ckr_outside.specs.Front.{AppendsFront};
-ghost use Rattle.batch_desk.specs.Serves.{Serves};
-ghost use Rattle.batch_desk.specs.Sessions.{HasWholeCards};
-ghost use Rattle.batch_desk.specs.Flows.{IsBegun, EndsLine, Carries, Breaks, Finishes, FinishBreaks, Caused, end_requests, line_text};
+ghost use Rattle.ckr_outside.specs.Faults.{Rose};
+ghost use Rattle.ckr_statements.specs.Session.{first_session};
+ghost use Rattle.ckr_desk.specs.Sound.{IsTrusted};
+ghost use Rattle.batch_desk.specs.Keeping.{GoesBy};
+ghost use Rattle.ckr_desk.specs.State.{state_of};
+ghost use Rattle.batch_desk.specs.Serves.{Serves, HaltsSo, HaltCause, StopsWithin, RestWritten, Caused, seen};
+ghost use Rattle.batch_desk.specs.Sessions.{HasWholeCards, standing_of};
+ghost use Rattle.batch_desk.specs.Flows.{CutsLine, EndsLine, Carries, Breaks, Finishes, FinishBreaks, IsBegun, end_requests, line_requests};
 
 use crate::session::Session;
+use crate::stop::{Halt, Stop};
 use crate::text::Text;
-use ckr_base::NoMemory;
-use ckr_outside::{Failed, Sink, put_all};
-use std::alloc::{AllocFailed, Global};
-
-/// Why the call ends before the stream does.
-#[derive(Clone, Copy, Debug, PartialEq, Eq)]
-pub enum Stop {
-    Source,
-    Sink,
-    Memory,
-    Limit,
-}
-
-impl From<NoMemory> for Stop {
-    ghost use Rattle.batch_desk.specs.declared.flow.Stop.TheVariants.{Memory};
-    ghost use Rattle.std.specs.Prelude.{◌≡◌};
-
-    ghost from_gives = { λ _ e. e ≡ Memory };
-
-    fn from(_: NoMemory) -> Self {
-        Stop::Memory
-    }
-}
-
-impl<T: Drop> From<AllocFailed<T>> for Stop {
-    ghost use Rattle.batch_desk.specs.declared.flow.Stop.TheVariants.{Memory};
-    ghost use Rattle.std.specs.Prelude.{◌≡◌};
-
-    ghost from_gives = { λ _ e. e ≡ Memory };
-
-    fn from(_: AllocFailed<T>) -> Self {
-        Stop::Memory
-    }
-}
+use ckr_desk::Desk;
+use ckr_outside::{Disk, Failed, Sink, put_all};
+use std::alloc::Global;
 
 /// The line without the carriage return at its end.
 fn without_return(line: &[u8]) -> &[u8]
@@ -59,7 +33,7 @@ fn write<K: Sink>(sink: &mut K, text: &Text) -> Result<(), Stop>
     ensures ok { OnOk result (Appends (K.written sink.old) (K.written sink.new) text.now) }
     ensures err { OnErr result (AppendsFront (K.written sink.old) (K.written sink.new) text.now) }
     ensures later { K.faults sink.old ≤ K.faults sink.new }
-    ensures cause { IfErr result (λ stop. Caused stop (K.faults sink.old) (K.faults sink.new)) }
+    ensures cause { IfErr result (λ stop. (stop ≡ Stop.Sink) × Rose (K.faults sink.old) (K.faults sink.new)) }
 {
     match put_all(sink, text.bytes()) {
         Ok(()) => Ok(()),
@@ -67,19 +41,38 @@ fn write<K: Sink>(sink: &mut K, text: &Text) -> Result<(), Stop>
     }
 }
 
+/// What was answered before the serving stopped is written as far as the sink takes it. Where memory ran out, nothing is.
+fn write_rest<K: Sink>(halt: Halt, sink: &mut K, text: &Text) -> Stop
+    ensures writes { RestWritten halt result (K.faults sink.old) (K.faults sink.new) (K.written sink.old) (K.written sink.new) text.now }
+    ensures later { K.faults sink.old ≤ K.faults sink.new }
+{
+    match halt {
+        Halt::Memory => Stop::Memory,
+        Halt::Book => {
+            let _ = put_all(sink, text.bytes());
+            Stop::Book
+        }
+        Halt::Disk => {
+            let _ = put_all(sink, text.bytes());
+            Stop::Disk
+        }
+    }
+}
+
 /// The session, and the bytes behind the last line's end.
 #[derive(Drop)]
-pub struct Flow {
-    pub session: Session,
+pub struct Flow<D: Disk> {
+    pub session: Session<D>,
     pub partial: Vec<u8>,
 }
 
-impl Flow {
-    pub fn new(alloc: Global) -> Flow
-        ensures { IsBegun result }
+impl<D: Disk> Flow<D> {
+    pub fn new(alloc: Global, desk: Desk<D>) -> Flow<D>
+        ensures desk { result.session.office.desk ≡ desk }
+        ensures begun { IsBegun result }
     {
         Flow {
-            session: Session::new(alloc),
+            session: Session::new(alloc, desk),
             partial: Vec::new(alloc),
         }
     }
@@ -88,29 +81,46 @@ impl Flow {
     fn end_line<K: Sink>(&mut self, sink: &mut K) -> Result<(), Stop>
         requires few { self.old.session.number < 2 ^ 25 }
         requires whole { HasWholeCards self.old.session }
-        ensures ok { OnOk result (EndsLine self.old self.new (K.written sink.old) (K.written sink.new)) }
-        ensures err { OnErr result (AppendsFront (K.written sink.old) (K.written sink.new) (line_text self.old)) }
-        ensures later { K.faults sink.old ≤ K.faults sink.new }
-        ensures cause { IfErr result (λ stop. Caused stop (K.faults sink.old) (K.faults sink.new)) }
+        requires is_open { self.old.session.office.desk.store.fault ≡ None }
+        ensures ok { IsTrusted D.told D.content D.may_leave self.old.session.office.desk → OnOk result (EndsLine self.old self.new (K.written sink.old) (K.written sink.new)) }
+        ensures trusted { OnOk result (IsTrusted D.told D.content D.may_leave self.old.session.office.desk → IsTrusted D.told D.content D.may_leave self.new.session.office.desk) }
+        ensures goes { IsTrusted D.told D.content D.may_leave self.old.session.office.desk → GoesBy D.content D.moment D.left_since D.size result self.old.session.office.desk self.new.session.office.desk }
+        ensures is_open { OnOk result (self.new.session.office.desk.store.fault ≡ None) }
+        ensures err { IsTrusted D.told D.content D.may_leave self.old.session.office.desk → IfErr result (λ stop. StopsWithin stop (K.faults sink.old) (K.faults sink.new) (state_of self.old.session.office.desk) (line_requests self.old) (K.written sink.old) (K.written sink.new)) }
+        ensures sink_later { K.faults sink.old ≤ K.faults sink.new }
+        ensures disk_later { D.faults self.old.session.office.desk.store.disk ≤ D.faults self.new.session.office.desk.store.disk }
+        ensures cause { IfErr result (λ stop. Caused stop (K.faults sink.old) (K.faults sink.new) (D.faults self.old.session.office.desk.store.disk) (D.faults self.new.session.office.desk.store.disk)) }
+        ensures cuts { OnOk result (CutsLine self.old self.new) }
+        ensures whole { OnOk result (HasWholeCards self.new.session) }
     {
         let mut out = Text::new(self.session.office.alloc);
-        self.session.line(without_return(&self.partial), &mut out)?;
-        write(sink, &out)?;
-        self.partial.clear();
-        Ok(())
+        match self.session.line(without_return(&self.partial), &mut out) {
+            Ok(()) => {
+                write(sink, &out)?;
+                self.partial.clear();
+                Ok(())
+            }
+            Err(halt) => Err(write_rest(halt, sink, &out)),
+        }
     }
 
     /// The next byte comes.
     fn byte<K: Sink>(&mut self, byte: u8, sink: &mut K) -> Result<(), Stop>
         requires few { self.old.session.number < 2 ^ 25 }
         requires whole { HasWholeCards self.old.session }
-        ensures ok { OnOk result (Carries self.old self.new (byte ∷ []) (K.written sink.old) (K.written sink.new)) }
-        ensures err { OnErr result (Breaks self.old (byte ∷ []) (K.written sink.old) (K.written sink.new)) }
+        requires is_open { self.old.session.office.desk.store.fault ≡ None }
+        ensures ok { IsTrusted D.told D.content D.may_leave self.old.session.office.desk → OnOk result (Carries self.old self.new (byte ∷ []) (K.written sink.old) (K.written sink.new)) }
+        ensures trusted { OnOk result (IsTrusted D.told D.content D.may_leave self.old.session.office.desk → IsTrusted D.told D.content D.may_leave self.new.session.office.desk) }
+        ensures goes { IsTrusted D.told D.content D.may_leave self.old.session.office.desk → GoesBy D.content D.moment D.left_since D.size result self.old.session.office.desk self.new.session.office.desk }
+        ensures is_open { OnOk result (self.new.session.office.desk.store.fault ≡ None) }
+        ensures err { IsTrusted D.told D.content D.may_leave self.old.session.office.desk → IfErr result (λ stop. Breaks stop (K.faults sink.old) (K.faults sink.new) self.old (byte ∷ []) (K.written sink.old) (K.written sink.new)) }
+        ensures sink_later { K.faults sink.old ≤ K.faults sink.new }
+        ensures disk_later { D.faults self.old.session.office.desk.store.disk ≤ D.faults self.new.session.office.desk.store.disk }
+        ensures cause { IfErr result (λ stop. Caused stop (K.faults sink.old) (K.faults sink.new) (D.faults self.old.session.office.desk.store.disk) (D.faults self.new.session.office.desk.store.disk)) }
         ensures few { OnOk result (self.new.session.number + length self.new.partial.items ≤ self.old.session.number + length self.old.partial.items + 1) }
         ensures whole { OnOk result (HasWholeCards self.new.session) }
-        ensures later { K.faults sink.old ≤ K.faults sink.new }
-        ensures cause { IfErr result (λ stop. Caused stop (K.faults sink.old) (K.faults sink.new)) }
     {
+        let _layout = self.session.office.desk.layout();
         if byte == b'\n' {
             return self.end_line(sink);
         }
@@ -122,11 +132,19 @@ impl Flow {
     pub fn feed<K: Sink>(&mut self, piece: &[u8], sink: &mut K) -> Result<(), Stop>
         requires few { self.old.session.number + length self.old.partial.items + length piece.now ≤ 2 ^ 24 }
         requires whole { HasWholeCards self.old.session }
-        ensures ok { OnOk result (Carries self.old self.new piece.now (K.written sink.old) (K.written sink.new)) }
-        ensures err { OnErr result (Breaks self.old piece.now (K.written sink.old) (K.written sink.new)) }
-        ensures later { K.faults sink.old ≤ K.faults sink.new }
-        ensures cause { IfErr result (λ stop. Caused stop (K.faults sink.old) (K.faults sink.new)) }
+        requires is_open { self.old.session.office.desk.store.fault ≡ None }
+        ensures ok { IsTrusted D.told D.content D.may_leave self.old.session.office.desk → OnOk result (Carries self.old self.new piece.now (K.written sink.old) (K.written sink.new)) }
+        ensures trusted { OnOk result (IsTrusted D.told D.content D.may_leave self.old.session.office.desk → IsTrusted D.told D.content D.may_leave self.new.session.office.desk) }
+        ensures goes { IsTrusted D.told D.content D.may_leave self.old.session.office.desk → GoesBy D.content D.moment D.left_since D.size result self.old.session.office.desk self.new.session.office.desk }
+        ensures is_open { OnOk result (self.new.session.office.desk.store.fault ≡ None) }
+        ensures err { IsTrusted D.told D.content D.may_leave self.old.session.office.desk → IfErr result (λ stop. Breaks stop (K.faults sink.old) (K.faults sink.new) self.old piece.now (K.written sink.old) (K.written sink.new)) }
+        ensures sink_later { K.faults sink.old ≤ K.faults sink.new }
+        ensures disk_later { D.faults self.old.session.office.desk.store.disk ≤ D.faults self.new.session.office.desk.store.disk }
+        ensures cause { IfErr result (λ stop. Caused stop (K.faults sink.old) (K.faults sink.new) (D.faults self.old.session.office.desk.store.disk) (D.faults self.new.session.office.desk.store.disk)) }
+        ensures few { OnOk result (self.new.session.number + length self.new.partial.items ≤ self.old.session.number + length self.old.partial.items + length piece.now) }
+        ensures whole { OnOk result (HasWholeCards self.new.session) }
     {
+        let _layout = self.session.office.desk.layout();
         for byte in piece {
             self.byte(*byte, sink)?;
         }
@@ -137,22 +155,38 @@ impl Flow {
     pub fn end<K: Sink>(&mut self, sink: &mut K) -> Result<bool, Stop>
         requires few { self.old.session.number < 2 ^ 25 }
         requires whole { HasWholeCards self.old.session }
-        ensures ok { IfOk result (λ refused. Finishes self.old refused (K.written sink.old) (K.written sink.new)) }
-        ensures err { OnErr result (FinishBreaks self.old (K.written sink.old) (K.written sink.new)) }
-        ensures later { K.faults sink.old ≤ K.faults sink.new }
-        ensures cause { IfErr result (λ stop. Caused stop (K.faults sink.old) (K.faults sink.new)) }
+        requires is_open { self.old.session.office.desk.store.fault ≡ None }
+        ensures ok { IsTrusted D.told D.content D.may_leave self.old.session.office.desk → IfOk result (λ refused. Finishes self.old refused (K.written sink.old) (K.written sink.new)) }
+        ensures trusted { OnOk result (IsTrusted D.told D.content D.may_leave self.old.session.office.desk → IsTrusted D.told D.content D.may_leave self.new.session.office.desk) }
+        ensures goes { IsTrusted D.told D.content D.may_leave self.old.session.office.desk → GoesBy D.content D.moment D.left_since D.size result self.old.session.office.desk self.new.session.office.desk }
+        ensures is_open { OnOk result (self.new.session.office.desk.store.fault ≡ None) }
+        ensures err { IsTrusted D.told D.content D.may_leave self.old.session.office.desk → IfErr result (λ stop. FinishBreaks stop (K.faults sink.old) (K.faults sink.new) self.old (K.written sink.old) (K.written sink.new)) }
+        ensures sink_later { K.faults sink.old ≤ K.faults sink.new }
+        ensures disk_later { D.faults self.old.session.office.desk.store.disk ≤ D.faults self.new.session.office.desk.store.disk }
+        ensures cause { IfErr result (λ stop. Caused stop (K.faults sink.old) (K.faults sink.new) (D.faults self.old.session.office.desk.store.disk) (D.faults self.new.session.office.desk.store.disk)) }
     {
         let mut out = Text::new(self.session.office.alloc);
-        self.end_requests(&mut out)?;
-        write(sink, &out)?;
-        Ok(self.session.office.refused)
+        match self.end_requests(&mut out) {
+            Ok(()) => {
+                write(sink, &out)?;
+                Ok(self.session.office.refused)
+            }
+            Err(halt) => Err(write_rest(halt, sink, &out)),
+        }
     }
 
     /// The line that waits ends, if there is one, and the deck that is open.
-    fn end_requests(&mut self, out: &mut Text) -> Result<(), NoMemory>
+    fn end_requests(&mut self, out: &mut Text) -> Result<(), Halt>
         requires few { self.old.session.number < 2 ^ 25 }
         requires whole { HasWholeCards self.old.session }
-        ensures { OnOk result (Serves self.old.session.office self.new.session.office (end_requests self.old) out.old out.new) }
+        requires is_open { self.old.session.office.desk.store.fault ≡ None }
+        ensures serves { IsTrusted D.told D.content D.may_leave self.old.session.office.desk → OnOk result (Serves (seen self.old.session.office) (seen self.new.session.office) (end_requests self.old) out.old out.new) }
+        ensures trusted { OnOk result (IsTrusted D.told D.content D.may_leave self.old.session.office.desk → IsTrusted D.told D.content D.may_leave self.new.session.office.desk) }
+        ensures goes { IsTrusted D.told D.content D.may_leave self.old.session.office.desk → GoesBy D.content D.moment D.left_since D.size result self.old.session.office.desk self.new.session.office.desk }
+        ensures is_open { OnOk result (self.new.session.office.desk.store.fault ≡ None) }
+        ensures later { D.faults self.old.session.office.desk.store.disk ≤ D.faults self.new.session.office.desk.store.disk }
+        ensures halt { IsTrusted D.told D.content D.may_leave self.old.session.office.desk → IfErr result (λ halt. HaltsSo halt (state_of self.old.session.office.desk) (end_requests self.old) out.old out.new) }
+        ensures cause { IfErr result (λ halt. HaltCause halt (D.faults self.old.session.office.desk.store.disk) (D.faults self.new.session.office.desk.store.disk)) }
     {
         if self.partial.is_empty() {
             return self.session.end(out);

@@ -1,24 +1,31 @@
 //! The requests of a stream, one after another.
-ghost use Rattle.std.specs.Prelude.{◌≡◌, ◌<◌, ◌≤◌, ◌%◌, ◌*◌, ◌||◌, length, [], ◌∷◌, ◌++◌, OnOk, None, false, true};
-ghost use Rattle.ckr_desk.specs.Turning.{runs_of};
-ghost use Rattle.ckr_desk.specs.Submitting.{submitted, submit_answer, records_of};
+ghost use Rattle.std.specs.Prelude.{◌≡◌, ◌<◌, ◌≤◌, ◌%◌, ◌*◌, ◌||◌, length, [], ◌∷◌, ◌++◌, OnOk, IfErr, None, false, true};
+ghost use Rattle.ckr_course.specs.Listing.{records_of, lines_of};
+ghost use Rattle.ckr_desk.specs.Sound.{IsTrusted};
+ghost use Rattle.batch_desk.specs.Keeping.{Goes, GoesBy};
+ghost use Rattle.ckr_desk.specs.State.{state_of};
 ghost use Rattle.ckr_statements.specs.Session.Handed.{Deck, Order as Command, Refusal};
-ghost use Rattle.batch_desk.specs.Calls.{Accepted, DeckRefused, LineRefused, name_in, answer_to_deck, deck_answer, list_answer, is_refusal};
+ghost use Rattle.batch_desk.specs.Calls.{Accepted, DeckRefused, LineRefused, Listed, name_in, list_answer, is_refusal};
 ghost use Rattle.batch_desk.specs.Texts.{answer_text};
+ghost use Rattle.batch_desk.specs.Serves.{HaltsSo, HaltCause, ListHalt, Serves, seen};
 
 use crate::orders::{Order, read_order};
 use crate::report::{accepted, deck_refused, line_refused, listed};
 use crate::runs::turned;
+use crate::stop::Halt;
 use crate::text::Text;
-use ckr_base::{DsName, NoMemory};
-use ckr_desk::{Desk, DeskError, Run, Submitted};
+use ckr_base::{DsName, NoMemory, Rec};
+use ckr_course::{Run, Submitted};
+use ckr_desk::Desk;
+use ckr_outside::Disk;
+use ckr_store::StoreError;
 use std::alloc::Global;
 
 /// The desk, and whether a line or a deck was refused.
 #[derive(Drop)]
-pub struct Office {
+pub struct Office<D: Disk> {
     pub alloc: Global,
-    pub desk: Desk,
+    pub desk: Desk<D>,
     pub refused: bool,
 }
 
@@ -37,55 +44,89 @@ fn name_in(number: u32, runs: &[Run]) -> &[u8]
     }
 }
 
-impl Office {
-    ghost use Rattle.batch_desk.specs.Serves.{Serves};
+/// The records of a data set are told.
+fn tell(records: &[Rec], out: &mut Text) -> Result<(), Halt>
+    ensures text { OnOk result (out.new ≡ out.old ++ answer_text (Listed records.now)) }
+    ensures halt { IfErr result (λ halt. halt ≡ Halt.Memory) }
+{
+    match listed(records, out) {
+        Ok(()) => Ok(()),
+        Err(NoMemory) => Err(Halt::Memory),
+    }
+}
 
-    pub fn new(alloc: Global) -> Office
-        ensures desk { result.desk ≡ None }
+impl<D: Disk> Office<D> {
+    pub fn new(alloc: Global, desk: Desk<D>) -> Office<D>
+        ensures desk { result.desk ≡ desk }
         ensures refused { result.refused ≡ false }
     {
         Office {
             alloc,
-            desk: Desk::new(alloc),
+            desk,
             refused: false,
         }
     }
 
     /// A deck ends.
-    #[tactic(auto, unfolding(crate::specs::Calls::deck_answer))]
-    pub fn submit(&mut self, cards: &[u8], out: &mut Text) -> Result<(), NoMemory>
+    pub fn submit(&mut self, cards: &[u8], out: &mut Text) -> Result<(), Halt>
         requires whole { length cards.now % 81 ≡ 0 }
         requires some { 81 ≤ length cards.now }
         requires few { length cards.now < 81 * 4294967295 }
-        ensures { OnOk result (Serves self.old self.new (Deck cards.now ∷ []) out.old out.new) }
+        requires is_open { self.old.desk.store.fault ≡ None }
+        ensures serves { OnOk result (Serves (seen self.old) (seen self.new) (Deck cards.now ∷ []) out.old out.new) }
+        ensures trusted { OnOk result (IsTrusted D.told D.content D.may_leave self.old.desk → IsTrusted D.told D.content D.may_leave self.new.desk) }
+        ensures goes { IsTrusted D.told D.content D.may_leave self.old.desk → GoesBy D.content D.moment D.left_since D.size result self.old.desk self.new.desk }
+        ensures is_open { OnOk result (self.new.desk.store.fault ≡ None) }
+        ensures later { D.faults self.old.desk.store.disk ≤ D.faults self.new.desk.store.disk }
+        ensures halt { IfErr result (λ halt. HaltsSo halt (state_of self.old.desk) (Deck cards.now ∷ []) out.old out.new) }
+        ensures cause { IfErr result (λ halt. HaltCause halt (D.faults self.old.desk.store.disk) (D.faults self.new.desk.store.disk)) }
     {
         match self.desk.submit(cards) {
             Ok(Submitted::Job(number)) => self.accept(number, out),
             Ok(Submitted::Refused { number, card }) => self.refuse_deck(number, card, out),
-            Err(DeskError::NoMemory) => Err(NoMemory),
+            Err(StoreError::NoMemory) => Err(Halt::Memory),
+            Err(StoreError::BookFull { .. }) => Err(Halt::Book),
+            Err(StoreError::DiskFault) => Err(Halt::Disk),
+            Err(StoreError::Stopped { .. }) => unreachable!(),
         }
     }
 
-    fn accept(&mut self, number: u32, out: &mut Text) -> Result<(), NoMemory>
+    fn accept(&mut self, number: u32, out: &mut Text) -> Result<(), Halt>
         ensures office { self.new ≡ self.old }
-        ensures text { OnOk result (out.new ≡ out.old ++ answer_text (Accepted number (name_in number (runs_of self.old.desk)))) }
+        ensures text { OnOk result (out.new ≡ out.old ++ answer_text (Accepted number (name_in number (lines_of self.old.desk.run)))) }
+        ensures halt { IfErr result (λ halt. halt ≡ Halt.Memory) }
     {
-        accepted(number, name_in(number, self.desk.runs()), out)
+        match accepted(number, name_in(number, self.desk.runs()), out) {
+            Ok(()) => Ok(()),
+            Err(NoMemory) => Err(Halt::Memory),
+        }
     }
 
-    fn refuse_deck(&mut self, number: u8, card: u32, out: &mut Text) -> Result<(), NoMemory>
+    fn refuse_deck(&mut self, number: u8, card: u32, out: &mut Text) -> Result<(), Halt>
         ensures desk { self.new.desk ≡ self.old.desk }
         ensures refused { self.new.refused ≡ true }
         ensures text { OnOk result (out.new ≡ out.old ++ answer_text (DeckRefused number card)) }
+        ensures halt { IfErr result (λ halt. halt ≡ Halt.Memory) }
     {
         self.refused = true;
-        deck_refused(number, card, out)
+        match deck_refused(number, card, out) {
+            Ok(()) => Ok(()),
+            Err(NoMemory) => Err(Halt::Memory),
+        }
     }
 
     /// A command ends.
-    pub fn obey(&mut self, number: u32, text: &[u8], out: &mut Text) -> Result<(), NoMemory>
-        ensures { OnOk result (Serves self.old self.new (Command number text.now ∷ []) out.old out.new) }
+    pub fn obey(&mut self, number: u32, text: &[u8], out: &mut Text) -> Result<(), Halt>
+        requires is_open { self.old.desk.store.fault ≡ None }
+        ensures serves { IsTrusted D.told D.content D.may_leave self.old.desk → OnOk result (Serves (seen self.old) (seen self.new) (Command number text.now ∷ []) out.old out.new) }
+        ensures trusted { OnOk result (IsTrusted D.told D.content D.may_leave self.old.desk → IsTrusted D.told D.content D.may_leave self.new.desk) }
+        ensures goes { IsTrusted D.told D.content D.may_leave self.old.desk → GoesBy D.content D.moment D.left_since D.size result self.old.desk self.new.desk }
+        ensures is_open { OnOk result (self.new.desk.store.fault ≡ None) }
+        ensures later { D.faults self.old.desk.store.disk ≤ D.faults self.new.desk.store.disk }
+        ensures halt { IfErr result (λ halt. HaltsSo halt (state_of self.old.desk) (Command number text.now ∷ []) out.old out.new) }
+        ensures cause { IfErr result (λ halt. HaltCause halt (D.faults self.old.desk.store.disk) (D.faults self.new.desk.store.disk)) }
     {
+        let _layout = self.desk.layout();
         match read_order(text) {
             Order::Turns(count) => turned(&mut self.desk, count, out),
             Order::ListOf(name) => self.list(number, &name, out),
@@ -93,31 +134,48 @@ impl Office {
         }
     }
 
-    fn refuse_line(&mut self, number: u32, out: &mut Text) -> Result<(), NoMemory>
+    fn refuse_line(&mut self, number: u32, out: &mut Text) -> Result<(), Halt>
         ensures desk { self.new.desk ≡ self.old.desk }
         ensures refused { self.new.refused ≡ true }
         ensures text { OnOk result (out.new ≡ out.old ++ answer_text (LineRefused number)) }
+        ensures halt { IfErr result (λ halt. halt ≡ Halt.Memory) }
     {
         self.refused = true;
-        line_refused(number, out)
+        match line_refused(number, out) {
+            Ok(()) => Ok(()),
+            Err(NoMemory) => Err(Halt::Memory),
+        }
     }
 
-    fn list(&mut self, number: u32, name: &DsName, out: &mut Text) -> Result<(), NoMemory>
-        ensures desk { OnOk result (self.new.desk ≡ self.old.desk) }
-        ensures refused { OnOk result (self.new.refused ≡ (self.old.refused || is_refusal (list_answer number (records_of self.old.desk name.now)))) }
-        ensures text { OnOk result (out.new ≡ out.old ++ answer_text (list_answer number (records_of self.old.desk name.now))) }
+    fn list(&mut self, number: u32, name: &DsName, out: &mut Text) -> Result<(), Halt>
+        requires is_open { self.old.desk.store.fault ≡ None }
+        ensures state { OnOk result (state_of self.new.desk ≡ state_of self.old.desk) }
+        ensures refused { OnOk result (self.new.refused ≡ (self.old.refused || is_refusal (list_answer number (records_of self.old.desk.run name.now)))) }
+        ensures text { IsTrusted D.told D.content D.may_leave self.old.desk → OnOk result (out.new ≡ out.old ++ answer_text (list_answer number (records_of self.old.desk.run name.now))) }
+        ensures trusted { OnOk result (IsTrusted D.told D.content D.may_leave self.old.desk → IsTrusted D.told D.content D.may_leave self.new.desk) }
+        ensures goes { IsTrusted D.told D.content D.may_leave self.old.desk → GoesBy D.content D.moment D.left_since D.size result self.old.desk self.new.desk }
+        ensures is_open { OnOk result (self.new.desk.store.fault ≡ None) }
+        ensures later { D.faults self.old.desk.store.disk ≤ D.faults self.new.desk.store.disk }
+        ensures halt { IfErr result (λ halt. ListHalt halt (D.faults self.old.desk.store.disk) (D.faults self.new.desk.store.disk) out.old out.new) }
     {
         match self.desk.records(name) {
-            Ok(Some(records)) => listed(records.as_slice(), out),
+            Ok(Some(records)) => tell(records.as_slice(), out),
             Ok(None) => self.refuse_line(number, out),
-            Err(DeskError::NoMemory) => Err(NoMemory),
+            Err(StoreError::NoMemory) => Err(Halt::Memory),
+            Err(StoreError::DiskFault) => Err(Halt::Disk),
+            Err(StoreError::BookFull { .. } | StoreError::Stopped { .. }) => unreachable!(),
         }
     }
 
     /// A line is refused.
-    pub fn refuse(&mut self, number: u32, out: &mut Text) -> Result<(), NoMemory>
-        ensures { OnOk result (Serves self.old self.new (Refusal number ∷ []) out.old out.new) }
+    pub fn refuse(&mut self, number: u32, out: &mut Text) -> Result<(), Halt>
+        requires is_open { self.old.desk.store.fault ≡ None }
+        ensures serves { OnOk result (Serves (seen self.old) (seen self.new) (Refusal number ∷ []) out.old out.new) }
+        ensures desk { self.new.desk ≡ self.old.desk }
+        ensures goes { IsTrusted D.told D.content D.may_leave self.old.desk → Goes D.content D.moment D.left_since D.size self.old.desk self.new.desk }
+        ensures halt { IfErr result (λ halt. halt ≡ Halt.Memory) }
     {
+        let _layout = self.desk.layout();
         self.refuse_line(number, out)
     }
 }

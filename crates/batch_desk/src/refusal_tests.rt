@@ -1,12 +1,12 @@
 //! Decks that are refused, two for each rule, and the decks that are accepted when one byte of them is changed.
 use crate::tests::{NEVER, served};
-use std::alloc::{AllocError, Global};
+use std::alloc::Global;
 use std::test::Fail;
 
 /// The text that is written for a stream of one deck.
-fn text_of_deck(alloc: Global, deck: &[u8]) -> Result<Vec<u8>, AllocError> {
+fn text_of_deck(alloc: Global, deck: &[u8]) -> Result<Vec<u8>, Fail> {
     let (_, sink) = served(alloc, deck.to_vec(alloc)?, NEVER, NEVER)?;
-    sink.bytes().to_vec(alloc)
+    Ok(sink.bytes().to_vec(alloc)?)
 }
 
 /// Each deck with its refusal.

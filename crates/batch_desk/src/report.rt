@@ -1,12 +1,13 @@
 //! The lines for answers.
-ghost use Rattle.std.specs.Prelude.{◌≡◌, [], ◌∷◌, ◌++◌, OnOk, map, codes};
+ghost use Rattle.std.specs.Prelude.{◌≡◌, ◌≤◌, [], ◌∷◌, ◌++◌, OnOk, map, codes};
 ghost use Rattle.std.specs.Fmt.{decimal};
 ghost use Rattle.batch_desk.specs.Calls.{Accepted, DeckRefused, LineRefused, Listed};
-ghost use Rattle.batch_desk.specs.Texts.{answer_text, two_digits, job_text, reply_text, record_text, shown};
+ghost use Rattle.ckr_base.specs.CodeText.{code_text, number_of};
+ghost use Rattle.batch_desk.specs.Texts.{answer_text, two_digits, job_text, reply_text, end_text, rule_text, cause_text, record_text, shown, HasCodeText, IsTold};
 
 use crate::text::Text;
-use ckr_base::{NoMemory, Rec, trimmed};
-use ckr_desk::Reply;
+use ckr_base::{Code, NoMemory, Rec, trimmed};
+use ckr_course::{Cause, How, Reply, Rule};
 
 pub fn accepted(number: u32, name: &[u8], out: &mut Text) -> Result<(), NoMemory>
     ensures { OnOk result (out.new ≡ out.old ++ answer_text (Accepted number name.now)) }
@@ -44,11 +45,13 @@ pub fn line_refused(number: u32, out: &mut Text) -> Result<(), NoMemory>
 
 /// The line for so many replies in a row, of which this is the last.
 pub fn reply_line(reply: &Reply, times: u32, out: &mut Text) -> Result<(), NoMemory>
+    requires { IsTold reply.now }
     ensures { OnOk result (out.new ≡ out.old ++ reply_text reply.now times) }
 {
     out.push(b"I1 ")?;
     match reply {
         Reply::Idle => out.push(b"IDLE\n"),
+        Reply::NothingToFail => out.push(b"NOTHING TO FAIL\n"),
         Reply::Selected { job } => {
             out.job(*job)?;
             out.push(b" SELECTED\n")
@@ -67,9 +70,72 @@ pub fn reply_line(reply: &Reply, times: u32, out: &mut Text) -> Result<(), NoMem
             out.number(u32::from(*rc))?;
             out.push(b"\n")
         }
-        Reply::JobEnded { job, how: _ } => {
+        Reply::JobEnded { job, how } => {
             out.job(*job)?;
-            out.push(b" ENDED\n")
+            out.push(b" ENDED")?;
+            end(how, out)?;
+            out.push(b"\n")
+        }
+    }
+}
+
+/// How a job ended, behind `ENDED`.
+fn end(how: &How, out: &mut Text) -> Result<(), NoMemory>
+    requires { HasCodeText how.now }
+    ensures { OnOk result (out.new ≡ out.old ++ end_text how.now) }
+{
+    match how {
+        How::Completed => Ok(()),
+        How::Abended { code, rule } => abended(*code, *rule, out),
+        How::Allocation { step, dd, cause } => {
+            out.push(b" ")?;
+            out.push(step.text())?;
+            out.push(b" ")?;
+            out.push(dd.text())?;
+            not_allocated(cause, out)
+        }
+    }
+}
+
+fn abended(code: Code, rule: Rule, out: &mut Text) -> Result<(), NoMemory>
+    requires { number_of code ≤ 4095 }
+    ensures { OnOk result (out.new ≡ out.old ++ 32 ∷ (code_text code ++ 32 ∷ rule_text rule)) }
+{
+    out.push(b" ")?;
+    code_name(code, out)?;
+    out.push(b" ")?;
+    out.push(rule_name(rule))
+}
+
+fn code_name(code: Code, out: &mut Text) -> Result<(), NoMemory>
+    requires { number_of code ≤ 4095 }
+    ensures { OnOk result (out.new ≡ out.old ++ code_text code) }
+{
+    out.push(&code.write())
+}
+
+fn rule_name(rule: Rule) -> &'static [u8]
+    ensures { result.now ≡ rule_text rule }
+{
+    match rule {
+        Rule::A1 => b"A1",
+        Rule::A2 => b"A2",
+        Rule::A3 => b"A3",
+        Rule::A4 => b"A4",
+        Rule::A5 => b"A5",
+        Rule::A6 => b"A6",
+    }
+}
+
+fn not_allocated(cause: &Cause, out: &mut Text) -> Result<(), NoMemory>
+    ensures { OnOk result (out.new ≡ out.old ++ cause_text cause.now) }
+{
+    match cause {
+        Cause::NoSpace { need, free } => {
+            out.push(b" NO SPACE NEED ")?;
+            out.number(*need)?;
+            out.push(b" FREE ")?;
+            out.number(*free)
         }
     }
 }

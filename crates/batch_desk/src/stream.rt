@@ -1,12 +1,19 @@
 //! The whole stream, from the source to the sink.
-ghost use Rattle.std.specs.Prelude.{◌≡◌, ◌<◌, ◌≤◌, ◌+◌, ◌*◌, ◌^◌, OnOk, OnErr, IfOk, IfErr, length, take};
+ghost use Rattle.std.specs.Prelude.{◌≡◌, ◌<◌, ◌≤◌, ◌+◌, ◌*◌, ◌^◌, OnOk, OnErr, IfOk, IfErr, None, length, take};
 ghost use Rattle.std.specs.Io.KnownBytes.{Consumes, Keeps, IsAtEnd};
 ghost use Rattle.ckr_outside.specs.Faults.{Rose};
+ghost use Rattle.ckr_desk.specs.Sound.{IsTrusted};
+ghost use Rattle.batch_desk.specs.Keeping.{GoesBy, Within, WithinTo};
+ghost use Rattle.ckr_desk.specs.State.{state_of};
 ghost use Rattle.batch_desk.specs.Flows.{IsBegun};
-ghost use Rattle.batch_desk.specs.Served.{IsServed, IsStopped, FedAll, faults_of};
+ghost use Rattle.batch_desk.specs.Serves.{seen};
+ghost use Rattle.batch_desk.specs.Sessions.{HasWholeCards};
+ghost use Rattle.batch_desk.specs.Served.{Serving, FedAll, IsStopped, faults_of};
 
-use crate::flow::{Flow, Stop};
-use ckr_outside::{Failed, Sink, Source};
+use crate::flow::Flow;
+use crate::stop::Stop;
+use ckr_desk::Desk;
+use ckr_outside::{Disk, Failed, Sink, Source};
 use std::alloc::Global;
 
 /// The most bytes of a stream.
@@ -34,14 +41,26 @@ fn take_piece<S: Source>(source: &mut S, buffer: &mut [u8], count: usize) -> Res
 }
 
 /// Takes all of the stream and serves it, up to a last line without an end.
-fn feed_all<S: Source, K: Sink>(flow: &mut Flow, source: &mut S, sink: &mut K) -> Result<(), Stop>
-    requires { IsBegun flow.old }
-    ensures ok { OnOk result (FedAll flow.new (S.left source.old) (S.left source.new) (K.written sink.old) (K.written sink.new)) }
-    ensures stop { IfErr result (λ stop. IsStopped stop (faults_of (S.faults source.old) (S.faults source.new) (K.faults sink.old) (K.faults sink.new))
-        (S.left source.old) (S.left source.new) (K.written sink.old) (K.written sink.new)) }
+fn feed_all<S: Source, K: Sink, D: Disk>(
+    flow: &mut Flow<D>,
+    source: &mut S,
+    sink: &mut K,
+) -> Result<(), Stop>
+    requires begun { IsBegun flow.old }
+    requires is_open { flow.old.session.office.desk.store.fault ≡ None }
+    ensures ok { OnOk result (FedAll (IsTrusted D.told D.content D.may_leave flow.old.session.office.desk) (seen flow.old.session.office) flow.new (S.left source.old) (S.left source.new) (K.written sink.old) (K.written sink.new)) }
+    ensures trusted { OnOk result (IsTrusted D.told D.content D.may_leave flow.old.session.office.desk → IsTrusted D.told D.content D.may_leave flow.new.session.office.desk) }
+    ensures goes { IsTrusted D.told D.content D.may_leave flow.old.session.office.desk → GoesBy D.content D.moment D.left_since D.size result flow.old.session.office.desk flow.new.session.office.desk }
+    ensures is_open { OnOk result (flow.new.session.office.desk.store.fault ≡ None) }
+    ensures few { OnOk result (flow.new.session.number < 2 ^ 25) }
+    ensures whole { OnOk result (HasWholeCards flow.new.session) }
+    ensures stop { IfErr result (λ stop. IsStopped (IsTrusted D.told D.content D.may_leave flow.old.session.office.desk) (state_of flow.old.session.office.desk) stop
+        (faults_of (S.faults source.old) (S.faults source.new) (K.faults sink.old) (K.faults sink.new) (D.faults flow.old.session.office.desk.store.disk) (D.faults flow.new.session.office.desk.store.disk)) (S.left source.old) (S.left source.new) (K.written sink.old) (K.written sink.new)) }
     ensures source_later { S.faults source.old ≤ S.faults source.new }
     ensures sink_later { K.faults sink.old ≤ K.faults sink.new }
+    ensures disk_later { D.faults flow.old.session.office.desk.store.disk ≤ D.faults flow.new.session.office.desk.store.disk }
 {
+    let _layout = flow.session.office.desk.layout();
     let mut buffer = [0u8; PIECE];
     let mut count = 0;
     loop {
@@ -58,13 +77,51 @@ fn feed_all<S: Source, K: Sink>(flow: &mut Flow, source: &mut S, sink: &mut K) -
     }
 }
 
-/// Serves the whole stream. Answers whether a line or a deck was refused.
-pub fn serve<S: Source, K: Sink>(alloc: Global, source: &mut S, sink: &mut K) -> Result<bool, Stop>
-    ensures ok { IfOk result (λ refused. IsServed refused (S.left source.old) (S.left source.new) (K.written sink.old) (K.written sink.new)) }
-    ensures stop { IfErr result (λ stop. IsStopped stop (faults_of (S.faults source.old) (S.faults source.new) (K.faults sink.old) (K.faults sink.new))
-        (S.left source.old) (S.left source.new) (K.written sink.old) (K.written sink.new)) }
+/// The end of a stream: whether a line or a deck was refused, or why it wasn't served to its end; and the disk.
+pub struct Served<D: Disk> {
+    pub outcome: Result<bool, Stop>,
+    pub disk: D,
+}
+
+/// Serves the whole stream.
+pub fn serve<S: Source, K: Sink, D: Disk>(
+    alloc: Global,
+    source: &mut S,
+    sink: &mut K,
+    desk: Desk<D>,
+) -> Served<D>
+    requires is_open { desk.store.fault ≡ None }
+    ensures served { Serving (IsTrusted D.told D.content D.may_leave desk) (state_of desk) result.outcome
+        (faults_of (S.faults source.old) (S.faults source.new) (K.faults sink.old) (K.faults sink.new) (D.faults desk.store.disk) (D.faults result.disk)) (S.left source.old) (S.left source.new) (K.written sink.old) (K.written sink.new) }
+    ensures within { IsTrusted D.told D.content D.may_leave desk → WithinTo D.content D.moment D.left_since D.size desk result.disk }
+    ensures source_later { S.faults source.old ≤ S.faults source.new }
+    ensures sink_later { K.faults sink.old ≤ K.faults sink.new }
+    ensures disk_later { D.faults desk.store.disk ≤ D.faults result.disk }
 {
-    let mut flow = Flow::new(alloc);
-    feed_all(&mut flow, source, sink)?;
+    let mut flow = Flow::new(alloc, desk);
+    let outcome = serve_on(&mut flow, source, sink);
+    let Flow { session, .. } = flow;
+    Served {
+        outcome,
+        disk: session.close(),
+    }
+}
+
+/// Serves the whole stream by a flow that nothing has come to.
+fn serve_on<S: Source, K: Sink, D: Disk>(
+    flow: &mut Flow<D>,
+    source: &mut S,
+    sink: &mut K,
+) -> Result<bool, Stop>
+    requires begun { IsBegun flow.old }
+    requires is_open { flow.old.session.office.desk.store.fault ≡ None }
+    ensures served { Serving (IsTrusted D.told D.content D.may_leave flow.old.session.office.desk) (state_of flow.old.session.office.desk) result
+        (faults_of (S.faults source.old) (S.faults source.new) (K.faults sink.old) (K.faults sink.new) (D.faults flow.old.session.office.desk.store.disk) (D.faults flow.new.session.office.desk.store.disk)) (S.left source.old) (S.left source.new) (K.written sink.old) (K.written sink.new) }
+    ensures within { IsTrusted D.told D.content D.may_leave flow.old.session.office.desk → Within D.content D.moment D.left_since D.size flow.old.session.office.desk flow.new.session.office.desk }
+    ensures source_later { S.faults source.old ≤ S.faults source.new }
+    ensures sink_later { K.faults sink.old ≤ K.faults sink.new }
+    ensures disk_later { D.faults flow.old.session.office.desk.store.disk ≤ D.faults flow.new.session.office.desk.store.disk }
+{
+    feed_all(flow, source, sink)?;
     flow.end(sink)
 }

@@ -1,8 +1,24 @@
-//! The whole call over memory: what is written for a stream, and how the call ends.
-use crate::top::batch_desk;
-use ckr_outside::{MemSink, MemSource};
+//! The whole call over memory: what is written for a stream, what is left on the disk, and how the call ends.
+use crate::top::{Closed, batch_desk};
+use ckr_base::NoMemory;
+use ckr_outside::{MemDisk, MemSink, MemSource, Pick};
 use std::alloc::{AllocError, Global};
 use std::test::Fail;
+
+/// The installation of the worked streams.
+const CARDS: &[u8] =
+    b"INITIATORS 2\nUNITS 2\nBOOK 100000\nVOLUME VOL001 200000\nVOLUME VOL002 200000\n";
+
+/// The bytes of its disk.
+const SIZE: u64 = 500_512;
+
+/// A smaller one, and its disk.
+const SMALL_CARDS: &[u8] = b"BOOK 1000\nVOLUME VOL001 2000\n";
+
+const SMALL_SIZE: u64 = 3_512;
+
+const DECK: &[u8] =
+    b"//COPY1 JOB\n//S1 EXEC PGM=COPY\n//SYSUT1 DD *\nALPHA\nBETA\n/*\n//SYSUT2 DD DSN=OUT.A,DISP=(NEW,CATLG),SPACE=(80,10)\n//\n";
 
 const STREAM: &[u8] =
     b"//COPY1 JOB\n//S1 EXEC PGM=COPY\n//SYSUT1 DD *\nALPHA\nBETA\n/*\n//SYSUT2 DD DSN=OUT.A,DISP=(NEW,CATLG),SPACE=(80,10)\n//\n$T 1 9\n$R OUT.A\n";
@@ -22,18 +38,186 @@ fn words(alloc: Global, first: &str, second: &str) -> Result<Vec<String>, AllocE
     Ok(words)
 }
 
-/// The status and the sink after a stream whose source and sink fail at one call each.
-pub fn served(
+/// The status, the text and the disk after a call.
+#[derive(Drop)]
+struct Ended {
+    status: u8,
+    text: Vec<u8>,
+    disk: MemDisk,
+}
+
+/// One call with these words and this stream, whose source and sink don't fail.
+fn call(alloc: Global, command: &str, stream: &[u8], disk: MemDisk) -> Result<Ended, AllocError> {
+    let mut source = MemSource::new(stream.to_vec(alloc)?, Vec::new(alloc));
+    let mut sink = MemSink::new(alloc, Vec::new(alloc));
+    let words = words(alloc, command, "night.disk")?;
+    let Closed { status, disk } = batch_desk(alloc, &words, &mut source, &mut sink, disk);
+    Ok(Ended {
+        status,
+        text: sink.bytes().to_vec(alloc)?,
+        disk,
+    })
+}
+
+/// A disk that is formatted by these cards; a call of it fails, and from a call on all do.
+fn formatted(
     alloc: Global,
-    bytes: Vec<u8>,
-    take: u32,
-    put: u32,
-) -> Result<(u8, MemSink), AllocError> {
+    cards: &[u8],
+    size: u64,
+    failing: Option<u64>,
+    stop_at: Option<u64>,
+) -> Result<MemDisk, Fail> {
+    let mut calls = Vec::new(alloc);
+    if let Some(call) = failing {
+        calls.push(call)?;
+    }
+    let zeros = match MemDisk::new(alloc, size, calls, stop_at) {
+        Ok(disk) => disk,
+        Err(NoMemory) => return Err("there is memory".into()),
+    };
+    let ended = call(alloc, "format", cards, zeros)?;
+    if ended.status != 0 {
+        return Err("the disk is formatted".into());
+    }
+    Ok(ended.disk)
+}
+
+/// The status and the sink after a stream whose source and sink fail at one call each, on a fresh disk.
+pub fn served(alloc: Global, bytes: Vec<u8>, take: u32, put: u32) -> Result<(u8, MemSink), Fail> {
+    let disk = formatted(alloc, SMALL_CARDS, SMALL_SIZE, None, None)?;
     let mut source = MemSource::new(bytes, [take].to_vec(alloc)?);
     let mut sink = MemSink::new(alloc, [put].to_vec(alloc)?);
     let words = words(alloc, "run", "night.disk")?;
-    let closed = batch_desk(alloc, &words, &mut source, &mut sink);
+    let closed = batch_desk(alloc, &words, &mut source, &mut sink, disk);
     Ok((closed.status, sink))
+}
+
+#[test]
+fn worked_streams_on_one_disk(rt: HostRuntime) -> Result<(), Fail> {
+    let alloc = rt.alloc();
+    let disk = formatted(alloc, CARDS, SIZE, None, None)?;
+    let ended = call(alloc, "run", b"", disk)?;
+    assert!(rt; ended.status == 0 && ended.text.is_empty());
+    let ended = call(alloc, "run", STREAM, ended.disk)?;
+    assert!(rt; ended.status == 0 && ended.text.as_slice() == TEXT);
+    let ended = call(alloc, "run", b"$R OUT.A\n$T 1 1\n", ended.disk)?;
+    assert!(rt; ended.status == 0);
+    assert!(rt; ended.text.as_slice() == b"=ALPHA\n=BETA\nI1 IDLE\n".as_slice());
+    Ok(())
+}
+
+#[test]
+fn a_run_that_was_running_ends_when_the_disk_is_opened_again(rt: HostRuntime) -> Result<(), Fail> {
+    let alloc = rt.alloc();
+    let disk = formatted(alloc, CARDS, SIZE, None, None)?;
+    let mut first = DECK.to_vec(alloc)?;
+    first.extend_from_slice(b"$T 1 4\n")?;
+    let ended = call(alloc, "run", &first, disk)?;
+    assert!(rt; ended.status == 0);
+    let text =
+        b"J0000001 COPY1 SUBMITTED\nI1 J0000001 SELECTED\nI1 J0000001 S1 STARTED\nI1 J0000001 S1 WORKED 2 TAKEN 2\n";
+    assert!(rt; ended.text.as_slice() == text.as_slice());
+    let ended = call(alloc, "run", b"$T 1 2\n", ended.disk)?;
+    assert!(rt; ended.status == 0);
+    let text = b"I1 J0000001 ENDED S2F3 A2\nI1 IDLE\n";
+    assert!(rt; ended.text.as_slice() == text.as_slice());
+    Ok(())
+}
+
+#[test]
+fn the_book_is_full(rt: HostRuntime) -> Result<(), Fail> {
+    let alloc = rt.alloc();
+    let two = b"J0000001 COPY1 SUBMITTED\nI1 J0000001 SELECTED\n";
+    let table = [
+        (b"BOOK 592\nVOLUME VOL001 2000\n".as_slice(), two.as_slice()),
+        (b"BOOK 574\nVOLUME VOL001 2000\n".as_slice(), b"".as_slice()),
+    ];
+    for (cards, text) in table {
+        let disk = formatted(alloc, cards, SMALL_SIZE, None, None)?;
+        let ended = call(alloc, "run", STREAM, disk)?;
+        assert!(rt; ended.status == 3 && ended.text.as_slice() == text);
+        let ended = call(alloc, "run", b"", ended.disk)?;
+        assert!(rt; ended.status == 0);
+    }
+    Ok(())
+}
+
+#[test]
+fn other_disks_are_refused(rt: HostRuntime) -> Result<(), Fail> {
+    let alloc = rt.alloc();
+    let zeros = match MemDisk::new(alloc, SIZE, Vec::new(alloc), None) {
+        Ok(disk) => disk,
+        Err(NoMemory) => return Err("there is memory".into()),
+    };
+    let ended = call(alloc, "run", STREAM, zeros)?;
+    assert!(rt; ended.status == 2 && ended.text.is_empty());
+    let ended = call(alloc, "fly", STREAM, ended.disk)?;
+    assert!(rt; ended.status == 1 && ended.text.is_empty());
+    let ended = call(
+        alloc,
+        "format",
+        b"UNITS 2\nVOLUME VOL001 200000\nUNITS 2\n",
+        ended.disk,
+    )?;
+    assert!(rt; ended.status == 8 && ended.text.as_slice() == b"LINE 3 REFUSED\n".as_slice());
+    let ended = call(alloc, "format", b"UNITS 2\n", ended.disk)?;
+    assert!(rt; ended.status == 8 && ended.text.as_slice() == b"NO VOLUME\n".as_slice());
+    let ended = call(alloc, "format", CARDS, ended.disk)?;
+    let text = b"FORMATTED VOLUMES 2 UNITS 2 INITIATORS 2\n";
+    assert!(rt; ended.status == 0 && ended.text.as_slice() == text.as_slice());
+    Ok(())
+}
+
+/// How many calls of the disk its formatting makes.
+fn calls_of_formatting(alloc: Global) -> Result<u64, Fail> {
+    let disk = formatted(alloc, SMALL_CARDS, SMALL_SIZE, None, None)?;
+    Ok(disk.calls().len() as u64)
+}
+
+#[test]
+fn each_call_of_the_disk_fails_in_turn(rt: HostRuntime) -> Result<(), Fail> {
+    let alloc = rt.alloc();
+    let before = calls_of_formatting(alloc)?;
+    for call_after in 0..1000u64 {
+        let failing = before.saturating_add(call_after);
+        let disk = formatted(alloc, SMALL_CARDS, SMALL_SIZE, Some(failing), None)?;
+        let ended = call(alloc, "run", STREAM, disk)?;
+        assert!(rt; TEXT.starts_with(&ended.text), "call {call_after}");
+        if ended.status == 0 {
+            assert!(rt; 20 < call_after && ended.text.as_slice() == TEXT);
+            return Ok(());
+        }
+        assert!(rt; ended.status == 6, "call {call_after}");
+        let again = call(alloc, "run", b"", ended.disk)?;
+        assert!(rt; again.status == 0, "call {call_after}");
+    }
+    Err("the stream is served in the end".into())
+}
+
+#[test]
+fn any_stop_leaves_a_disk_that_opens_with_what_was_answered(rt: HostRuntime) -> Result<(), Fail> {
+    let alloc = rt.alloc();
+    let before = calls_of_formatting(alloc)?;
+    for pick in [Pick::Kept, Pick::Lost, Pick::Filled(165)] {
+        for call_after in 0..1000u64 {
+            let stop_at = before.saturating_add(call_after);
+            let disk = formatted(alloc, SMALL_CARDS, SMALL_SIZE, None, Some(stop_at))?;
+            let ended = call(alloc, "run", STREAM, disk)?;
+            assert!(rt; TEXT.starts_with(&ended.text), "call {call_after}");
+            if ended.status == 0 {
+                break;
+            }
+            assert!(rt; ended.status == 6, "call {call_after}");
+            // A job that was acknowledged is there, and so the desk takes no second one.
+            let again = call(alloc, "run", DECK, ended.disk.stop(pick))?;
+            assert!(rt; again.status == 0 || again.status == 8, "call {call_after}");
+            assert!(rt;
+                ended.text.is_empty() || again.status == 8,
+                "call {call_after}"
+            );
+        }
+    }
+    Ok(())
 }
 
 #[test]
@@ -106,19 +290,5 @@ fn a_stream_of_too_many_bytes_is_not_served(rt: HostRuntime) -> Result<(), Fail>
     assert!(rt; sink.bytes().is_empty());
     let (ended, _) = served(alloc, vec![in alloc; b'\n'; 16_777_216]?, NEVER, NEVER)?;
     assert!(rt; ended == 0, "{ended}");
-    Ok(())
-}
-
-#[test]
-fn other_words_are_refused(rt: HostRuntime) -> Result<(), Fail> {
-    let alloc = rt.alloc();
-    for (first, second) in [("fly", ""), ("run", ""), ("fly", "night.disk")] {
-        let mut source = MemSource::new(STREAM.to_vec(alloc)?, Vec::new(alloc));
-        let mut sink = MemSink::new(alloc, Vec::new(alloc));
-        let words = words(alloc, first, second)?;
-        let closed = batch_desk(alloc, &words, &mut source, &mut sink);
-        assert!(rt; closed.status == 1, "{first} {second}");
-        assert!(rt; sink.bytes().is_empty());
-    }
     Ok(())
 }

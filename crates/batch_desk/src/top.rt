@@ -1,82 +1,161 @@
 //! The top call.
-ghost use Rattle.std.specs.Prelude.{◌≡◌, ◌<◌, ◌≤◌, ◌↔◌, ◌⊎◌, IfSome, length, map, string_bytes, take, true, false};
-ghost use Rattle.std.specs.Io.KnownBytes.{Appends, IsAtEnd, Keeps};
-ghost use Rattle.ckr_outside.specs.Faults.{Rose};
-ghost use Rattle.ckr_outside.specs.Front.{AppendsFront};
-ghost use Rattle.batch_desk.specs.Stream.{ended_text, has_refusal, text_of};
+ghost use Rattle.std.specs.Prelude.{◌≡◌, ◌≤◌, ◌↔◌, Ok, map, string_bytes};
+ghost use Rattle.std.specs.Io.KnownBytes.{Keeps};
+ghost use Rattle.ckr_desk.specs.Opening.{opening_of};
+ghost use Rattle.ckr_formatting.specs.Formats.{IsFormatted};
+ghost use Rattle.ckr_outside.specs.Disk.{EachSince};
+ghost use Rattle.batch_desk.specs.Keeping.{IsSafe};
+ghost use Rattle.batch_desk.specs.Served.{faults_of};
 ghost use Rattle.batch_desk.specs.Words.{command_of};
-ghost use Rattle.batch_desk.specs.Closing.{status_of, IsServingStatus, HasTakenText};
+ghost use Rattle.batch_desk.specs.Closing.{AllSound, HasFormatted, HasRun, serving_status, opening_status, formatting_status};
 
-use crate::flow::Stop;
-use crate::stream::serve;
-use crate::words::{WordsError, read_words};
-use ckr_outside::{Sink, Source};
+use crate::stop::Stop;
+use crate::stream::{Served, serve};
+use crate::words::{Command, WordsError, read_words};
+use ckr_desk::{Desk, OpenError, Opening};
+use ckr_formatting::{Outcome, format_disk};
+use ckr_outside::{Disk, Sink, Source};
 use std::alloc::Global;
 
-/// How the call ended.
-#[derive(Clone, Copy, Debug, PartialEq, Eq)]
-pub struct Closed {
+/// How the call ended, and the disk.
+#[derive(Debug, Drop)]
+pub struct Closed<D> {
     pub status: u8,
+    pub disk: D,
 }
 
 /// The status of a stream that was served.
-fn status_of(outcome: Result<bool, Stop>) -> u8
-    ensures value { result ≡ status_of outcome }
-    ensures known { IsServingStatus result }
+fn serving_status(outcome: Result<bool, Stop>) -> u8
+    ensures { result ≡ serving_status outcome }
 {
     match outcome {
         Ok(false) => 0,
         Ok(true) => 8,
+        Err(Stop::Book) => 3,
         Err(Stop::Source) => 4,
         Err(Stop::Sink) => 5,
+        Err(Stop::Disk) => 6,
         Err(Stop::Memory) => 7,
         Err(Stop::Limit) => 9,
     }
 }
 
-/// Serves the stream by the words, and answers how that ended:
+/// The status of a disk that isn't opened.
+fn opening_status(error: OpenError) -> u8
+    ensures { result ≡ opening_status error }
+{
+    match error {
+        OpenError::NoMemory => 7,
+        OpenError::Fault => 6,
+        OpenError::NotFormatted
+        | OpenError::Version(_)
+        | OpenError::BadHeader { .. }
+        | OpenError::BadBook { .. } => 2,
+    }
+}
+
+/// Serves the stream on the disk.
+fn run<S: Source, K: Sink, D: Disk>(
+    alloc: Global,
+    source: &mut S,
+    sink: &mut K,
+    disk: D,
+) -> Closed<D>
+    ensures run { HasRun D.told (AllSound D.told D.may_leave D.size disk) (opening_of (D.content disk) (D.size disk)) result.status
+        (faults_of (S.faults source.old) (S.faults source.new) (K.faults sink.old) (K.faults sink.new) (D.faults disk) (D.faults result.disk))
+        (S.left source.old) (S.left source.new) (K.written sink.old) (K.written sink.new) }
+
+    // A stop at any moment leaves a disk that opens, has what its events have committed, and lacks no event.
+    ensures safe { AllSound D.told D.may_leave D.size disk → EachSince D.moment D.left_since disk result.disk (IsSafe (D.may_leave disk) (D.content disk) (D.size disk)) }
+{
+    match Desk::open_on(alloc, disk) {
+        Ok(desk) => {
+            let Served { outcome, disk } = serve(alloc, source, sink, desk);
+            Closed {
+                status: serving_status(outcome),
+                disk,
+            }
+        }
+        Err(Opening { error, disk }) => Closed {
+            status: opening_status(error),
+            disk,
+        },
+    }
+}
+
+/// The status of formatting a disk.
+fn formatting_status(outcome: Outcome) -> u8
+    ensures { result ≡ formatting_status outcome }
+{
+    match outcome {
+        Outcome::Formatted => 0,
+        Outcome::SourceFailed => 4,
+        Outcome::SinkFailed => 5,
+        Outcome::DiskFailed => 6,
+        Outcome::NoMemory => 7,
+        Outcome::Refused => 8,
+        Outcome::TooLong => 9,
+    }
+}
+
+/// Formats the disk by the cards of the source.
+fn format<S: Source, K: Sink, D: Disk>(
+    alloc: Global,
+    source: &mut S,
+    sink: &mut K,
+    mut disk: D,
+) -> Closed<D>
+    ensures formatted { HasFormatted D.told (D.size disk) (IsFormatted D.told (D.content result.disk) (D.may_leave result.disk) (D.size result.disk)) (result.disk ≡ disk)
+        (AllSound D.told D.may_leave D.size result.disk) result.status
+        (faults_of (S.faults source.old) (S.faults source.new) (K.faults sink.old) (K.faults sink.new) (D.faults disk) (D.faults result.disk))
+        (S.left source.old) (S.left source.new) (K.written sink.old) (K.written sink.new) }
+{
+    let outcome = format_disk(alloc, source, sink, &mut disk);
+    Closed {
+        status: formatting_status(outcome),
+        disk,
+    }
+}
+
+/// Does what the words ask for, and answers how that ended:
 ///
 /// | Status | |
 /// |---|---|
 /// | 0 | the source was read to its end, and nothing was refused |
 /// | 1 | the words are no command |
-/// | 4, 5 | the source, the sink failed |
+/// | 2 | the disk isn't one that is formatted, or what it holds is wrong |
+/// | 3 | the book has no room for an event |
+/// | 4, 5, 6 | the source, the sink, the disk failed |
 /// | 7 | there is no memory |
 /// | 8 | the source was read to its end, and a line or a deck was refused |
 /// | 9 | the source gave more bytes than a stream may have |
-pub fn batch_desk<S: Source, K: Sink>(
+pub fn batch_desk<S: Source, K: Sink, D: Disk>(
     alloc: Global,
     words: &[String],
     source: &mut S,
     sink: &mut K,
-) -> Closed
-    // The words alone decide on status 1, and nothing is taken or written then.
-    ensures words { (result.status ≡ 1) ↔ (command_of (map string_bytes words.now) ≡ Err WordsError.Refused) }
-    ensures refused_words { result.status ≡ 1 → Keeps (S.left source.old) (S.left source.new) × Keeps (K.written sink.old) (K.written sink.new) }
+    disk: D,
+) -> Closed<D>
+    // The words alone decide on status 1, and nothing is taken, written or done on the disk then.
+    ensures words { command_of (map string_bytes words.now) ≡ Err WordsError.Refused → (result.status ≡ 1) × (result.disk ≡ disk)
+        × Keeps (S.left source.old) (S.left source.new) × Keeps (K.written sink.old) (K.written sink.new) }
+    ensures formatted { command_of (map string_bytes words.now) ≡ Ok Command.Format →
+        HasFormatted D.told (D.size disk) (IsFormatted D.told (D.content result.disk) (D.may_leave result.disk) (D.size result.disk)) (result.disk ≡ disk)
+        (AllSound D.told D.may_leave D.size result.disk) result.status
+        (faults_of (S.faults source.old) (S.faults source.new) (K.faults sink.old) (K.faults sink.new) (D.faults disk) (D.faults result.disk))
+        (S.left source.old) (S.left source.new) (K.written sink.old) (K.written sink.new) }
+    ensures run { command_of (map string_bytes words.now) ≡ Ok Command.Run →
+        HasRun D.told (AllSound D.told D.may_leave D.size disk) (opening_of (D.content disk) (D.size disk)) result.status
+        (faults_of (S.faults source.old) (S.faults source.new) (K.faults sink.old) (K.faults sink.new) (D.faults disk) (D.faults result.disk))
+        (S.left source.old) (S.left source.new) (K.written sink.old) (K.written sink.new) }
 
-    // Read to the end: all of the text for all of the bytes is written.
-    ensures text { (result.status ≡ 0) ⊎ (result.status ≡ 8) → IfSome (S.left source.old) (λ all.
-        IsAtEnd (S.left source.new) × Appends (K.written sink.old) (K.written sink.new) (text_of all)) }
-    ensures within { (result.status ≡ 0) ⊎ (result.status ≡ 8) → IfSome (S.left source.old) (λ all. length all ≤ 16_777_216) }
-    ensures accepted { result.status ≡ 0 → IfSome (S.left source.old) (λ all. has_refusal all ≡ false) }
-    ensures refused { result.status ≡ 8 → IfSome (S.left source.old) (λ all. has_refusal all ≡ true) }
-
-    // At every other end a front of that text is written.
-    ensures front { IfSome (S.left source.old) (λ all. AppendsFront (K.written sink.old) (K.written sink.new) (text_of all)) }
-
-    // At a fault of the source and at the limit, it is the text of the items that ended within the bytes given.
-    ensures at_fault { result.status ≡ 4 → HasTakenText (S.left source.old) (S.left source.new) (K.written sink.old) (K.written sink.new) }
-    ensures at_limit { result.status ≡ 9 → IfSome (S.left source.old) (λ all.
-        (16_777_216 < length all) × Appends (K.written sink.old) (K.written sink.new) (ended_text (take 16_777_216 all))) }
-
-    ensures source_failed { result.status ≡ 4 → Rose (S.faults source.old) (S.faults source.new) }
-    ensures sink_failed { result.status ≡ 5 → Rose (K.faults sink.old) (K.faults sink.new) }
-    ensures statuses { (result.status ≡ 1) ⊎ IsServingStatus result.status }
+    // Of a run: a stop at any moment leaves a disk that opens, has what its events have committed, and lacks no event.
+    ensures safe { command_of (map string_bytes words.now) ≡ Ok Command.Run → AllSound D.told D.may_leave D.size disk →
+        EachSince D.moment D.left_since disk result.disk (IsSafe (D.may_leave disk) (D.content disk) (D.size disk)) }
 {
-    if read_words(words).is_err() {
-        return Closed { status: 1 };
-    }
-    Closed {
-        status: status_of(serve(alloc, source, sink)),
+    match read_words(words) {
+        Ok(Command::Run) => run(alloc, source, sink, disk),
+        Ok(Command::Format) => format(alloc, source, sink, disk),
+        Err(WordsError::Refused) => Closed { status: 1, disk },
     }
 }

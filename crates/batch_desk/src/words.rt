@@ -1,12 +1,14 @@
 //! The words of the program.
 ghost use Rattle.std.specs.Prelude.{◌≡◌, map, string_bytes};
-ghost use Rattle.batch_desk.specs.Words.{is_run, command_of};
+ghost use Rattle.batch_desk.specs.Words.{command_named, command_of, disk_place_of};
 
 use thiserror::Error;
 
 /// What the program is asked to do.
 #[derive(Clone, Copy, PartialEq, Eq, Debug)]
 pub enum Command {
+    /// `format DISK`: to format a disk by installation cards.
+    Format,
     /// `run DISK`: to serve a stream.
     Run,
 }
@@ -19,14 +21,16 @@ pub enum WordsError {
     Refused,
 }
 
-/// Whether the words are `run DISK`.
-fn is_run(words: &[String]) -> bool
-    ensures { result ≡ is_run (map string_bytes words.now) }
+fn command_named(word: &str) -> Result<Command, WordsError>
+    ensures { result ≡ command_named word.now }
 {
-    match words {
-        [command, _disk] => command.as_str() == "run",
-        _ => false,
+    if word == "format" {
+        return Ok(Command::Format);
     }
+    if word == "run" {
+        return Ok(Command::Run);
+    }
+    Err(WordsError::Refused)
 }
 
 /// The command that the words are, which are those behind the program's own name. `Refused` comes exactly where they
@@ -34,9 +38,18 @@ fn is_run(words: &[String]) -> bool
 pub fn read_words(words: &[String]) -> Result<Command, WordsError>
     ensures { result ≡ command_of (map string_bytes words.now) }
 {
-    if is_run(words) {
-        Ok(Command::Run)
-    } else {
-        Err(WordsError::Refused)
+    match words {
+        [command, _disk] => command_named(command.as_str()),
+        _ => Err(WordsError::Refused),
+    }
+}
+
+/// The place of the word DISK, counted from 0. None comes exactly where the words are in no command's grammar.
+pub fn disk_place(words: &[String]) -> Option<u32>
+    ensures { result ≡ disk_place_of (map string_bytes words.now) }
+{
+    match read_words(words) {
+        Ok(Command::Format | Command::Run) => Some(1),
+        Err(WordsError::Refused) => None,
     }
 }

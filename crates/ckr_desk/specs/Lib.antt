@@ -1,5 +1,5 @@
-pub mod CopyJob
-pub mod Turning
-pub mod Submitting
-pub mod Kept
-pub mod Filing
+pub mod State
+pub mod Opening
+pub mod Replaying
+pub mod Sound
+pub mod Calls

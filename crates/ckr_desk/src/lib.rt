@@ -1,19 +1,12 @@
-//! The desk: decks are submitted as jobs, jobs run turn by turn, and the data sets that they leave are listed.
+//! The desk: decks are submitted as jobs, jobs run turn by turn, and any stop of its disk is gone on from.
 #![tactic(auto)]
 
-mod copy_job;
 mod desk;
 mod error;
-mod filing;
-mod reply;
-mod run;
-mod stage;
+mod opening;
+mod reading;
 #[cfg(test)]
 mod tests;
 
-pub use copy_job::CopyJob;
-pub use desk::{Desk, RunStanding};
-pub use error::DeskError;
-pub use reply::{How, Reply, Submitted, Turn};
-pub use run::{Run, RunState};
-pub use stage::Stage;
+pub use desk::Desk;
+pub use error::{Formatting, OpenError, Opening};

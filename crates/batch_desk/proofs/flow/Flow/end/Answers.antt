@@ -1,13 +1,39 @@
-use Rattle.batch_desk.proofs.Finish.{finished_by, finish_broken_by, finish_unwritten_by}
+use Rattle.ckr_desk.specs.State.{state_of}
+use Rattle.batch_desk.specs.Serves.{seen}
+use Rattle.batch_desk.specs.Flows.{end_requests}
+use Rattle.batch_desk.proofs.Feeds.{handed_on}
+use Rattle.batch_desk.proofs.Finish.{finished, finish_broken}
+use Rattle.batch_desk.proofs.Written.{halted, unwritten}
+use Rattle.batch_desk.proofs.Keeping.{handed_within}
 use Rattle.batch_desk.proofs.flow.Flow.end.Goals as goal
 
-pub returns-in_err-end_requests-clause-err : goal.returns-in_err-end_requests-clause-err
-returns-in_err-end_requests-clause-err g c = finish_unwritten_by _ _ _
+pub returns-in-Ok-clause-ok : goal.returns-in-Ok-clause-ok
+returns-in-Ok-clause-ok g c holds =
+    finished c.args.self.now (seen c.end_requests.new.self.session.office) _ _ c.new-out.result c.end_requests.new.out
+    (c.in-Ok.ensures.serves holds) c.new-out.ensures c.in_ok-write-in-Ok.ensures.ok
 
-pub returns-in_err-write-clause-err : goal.returns-in_err-write-clause-err
-returns-in_err-write-clause-err g c =
-    finish_broken_by _ c.args.self.now c.end_requests.new.self.session.office _ _ _ _ c.in_ok-end_requests.ensures c.new-out.ensures c.in_err-write.ensures.err
+pub returns-in_err-write-in-Ok-clause-err : goal.returns-in_err-write-in-Ok-clause-err
+returns-in_err-write-in-Ok-clause-err g c holds =
+    let f = c.args.self.now in
+    let stop = c.in_err-write-in-Ok.field-0.0 in
+    let e = c.in_err-write-in-Ok.ensures in
+    let before = g.K.Sink.faults c.args.sink.now in
+    let now = g.K.Sink.faults c.write.new.sink in
+    let old = g.K.Sink.written c.args.sink.now in
+    let new = g.K.Sink.written c.write.new.sink in
+    handed_on c.from_residual.result stop _ c.from_residual.ensures.1
+    (finish_broken stop before now f old new
+    (unwritten (seen f.session.office) (seen c.end_requests.new.self.session.office) (end_requests f) c.new-out.result c.end_requests.new.out stop before now old new
+    (c.in-Ok.ensures.serves holds) c.new-out.ensures e.cause.0 e.err))
 
-pub returns-clause-ok : goal.returns-clause-ok
-returns-clause-ok g c =
-    finished_by c.args.self.now c.end_requests.new.self.session.office _ _ _ _ c.in_ok-end_requests.ensures c.new-out.ensures c.in_ok-write.ensures.ok
+pub returns-clause-err : goal.returns-clause-err
+returns-clause-err g c holds =
+    finish_broken c.write_rest.result _ _ c.args.self.now _ _
+    (halted c.in-Err.halt c.write_rest.result _ _ (state_of c.args.self.now.session.office.desk) (end_requests c.args.self.now) c.new-out.result c.end_requests.new.out _ _
+    c.new-out.ensures (c.in-Err.ensures.halt holds) c.write_rest.ensures.writes)
+
+pub returns-in_err-write-in-Ok-clause-goes : goal.returns-in_err-write-in-Ok-clause-goes
+returns-in_err-write-in-Ok-clause-goes g c holds =
+    let d = g.D.Disk in
+    handed_within d.told d.content d.may_leave d.moment d.left_since d.size d.faults c.from_residual.result c.in_err-write-in-Ok.field-0.0 c.args.self.now.session.office.desk c.end_requests.new.self.session.office.desk c.from_residual.ensures.1
+    (c.in-Ok.ensures.goes holds).within
