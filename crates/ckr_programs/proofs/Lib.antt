@@ -1,0 +1,5 @@
+pub mod Taken
+pub mod Written
+pub mod Ranges
+pub mod Done
+pub mod Together

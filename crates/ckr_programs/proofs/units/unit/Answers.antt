@@ -1,0 +1,22 @@
+use Rattle.std.proofs.Common.{◌+◌, sym, ◌∙◌, subst}
+use Rattle.ckr_programs.specs.Units.{IsUnitAt, StandsFor}
+use Rattle.ckr_programs.specs.Steps.{record_unit}
+use Rattle.ckr_programs.proofs.Done.{record_done, record_stands, closing_done}
+use Rattle.ckr_programs.proofs.units.unit.Goals as goal
+
+pub returns-in-Some-clause-work : goal.returns-in-Some-clause-work
+returns-in-Some-clause-work c = λ case taken at.
+    let next = subst (λ head. IsUnitAt c.args.state.now c.args.parm.now head case taken) c.in-Some.is at in
+    c.take.ensures.done ∙ record_done c.args.state.now c.args.parm.now case taken c.in-Some.head next
+
+pub returns-in-Some-clause-stands : goal.returns-in-Some-clause-stands
+returns-in-Some-clause-stands c = λ case taken at.
+    let next = subst (λ head. IsUnitAt c.args.state.now c.args.parm.now head case taken) c.in-Some.is at in
+    subst (λ unit. StandsFor c.take.new.state case (taken + unit.taken)) (sym c.take.ensures.done)
+    (subst (λ state. StandsFor state case (taken + (record_unit c.args.parm.now c.args.state.now c.in-Some.head).taken)) (sym c.take.ensures.state)
+    (record_stands c.args.state.now c.args.parm.now case taken c.in-Some.head next))
+
+pub returns-in-None-clause-work : goal.returns-in-None-clause-work
+returns-in-None-clause-work c = λ case taken at.
+    let next = subst (λ head. IsUnitAt c.args.state.now c.args.parm.now head case taken) c.in-None.is at in
+    c.close.ensures.done ∙ closing_done c.args.state.now c.args.parm.now case taken next
