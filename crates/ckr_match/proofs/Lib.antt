@@ -1,0 +1,10 @@
+pub mod Keys
+pub mod Sorted
+pub mod Walk
+pub mod Groups
+pub mod Held
+pub mod Places
+pub mod Pushed
+pub mod Done
+pub mod Together
+pub mod Rejects

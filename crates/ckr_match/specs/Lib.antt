@@ -1,0 +1,7 @@
+pub mod Taken
+pub mod Images
+pub mod State
+pub mod Master
+pub mod Work
+pub mod Steps
+pub mod Units
