@@ -1,0 +1,3 @@
+pub mod Disposing
+pub mod Naming
+pub mod Using

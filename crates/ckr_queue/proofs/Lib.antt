@@ -1,0 +1,5 @@
+pub mod Edits
+pub mod Halving
+pub mod Places
+pub mod Rising
+pub mod Selecting

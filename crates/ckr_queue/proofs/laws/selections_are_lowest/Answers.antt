@@ -1,0 +1,5 @@
+use Rattle.ckr_queue.proofs.Selecting.{selection-lowest}
+use Rattle.ckr_queue.proofs.laws.selections_are_lowest.Goals as goal
+
+pub returns : goal.returns
+returns c = selection-lowest

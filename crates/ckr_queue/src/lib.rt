@@ -1,0 +1,12 @@
+//! The queue of jobs: which job is next.
+#![tactic(auto)]
+
+mod entry;
+mod laws;
+mod queue;
+#[cfg(test)]
+mod tests;
+
+pub use entry::{Entry, QueueState, Selection};
+pub use laws::{idle_where_none_may_start, selections_are_lowest};
+pub use queue::Queue;

@@ -1,0 +1,211 @@
+//! The runs that have neither ended nor been purged, in the order of their numbers.
+ghost use Rattle.std.specs.Prelude.{◌≡◌, [], None, Some, ◌≤◌, IsTrue, OnOk, OnErr, length, slice_get, position, find, if◌then◌else◌};
+ghost use Rattle.std.specs.Option.{option_copied};
+ghost use Rattle.ckr_library.specs.Places.{lead};
+ghost use Rattle.ckr_queue.specs.declared.entry.QueueState.TheVariants.{Selected as SelectedRun, Held as HeldRun, Released as ReleasedRun};
+ghost use Rattle.ckr_queue.specs.Queue.{is_of, is_below, is_in, is_held, is_queued, may_start, may_take, queued, rises, selection_of, state_of, with_entry, with_state, without, MayTake};
+
+use crate::entry::may_start;
+use crate::{Entry, QueueState, Selection};
+use ckr_base::NoMemory;
+use ckr_dispositions::Uses;
+use std::alloc::Global;
+use std::marker::Model;
+
+/// The runs of which one may be next, in the order of their numbers. What has ended or was purged isn't kept, so that many
+/// ended runs don't slow the queue down.
+#[derive(Debug, Drop)]
+pub struct Queue {
+    entries: Vec<Entry>,
+}
+
+impl Model for Queue {
+    ghost use Rattle.std.specs.Prelude.{List, IsTrue};
+    ghost use Rattle.ckr_queue.specs.declared.entry.Entry.{Entry};
+    ghost use Rattle.ckr_queue.specs.Queue.{rises};
+
+    ghost Value = { List Entry };
+
+    ghost view = { λ a. a.entries.items };
+
+    ghost invariant = { λ a. IsTrue (rises a.entries.items) };
+}
+
+impl Queue {
+    /// No runs. It takes no memory.
+    pub fn new(alloc: Global) -> Queue
+        ensures { result ≡ [] }
+    {
+        Queue {
+            entries: Vec::new(alloc),
+        }
+    }
+
+    /// Adds a run of a number that the queue doesn't have, as queued.
+    ///
+    /// `NoMemory`: nothing has changed.
+    pub fn submit(&mut self, number: u32, uses: Uses) -> Result<(), NoMemory>
+        requires { state_of number self.old ≡ None }
+        ensures ok { OnOk result (self.new ≡ with_entry (queued number uses) self.old) }
+        ensures err { OnErr result (self.new ≡ self.old) }
+    {
+        let place = place_for(self.entries.as_slice(), number);
+        let state = QueueState::Queued;
+        self.entries.insert(
+            place,
+            Entry {
+                number,
+                state,
+                uses,
+            },
+        )?;
+        Ok(())
+    }
+
+    /// The lowest number that is released, or is queued and whose uses don't hold against those of a run that is selected and
+    /// hasn't ended. `Idle` exactly where there is none.
+    #[tactic(auto, using(crate::proofs::Selecting::first_may_be_taken), unfolding(crate::specs::Queue::selection_of))]
+    pub fn select(&self) -> Selection
+        ensures selection { result ≡ selection_of self.now }
+        ensures order { IsTrue (rises self.now) }
+        ensures may { MayTake self.now result }
+    {
+        let entries = self.entries.as_slice();
+        match first_to_start(entries) {
+            Some(entry) => Selection::Job(entry.number),
+            None => Selection::Idle,
+        }
+    }
+
+    /// An initiator takes a run that may start, as the one that `select` gives.
+    pub fn take(&mut self, number: u32)
+        requires { IsTrue (may_take number self.old) }
+        ensures { self.new ≡ with_state number SelectedRun self.old }
+    {
+        self.set_state(number, QueueState::Selected);
+    }
+
+    /// The operator holds a run that is selected. It keeps its names.
+    pub fn hold(&mut self, number: u32)
+        requires { state_of number self.old ≡ Some SelectedRun }
+        ensures { self.new ≡ with_state number HeldRun self.old }
+    {
+        self.set_state(number, QueueState::Held);
+    }
+
+    /// The operator releases a run. False exactly where the run isn't held; then nothing changes.
+    pub fn release(&mut self, number: u32) -> bool
+        ensures answer { result ≡ is_in is_held number self.old }
+        ensures entries { self.new ≡ (if is_in is_held number self.old then with_state number ReleasedRun self.old else self.old) }
+    {
+        let held = matches!(
+            state_of(self.entries.as_slice(), number),
+            Some(QueueState::Held)
+        );
+        if held {
+            self.set_state(number, QueueState::Released);
+        }
+        held
+    }
+
+    /// Takes a run out that waits to be selected. False exactly where the run isn't queued; then nothing changes.
+    pub fn purge(&mut self, number: u32) -> bool
+        ensures answer { result ≡ is_in is_queued number self.old }
+        ensures entries { self.new ≡ (if is_in is_queued number self.old then without number self.old else self.old) }
+    {
+        let queued = matches!(
+            state_of(self.entries.as_slice(), number),
+            Some(QueueState::Queued)
+        );
+        if queued {
+            self.remove(number);
+        }
+        queued
+    }
+
+    /// Ends a run that is selected. It gives up its names.
+    pub fn end(&mut self, number: u32)
+        requires { state_of number self.old ≡ Some SelectedRun }
+        ensures { self.new ≡ without number self.old }
+    {
+        self.remove(number);
+    }
+
+    /// A run goes into another state.
+    fn set_state(&mut self, number: u32, state: QueueState)
+        ensures { self.new ≡ with_state number state self.old }
+    {
+        if let Some(place) = place_of(self.entries.as_slice(), number) {
+            self.entries[place].state = state;
+        }
+    }
+
+    /// Takes a run out.
+    fn remove(&mut self, number: u32)
+        ensures { self.new ≡ without number self.old }
+    {
+        if let Some(place) = place_of(self.entries.as_slice(), number) {
+            self.entries.remove(place);
+        }
+    }
+}
+
+/// The place of the first run whose number isn't lower: that of the run of this number, or where it is to stand.
+fn place_for(entries: &[Entry], number: u32) -> usize
+    requires { IsTrue (rises entries.now) }
+    ensures place { result ≡ lead (is_below number) entries.now }
+    ensures bound { result ≤ length entries.now }
+{
+    entries.partition_point(|entry| entry.number < number)
+}
+
+/// The run at a place.
+fn entry_at(entries: &[Entry], place: usize) -> Option<&Entry>
+    ensures { option_copied result ≡ slice_get entries.now place }
+{
+    entries.get(place)
+}
+
+/// The place of a run, found by halving.
+
+fn place_of(entries: &[Entry], number: u32) -> Option<usize>
+    requires { IsTrue (rises entries.now) }
+    ensures { result ≡ position (is_of number) entries.now }
+{
+    let place = place_for(entries, number);
+    match entry_at(entries, place) {
+        Some(entry) => {
+            if entry.number == number {
+                Some(place)
+            } else {
+                None
+            }
+        }
+        None => None,
+    }
+}
+
+/// The state of a run, if it is there.
+
+fn state_of(entries: &[Entry], number: u32) -> Option<QueueState>
+    requires { IsTrue (rises entries.now) }
+    ensures { result ≡ state_of number entries.now }
+{
+    match entry_at(entries, place_for(entries, number)) {
+        Some(entry) => {
+            if entry.number == number {
+                Some(entry.state)
+            } else {
+                None
+            }
+        }
+        None => None,
+    }
+}
+
+/// The first run that may start.
+fn first_to_start(entries: &[Entry]) -> Option<&Entry>
+    ensures { option_copied result ≡ find (may_start entries.now) entries.now }
+{
+    entries.iter().find(|entry| may_start(entry, entries))
+}
