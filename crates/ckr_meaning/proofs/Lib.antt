@@ -1,0 +1,14 @@
+pub mod Opened
+pub mod Examples
+pub mod Fitting
+pub mod Walking
+pub mod Lengths
+pub mod Keeping
+pub mod Remaining
+pub mod Going
+pub mod Agreeing
+pub mod Viewing
+pub mod Ending
+pub mod Room
+pub mod Holding
+pub mod Units

@@ -1,0 +1,5 @@
+use Rattle.ckr_meaning.proofs.Fitting.{fitting-all, fitting-some, fitting-front}
+use Rattle.ckr_meaning.proofs.laws.writes_fit_that_leave_room.Goals as goal
+
+pub returns : goal.returns
+returns c = record { all = fitting-all; some = fitting-some; front = fitting-front }
