@@ -81,7 +81,7 @@ behind_model : (case : MatchCase) (taken : ℕ) → IsBehind case.program case.p
 behind_model case taken = record { first = refl; held = refl; last = refl }
 
 -- a record more
-grows : (case : MatchCase) (taken : ℕ) → taken < length (taken_records case) → (piece : List Write) × (upto case (taken + 1) ≡ upto case taken ++ piece)
+pub grows : (case : MatchCase) (taken : ℕ) → taken < length (taken_records case) → (piece : List Write) × (upto case (taken + 1) ≡ upto case taken ++ piece)
 grows case taken within = by (reached (case_keys case) case.first case.second taken (omega arith))
   where
     by : Reached (case_keys case) case.first case.second None None (taken_records case) taken → (piece : List Write) × (upto case (taken + 1) ≡ upto case taken ++ piece)
@@ -96,7 +96,7 @@ grows case taken within = by (reached (case_keys case) case.first case.second ta
     by (stuck next a b e d) = absurd (omega (arith, e, within))
 
 -- the work goes on behind the writes for the first records
-goes_behind : (case : MatchCase) (left taken : ℕ) → taken + left ≡ length (taken_records case) → (more : List Write) × (work_writes case ≡ upto case taken ++ more)
+pub goes_behind : (case : MatchCase) (left taken : ℕ) → taken + left ≡ length (taken_records case) → (more : List Write) × (work_writes case ≡ upto case taken ++ more)
 goes_behind case zero taken e = by (is_whole case) refl
   where
     all : take taken (taken_records case) ≡ taken_records case

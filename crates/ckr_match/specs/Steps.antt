@@ -2,6 +2,7 @@
 use Rattle.std.specs.Prelude.{ℕ, ◌+◌, ◌==◌, Bool, true, false, not, if◌then◌else◌, List, [], ◌∷◌, ◌++◌, map, drop, Option, None, Some}
 use Rattle.ckr_base.specs.declared.code.Code.TheVariants.{User}
 use Rattle.ckr_base.specs.declared.programs.Finish.TheVariants.{Returned, Abend}
+use Rattle.ckr_base.specs.declared.programs.Heads.{Heads}
 use Rattle.ckr_base.specs.declared.programs.Output.TheVariants.{Main, Rejects}
 use Rattle.ckr_base.specs.declared.programs.UnitDone.{UnitDone}
 use Rattle.ckr_base.specs.declared.programs.Write.{Write}
@@ -10,8 +11,8 @@ use Rattle.ckr_jcl.specs.declared.deck.Kind.TheVariants.{Merge, Master, Update}
 use Rattle.ckr_jcl.specs.declared.deck.Parm.{Parm}
 use Rattle.ckr_match.specs.declared.state.MatchState.{MatchState}
 use Rattle.ckr_match.specs.declared.steps.Step.{Step}
-use Rattle.ckr_match.specs.Taken.{Taken, is_below}
-use Rattle.ckr_match.specs.Images.{has_transactions, image_in, key_in, same_bytes, code_of}
+use Rattle.ckr_match.specs.Taken.{Taken, is_below, chosen}
+use Rattle.ckr_match.specs.Images.{has_transactions, image_in, key_in, keys_of, same_bytes, code_of}
 use Rattle.ckr_match.specs.State.{return_code}
 use Rattle.ckr_match.specs.Master.{write_to, outcome_of, reject_if, write_held}
 use Rattle.ckr_match.specs.Work.{write_at, rejects_in}
@@ -130,3 +131,10 @@ unit_for parm state (Some next) = record_unit parm state next.second next.bytes
 abbrev pub state_behind : Parm → MatchState → Option Taken → MatchState
 state_behind parm state None = closed_state state
 state_behind parm state (Some next) = behind_record parm state next.second next.bytes
+
+-- the unit for the heads of the inputs, and the state behind it
+unfoldable pub unit_of : Parm → MatchState → Heads → UnitDone
+unit_of parm state heads = unit_for parm state (chosen (keys_of state.kind parm) heads.first heads.second)
+
+unfoldable pub state_of : Parm → MatchState → Heads → MatchState
+state_of parm state heads = state_behind parm state (chosen (keys_of state.kind parm) heads.first heads.second)

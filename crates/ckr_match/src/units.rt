@@ -3,7 +3,7 @@ ghost use Rattle.std.specs.Prelude.{◌≡◌, ◌≤◌, ◌<◌, ◌+◌, ◌=
 ghost use Rattle.ckr_base.specs.declared.programs.NextDue.TheVariants.{Unit as OneUnit};
 ghost use Rattle.ckr_programs.specs.Units.{is_returned};
 ghost use Rattle.ckr_match.specs.State.{due_in};
-ghost use Rattle.ckr_match.specs.Steps.{counted, record_unit, behind_record, closing_writes, closing_unit, closed_state};
+ghost use Rattle.ckr_match.specs.Steps.{counted, record_unit, behind_record, closing_writes, closing_unit, closed_state, unit_of, state_of};
 ghost use Rattle.ckr_match.specs.Work.{MatchCase, rejects_in};
 ghost use Rattle.ckr_match.specs.Units.{IsUnitAt, StandsFor, unit_done, taken_behind};
 
@@ -119,6 +119,10 @@ pub fn unit(state: &mut MatchState, parm: &Parm, heads: &Heads) -> UnitDone
     requires first { state.old.first ≤ 2000000 }
     requires second { state.old.second ≤ 2000000 }
     requires rejects { state.old.rejects ≤ 2000000 }
+
+    // The state, the PARM and the heads tell what it does.
+    ensures unit { result ≡ unit_of parm.now state.old heads.now }
+    ensures state { state.new ≡ state_of parm.now state.old heads.now }
 
     // From a state that stands for the records taken it does what is next, and the state stands for one more.
     ensures work { (case : MatchCase) (taken : ℕ) → IsUnitAt state.old parm.now heads.now case taken → result ≡ unit_done case taken }

@@ -43,7 +43,7 @@ take-parts (suc n) m (x ∷ xs) =
     ap (λ k. take k (x ∷ xs)) (let e : suc n + m ≡ suc (n + m) = omega arith in e) ∙ ap (λ zs. x ∷ zs) (take-parts n m xs)
 
 -- the writes for one record more begin with those for the records before
-upto_begins : (case : ProgCase) (taken : ℕ) → taken ≤ length (taken_records case) → upto case (taken + 1) ≡ upto case taken ++ more_writes case.program case.parm taken (sum_of case.program case.parm (take taken (taken_records case))) (take 1 (drop taken (taken_records case))) false
+pub upto_begins : (case : ProgCase) (taken : ℕ) → taken ≤ length (taken_records case) → upto case (taken + 1) ≡ upto case taken ++ more_writes case.program case.parm taken (sum_of case.program case.parm (take taken (taken_records case))) (take 1 (drop taken (taken_records case))) false
 upto_begins case taken within =
     ap (λ all. prog_writes case.program case.parm all false) (take-parts taken 1 (taken_records case))
     ∙ writes-append case.program case.parm (take taken (taken_records case)) (take 1 (drop taken (taken_records case))) false

@@ -1,5 +1,5 @@
 -- What the unit of a record and the closing unit do, from the state alone.
-use Rattle.std.specs.Prelude.{ℕ, ◌+◌, true, false, if◌then◌else◌, List, [], map, None, Some}
+use Rattle.std.specs.Prelude.{ℕ, ◌+◌, true, false, if◌then◌else◌, List, [], map, Option, None, Some}
 use Rattle.ckr_base.specs.declared.code.Code.TheVariants.{System}
 use Rattle.ckr_base.specs.declared.programs.Finish.TheVariants.{Returned, Abend}
 use Rattle.ckr_base.specs.declared.programs.UnitDone.{UnitDone}
@@ -38,3 +38,12 @@ behind_record parm state bytes =
 
 abbrev pub closed_state : ProgState → ProgState
 closed_state state = record state { closed = true }
+
+-- the unit for the head of the input, and the state behind it
+unfoldable pub unit_of : Parm → ProgState → Option (List ℕ) → UnitDone
+unit_of parm state None = closing_unit parm state
+unit_of parm state (Some bytes) = record_unit parm state bytes
+
+unfoldable pub state_of : Parm → ProgState → Option (List ℕ) → ProgState
+state_of parm state None = closed_state state
+state_of parm state (Some bytes) = behind_record parm state bytes

@@ -2,7 +2,7 @@
 ghost use Rattle.std.specs.Prelude.{◌≡◌, ◌≤◌, ◌<◌, ◌+◌, ◌^◌, ℕ, false};
 ghost use Rattle.ckr_base.specs.declared.programs.NextDue.TheVariants.{Unit as OneUnit};
 ghost use Rattle.ckr_programs.specs.State.{due_in};
-ghost use Rattle.ckr_programs.specs.Steps.{closing_unit, record_unit, behind_record, closed_state};
+ghost use Rattle.ckr_programs.specs.Steps.{closing_unit, record_unit, behind_record, closed_state, unit_of, state_of};
 ghost use Rattle.ckr_programs.specs.Work.{ProgCase};
 ghost use Rattle.ckr_programs.specs.Units.{IsUnitAt, StandsFor, unit_done, is_returned};
 
@@ -76,6 +76,10 @@ pub fn unit(state: &mut ProgState, parm: &Parm, heads: &Heads) -> UnitDone
     requires field { parm.now.sum.1 ≤ 15 }
     requires count { state.old.first ≤ 2000000 }
     requires sum { state.old.sum < 10 ^ 22 }
+
+    // The state, the PARM and the head tell what it does.
+    ensures unit { result ≡ unit_of parm.now state.old heads.now.first }
+    ensures state { state.new ≡ state_of parm.now state.old heads.now.first }
 
     // From a state that stands for the records taken it does what is next, and the state stands for one more.
     ensures work { (case : ProgCase) (taken : ℕ) → IsUnitAt state.old parm.now heads.now.first case taken → result ≡ unit_done case taken }

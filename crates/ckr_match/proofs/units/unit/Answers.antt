@@ -1,6 +1,6 @@
-use Rattle.std.proofs.Common.{sym, ◌∙◌, subst}
+use Rattle.std.proofs.Common.{sym, ◌∙◌, subst, ap}
 use Rattle.ckr_match.specs.Units.{StandsFor, taken_behind}
-use Rattle.ckr_match.specs.Steps.{record_unit}
+use Rattle.ckr_match.specs.Steps.{record_unit, unit_for, state_behind, unit_of, state_of}
 use Rattle.ckr_match.proofs.Done.{IsDone, is_done}
 use Rattle.ckr_match.proofs.units.unit.Goals as goal
 
@@ -19,3 +19,19 @@ pub returns-in-None-clause-work : goal.returns-in-None-clause-work
 returns-in-None-clause-work c = λ case taken at.
     let next = subst (λ next. IsDone c.args.state.now c.args.parm.now next case taken) c.in-None.ensures (is_done c.args.state.now c.args.parm.now c.args.heads.now case taken at) in
     c.close.ensures.done ∙ next.done
+
+pub returns-in-Some-clause-unit : goal.returns-in-Some-clause-unit
+unfolding unit_of
+returns-in-Some-clause-unit c = c.take.ensures.done ∙ ap (unit_for c.args.parm.now c.args.state.now) (sym c.in-Some.ensures)
+
+pub returns-in-Some-clause-state : goal.returns-in-Some-clause-state
+unfolding state_of
+returns-in-Some-clause-state c = c.take.ensures.state ∙ ap (state_behind c.args.parm.now c.args.state.now) (sym c.in-Some.ensures)
+
+pub returns-in-None-clause-unit : goal.returns-in-None-clause-unit
+unfolding unit_of
+returns-in-None-clause-unit c = c.close.ensures.done ∙ ap (unit_for c.args.parm.now c.args.state.now) (sym c.in-None.ensures)
+
+pub returns-in-None-clause-state : goal.returns-in-None-clause-state
+unfolding state_of
+returns-in-None-clause-state c = c.close.ensures.state ∙ ap (state_behind c.args.parm.now c.args.state.now) (sym c.in-None.ensures)

@@ -1,6 +1,6 @@
-use Rattle.std.proofs.Common.{◌+◌, sym, ◌∙◌, subst}
+use Rattle.std.proofs.Common.{◌+◌, sym, ◌∙◌, subst, ap, Some}
 use Rattle.ckr_programs.specs.Units.{IsUnitAt, StandsFor}
-use Rattle.ckr_programs.specs.Steps.{record_unit}
+use Rattle.ckr_programs.specs.Steps.{record_unit, unit_of, state_of}
 use Rattle.ckr_programs.proofs.Done.{record_done, record_stands, closing_done}
 use Rattle.ckr_programs.proofs.units.unit.Goals as goal
 
@@ -20,3 +20,19 @@ pub returns-in-None-clause-work : goal.returns-in-None-clause-work
 returns-in-None-clause-work c = λ case taken at.
     let next = subst (λ head. IsUnitAt c.args.state.now c.args.parm.now head case taken) c.in-None.is at in
     c.close.ensures.done ∙ closing_done c.args.state.now c.args.parm.now case taken next
+
+pub returns-in-Some-clause-unit : goal.returns-in-Some-clause-unit
+unfolding unit_of
+returns-in-Some-clause-unit c = c.take.ensures.done ∙ ap (unit_of c.args.parm.now c.args.state.now) (sym c.in-Some.is)
+
+pub returns-in-Some-clause-state : goal.returns-in-Some-clause-state
+unfolding state_of
+returns-in-Some-clause-state c = c.take.ensures.state ∙ ap (state_of c.args.parm.now c.args.state.now) (sym c.in-Some.is)
+
+pub returns-in-None-clause-unit : goal.returns-in-None-clause-unit
+unfolding unit_of
+returns-in-None-clause-unit c = c.close.ensures.done ∙ ap (unit_of c.args.parm.now c.args.state.now) (sym c.in-None.is)
+
+pub returns-in-None-clause-state : goal.returns-in-None-clause-state
+unfolding state_of
+returns-in-None-clause-state c = c.close.ensures.state ∙ ap (state_of c.args.parm.now c.args.state.now) (sym c.in-None.is)
