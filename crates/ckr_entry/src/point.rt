@@ -1,4 +1,6 @@
 //! A point of a run: where its step stands, and what the tables had of its data sets.
+ghost use Rattle.std.specs.Prelude.{◌≡◌};
+ghost use Rattle.ckr_library.specs.Named.{same_name};
 
 use crate::{Marks, PassedList};
 use ckr_base::{CheckId, DsName, Name8};
@@ -37,6 +39,15 @@ pub struct Passed {
     pub name: DsName,
     /// Whether the run made it, or a step of an earlier run that it continues.
     pub made: bool,
+}
+
+impl Passed {
+    /// Whether the data set has this name.
+    pub fn is_of(&self, name: &DsName) -> bool
+        ensures { result ≡ same_name name.now self.now.name }
+    {
+        name.cmp(&self.name).is_eq()
+    }
 }
 
 /// Where the program of a step stands.
