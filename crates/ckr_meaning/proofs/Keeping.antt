@@ -46,7 +46,7 @@ without_entry-other name other named apart =
     find-where_key name_cmp (λ x. not (same_name name x)) other (λ x tied. ap (λ r. not (is_eq r)) (sym (alike_right nat_list_cmp_total other x name tied))) named
     ∙ ap (λ b. cond (not b) (entry_at named other) None) ((eq_by_cmp_equiv nat_list_cmp_total).symm name other ∙ apart)
 
-with_changed-other : {X : Type 0} (name other : Name) (change : X → X) (named : Named X) → same_name other name ≡ false → entry_at (with_changed name change named) other ≡ entry_at named other
+pub with_changed-other : {X : Type 0} (name other : Name) (change : X → X) (named : Named X) → same_name other name ≡ false → entry_at (with_changed name change named) other ≡ entry_at named other
 with_changed-other {X = X} name other change named apart = by (entry_at named name)
   where
     by : (entry : Option X) → entry_at (with_change name change named entry) other ≡ entry_at named other

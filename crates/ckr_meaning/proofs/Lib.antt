@@ -12,3 +12,4 @@ pub mod Ending
 pub mod Room
 pub mod Holding
 pub mod Units
+pub mod Prefixes

@@ -11,7 +11,7 @@ ghost use Rattle.ckr_meaning.specs.declared.place.Place.{Place as PlaceInJob};
 ghost use Rattle.ckr_meaning.specs.declared.place.Place.TheVariants.{Before};
 ghost use Rattle.ckr_meaning.specs.LibrarySet.{Library, AreWithinSpace, HasRecordLengths};
 ghost use Rattle.ckr_meaning.specs.Effective.{AgreeOn, Effective, HasDistinctNames, OwnedStep, is_among, names_of, names_of_job, step_at};
-ghost use Rattle.ckr_meaning.specs.Program.{ProgramCase, Room, fitting, fitting_in, records_taken, rest, room_after, units_from, work};
+ghost use Rattle.ckr_meaning.specs.Program.{ProgramCase, Room, fitting, fitting_in, records_taken, rest, room_after, unit_done, units_from, upto, work};
 ghost use Rattle.ckr_meaning.specs.States.{IsSameRemainder};
 ghost use Rattle.ckr_meaning.specs.StepRun.{StepStart, case_at, disposed_at, made_at, room_at, within_at, work_at, written_all};
 ghost use Rattle.ckr_meaning.specs.JobRun.{Walk, at, end_of_job, is_bypassed, is_place, job_run, start_at, walk_before, walked};
@@ -27,6 +27,14 @@ pub fn units_write_the_work()
     ensures all { (case : ProgramCase) → written_by (units_from case 0) ≡ (work case).writes }
     ensures rest { (case : ProgramCase) (taken : ℕ) → taken ≤ records_taken case → written_by (units_from case taken) ≡ rest case taken }
     ensures end { (case : ProgramCase) (taken : ℕ) → taken ≤ records_taken case → end_of (units_from case taken) ≡ Some (work case).finish }
+{}
+
+/// The writes for the first records begin the work. Those for one record more are those for the records before and what the next
+/// unit writes, and behind the last record the unit writes what the work has left.
+pub fn units_go_on()
+    ensures work { (case : ProgramCase) (taken : ℕ) → taken ≤ records_taken case → (work case).writes ≡ upto case taken ++ rest case taken }
+    ensures more { (case : ProgramCase) (taken : ℕ) → taken < records_taken case → upto case (taken + 1) ≡ upto case taken ++ (unit_done case taken).writes.items }
+    ensures all { (case : ProgramCase) → (work case).writes ≡ upto case (records_taken case) ++ (unit_done case (records_taken case)).writes.items }
 {}
 
 /// What fits of more writes is what fits of the first ones, and then what fits of the others in the room behind the first ones,
