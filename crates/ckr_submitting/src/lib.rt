@@ -1,0 +1,14 @@
+//! Decks that are submitted: which of them the desk runs, and the event that keeps their cards.
+#![tactic(auto)]
+
+mod cards;
+mod form;
+mod laws;
+mod submission;
+#[cfg(test)]
+mod tests;
+
+pub use cards::{job_of_kept, submitted_event};
+pub use form::is_run;
+pub use laws::what_is_kept_is_the_deck;
+pub use submission::{Submission, submission_of};
