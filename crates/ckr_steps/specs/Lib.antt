@@ -1,0 +1,5 @@
+pub mod Files
+pub mod Units
+pub mod Reading
+pub mod Writing
+pub mod Stepping
