@@ -1,0 +1,11 @@
+pub mod Folded
+pub mod Following
+pub mod Fresh
+pub mod Growing
+pub mod Judging
+pub mod Marks
+pub mod Office
+pub mod Restarting
+pub mod Rows
+pub mod Sound
+pub mod Statements

@@ -1,0 +1,32 @@
+//! What the tables have of a run.
+
+use ckr_base::Name8;
+
+/// Where a submitted job is.
+#[derive(Clone, Copy, PartialEq, Eq, Debug)]
+pub enum RunState {
+    /// It waits for an initiator.
+    Queued,
+    /// It is on an initiator.
+    On,
+    /// The operator held it.
+    Held,
+    /// It was held, and waits for an initiator to go on.
+    Released,
+    Ended,
+    /// Its restart was denied.
+    Denied,
+    /// The operator took it from the queue.
+    Purged,
+}
+
+/// A submitted job's line; `initiator` is given exactly for a run that is on one.
+#[derive(Clone, PartialEq, Eq, Debug, Drop)]
+pub struct Run {
+    /// From 1, in the order in which the decks were submitted.
+    pub number: u32,
+    pub name: Name8,
+    pub state: RunState,
+    /// From 1.
+    pub initiator: Option<u8>,
+}
