@@ -1,0 +1,4 @@
+pub mod Opened
+pub mod Examples
+pub mod Selecting
+pub mod Spelled
