@@ -34,11 +34,11 @@ end_from-step root number owned rest walk =
       | Some place ↦ refl
     ]
 
-abbrev go_on_unless : Option Place → Bool → Bool
+abbrev pub go_on_unless : Option Place → Bool → Bool
 go_on_unless (Some place) others = false
 go_on_unless None others = others
 
-all_go_on-step : (root number : ℕ) (owned : OwnedStep) (rest : List OwnedStep) (walk : Walk) → all_go_on root number (owned ∷ rest) walk ≡ go_on_unless (end_in root number owned walk) (all_go_on root (suc number) rest (walked_one root number owned walk))
+pub all_go_on-step : (root number : ℕ) (owned : OwnedStep) (rest : List OwnedStep) (walk : Walk) → all_go_on root number (owned ∷ rest) walk ≡ go_on_unless (end_in root number owned walk) (all_go_on root (suc number) rest (walked_one root number owned walk))
 all_go_on-step root number owned rest walk =
     elim (end_in root number owned walk) as
     (λ place. elim place [ Some first ↦ false | None ↦ all_go_on root (suc number) rest (walked_one root number owned walk) ] ≡ go_on_unless place (all_go_on root (suc number) rest (walked_one root number owned walk))) [
@@ -47,7 +47,7 @@ all_go_on-step root number owned rest walk =
     ]
 
 -- steps go on, and one more
-all_go_on-more : (root number : ℕ) (front : List OwnedStep) (owned : OwnedStep) (walk : Walk) → all_go_on root number front walk ≡ true → end_in root (number + length front) owned (walked root number front walk) ≡ None → all_go_on root number (front ++ owned ∷ []) walk ≡ true
+pub all_go_on-more : (root number : ℕ) (front : List OwnedStep) (owned : OwnedStep) (walk : Walk) → all_go_on root number front walk ≡ true → end_in root (number + length front) owned (walked root number front walk) ≡ None → all_go_on root number (front ++ owned ∷ []) walk ≡ true
 all_go_on-more root number [] owned walk go none =
     all_go_on-step root number owned [] walk
     ∙ ap (λ place. go_on_unless place true) (ap (λ n. end_in root n owned walk) (let e : number ≡ number + 0 = omega arith in e) ∙ none)

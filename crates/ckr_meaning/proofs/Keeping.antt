@@ -37,7 +37,7 @@ right_of false b none = none
 
 -- ---- one name
 
-with_entry-other : {X : Type 0} (name other : Name) (x : X) (named : Named X) → same_name other name ≡ false → entry_at (with_entry name x named) other ≡ entry_at named other
+pub with_entry-other : {X : Type 0} (name other : Name) (x : X) (named : Named X) → same_name other name ≡ false → entry_at (with_entry name x named) other ≡ entry_at named other
 with_entry-other name other x named apart =
     find-put name_cmp nat_list_cmp_total other name x named ∙ ap (λ b. cond b (Some x) (entry_at named other)) apart
 

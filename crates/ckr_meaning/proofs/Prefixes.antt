@@ -2,7 +2,6 @@
 use Rattle.std.proofs.Common.{◌≡◌, ◌≤◌, ◌<◌, ℕ, ◌+◌, ◌-◌, Bool, true, false, cond, List, ◌++◌, drop, length, None, Some, refl, ap, sym, ◌∙◌, arith, ltb}
 use Rattle.std.proofs.lemmas.Bool.{lt-ltb, le-ltb}
 use Rattle.std.proofs.Math.Seq.{drop-append_seam}
-use Rattle.ckr_base.specs.declared.programs.Finish.{Finish}
 use Rattle.ckr_base.specs.declared.programs.Write.{Write}
 use Rattle.ckr_programs.specs.Work.{ProgCase}
 use Rattle.ckr_programs.specs.Work as plain
@@ -14,7 +13,6 @@ use Rattle.ckr_match.specs.Taken.{of_second}
 use Rattle.ckr_match.specs.Work.{MatchCase}
 use Rattle.ckr_match.specs.Work as matched
 use Rattle.ckr_match.specs.Units as matched_units
-use Rattle.ckr_match.proofs.Done as matched_done
 use Rattle.ckr_match.proofs.Together as matched_together
 use Rattle.ckr_meaning.specs.Program.{ProgramCase, plain_case, match_case, work_by, taken_by, upto_by, unit_by, work, records_taken, upto, rest, unit_done}
 

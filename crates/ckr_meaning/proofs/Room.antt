@@ -74,7 +74,7 @@ made_at-within start within = made_all-within (stamp_at start) (placed_at start)
 
 -- ---- the two outputs are two data sets
 
-abbrev AreApart : Option Name → Option Name → Type 0
+abbrev pub AreApart : Option Name → Option Name → Type 0
 AreApart None other = Unit {0}
 AreApart (Some name) None = Unit {0}
 AreApart (Some name) (Some other) = same_name name other ≡ false
@@ -114,7 +114,7 @@ isnt true e = sym e
 isnt false e = refl
 
 -- two DDs of different names have different data sets, where no data set stands twice
-found_apart : (f : Dd → Option Name) (one other : Dd → Bool) (dds : List Dd) → ((dd : Dd) → one dd ≡ true → other dd ≡ false) → are_distinct (filter_map f dds) ≡ true → AreApart (option_and_then f (find one dds)) (option_and_then f (find other dds))
+pub found_apart : (f : Dd → Option Name) (one other : Dd → Bool) (dds : List Dd) → ((dd : Dd) → one dd ≡ true → other dd ≡ false) → are_distinct (filter_map f dds) ≡ true → AreApart (option_and_then f (find one dds)) (option_and_then f (find other dds))
 found_apart f one other [] never distinct = tt
 found_apart f one other (dd ∷ dds) never distinct =
     by (one dd) (other dd) refl refl (f dd) refl distinct (λ rest. found_apart f one other dds never rest)
@@ -145,7 +145,7 @@ first_passes test (first ∷ rest) name at =
     by true e at rest = ap test (sym (same_item first name at)) ∙ e
     by false e at rest = rest at
 
-outputs_apart : (start : StepStart) → are_distinct (names_of start.root start.owned) ≡ true → AreApart (output_name start Main) (output_name start Rejects)
+pub outputs_apart : (start : StepStart) → are_distinct (names_of start.root start.owned) ≡ true → AreApart (output_name start Main) (output_name start Rejects)
 unfolding output_name
 outputs_apart start distinct = by (slice_get (main_names start.owned.step.program) 0) refl
   where

@@ -82,7 +82,7 @@ module _ {X Y : Type 0} (view : X → Y) (first : SetWays X) (second : SetWays Y
       viewed-opened_all stamp rest (opened_one first stamp placed placed.allotment (is_output placed.dd.role) sets)
       ∙ ap (opened_all second stamp rest) (one_opened stamp placed placed.allotment (is_output placed.dd.role) sets)
 
-  viewed-without : (name : Name) (sets : Named X) → viewed view (without_entry name sets) ≡ without_entry name (viewed view sets)
+  pub viewed-without : (name : Name) (sets : Named X) → viewed view (without_entry name sets) ≡ without_entry name (viewed view sets)
   viewed-without name [] = refl
   viewed-without name (entry ∷ rest) =
       elim (same_name name entry.0) as

@@ -21,12 +21,12 @@ walked-append root number (owned ∷ rest) second walk =
 
 -- ---- from step to step
 
-take-next : (count : ℕ) (steps : List OwnedStep) (owned : OwnedStep) → slice_get steps count ≡ Some owned → take (suc count) steps ≡ take count steps ++ owned ∷ []
+pub take-next : (count : ℕ) (steps : List OwnedStep) (owned : OwnedStep) → slice_get steps count ≡ Some owned → take (suc count) steps ≡ take count steps ++ owned ∷ []
 take-next count [] owned at = absurd (not_None owned (sym at))
 take-next zero (first ∷ rest) owned at = ap (λ step. step ∷ []) (same_item first owned at)
 take-next (suc count) (first ∷ rest) owned at = ap (λ steps. first ∷ steps) (take-next count rest owned at)
 
-length-front : (count : ℕ) (steps : List OwnedStep) (owned : OwnedStep) → slice_get steps count ≡ Some owned → length (take count steps) ≡ count
+pub length-front : (count : ℕ) (steps : List OwnedStep) (owned : OwnedStep) → slice_get steps count ≡ Some owned → length (take count steps) ≡ count
 length-front count [] owned at = absurd (not_None owned (sym at))
 length-front zero (first ∷ rest) owned at = refl
 length-front (suc count) (first ∷ rest) owned at = let e : length (take count rest) ≡ count = length-front count rest owned at in omega (arith, e)
