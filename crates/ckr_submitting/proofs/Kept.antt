@@ -1,7 +1,6 @@
 -- A deck that is accepted is the deck that its event keeps: no line of it was longer than its card.
 use Rattle.std.proofs.Common.{◌≡◌, ◌≤◌, ◌+◌, ◌*◌, ◌/◌, ℕ, zero, suc, Bool, true, false, List, [], ◌∷◌, ◌++◌, length, take, drop, map, flat_map, Option, Some, None, Ok, ◌<◌, ◌^◌, find, refl, ap, ap₂, sym, ◌∙◌, subst, cond, arith, length-append, nat_lt, nat_le}
 use Rattle.std.specs.Simd.{first_chunks}
-use Rattle.std.specs.Option.{option_or}
 use Rattle.std.proofs.lemmas.Bool.Decides.{nat_tests}
 use Rattle.std.proofs.lemmas.List.{length-take-le, length-drop, take-take}
 use Rattle.std.proofs.lemmas.Option.{none-some}
@@ -14,12 +13,13 @@ use Rattle.ckr_statements.proofs.Stored.{take-front, drop-front, cards_in_bytes-
 use Rattle.ckr_statements.proofs.Whole.{cards_in-statements_of}
 use Rattle.ckr_jcl.specs.declared.deck.Job.{Job}
 use Rattle.ckr_jcl.specs.declared.faults.Seen.{Seen}
-use Rattle.ckr_jcl.specs.Faults.{number_of_card, long_card, long_line, faults_of, nothing_seen, seen_behind}
+use Rattle.ckr_jcl.specs.Faults.{long_card, long_line, faults_of, nothing_seen, seen_behind}
 use Rattle.ckr_jcl.specs.Least.{Stands, HasNone, AreSound}
 use Rattle.ckr_jcl.specs.Deck.{deck_of, stored_deck}
 use Rattle.ckr_jcl.proofs.Refusing.{job_law}
 use Rattle.ckr_events.specs.declared.event.Event.TheVariants.{Submitted as SubmittedEvent}
 use Rattle.ckr_submitting.specs.Cards.{with_short_mark, columns_of, stored_of_kept, kept_of_stored, kept_deck, job_in, IsSpelledDeck}
+use Rattle.ckr_submitting.proofs.Passing.{map_none, or_none}
 
 -- ---- no card is of a longer line
 
@@ -36,16 +36,8 @@ none_found (card ∷ rest) none = by_test (none_found rest) card.long refl none
     by_test later true is none = absurd (none-some card (sym none))
     by_test later false is none = (is, later none)
 
-no_number : (card : Option Card) → number_of_card card ≡ None → card ≡ None
-no_number None none = refl
-no_number (Some card) none = absurd (none-some card.number (sym none))
-
-both_none : (first second : Option ℕ) → option_or first second ≡ None → (first ≡ None) × (second ≡ None)
-both_none None second none = (refl, none)
-both_none (Some number) second none = absurd (none-some number (sym none))
-
 long_none : (cards : List Card) → long_card cards ≡ None → NoneLong cards
-long_none cards none = none_found cards (no_number (find (λ card. card.long) cards) none)
+long_none cards none = none_found cards (map_none (λ (card : Card). card.number) (find (λ card. card.long) cards) none)
 
 joined : (front back : List Card) → NoneLong front → NoneLong back → NoneLong (front ++ back)
 joined [] back none others = others
@@ -62,7 +54,7 @@ no_fault seen s none = by_case (long_line s) refl
 statement_none : (s : Statement) → long_line s ≡ None → NoneLong (s.first ∷ s.more) × NoneLong s.records
 unfolding long_line
 statement_none s none =
-    let both = both_none (long_card (s.first ∷ s.more)) (long_card s.records) none in
+    let both = or_none (long_card (s.first ∷ s.more)) (long_card s.records) none in
     (long_none (s.first ∷ s.more) both.0, long_none s.records both.1)
 
 sound_none : (seen : Seen) (statements : List Statement) → AreSound seen statements → NoneLong (cards_in statements)

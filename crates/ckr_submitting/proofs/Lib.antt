@@ -1,1 +1,12 @@
+pub mod Clashes
+pub mod Distinct
+pub mod Fitting
+pub mod Formed
 pub mod Kept
+pub mod Limited
+pub mod Names
+pub mod Origins
+pub mod Passing
+pub mod Repeated
+pub mod Roles
+pub mod Texts

@@ -10,5 +10,8 @@ mod tests;
 
 pub use cards::{job_of_kept, submitted_event};
 pub use form::is_run;
-pub use laws::what_is_kept_is_the_deck;
+pub use laws::{
+    accepted_decks_are_formed, accepted_decks_are_within_limits, dds_of_accepted_decks_fit,
+    names_stand_once_in_each_step, what_is_kept_is_the_deck,
+};
 pub use submission::{Submission, submission_of};
