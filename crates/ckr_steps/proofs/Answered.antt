@@ -1,5 +1,5 @@
 -- What the code does of a unit is what the unit for its heads asks for.
-use Rattle.std.proofs.Common.{◌≡◌, ◌≤◌, ℕ, ◌+◌, Bool, List, length, Option, Some, None, refl, ap, sym, ◌∙◌, subst}
+use Rattle.std.proofs.Common.{◌≡◌, ℕ, ◌+◌, Bool, List, Option, Some, None, refl, ap, ◌∙◌}
 use Rattle.std.specs.Option.{is_some}
 use Rattle.ckr_base.specs.declared.programs.Finish.{Finish}
 use Rattle.ckr_base.specs.declared.programs.Heads.{Heads}
@@ -8,11 +8,10 @@ use Rattle.ckr_base.specs.declared.programs.Write.{Write}
 use Rattle.ckr_entry.specs.declared.point.State.{State}
 use Rattle.ckr_library.specs.Catalog.{Catalog}
 use Rattle.ckr_meaning.specs.Program.{room_after}
-use Rattle.ckr_steps.specs.declared.files.Files.{Files}
 use Rattle.ckr_steps.specs.declared.stepping.StepRun.{StepRun}
 use Rattle.ckr_steps.specs.Units.{unit_of, state_of, taken_of}
 use Rattle.ckr_steps.specs.Writing.{worked_by, rewrite_of, room_of, answer_of, done_of, count_of}
-use Rattle.ckr_steps.specs.Stepping.{unit_for, writes_for, worked_for, behind_unit, done_for}
+use Rattle.ckr_steps.specs.Stepping.{writes_for, worked_for, behind_unit, done_for}
 
 by_fits : (taken : ℕ) (rewrite : Option (ℕ × List ℕ)) (fits other : Bool) (finish : Option Finish) → (rewrite ≡ None → fits ≡ other) → worked_by taken rewrite fits finish ≡ worked_by taken rewrite other finish
 by_fits taken None fits other finish same = ap (λ b. worked_by taken None b finish) (same refl)

@@ -22,7 +22,7 @@ use Rattle.ckr_match.specs.Steps.{input_number}
 use Rattle.ckr_match.specs.State as matched
 use Rattle.ckr_match.specs.Steps as matched_steps
 use Rattle.ckr_match.specs.Images.{keys_of}
-use Rattle.ckr_match.specs.Taken.{Taken, Keys, chosen, is_below, taken_of}
+use Rattle.ckr_match.specs.Taken.{Taken, Keys, chosen, taken_of}
 use Rattle.ckr_match.specs.Work.{rejects_in}
 use Rattle.ckr_steps.specs.Units.{IsCounted, first_state, state_for, served_of, entries_of}
 
@@ -113,7 +113,7 @@ module _ (parm : Parm) (state new : ProgState) (done : UnitDone) (made more : �
 
 -- ---- a unit of a program of two inputs
 
-chosen_first : (keys : Keys) (first second : Option (List ℕ)) (next : Taken) → chosen keys first second ≡ Some next → next.second ≡ false → IsSome first
+pub chosen_first : (keys : Keys) (first second : Option (List ℕ)) (next : Taken) → chosen keys first second ≡ Some next → next.second ≡ false → IsSome first
 chosen_first keys None None next is from = absurd (not_None next (sym is))
 chosen_first keys (Some f) second next is from = refl
 chosen_first keys None (Some s) next is from = absurd (false≢true (sym (ap (λ (t : Taken). t.second) (same_item (taken_of true s) next is) ∙ from)))

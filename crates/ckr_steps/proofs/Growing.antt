@@ -1,28 +1,27 @@
 -- A data set of the library becomes longer by a record that is written behind its last one.
-use Rattle.std.proofs.Common.{◌≡◌, ◌<◌, ◌≤◌, ℕ, suc, ◌+◌, ◌-◌, Bool, true, false, List, [], ◌∷◌, ◌++◌, length, take, Option, Some, None, refl, ap, sym, ◌∙◌, subst, arith, length-append}
+use Rattle.std.proofs.Common.{◌≡◌, ◌<◌, ◌≤◌, ℕ, ◌+◌, Bool, true, false, List, [], ◌∷◌, ◌++◌, Option, Some, None, refl, ap, sym, ◌∙◌, subst, arith, length-append}
 use Rattle.std.specs.Prelude.{IsTrue}
 use Rattle.std.specs.Option.{option_map}
 use Rattle.std.proofs.lemmas.Bool.{false≢true}
 use Rattle.ckr_columns.specs.Columns.{fitted}
-use Rattle.ckr_outside.specs.Disk.{SameOutside, StemsFrom, EachSince, ChangesWithin}
+use Rattle.ckr_outside.specs.Disk.{SameOutside, StemsFrom, ChangesWithin}
 use Rattle.ckr_outside.specs.Moments.{and_then, in_other_words, at_the_end}
-use Rattle.ckr_library.specs.declared.sets.Content.TheVariants.{Plain}
 use Rattle.ckr_library.specs.declared.sets.DataSet.{DataSet}
 use Rattle.ckr_library.specs.Catalog.{Holding, Catalog, set_of, with_length, HasSet}
-use Rattle.ckr_library.specs.Named.{Name, Named, same_name, entry_at, with_entry, with_change, with_changed}
+use Rattle.ckr_library.specs.Named.{Name, same_name, entry_at, with_entry, with_change, with_changed}
 use Rattle.ckr_library.proofs.Ordered.{not_None, same_item}
 use Rattle.ckr_volumes.specs.declared.layout.Layout.{Layout}
 use Rattle.ckr_volumes.specs.Kept.{records_below_kept, records_apart_kept, front_kept}
 use Rattle.ckr_volumes.specs.Places.{address_of}
 use Rattle.ckr_volumes.specs.Records.{records_on}
 use Rattle.ckr_volumes.specs.Same.{SamePlaces, same_places, stands_at_length}
-use Rattle.ckr_volumes.specs.Stands.{front_of, is_laid_out, lie_apart, StandsIn}
+use Rattle.ckr_volumes.specs.Stands.{is_laid_out, lie_apart, StandsIn}
 use Rattle.ckr_meaning.specs.Effective.{is_among}
 use Rattle.ckr_meaning.specs.LibrarySet.{LibrarySet, Library}
 use Rattle.ckr_meaning.specs.StepRun.{extended}
 use Rattle.ckr_meaning.proofs.Keeping.{with_changed-other}
-use Rattle.ckr_steps.specs.Reading.{AreStored, IsSetThere}
-use Rattle.ckr_steps.specs.Writing.{longer, grown_in, Shows, IsShown, ShowsSet, Keeps, StemsKeeping, ChangesKeeping}
+use Rattle.ckr_steps.specs.Reading.{AreStored}
+use Rattle.ckr_steps.specs.Writing.{longer, Shows, IsShown, ShowsSet, Keeps, StemsKeeping, ChangesKeeping}
 use Rattle.ckr_steps.proofs.Names.{same_is, same_itself, same_turned, changed_here, changed_nothing, holding_of, set_there, is_there}
 
 -- with a record more

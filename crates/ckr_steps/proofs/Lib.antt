@@ -1,6 +1,16 @@
+pub mod Lists
 pub mod Names
 pub mod Growing
 pub mod Rooms
 pub mod Putting
 pub mod Counted
 pub mod Answered
+pub mod Taking
+pub mod Writes
+pub mod Inputs
+pub mod Heading
+pub mod Written
+pub mod GoingOn
+pub mod Starting
+pub mod Placing
+pub mod Rewriting

@@ -1,5 +1,5 @@
 -- Names, and what stands under a name once something is changed.
-use Rattle.std.proofs.Common.{◌≡◌, Bool, true, false, cond, Option, Some, None, refl, ap, sym, ◌∙◌}
+use Rattle.std.proofs.Common.{◌≡◌, true, cond, Option, Some, None, refl, ap, sym, ◌∙◌}
 use Rattle.std.specs.declared.cmp.Ordering.{Ordering}
 use Rattle.std.specs.declared.cmp.Ordering.TheVariants.{Less, Equal, Greater}
 use Rattle.std.specs.Ordering.{is_eq}
@@ -12,7 +12,7 @@ use Rattle.std.proofs.lemmas.Bool.{false≢true}
 use Rattle.std.proofs.lemmas.Map.Lookups.{exact_bytes}
 use Rattle.ckr_library.specs.declared.sets.DataSet.{DataSet}
 use Rattle.ckr_library.specs.Catalog.{Holding, Catalog, set_of, HasSet}
-use Rattle.ckr_library.specs.Named.{Name, Named, name_cmp, same_name, entry_at, with_entry, with_change, with_changed}
+use Rattle.ckr_library.specs.Named.{Name, Named, name_cmp, same_name, entry_at, with_change, with_changed}
 use Rattle.ckr_library.proofs.Ordered.{not_None, same_item}
 
 ties : (order : Ordering) → is_eq order ≡ true → order ≡ Equal

@@ -1,11 +1,11 @@
 -- The space that is left in the outputs, before a write and behind it.
-use Rattle.std.proofs.Common.{◌≡◌, ◌<◌, ◌≤◌, ℕ, zero, suc, ◌+◌, ◌-◌, Bool, true, false, Option, Some, None, Result, Ok, Err, IfOk, refl, ap, sym, ◌∙◌, arith}
-use Rattle.std.specs.Prelude.{IsTrue, nat_lt, if◌then◌else◌, option_and_then, length}
+use Rattle.std.proofs.Common.{◌≡◌, ◌≤◌, ℕ, zero, suc, ◌+◌, ◌-◌, Bool, true, false, Option, Some, None, Result, Ok, Err, IfOk, refl, ap, sym, ◌∙◌, arith}
+use Rattle.std.specs.Prelude.{IsTrue, nat_lt, if◌then◌else◌}
 use Rattle.std.specs.Option.{option_map_or, is_some}
 use Rattle.std.proofs.lemmas.Bool.{false≢true}
 use Rattle.std.proofs.lemmas.Bool.Decides.{nat_tests}
 use Rattle.ckr_base.specs.declared.programs.Output.{Output}
-use Rattle.ckr_base.specs.declared.programs.Output.TheVariants.{Main, Rejects, InPlace}
+use Rattle.ckr_base.specs.declared.programs.Output.TheVariants.{Main, Rejects}
 use Rattle.ckr_library.specs.declared.sets.DataSet.{DataSet}
 use Rattle.ckr_library.specs.Catalog.{Catalog, set_of, HasSet}
 use Rattle.ckr_library.specs.Named.{Name, same_name}
@@ -14,9 +14,9 @@ use Rattle.ckr_steps.specs.declared.files.Files.{Files}
 use Rattle.ckr_steps.specs.declared.files.Source.{Source}
 use Rattle.ckr_steps.specs.declared.files.Source.TheVariants.{Nowhere, InDeck, InSet}
 use Rattle.ckr_steps.specs.Reading.{IsSourceThere, IsSetThere, AreSameSet, AreThere}
-use Rattle.ckr_steps.specs.Writing.{end_set, room_of_set, room_at, room_of, grown_in}
+use Rattle.ckr_steps.specs.Writing.{room_of_set, room_at, room_of, grown_in}
 use Rattle.ckr_steps.proofs.Names.{set_there, same_turned}
-use Rattle.ckr_steps.proofs.Growing.{IsLonger, is_longer, one_longer, IsGrown, grown_longer}
+use Rattle.ckr_steps.proofs.Growing.{is_longer, IsGrown, grown_longer}
 
 -- two facts of an answer
 pub if_both : {T E : Type 0} (result : Result T E) (P Q R : T → Type 0) → ((x : T) → P x → Q x → R x) → IfOk result P → IfOk result Q → IfOk result R

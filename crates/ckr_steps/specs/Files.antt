@@ -1,8 +1,7 @@
 -- Where a step's program finds its records, and where its records go.
-use Rattle.std.specs.Prelude.{ℕ, ◌≤◌, List, length, find, slice_get, Option, None, Some, option_and_then}
+use Rattle.std.specs.Prelude.{ℕ, find, slice_get, Option, None, Some, option_and_then}
 use Rattle.std.specs.Option.{option_map_or}
 use Rattle.ckr_jcl.specs.declared.deck.Dd.{Dd}
-use Rattle.ckr_jcl.specs.declared.deck.Kind.{Kind}
 use Rattle.ckr_jcl.specs.declared.deck.Origin.{Origin}
 use Rattle.ckr_jcl.specs.declared.deck.Origin.TheVariants.{InStream}
 use Rattle.ckr_jcl.specs.declared.deck.Step.{Step}

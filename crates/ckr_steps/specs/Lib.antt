@@ -3,3 +3,5 @@ pub mod Units
 pub mod Reading
 pub mod Writing
 pub mod Stepping
+pub mod Standing
+pub mod Placed

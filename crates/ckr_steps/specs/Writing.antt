@@ -1,5 +1,5 @@
 -- What the writes of a unit make of the library and of the disk, and what they leave as it was.
-use Rattle.std.specs.Prelude.{◌≡◌, ◌≤◌, ℕ, ◌+◌, ◌-◌, Bool, true, false, nat_lt, if◌then◌else◌, List, [], ◌∷◌, ◌++◌, length, filter, take, Option, None, Some, option_and_then}
+use Rattle.std.specs.Prelude.{◌≡◌, ◌≤◌, ℕ, ◌+◌, ◌-◌, Bool, true, false, nat_lt, if◌then◌else◌, List, [], ◌∷◌, length, filter, take, Option, None, Some, option_and_then}
 use Rattle.std.specs.Option.{option_map_or, is_some}
 use Rattle.ckr_base.specs.declared.code.Code.TheVariants.{System}
 use Rattle.ckr_base.specs.declared.programs.Finish.{Finish}

@@ -4,6 +4,8 @@
 mod files;
 mod heads;
 mod stepping;
+#[cfg(test)]
+mod tests;
 mod units;
 mod writing;
 

@@ -1,10 +1,11 @@
 //! A running step.
-ghost use Rattle.std.specs.Prelude.{◌≡◌, ◌≤◌, ◌<◌, ◌+◌, ℕ, List, true, IsTrue, length, IfOk, Option};
+ghost use Rattle.std.specs.Prelude.{◌≡◌, ◌≤◌, ◌<◌, ℕ, Bool, true, false, IsTrue, IfOk};
 ghost use Rattle.ckr_base.specs.declared.programs.NextDue.TheVariants.{Unit as OneUnit};
-ghost use Rattle.ckr_base.specs.declared.programs.Finish.{Finish as ProgramEnd};
-ghost use Rattle.ckr_jcl.specs.declared.deck.Step.{Step as DeckStep};
 ghost use Rattle.ckr_outside.specs.Disk.{OnlyReads, HasCause};
+ghost use Rattle.ckr_library.specs.Catalog.{Catalog};
+ghost use Rattle.ckr_meaning.specs.StepRun.{StepStart};
 ghost use Rattle.ckr_programs.specs.Ranges.{IsInRange};
+ghost use Rattle.ckr_volumes.specs.declared.layout.Layout.{Layout as OneLayout};
 ghost use Rattle.ckr_volumes.specs.Stands.{is_laid_out, disk_needed};
 ghost use Rattle.ckr_steps.specs.Files.{files_of};
 ghost use Rattle.ckr_steps.specs.Units.{first_state, due_of, served_of, taken_of, entries_of};
@@ -55,7 +56,7 @@ pub struct Progress<'a> {
 pub struct StepRun {
     state: State,
     parm: Parm,
-    files: Files,
+    pub(crate) files: Files,
     writes: u32,
 }
 
@@ -80,16 +81,26 @@ fn answer(taken: u32, rewrite: Option<(u32, Rec)>, fits: bool, finish: Option<Fi
 }
 
 impl StepRun {
-    ghost use Rattle.ckr_steps.specs.Stepping.{AreCounted, HasWorked, HasLooked};
+    ghost use Rattle.ckr_steps.specs.Stepping.{AreCounted, heads_on, worked_for, HasWorked, HasLooked};
+    ghost use Rattle.ckr_steps.specs.Standing.{files_at, MayStart, StandsAt, ShowsWithin, GoesOn, DueAt, HasFewCards, HasMade};
 
     /// A step that starts, by the numbers of the run's root and of the run that owns the step, each at most 9,999,999. It keeps
     /// its own copy of the records in the deck and of the PARM, which is one that `read_parm` gives for the program.
+    ///
+    /// `NoMemory`: there is none for the copies.
     pub fn begin(alloc: Global, step: &Step, root: u32, owner: u32) -> Result<StepRun, NoMemory>
         requires root { root ≤ 9999999 }
         requires owner { owner ≤ 9999999 }
         requires parm { IsInRange step.now.parm }
         ensures begun { IfOk result (λ run. run ≡ record { state = first_state step.now.program; parm = step.now.parm; files = files_of root owner step.now; writes = 0 }) }
         ensures counted { IfOk result AreCounted }
+
+        // Where the library has the data sets of a step that may start, the step stands before its first record.
+        ensures stands { (start : StepStart) (layout : OneLayout) (library : Catalog) → start.root ≡ root → start.owned.owner ≡ owner → start.owned.step ≡ step.now
+            → MayStart start → HasMade layout start library → IfOk result (λ run. StandsAt start 0 false run library) }
+        ensures there { (start : StepStart) (layout : OneLayout) (library : Catalog) → start.root ≡ root → start.owned.owner ≡ owner → start.owned.step ≡ step.now
+            → MayStart start → HasMade layout start library → HasFewCards (files_at start).first → HasFewCards (files_at start).second
+            → IfOk result (λ run. AreThere run.files library) }
     {
         Ok(StepRun {
             state: units::first_state(step.program),
@@ -101,7 +112,10 @@ impl StepRun {
 
     /// What the step is to do next (this project's profile).
     pub fn due(&self) -> NextDue
-        ensures { result ≡ due_of self.now.parm self.now.state }
+        ensures due { result ≡ due_of self.now.parm self.now.state }
+
+        // It has finished exactly where the closing unit is done, with the return code of the step's work.
+        ensures at { (start : StepStart) (taken : ℕ) (closed : Bool) (library : Catalog) → StandsAt start taken closed self.now library → DueAt start closed result }
     {
         units::due(&self.state, &self.parm)
     }
@@ -113,6 +127,7 @@ impl StepRun {
         requires entries { written ≡ true → entries_of self.old.state < 1000000 }
         ensures step { self.new ≡ record self.old { state = served_of self.old.parm written self.old.state } }
         ensures counted { AreCounted self.new }
+        ensures stands { (start : StepStart) (taken : ℕ) (closed : Bool) (library : Catalog) → StandsAt start taken closed self.old library → StandsAt start taken closed self.new library }
     {
         units::served(&mut self.state, &self.parm, written);
     }
@@ -147,6 +162,7 @@ impl StepRun {
         requires fits { disk_needed layout.now ≤ D.size disk.old }
         requires stored { AreStored layout.now library.now }
         requires there { AreThere self.now.files library.now }
+        ensures answer { D.told → IfOk result (λ worked. worked ≡ worked_for library.now self.now (heads_on (D.content disk.old) layout.now library.now self.now)) }
         ensures looked { IfOk result (HasLooked D.told (D.content disk.old) layout.now self.now library.now) }
         ensures only_reads { OnlyReads D.content D.may_leave D.moment D.left_since disk.old disk.new }
         ensures size { D.size disk.new ≡ D.size disk.old }
@@ -183,10 +199,19 @@ impl StepRun {
         requires fits { disk_needed layout.now ≤ D.size disk.old }
         requires stored { AreStored layout.now library.old }
         requires there { AreThere self.old.files library.old }
+        ensures answer { D.told → IfOk result (λ worked. worked ≡ worked_for library.old self.old (heads_on (D.content disk.old) layout.now library.old self.old)) }
         ensures worked { IfOk result (HasWorked D.told (D.content disk.old) (D.content disk.new) layout.now self.old self.new library.old library.new) }
         ensures counted { IfOk result (λ _. AreCounted self.new) }
+
+        // From wherever the step stands in its job, it goes on as its work does: a record more is taken or the program is closed, with
+        // the writes for it behind those before, or the step ends as its work ends.
+        ensures goes_on { D.told → IfOk result (λ worked. (start : StepStart) (taken : ℕ) → StandsAt start taken false self.old library.old
+            → ShowsWithin D.told (D.content disk.old) layout.now start self.old.writes library.old
+            → GoesOn D.told (D.content disk.new) layout.now start taken self.old self.new library.new worked) }
         ensures stored { AreStored layout.now library.new }
-        ensures there { AreThere self.old.files library.new }
+        ensures there { AreThere self.new.files library.new }
+        ensures files { self.new.files ≡ self.old.files }
+        ensures parm { self.new.parm ≡ self.old.parm }
 
         // The records that each data set of the library has at entry stay, in every image that a stop may leave.
         ensures keeps { ChangesKeeping D.told D.content D.may_leave D.moment D.left_since layout.now library.old disk.old disk.new }

@@ -1,7 +1,5 @@
-use Rattle.std.proofs.Common.{◌≡◌, ◌<◌, false, sym, ◌∙◌, ap, subst}
-use Rattle.ckr_base.specs.declared.programs.NextDue.TheVariants.{Unit as OneUnit}
+use Rattle.std.proofs.Common.{◌<◌, sym, ◌∙◌, ap, subst}
 use Rattle.ckr_entry.specs.declared.point.State.{State}
-use Rattle.ckr_entry.specs.declared.point.State.TheVariants.{Plain, Matched}
 use Rattle.ckr_meaning.specs.States.{first_of, second_of}
 use Rattle.ckr_steps.specs.Units.{IsCounted, due_of}
 use Rattle.ckr_steps.proofs.Counted.{open_yet, plain_counted, match_counted}

@@ -1,8 +1,8 @@
-use Rattle.std.proofs.Common.{◌≡◌, Bool, List, ◌∷◌, sym, subst, ◌∙◌, ap}
+use Rattle.std.proofs.Common.{Bool, List, sym, subst}
 use Rattle.ckr_base.specs.declared.programs.Write.{Write}
-use Rattle.ckr_meaning.specs.Program.{Room, room_behind, fitting}
+use Rattle.ckr_meaning.specs.Program.{room_behind, fitting}
 use Rattle.ckr_steps.specs.Writing.{Shows, room_of, put_one, put_all}
-use Rattle.ckr_steps.proofs.Growing.{IsGrown, keeping_twice}
+use Rattle.ckr_steps.proofs.Growing.{keeping_twice}
 use Rattle.ckr_steps.proofs.Putting.{nothing_fits, first_fits, shows_nothing, shows_first, grown_first, left_first}
 use Rattle.ckr_steps.proofs.writing.+put_all.Goals as goal
 

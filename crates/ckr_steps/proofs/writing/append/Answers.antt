@@ -1,4 +1,4 @@
-use Rattle.std.proofs.Common.{◌≡◌, ◌≤◌, ◌<◌, ℕ, ◌+◌, sym, arith}
+use Rattle.std.proofs.Common.{sym, arith}
 use Rattle.ckr_steps.proofs.Growing.{IsLonger, length_set, stored_longer, there_longer, IsWritten, shows_written, changes_keeping}
 use Rattle.ckr_steps.proofs.writing.append.Goals as goal
 

@@ -1,4 +1,4 @@
-use Rattle.std.proofs.Common.{◌≡◌, List, sym, subst, ◌∙◌}
+use Rattle.std.proofs.Common.{List, sym, subst, ◌∙◌}
 use Rattle.std.proofs.lemmas.Result.{IfOk-weaker}
 use Rattle.ckr_base.specs.declared.programs.Write.{Write}
 use Rattle.ckr_meaning.specs.Program.{fitting}

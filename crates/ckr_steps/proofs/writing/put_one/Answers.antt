@@ -1,10 +1,9 @@
-use Rattle.std.proofs.Common.{◌≡◌, Bool, Option, Some, sym, subst}
-use Rattle.std.specs.Prelude.{IsTrue, IfOk, if◌then◌else◌, nat_lt}
+use Rattle.std.proofs.Common.{◌≡◌, Bool, Some, sym, subst}
+use Rattle.std.specs.Prelude.{IsTrue, if◌then◌else◌, nat_lt}
 use Rattle.std.specs.Option.{is_some}
 use Rattle.std.proofs.lemmas.Result.{IfOk-weaker}
 use Rattle.ckr_base.specs.declared.programs.Output.{Output}
 use Rattle.ckr_base.specs.declared.programs.Output.TheVariants.{Main, Rejects}
-use Rattle.ckr_library.specs.Named.{Name}
 use Rattle.ckr_meaning.specs.Program.{room_behind}
 use Rattle.ckr_meaning.specs.StepRun.{extended, changed_in}
 use Rattle.ckr_steps.specs.Writing.{Shows, end_set, room_at, room_of, grown_in}

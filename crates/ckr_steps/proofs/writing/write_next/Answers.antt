@@ -1,4 +1,4 @@
-use Rattle.std.proofs.Common.{◌≡◌, ◌≤◌, ℕ, ◌+◌, List, [], ◌∷◌, ◌++◌, slice_set, ap, sym, ◌∙◌, add-one, arith}
+use Rattle.std.proofs.Common.{◌≤◌, ℕ, ◌+◌, List, [], ◌∷◌, ◌++◌, slice_set, ap, sym, ◌∙◌, add-one, arith}
 use Rattle.std.proofs.lemmas.Result.{on_ok_weaker}
 use Rattle.std.proofs.Math.Seq.{set-append_seam}
 use Rattle.ckr_volumes.specs.Lists.{length_records}

@@ -1,5 +1,6 @@
-use Rattle.std.proofs.Common.{◌≡◌, ◌≤◌, ℕ, ◌+◌, sym, ap, ◌∙◌, arith}
+use Rattle.std.proofs.Common.{ap, ◌∙◌, arith}
 use Rattle.ckr_steps.proofs.Answered.{answer_is}
+use Rattle.ckr_steps.specs.Stepping.{worked_for}
 use Rattle.ckr_steps.specs.Units.{unit_of, state_of}
 use Rattle.ckr_steps.proofs.stepping.StepRun.ahead.Goals as goal
 
@@ -24,3 +25,9 @@ returns-clause-looked g c =
           (c.unit-done.ensures.state ∙ ap (λ state. state_of step.parm state heads) c.copied-state.ensures)
           c.as_slice-writes.ensures.value c.rewrite_of.result c.fit.result c.taken_of.result c.rewrite_of.ensures (λ none. c.fit.ensures) c.taken_of.ensures;
     }
+
+pub returns-clause-answer : goal.returns-clause-answer
+unfolding returns-clause-looked
+returns-clause-answer g c told =
+    let looked = returns-clause-looked g c in
+    looked.answer ∙ ap (worked_for c.args.library.now c.args.self.now) (looked.read told)

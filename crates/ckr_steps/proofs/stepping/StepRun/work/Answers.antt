@@ -1,6 +1,12 @@
-use Rattle.std.proofs.Common.{◌≡◌, ◌≤◌, ℕ, ◌+◌, List, length, sym, ap, ◌∙◌, subst, arith}
+use Rattle.std.proofs.Common.{◌≤◌, ◌+◌, List, length, sym, ap, ◌∙◌, subst, arith}
 use Rattle.ckr_base.specs.declared.programs.Write.{Write}
 use Rattle.ckr_steps.specs.Writing.{grown, Shows, put_all}
+use Rattle.ckr_meaning.specs.StepRun.{case_at}
+use Rattle.ckr_steps.specs.declared.stepping.StepRun.{StepRun}
+use Rattle.ckr_steps.specs.Standing.{AreNext}
+use Rattle.ckr_steps.specs.Stepping.{worked_for}
+use Rattle.ckr_steps.proofs.GoingOn.{goes_on, so_far_written}
+use Rattle.ckr_steps.proofs.Heading.{next_heads}
 use Rattle.ckr_steps.proofs.Answered.{answer_is, step_is, done_are}
 use Rattle.ckr_steps.proofs.stepping.StepRun.work.Goals as goal
 
@@ -45,3 +51,24 @@ returns-clause-worked g c =
             (c.in_ok-put.ensures.shows names model (subst (λ image. Shows d.told image c.args.layout.now names model library) (sym c.heads_of.ensures.only_reads.same) shows));
       };
     }
+
+pub returns-clause-goes_on : goal.returns-clause-goes_on
+unfolding returns-clause-worked
+returns-clause-goes_on g c told start taken stands shows =
+    let d = g.D.Disk in
+    let step = c.args.self.now in
+    let library = c.args.library.now in
+    let layout = c.args.layout.now in
+    let heads = c.in_ok-heads.heads in
+    let whole = returns-clause-worked g c in
+    let new : StepRun = record { state = c.unit-done.new.state; parm = step.parm; files = step.files; writes = step.writes + c.in_ok-put.put.count } in
+    let next : AreNext (case_at start) step.state heads =
+    subst (AreNext (case_at start) step.state) (sym (c.in_ok-heads.ensures.read told))
+    (next_heads d.told (d.content c.args.disk.now) layout start taken step library told stands (so_far_written start taken step library stands) shows) in
+    goes_on d.told (d.content c.args.disk.now) (d.content c.do_writes.new.disk) layout start taken step new library c.do_writes.new.library heads c.answer.result stands next whole.done whole.written shows c.requires.there
+
+pub returns-clause-answer : goal.returns-clause-answer
+unfolding returns-clause-worked
+returns-clause-answer g c told =
+    let whole = returns-clause-worked g c in
+    whole.done.answer ∙ ap (worked_for c.args.library.now c.args.self.now) (whole.read told)
