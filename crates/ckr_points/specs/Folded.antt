@@ -4,6 +4,7 @@ use Rattle.std.specs.Option.{option_map, option_map_or}
 use Rattle.std.specs.List.{filter_map}
 use Rattle.ckr_base.specs.declared.code.Code.{Code}
 use Rattle.ckr_dispositions.specs.Disposing.{dispose, is_temporary}
+use Rattle.ckr_allocation.specs.Committing as allocation
 use Rattle.ckr_jcl.specs.declared.deck.Dd.{Dd}
 use Rattle.ckr_jcl.specs.declared.deck.Job.{Job}
 use Rattle.ckr_jcl.specs.declared.deck.Role.{Role}
@@ -20,7 +21,8 @@ use Rattle.ckr_meaning.specs.declared.place.Place.TheVariants.{Before, Within}
 use Rattle.ckr_meaning.specs.StepRun.{rewritten_stamp}
 use Rattle.ckr_points.specs.declared.run.RunState.TheVariants.{Queued, On, Held}
 use Rattle.ckr_points.specs.Rows.{EntryPoint, KeptEntry, TableSet, StartPoint, EffectPoint, RunRow, Tables, run_of, with_run, standing_of, with_standing, table_ways, cut_set}
-use Rattle.ckr_points.specs.Marks.{marks_now, point_at, with_point, output_names, made_names}
+use Rattle.ckr_allocation.specs.Committing.{output_names}
+use Rattle.ckr_points.specs.Marks.{marks_now, point_at, with_point, made_names}
 
 -- a run that was just submitted
 abbrev pub queued_run : ℕ → Job → RunRow
@@ -52,9 +54,7 @@ after_selected row initiator tables =
 
 -- the committed lengths, one for each output of a step, in the order of the DDs
 abbrev pub committed : List Name → List ℕ → Named TableSet → Named TableSet
-committed [] lengths sets = sets
-committed (name ∷ names) [] sets = sets
-committed (name ∷ names) (most ∷ lengths) sets = committed names lengths (with_changed name (cut_set most) sets)
+committed names lengths sets = allocation.committed cut_set names lengths sets
 
 abbrev pub part_of : Made → Part
 part_of item = record {

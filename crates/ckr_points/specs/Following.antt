@@ -29,7 +29,8 @@ use Rattle.ckr_points.specs.declared.run.RunState.TheVariants.{Queued, On, Held 
 use Rattle.ckr_points.specs.Rows.{KeptEntry, TableSet, RunRow, Tables, run_of, standing_of, step_of_run, table_ways}
 use Rattle.ckr_points.specs.Folded.{part_of, parts_from, fresh_table, made_table, name_with_role, is_checkpoints, is_updates}
 use Rattle.ckr_points.specs.Judging.{Wanted, was_selected, is_ended, is_same_step, stale_denial}
-use Rattle.ckr_points.specs.Marks.{output_names, point_at}
+use Rattle.ckr_allocation.specs.Committing.{output_names}
+use Rattle.ckr_points.specs.Marks.{point_at}
 use Rattle.ckr_points.specs.Office.{is_holder}
 use Rattle.ckr_points.specs.Restarting.{place_of, step_in, kept_at, syschk_name}
 

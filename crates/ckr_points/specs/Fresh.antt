@@ -12,7 +12,8 @@ use Rattle.ckr_rules.specs.declared.cases.Rule.TheVariants.{D8, D9, D10}
 use Rattle.ckr_points.specs.declared.denial.Denial.{Denial}
 use Rattle.ckr_points.specs.declared.denial.Seen.{Seen}
 use Rattle.ckr_points.specs.Rows.{TableSet}
-use Rattle.ckr_points.specs.Marks.{same_stamp, output_names}
+use Rattle.ckr_allocation.specs.Committing.{output_names}
+use Rattle.ckr_points.specs.Marks.{same_stamp}
 
 -- a denial that names no data set
 abbrev pub plain_denial : Rule → Denial

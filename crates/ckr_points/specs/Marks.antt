@@ -81,10 +81,6 @@ marks_now row sets =
     else option_map_or (λ mark. mark) (mark_at (carried_marks row) name) (mark_now sets name))
     (names_of_job row.job)
 
--- the outputs and the checkpoint data set of a step, in the order of its DDs
-abbrev pub output_names : ℕ → OwnedStep → List Name
-output_names root owned = filter_map (name_of root owned) (filter (λ dd. is_output dd.role) owned.step.dds)
-
 abbrev pub is_sysout : Origin → Bool
 is_sysout (InStream cards) = false
 is_sysout (NamedOrigin name) = false

@@ -17,7 +17,8 @@ use Rattle.ckr_meaning.specs.declared.place.Place.{Place}
 use Rattle.ckr_meaning.specs.declared.place.Place.TheVariants.{Before, Opened, Within}
 use Rattle.ckr_points.specs.declared.run.RunState.TheVariants.{On, Released as ReleasedRun, Ended as EndedRun, Denied as DeniedRun, Purged as PurgedRun}
 use Rattle.ckr_points.specs.Rows.{EntryPoint, KeptEntry, TableSet, StartPoint, EffectPoint, RunRow, Tables, no_tables, run_of, with_run, with_standing, step_of_run}
-use Rattle.ckr_points.specs.Marks.{mark_now, mark_at, marks_for, point_at, with_point, output_names, sysout_names, made_names, removed_all, put_back, put_back_passed, deck_names}
+use Rattle.ckr_allocation.specs.Committing.{output_names}
+use Rattle.ckr_points.specs.Marks.{mark_now, mark_at, marks_for, point_at, with_point, sysout_names, made_names, removed_all, put_back, put_back_passed, deck_names}
 use Rattle.ckr_points.specs.Folded.{after_submitted, after_selected, after_started, after_commit, after_rewritten, after_checkpointed, after_cancelled, after_step_ended, after_held, after_dispositions, own_made, fresh_effect}
 
 -- the first entry of that identifier that a data set keeps

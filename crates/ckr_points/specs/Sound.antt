@@ -16,7 +16,7 @@ use Rattle.ckr_library.specs.declared.sets.DataSet.{DataSet}
 use Rattle.ckr_library.specs.declared.sets.Part.{Part}
 use Rattle.ckr_library.specs.declared.sets.Stamp.{Stamp}
 use Rattle.ckr_library.specs.Named.{Name, EachEntry, Name, Named, entry_at, has_entry, same_name}
-use Rattle.ckr_meaning.specs.LibrarySet.{LibrarySet}
+use Rattle.ckr_meaning.specs.LibrarySet.{LibrarySet, Library}
 use Rattle.ckr_entry.specs.declared.point.Passed.{Passed}
 use Rattle.ckr_entry.specs.declared.point.Mark.{Mark}
 use Rattle.ckr_entry.specs.declared.point.Present.{Present}
@@ -29,7 +29,7 @@ use Rattle.ckr_volumes.specs.declared.layout.Layout.{Layout}
 use Rattle.ckr_volumes.specs.Stands.{StandsIn, lie_apart}
 use Rattle.ckr_points.specs.Following.{follows}
 use Rattle.ckr_points.specs.Judging.{auto_case, wanted_of, deferred_case}
-use Rattle.ckr_points.specs.Office.{Leg, Office, no_office, office_after, leg_of, standing_at, library_for, model_records}
+use Rattle.ckr_points.specs.Office.{Leg, Office, no_office, office_after, leg_of, is_holder, standing_at, library_for, model_records}
 use Rattle.ckr_points.specs.Restarting.{Decked, place_of, step_in}
 use Rattle.ckr_points.specs.Rows.{TableSet, RunRow, Tables, run_of}
 
@@ -110,18 +110,28 @@ abbrev pub HasLength : Content → ℕ → ℕ → Type 0
 HasLength Plain now most = now ≡ most
 HasLength Checkpoints now most = Unit {0}
 
+-- a data set as two libraries are compared: the records of a checkpoint data set are left out
+abbrev pub as_compared : Content → LibrarySet → LibrarySet
+as_compared Plain set = set
+as_compared Checkpoints set = record set { records = [] }
+
+abbrev pub compared_at : Library → Name → Option LibrarySet
+compared_at library name = option_map (λ set. as_compared set.content set) (entry_at library name)
+
 -- a name agrees with what its holder's place has, or with what the ended jobs left
 pub record AgreesAt (office : Office) (name : Name) : Type 0 where
-  pub agrees : seen_at office name ≡ entry_at (library_for office name) name
+  pub agrees : seen_at office name ≡ compared_at (library_for office name) name
   pub long : (table : TableSet) → entry_at office.tables.sets name ≡ Some table → HasLength table.set.content (length (model_records office name)) table.set.length
 
 -- the passed names that exist
 abbrev pub passed_there : Office → List Passed → List Passed
 passed_there office passed = filter (λ entry. has_entry office.tables.sets entry.name) passed
 
+-- the passed list of a holder
 abbrev pub PassedAgrees : Office → Leg → Type 0
 PassedAgrees office leg =
-    (row : RunRow) → run_of office.tables leg.number ≡ Some row → passed_there office row.passed ≡ passed_there office (standing_at office leg).passed
+    (row : RunRow) → run_of office.tables leg.number ≡ Some row → is_holder row.state ≡ true
+    → passed_there office row.passed ≡ passed_there office (standing_at office leg).passed
 
 -- the place and the image of a rewrite in place
 abbrev pub rewrite_of : Output → List ℕ → Option (ℕ × List ℕ)
