@@ -1,0 +1,2 @@
+-- The tables of worked decks.
+pub mod Rows

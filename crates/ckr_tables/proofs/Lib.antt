@@ -1,0 +1,16 @@
+pub mod Points
+pub mod Runs
+pub mod Sorting
+pub mod Changes
+pub mod Indexing
+pub mod Steps
+pub mod Ended
+pub mod Viewed
+pub mod Items
+pub mod Followed
+pub mod Applied
+pub mod Staying
+pub mod Tabled
+pub mod Roomier
+pub mod Examples
+pub mod Rewritten

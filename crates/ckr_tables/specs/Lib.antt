@@ -1,0 +1,11 @@
+pub mod Changing
+pub mod Ending
+pub mod Inside
+pub mod Keeping
+pub mod Making
+pub mod Marked
+pub mod Needing
+pub mod Rewriting
+pub mod Rooms
+pub mod Seen
+pub mod Starting
