@@ -4,12 +4,10 @@ use Rattle.std.specs.Option.{option_map_or}
 use Rattle.ckr_base.specs.declared.code.Code.{Code}
 use Rattle.ckr_events.specs.declared.event.Event.TheVariants.{Ended as EndedEvent}
 use Rattle.ckr_events.specs.declared.event.Ending.TheVariants.{Coded as CodedEnding}
-use Rattle.ckr_meaning.specs.declared.place.Place.{Place}
-use Rattle.ckr_meaning.specs.declared.place.Place.TheVariants.{Before, Opened, Within}
 use Rattle.ckr_points.specs.Judging.{auto_case}
 use Rattle.ckr_points.specs.Restarting.{place_of, step_in}
 use Rattle.ckr_points.specs.Rows.{RunRow, step_of_run}
-use Rattle.ckr_points.specs.Growing.{lengths_kept}
+use Rattle.ckr_points.specs.Growing.{lengths_kept, writes_in}
 use Rattle.ckr_rules.specs.Judged.{automatic, rule_number}
 use Rattle.ckr_rules.specs.declared.cases.Rule.{Rule}
 use Rattle.ckr_rules.specs.declared.cases.Rule.TheVariants.{A6}
@@ -21,11 +19,6 @@ use Rattle.ckr_turns.specs.declared.plan.Plan.TheVariants.{Tell}
 use Rattle.ckr_turns.specs.declared.reply.How.TheVariants.{Abended}
 use Rattle.ckr_turns.specs.declared.reply.Reply.TheVariants.{JobEnded}
 use Rattle.ckr_turns.specs.Jobs.{Jobs, Running, running_in}
-
-abbrev pub writes_in : Place → ℕ
-writes_in (Before step) = 0
-writes_in (Opened step) = 0
-writes_in (Within step writes) = writes
 
 -- how far a run with a code has come: the writes of its running step and the lengths with them, else the committed ones
 pub record Reached : Type 0 where

@@ -1,13 +1,17 @@
 -- The runs of the tables as the queue has them.
-use Rattle.std.specs.Prelude.{ℕ, List, Option, None, Some}
+use Rattle.std.specs.Prelude.{◌≡◌, ℕ, suc, List, [], ◌∷◌, Option, None, Some}
 use Rattle.std.specs.Option.{option_map}
 use Rattle.std.specs.List.{filter_map}
 use Rattle.ckr_dispositions.specs.Using.{uses_of}
+use Rattle.ckr_events.specs.declared.event.Event.{Event}
+use Rattle.ckr_events.specs.declared.event.Event.TheVariants.{Submitted, Selected, Denied as DeniedEvent, Started, Rewritten, Checkpointed, Cancelled, StepEnded, Restarted, Held as HeldEvent, Released as ReleasedEvent, Ended as EndedEvent, Purged as PurgedEvent}
+use Rattle.ckr_jcl.specs.declared.deck.Job.{Job as Deck}
 use Rattle.ckr_queue.specs.declared.entry.Entry.{Entry}
 use Rattle.ckr_queue.specs.declared.entry.QueueState.{QueueState}
 use Rattle.ckr_queue.specs.declared.entry.QueueState.TheVariants as InQueue
 use Rattle.ckr_queue.specs.declared.entry.Selection.{Selection}
 use Rattle.ckr_queue.specs.declared.entry.Selection.TheVariants.{Job, Idle}
+use Rattle.ckr_queue.specs.Queue.{queued, with_entry, with_state, without}
 use Rattle.ckr_points.specs.declared.run.RunState.{RunState}
 use Rattle.ckr_points.specs.declared.run.RunState.TheVariants.{Queued, On, Held, Released, Ended, Denied, Purged}
 use Rattle.ckr_points.specs.Rows.{RunRow, Tables}
@@ -36,3 +40,25 @@ queue_of tables = filter_map entry_of tables.runs
 abbrev pub selection_for : Option RunRow → Selection
 selection_for None = Idle
 selection_for (Some row) = Job row.number
+
+-- the runs are numbered in their order, from this number on
+abbrev pub AreNumbered : ℕ → List RunRow → Type 0
+AreNumbered number [] = Unit {0}
+AreNumbered number (row ∷ rows) = (row.number ≡ number) × AreNumbered (suc number) rows
+
+-- the queue behind an event of a run that continues none; the deck is given for one that is submitted
+abbrev pub queue_behind : Event → Option Deck → List Entry → List Entry
+queue_behind (Submitted job cards) (Some deck) queue = with_entry (queued job (uses_of job deck)) queue
+queue_behind (Submitted job cards) None queue = queue
+queue_behind (Selected job initiator earlier step id) deck queue = with_state job InQueue.Selected queue
+queue_behind (DeniedEvent job rule name) deck queue = without job queue
+queue_behind (Started job step items) deck queue = queue
+queue_behind (Rewritten job taken writes lengths place image) deck queue = queue
+queue_behind (Checkpointed job id taken writes lengths place bytes) deck queue = queue
+queue_behind (Cancelled job) deck queue = queue
+queue_behind (StepEnded job step rc writes lengths) deck queue = queue
+queue_behind (Restarted job initiator code checkpoint) deck queue = with_state job InQueue.Selected queue
+queue_behind (HeldEvent job code writes lengths) deck queue = with_state job InQueue.Held queue
+queue_behind (ReleasedEvent job) deck queue = with_state job InQueue.Released queue
+queue_behind (EndedEvent job ending) deck queue = without job queue
+queue_behind (PurgedEvent job) deck queue = without job queue
