@@ -1,4 +1,4 @@
-use Rattle.std.proofs.Common.{◌+◌, sym, ◌∙◌, subst, ap, Some}
+use Rattle.std.proofs.Common.{◌+◌, sym, ◌∙◌, subst, ap}
 use Rattle.ckr_programs.specs.Units.{IsUnitAt, StandsFor}
 use Rattle.ckr_programs.specs.Steps.{record_unit, unit_of, state_of}
 use Rattle.ckr_programs.proofs.Done.{record_done, record_stands, closing_done}
