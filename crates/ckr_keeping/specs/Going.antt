@@ -1,7 +1,7 @@
 -- A desk whose events are kept, and whose running steps stand where their jobs come to.
-use Rattle.std.specs.Prelude.{◌≡◌, ◌≤◌, ◌==◌, ◌||◌, ◌&&◌, ℕ, Bool, true, false, not, nat_le, List, length, Option, None, Some}
+use Rattle.std.specs.Prelude.{◌≡◌, ◌≤◌, ◌==◌, ◌||◌, ◌&&◌, ℕ, Bool, true, false, not, length, Some}
 use Rattle.std.specs.List.{list_any, list_all, AllByRecursion}
-use Rattle.std.specs.Option.{is_none, option_map_or}
+use Rattle.std.specs.Option.{is_none}
 use Rattle.ckr_base.specs.declared.programs.Finish.TheVariants.{Returned}
 use Rattle.ckr_meaning.specs.declared.place.Place.TheVariants.{Within}
 use Rattle.ckr_meaning.specs.LibrarySet.{AreWithinSpace}
@@ -9,16 +9,15 @@ use Rattle.ckr_meaning.specs.Program.{records_taken, upto}
 use Rattle.ckr_meaning.specs.StepRun.{StepStart, case_at, work_at}
 use Rattle.ckr_points.specs.declared.run.RunState.{RunState}
 use Rattle.ckr_points.specs.declared.run.RunState.TheVariants.{Queued, On, Held, Released, Ended, Denied, Purged}
+use Rattle.ckr_points.specs.Following.{is_running}
 use Rattle.ckr_points.specs.Growing.{rewrites_nothing}
 use Rattle.ckr_points.specs.Office.{Leg, Office}
-use Rattle.ckr_points.specs.Restarting.{place_of}
 use Rattle.ckr_points.specs.Rows.{RunRow, run_of}
 use Rattle.ckr_soundness.specs.Keeping.{IsKept}
-use Rattle.ckr_volumes.specs.declared.layout.Layout.{Layout}
 use Rattle.ckr_submitting.specs.Form.{is_run}
-use Rattle.ckr_turns.specs.Desk.{Desk, StepOn, start_of}
-use Rattle.ckr_turns.specs.Planned.{is_within}
+use Rattle.ckr_turns.specs.Desk.{Desk, StepOn, TurnDone, start_of}
 use Rattle.ckr_turns.specs.Working.{Progress}
+use Rattle.ckr_keeping.specs.Coming.{EventComes, IsWithinStep}
 
 -- how far a step has come: behind so many records taken, with the writes for them; or closed, with all its writes
 pub record IsOpen (start : StepStart) (progress : Progress) : Type 0 where
@@ -49,6 +48,24 @@ pub record IsGoing (office : Office) (step : StepOn) : Type 0 where
   pub plain : rewrites_nothing start committed step.progress.writes ≡ true
   pub come : HasCome start step.progress step.progress.closed
 
+-- a run that was within a step when the system failed
+pub record IsFailed (office : Office) (run : ℕ) : Type 0 where
+  pub row : RunRow
+  pub number : ℕ
+  pub committed : ℕ
+  pub start : StepStart
+  pub within : IsWithinStep office run row number committed start
+
+-- whether a run may be on an initiator
+abbrev pub is_on_one : RunState → Bool
+is_on_one Queued = false
+is_on_one On = true
+is_on_one Held = false
+is_on_one Released = false
+is_on_one Ended = false
+is_on_one Denied = false
+is_on_one Purged = false
+
 -- a run that was never held, of a form that the desk runs
 abbrev pub is_plain_state : RunState → Bool
 is_plain_state Queued = true
@@ -60,18 +77,24 @@ is_plain_state Denied = false
 is_plain_state Purged = true
 
 abbrev pub is_plain_row : RunRow → Bool
-is_plain_row row = is_plain_state row.state && (is_none row.code && is_run row.deck)
+is_plain_row row = is_plain_state row.state && ((is_none row.initiator || is_on_one row.state) && (is_none row.code && is_run row.deck))
 
--- a run within a step is running, or was when the system failed
+-- a run on an initiator within a step is running, or was when the system failed
 abbrev pub is_accounted : Desk → RunRow → Bool
 is_accounted desk row =
-    not (is_within (place_of row)) || (list_any (λ (step : StepOn). step.run == row.number) desk.running || list_any (λ number. number == row.number) desk.failed)
+    not (is_running row) || (list_any (λ (step : StepOn). step.run == row.number) desk.running || list_any (λ number. number == row.number) desk.failed)
 
 -- the desk is as its events have brought it about
 pub record IsDesk (desk : Desk) : Type 0 where
   pub kept : IsKept desk.layout desk.office
   pub going : AllByRecursion (IsGoing desk.office) desk.running
+  pub failed : AllByRecursion (IsFailed desk.office) desk.failed
   pub plain : list_all is_plain_row desk.office.tables.runs ≡ true
   pub accounted : list_all (is_accounted desk) desk.office.tables.runs ≡ true
   pub spaced : AreWithinSpace desk.office.library
   pub spaced_legs : AllByRecursion (λ (leg : Leg). AreWithinSpace leg.start) desk.office.legs
+
+-- what a turn comes to: its event may come, and the desk behind it is as its events have brought it about
+pub record Keeps (desk : Desk) (done : TurnDone) : Type 0 where
+  pub comes : EventComes desk done.event
+  pub kept : IsDesk done.desk

@@ -1,0 +1,9 @@
+pub mod Between
+pub mod Lasting
+pub mod Outputs
+pub mod Within
+pub mod Reached
+pub mod Others
+pub mod Behind
+pub mod Turning
+pub mod Units

@@ -1,0 +1,165 @@
+-- The other runs of a desk are as they were where the row of one run changes.
+use Rattle.std.proofs.Common.{◌≡◌, ◌≢◌, ℕ, zero, suc, Bool, true, false, cond, not, ◌&&◌, ◌||◌, List, [], ◌∷◌, filter, find, slice_get, refl, ap, sym, ◌∙◌, subst, Option, Some, None}
+use Rattle.std.specs.Prelude.{◌==◌}
+use Rattle.std.specs.List.{AllByRecursion, list_all, list_any}
+use Rattle.std.specs.Option.{option_map_or}
+use Rattle.std.proofs.lemmas.Bool.{false≢true}
+use Rattle.ckr_dispositions.proofs.Colliding.{both, both-first, both-second}
+use Rattle.ckr_library.specs.Named.{Name, entry_at, taken_over, with_moved}
+use Rattle.ckr_library.proofs.Laws.{each-at, each-with_entry, each-without_entry}
+use Rattle.ckr_library.proofs.Ordered.{not_None, same_item}
+use Rattle.ckr_meaning.specs.LibrarySet.{AreWithinSpace, IsWithinSpace, Library, LibrarySet}
+use Rattle.ckr_meaning.specs.JobRun.{start_at}
+use Rattle.ckr_points.specs.Following.{is_running}
+use Rattle.ckr_points.specs.Office.{Leg, Office}
+use Rattle.ckr_points.specs.Restarting.{place_of, step_in}
+use Rattle.ckr_points.specs.Rows.{RunRow, run_of}
+use Rattle.ckr_soundness.proofs.Entries.{equal_to, same_number, tested}
+use Rattle.ckr_soundness.proofs.Holders.{compared}
+use Rattle.ckr_turns.specs.Desk.{Desk, StepOn, start_of, without_run}
+use Rattle.ckr_keeping.specs.Coming.{IsWithinStep}
+use Rattle.ckr_keeping.specs.Going.{IsDesk, IsFailed, IsGoing, is_accounted, is_plain_row}
+
+-- ---- lists
+
+pub all-at : {X : Type 0} (test : X → Bool) (xs : List X) (place : ℕ) (x : X) → list_all test xs ≡ true → slice_get xs place ≡ Some x → test x ≡ true
+all-at test [] place x each at = absurd (not_None x (sym at))
+all-at test (first ∷ xs) zero x each at = ap test (sym (same_item first x at)) ∙ both-first (test first) (list_all test xs) each
+all-at test (first ∷ xs) (suc place) x each at = all-at test xs place x (both-second (test first) (list_all test xs) each) at
+
+pub all-by : {X : Type 0} (test : X → Bool) (xs : List X) → ((place : ℕ) (x : X) → slice_get xs place ≡ Some x → test x ≡ true) → list_all test xs ≡ true
+all-by test [] each = refl
+all-by test (first ∷ xs) each = both (test first) (list_all test xs) (each 0 first refl) (all-by test xs (λ place x at. each (suc place) x at))
+
+-- a run of the desk was never held
+pub row-plain : (desk : Desk) → IsDesk desk → (run : ℕ) (row : RunRow) → run_of desk.office.tables run ≡ Some row → is_plain_row row ≡ true
+row-plain desk is zero row at = absurd (not_None row (sym at))
+row-plain desk is (suc place) row at = all-at is_plain_row desk.office.tables.runs place row is.plain at
+
+any-kept : {X : Type 0} (test keep : X → Bool) → ((x : X) → test x ≡ true → keep x ≡ true) → (xs : List X) → list_any test xs ≡ list_any test (filter keep xs)
+any-kept test keep sure [] = refl
+any-kept test keep sure (x ∷ xs) =
+    tested (keep x)
+    (λ kept. ap (λ b. test x || b) (any-kept test keep sure xs) ∙ sym (ap (λ b. list_any test (cond b (x ∷ filter keep xs) (filter keep xs))) kept))
+    (λ gone.
+    tested (test x)
+    (λ does. absurd (false≢true (sym gone ∙ sure x does)))
+    (λ isnt. ap (λ b. b || list_any test xs) isnt ∙ any-kept test keep sure xs ∙ sym (ap (λ b. list_any test (cond b (x ∷ filter keep xs) (filter keep xs))) gone)))
+
+apart-from : (one other : ℕ) → (one == other) ≡ false → one ≢ other
+apart-from one other isnt e = false≢true (sym isnt ∙ ap (λ n. n == other) e ∙ same_number other)
+
+differs : (one other : ℕ) → one ≢ other → not (one == other) ≡ true
+differs one other apart =
+    tested (one == other)
+    (λ same. absurd (apart (equal_to one other same)))
+    (λ isnt. ap not isnt)
+
+-- ---- libraries
+
+pub taken_over-within : (names : List Name) (from to : Library) → AreWithinSpace from → AreWithinSpace to → AreWithinSpace (taken_over names from to)
+taken_over-within [] from to one other = other
+taken_over-within (name ∷ names) from to one other =
+    by (entry_at from name) refl (taken_over-within names from to one other)
+  where
+    by : (entry : Option LibrarySet) → entry_at from name ≡ entry → AreWithinSpace (taken_over names from to) → AreWithinSpace (with_moved name (taken_over names from to) entry)
+    by None e rest = each-without_entry IsWithinSpace name (taken_over names from to) rest
+    by (Some set) e rest = each-with_entry IsWithinSpace name set (taken_over names from to) (each-at IsWithinSpace from one name set e) rest
+
+-- ---- one row changes
+
+pub record Changes (office after : Office) (job : ℕ) (next : RunRow) : Type 0 where
+  pub mine : run_of after.tables job ≡ Some next
+  pub others : (other : ℕ) → other ≢ job → run_of after.tables other ≡ run_of office.tables other
+  pub legs : after.legs ≡ office.legs
+
+module _ (office after : Office) (job : ℕ) (next : RunRow) (changes : Changes office after job next) where
+  start-there : (row : RunRow) → start_of after row ≡ start_of office row
+  start-there row = ap (λ (legs : List Leg). option_map_or (λ leg. start_at leg.job leg.start (step_in (place_of row))) (find (λ leg. leg.number == row.number) legs) None) changes.legs
+
+  going-there : (on : StepOn) → on.run ≢ job → IsGoing office on → IsGoing after on
+  going-there on apart going = record {
+    row = going.row;
+    row_at = changes.others on.run apart ∙ going.row_at;
+    on = going.on;
+    number = going.number;
+    committed = going.committed;
+    place = going.place;
+    start = going.start;
+    start_at = start-there going.row ∙ going.start_at;
+    fit = going.fit;
+    behind = going.behind;
+    plain = going.plain;
+    come = going.come;
+  }
+
+  -- the steps of the other runs go on
+  pub going-rest : (running : List StepOn) → AllByRecursion (IsGoing office) running → AllByRecursion (IsGoing after) (without_run job running)
+  going-rest [] going = tt
+  going-rest (first ∷ rest) going =
+      tested (first.run == job)
+      (λ same. subst (λ b. AllByRecursion (IsGoing after) (cond (not b) (first ∷ without_run job rest) (without_run job rest))) (sym same) (going-rest rest going.1))
+      (λ isnt. subst (λ b. AllByRecursion (IsGoing after) (cond (not b) (first ∷ without_run job rest) (without_run job rest))) (sym isnt) (going-there first (apart-from first.run job isnt) going.0, going-rest rest going.1))
+
+  failed-there : (number : ℕ) → number ≢ job → IsFailed office number → IsFailed after number
+  failed-there number apart failed = record {
+    row = failed.row;
+    number = failed.number;
+    committed = failed.committed;
+    start = failed.start;
+    within = record {
+      row_at = changes.others number apart ∙ failed.within.row_at;
+      on = failed.within.on;
+      place = failed.within.place;
+      start_at = start-there failed.row ∙ failed.within.start_at;
+    };
+  }
+
+  -- the other runs that were running when the system failed are still marked
+  pub failed-rest : (failed : List ℕ) → AllByRecursion (IsFailed office) failed → AllByRecursion (IsFailed after) (filter (λ number. not (number == job)) failed)
+  failed-rest [] each = tt
+  failed-rest (first ∷ rest) each =
+      let others : List ℕ = filter (λ number. not (number == job)) rest in
+      tested (first == job)
+      (λ same. subst (λ b. AllByRecursion (IsFailed after) (cond (not b) (first ∷ others) others)) (sym same) (failed-rest rest each.1))
+      (λ isnt. subst (λ b. AllByRecursion (IsFailed after) (cond (not b) (first ∷ others) others)) (sym isnt) (failed-there first (apart-from first job isnt) each.0, failed-rest rest each.1))
+
+  pub failed-all : (failed : List ℕ) → list_any (λ number. number == job) failed ≡ false → AllByRecursion (IsFailed office) failed → AllByRecursion (IsFailed after) failed
+  failed-all [] out each = tt
+  failed-all (first ∷ rest) out each =
+      tested (first == job)
+      (λ same. absurd (false≢true (sym out ∙ ap (λ b. b || list_any (λ number. number == job) rest) same)))
+      (λ isnt. (failed-there first (apart-from first job isnt) each.0, failed-all rest (sym (ap (λ b. b || list_any (λ number. number == job) rest) isnt) ∙ out) each.1))
+
+module _ (desk later : Desk) (is : IsDesk desk) (job : ℕ) (next : RunRow) (changes : Changes desk.office later.office job next) where
+  -- what holds of each row but one holds of each
+  each_row : (old test : RunRow → Bool) → test next ≡ true → list_all old desk.office.tables.runs ≡ true → ((row : RunRow) → row.number ≢ job → old row ≡ true → test row ≡ true) → list_all test later.office.tables.runs ≡ true
+  each_row old test mine each goes =
+      all-by test later.office.tables.runs
+      (λ place row at.
+      compared (suc place) job
+      (λ same. ap test (sym (same_item next row (sym changes.mine ∙ ap (run_of later.office.tables) (sym same) ∙ at))) ∙ mine)
+      (λ apart.
+      let was : run_of desk.office.tables (suc place) ≡ Some row = sym (changes.others (suc place) apart) ∙ at in
+      goes row (λ e. apart (sym (is.kept.events.numbered (suc place) row was) ∙ e)) (all-at old desk.office.tables.runs place row each was)))
+
+  pub plain-then : is_plain_row next ≡ true → list_all is_plain_row later.office.tables.runs ≡ true
+  plain-then plain = each_row is_plain_row is_plain_row plain is.plain (λ row apart was. was)
+
+  -- a run is accounted for by the steps and the marks of the other runs
+  pub accounted-then : is_running next ≡ false → ((number : ℕ) → number ≢ job → list_any (λ (step : StepOn). step.run == number) desk.running ≡ list_any (λ (step : StepOn). step.run == number) later.running) → ((number : ℕ) → number ≢ job → list_any (λ one. one == number) desk.failed ≡ list_any (λ one. one == number) later.failed) → list_all (is_accounted later) later.office.tables.runs ≡ true
+  accounted-then rests running failed =
+      each_row (is_accounted desk) (is_accounted later)
+      (ap (λ b. not b || (list_any (λ (step : StepOn). step.run == next.number) later.running || list_any (λ number. number == next.number) later.failed)) rests)
+      is.accounted
+      (λ row apart was.
+      ap (λ b. not (is_running row) || (b || list_any (λ number. number == row.number) later.failed)) (sym (running row.number apart))
+      ∙ ap (λ b. not (is_running row) || (list_any (λ (step : StepOn). step.run == row.number) desk.running || b)) (sym (failed row.number apart)) ∙ was)
+
+pub running-same : (job : ℕ) (running : List StepOn) (number : ℕ) → number ≢ job → list_any (λ (step : StepOn). step.run == number) running ≡ list_any (λ (step : StepOn). step.run == number) (without_run job running)
+running-same job running number apart =
+    any-kept (λ (step : StepOn). step.run == number) (λ (step : StepOn). not (step.run == job)) (λ step same. differs step.run job (λ e. apart (sym (equal_to step.run number same) ∙ e))) running
+
+pub failed-same : (job : ℕ) (failed : List ℕ) (number : ℕ) → number ≢ job → list_any (λ one. one == number) failed ≡ list_any (λ one. one == number) (filter (λ one. not (one == job)) failed)
+failed-same job failed number apart =
+    any-kept (λ one. one == number) (λ one. not (one == job)) (λ one same. differs one job (λ e. apart (sym (equal_to one number same) ∙ e))) failed

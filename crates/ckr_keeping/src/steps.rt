@@ -1,0 +1,23 @@
+//! What holds of each turn of a run within a step. A law is the contract of a function that does nothing.
+ghost use Rattle.std.specs.Prelude.{◌≡◌, ℕ, Option, None, Some};
+ghost use Rattle.ckr_base.specs.declared.code.Code.{Code};
+ghost use Rattle.ckr_meaning.specs.StepRun.{StepStart};
+ghost use Rattle.ckr_points.specs.Rows.{RunRow, run_of};
+ghost use Rattle.ckr_turns.specs.Desk.{Desk, carried_out, jobs_of, unit_done, work_of};
+ghost use Rattle.ckr_turns.specs.Planned.{run_plan};
+ghost use Rattle.ckr_turns.specs.Working.{Progress, went, abended};
+ghost use Rattle.ckr_keeping.specs.Coming.{IsWithinStep};
+ghost use Rattle.ckr_keeping.specs.Going.{IsDesk, IsGoing, Keeps};
+
+/// A turn of an initiator whose run is within a step tells an event that may come and carries what the job gives: the step ends with
+/// its return code, or the run ends with a code that is given or with that of a system failure. The desk behind it is as its events
+/// have brought it about. So it is with any such turn where it is so with the next unit of the step.
+pub fn turns_within_a_step_keep_the_desk()
+    ensures { (desk : Desk) (row : RunRow) (number committed : ℕ) (start : StepStart) (fail : Option Code) → IsDesk desk → IsWithinStep desk.office row.number row number committed start → Keeps desk (work_of row.number desk) → Keeps desk (carried_out (run_plan desk.layout (jobs_of desk) fail row) desk) }
+{}
+
+/// A unit by which a step goes on without a rewrite, or by which it ends with a code of its program, keeps the desk.
+pub fn units_keep_the_desk()
+    ensures went_on { (desk : Desk) (row : RunRow) (progress : Progress) → IsDesk desk → IsGoing desk.office (record { run = row.number; progress = progress }) → Keeps desk (unit_done row (record { unit = went None; progress = progress }) desk) }
+    ensures abended_so { (desk : Desk) (row : RunRow) (progress : Progress) (code : Code) → IsDesk desk → run_of desk.office.tables row.number ≡ Some row → IsGoing desk.office (record { run = row.number; progress = progress }) → Keeps desk (unit_done row (record { unit = abended code; progress = progress }) desk) }
+{}
