@@ -1,5 +1,5 @@
 -- The names of a step have data sets once the step's data sets are made, and each keeps its data set.
-use Rattle.std.proofs.Common.{◌≡◌, ◌≤◌, Bool, true, false, cond, not, ◌&&◌, ◌||◌, ℕ, List, [], ◌∷◌, ◌++◌, filter, map, length, refl, ap, sym, ◌∙◌, subst, Option, Some, None, arith, length-append}
+use Rattle.std.proofs.Common.{◌≡◌, ◌≤◌, Bool, true, false, cond, not, ◌&&◌, ◌||◌, ℕ, List, [], ◌∷◌, filter, map, length, refl, ap, sym, ◌∙◌, subst, Option, Some, None, arith, length-append}
 use Rattle.std.specs.List.{list_all}
 use Rattle.std.specs.Option.{is_none, is_some, option_map, option_map_or}
 use Rattle.std.proofs.lemmas.Bool.{false≢true}

@@ -7,3 +7,5 @@ pub mod Others
 pub mod Behind
 pub mod Turning
 pub mod Units
+pub mod Further
+pub mod Works

@@ -1,5 +1,5 @@
 -- The other runs of a desk are as they were where the row of one run changes.
-use Rattle.std.proofs.Common.{◌≡◌, ◌≢◌, ℕ, zero, suc, Bool, true, false, cond, not, ◌&&◌, ◌||◌, List, [], ◌∷◌, filter, find, slice_get, refl, ap, sym, ◌∙◌, subst, Option, Some, None}
+use Rattle.std.proofs.Common.{◌≡◌, ◌≢◌, ℕ, zero, suc, Bool, true, false, cond, not, ◌||◌, List, [], ◌∷◌, filter, find, slice_get, refl, ap, sym, ◌∙◌, subst, Option, Some, None}
 use Rattle.std.specs.Prelude.{◌==◌}
 use Rattle.std.specs.List.{AllByRecursion, list_all, list_any}
 use Rattle.std.specs.Option.{option_map_or}
@@ -17,7 +17,6 @@ use Rattle.ckr_points.specs.Rows.{RunRow, run_of}
 use Rattle.ckr_soundness.proofs.Entries.{equal_to, same_number, tested}
 use Rattle.ckr_soundness.proofs.Holders.{compared}
 use Rattle.ckr_turns.specs.Desk.{Desk, StepOn, start_of, without_run}
-use Rattle.ckr_keeping.specs.Coming.{IsWithinStep}
 use Rattle.ckr_keeping.specs.Going.{IsDesk, IsFailed, IsGoing, is_accounted, is_plain_row}
 
 -- ---- lists

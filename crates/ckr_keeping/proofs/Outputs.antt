@@ -1,6 +1,6 @@
 -- A running step behind more writes: the lengths of its outputs follow on the tables, and an event carries them.
-use Rattle.std.proofs.Common.{◌≡◌, ◌≤◌, ◌+◌, ◌-◌, ℕ, Bool, true, false, not, ◌&&◌, List, [], ◌∷◌, drop, length, map, take, refl, ap, sym, ◌∙◌, subst, Option, Some, None, arith}
-use Rattle.std.specs.Prelude.{◌==◌, nat_le}
+use Rattle.std.proofs.Common.{◌≡◌, ◌≤◌, ◌+◌, ◌-◌, ℕ, true, false, ◌&&◌, List, [], ◌∷◌, length, map, take, refl, ap, sym, ◌∙◌, subst, Option, Some, None, arith}
+use Rattle.std.specs.Prelude.{nat_le}
 use Rattle.std.specs.List.{list_all}
 use Rattle.std.specs.Option.{is_some, option_map, option_map_or}
 use Rattle.std.proofs.lemmas.Bool.{false≢true}
@@ -23,17 +23,17 @@ use Rattle.ckr_meaning.proofs.Room.{at-within, within_at-within}
 use Rattle.ckr_volumes.specs.declared.layout.Layout.{Layout}
 use Rattle.ckr_volumes.specs.Stands.{StandsIn}
 use Rattle.ckr_points.specs.Following.{are_lengths, lengths_follow}
-use Rattle.ckr_points.specs.Growing.{carries_lengths, commits, has_role, has_set, have_lengths, is_formed, is_formed_step, is_in_place, is_length, length_by, length_now, lengths_at, records_under, rewrites_nothing, writes_between, writes_in}
+use Rattle.ckr_points.specs.Growing.{carries_lengths, commits, has_role, have_lengths, is_formed, is_formed_step, is_length, length_by, length_now, lengths_at, records_under, rewrites_nothing, writes_between, writes_in}
 use Rattle.ckr_points.specs.Office.{Leg, Office}
 use Rattle.ckr_points.specs.Restarting.{place_of, step_in}
 use Rattle.ckr_points.specs.Rows.{RunRow, TableSet, step_of_run}
-use Rattle.ckr_soundness.specs.Keeping.{AreAlike, IsAgreed, IsAtPlace, Shape, counted, set_shape, table_shape}
+use Rattle.ckr_soundness.specs.Keeping.{AreAlike, IsAgreed, Shape, counted, set_shape, table_shape}
 use Rattle.ckr_soundness.proofs.Committing.{IsRunning, alike_within, formed_step, in_reach, its_start, place_so, under_way}
 use Rattle.ckr_soundness.proofs.Entries.{or-left, same_number}
 use Rattle.ckr_soundness.proofs.Places.{outputs-among}
 use Rattle.ckr_soundness.proofs.Walks.{at-before}
 use Rattle.ckr_soundness.proofs.Writing.{bare, written_all-bare}
-use Rattle.ckr_keeping.proofs.Lasting.{IsThere, count_in, made_at-there, written_all-longer, written_all-there}
+use Rattle.ckr_keeping.proofs.Lasting.{IsThere, made_at-there, written_all-longer, written_all-there}
 
 -- ---- lengths
 
@@ -44,7 +44,7 @@ pub record IsOutput (sets : Named TableSet) (library : Library) (name : Name) : 
   pub low : table.set.length ≤ length_now library sets name
   pub high : length_now library sets name ≤ table.set.space
 
-at_least : (one other : ℕ) → one ≤ other → nat_le one other ≡ true
+pub at_least : (one other : ℕ) → one ≤ other → nat_le one other ≡ true
 at_least one other e = grind (arith, nat_tests)
 
 pub follow : (library : Library) (sets : Named TableSet) (outputs : List Name) → ((name : Name) → is_among outputs name ≡ true → IsOutput sets library name) → are_lengths sets outputs (map (length_now library sets) outputs) ≡ true

@@ -1,9 +1,8 @@
 -- What the jobs of a desk see of its running steps, and how far a run with a code has come.
-use Rattle.std.proofs.Common.{◌≡◌, ◌≤◌, ℕ, Bool, true, false, cond, not, ◌&&◌, ◌||◌, List, [], ◌∷◌, find, length, map, refl, ap, sym, ◌∙◌, subst, Option, Some, None, arith}
+use Rattle.std.proofs.Common.{◌≡◌, ◌≤◌, ℕ, true, cond, not, List, [], ◌∷◌, find, length, map, refl, ap, sym, ◌∙◌, subst, Option, Some, None, arith}
 use Rattle.std.specs.Prelude.{◌==◌, ◌-◌, drop, take}
-use Rattle.std.specs.List.{AllByRecursion, list_all, list_any}
+use Rattle.std.specs.List.{AllByRecursion, list_all}
 use Rattle.std.specs.Option.{option_map, option_map_or}
-use Rattle.std.proofs.lemmas.Bool.{false≢true}
 use Rattle.ckr_allocation.specs.Committing.{output_names}
 use Rattle.ckr_base.specs.declared.code.Code.{Code}
 use Rattle.ckr_dispositions.proofs.Colliding.{names, or-right}
@@ -16,19 +15,19 @@ use Rattle.ckr_library.proofs.Ordered.{not_None, same_item}
 use Rattle.ckr_meaning.specs.LibrarySet.{Library, LibrarySet}
 use Rattle.ckr_meaning.specs.Effective.{Effective, OwnedStep, is_among}
 use Rattle.ckr_meaning.specs.declared.place.Place.{Place}
-use Rattle.ckr_meaning.specs.declared.place.Place.TheVariants.{Before, Within}
+use Rattle.ckr_meaning.specs.declared.place.Place.TheVariants.{Before}
 use Rattle.ckr_meaning.specs.StepRun.{StepStart, within_at, work_at}
-use Rattle.ckr_points.specs.Growing.{is_in_place, length_by, length_now, lengths_at, lengths_kept, records_under, rewrites_nothing, writes_in}
-use Rattle.ckr_points.specs.Office.{Leg, Office}
+use Rattle.ckr_points.specs.Growing.{is_in_place, length_by, length_now, lengths_at, lengths_kept, rewrites_nothing, writes_in}
+use Rattle.ckr_points.specs.Office.{Office}
 use Rattle.ckr_points.specs.Restarting.{place_of, step_in}
 use Rattle.ckr_points.specs.Rows.{RunRow, TableSet, run_of, step_of_run}
 use Rattle.ckr_rules.specs.Judged.{rule_number}
 use Rattle.ckr_soundness.specs.Keeping.{AreAlike, Shape, counted, set_shape, table_shape}
-use Rattle.ckr_soundness.proofs.Committing.{IsRunning, alike_within, in_reach, its_start, place_so, under_way}
+use Rattle.ckr_soundness.proofs.Committing.{alike_within, in_reach, its_start, place_so, under_way}
 use Rattle.ckr_soundness.proofs.Entries.{equal_to, known, or-left, tested}
 use Rattle.ckr_soundness.proofs.Places.{outputs-among}
 use Rattle.ckr_turns.specs.Coded.{Reached, kept_reached, reached_by, rule_for, running_reached}
-use Rattle.ckr_turns.specs.Desk.{Desk, StepOn, jobs_of, seen, seen_from, start_of, start_in_run}
+use Rattle.ckr_turns.specs.Desk.{Desk, StepOn, jobs_of, seen, seen_from, start_of}
 use Rattle.ckr_turns.specs.Jobs.{Running, running_in}
 use Rattle.ckr_keeping.specs.Coming.{Comes, IsWithinStep}
 use Rattle.ckr_keeping.specs.Going.{IsDesk, IsGoing}

@@ -1,14 +1,10 @@
 -- A turn of a run within a step: its event may come, and the desk behind it is as its events have brought it about.
-use Rattle.std.proofs.Common.{◌≡◌, ◌≤◌, ℕ, Bool, true, false, cond, ap, sym, ◌∙◌, subst, Option, Some, None}
+use Rattle.std.proofs.Common.{◌≡◌, ℕ, Bool, true, false, cond, ap, sym, ◌∙◌, subst, Option, Some, None}
 use Rattle.std.specs.Option.{option_map_or}
 use Rattle.ckr_base.specs.declared.code.Code.{Code}
-use Rattle.ckr_base.specs.declared.programs.Finish.{Finish}
 use Rattle.ckr_base.specs.declared.programs.Finish.TheVariants.{Returned}
-use Rattle.ckr_events.specs.declared.event.Event.{Event}
 use Rattle.ckr_events.specs.declared.event.Event.TheVariants.{StepEnded as StepEndedEvent}
-use Rattle.ckr_library.proofs.Ordered.{not_None, same_item}
-use Rattle.ckr_meaning.specs.declared.place.Place.{Place}
-use Rattle.ckr_meaning.specs.declared.place.Place.TheVariants.{Within}
+use Rattle.ckr_library.proofs.Ordered.{same_item}
 use Rattle.ckr_meaning.specs.StepRun.{StepStart, work_at}
 use Rattle.ckr_points.specs.Growing.{lengths_at}
 use Rattle.ckr_points.specs.Restarting.{place_of, step_in}
@@ -18,10 +14,9 @@ use Rattle.ckr_turns.specs.declared.plan.Plan.{Plan}
 use Rattle.ckr_turns.specs.declared.plan.Plan.TheVariants.{Rest}
 use Rattle.ckr_turns.specs.declared.reply.Reply.TheVariants.{Idle, NothingToFail}
 use Rattle.ckr_turns.specs.Coded.{code_plan, reached_by, rule_for}
-use Rattle.ckr_turns.specs.Desk.{Desk, carried_out, jobs_of, rc_by, seen_from, work_of}
+use Rattle.ckr_turns.specs.Desk.{Desk, carried_out, jobs_of, rc_by, work_of}
 use Rattle.ckr_turns.specs.Jobs.{Running, is_failed, running_in}
 use Rattle.ckr_turns.specs.Planned.{fail_plan, is_within, placed_plan, run_plan, running_plan, system_failure}
-use Rattle.ckr_turns.specs.Working.{Progress}
 use Rattle.ckr_soundness.proofs.Entries.{known, tested}
 use Rattle.ckr_keeping.specs.Coming.{Comes, IsWithinStep}
 use Rattle.ckr_keeping.specs.Going.{HasCome, IsClosed, IsDesk, IsGoing, Keeps, is_plain_row}

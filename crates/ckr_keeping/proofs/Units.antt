@@ -1,25 +1,23 @@
 -- A unit of a running step: the desk behind it, where the step goes on and where it ends with a code.
-use Rattle.std.proofs.Common.{◌≡◌, ◌≤◌, ℕ, Bool, true, false, cond, not, ◌&&◌, ◌||◌, List, [], ◌∷◌, filter, length, refl, ap, sym, ◌∙◌, subst, Option, Some, None}
+use Rattle.std.proofs.Common.{◌≡◌, ℕ, Bool, true, false, cond, not, ◌||◌, List, [], ◌∷◌, filter, refl, ap, sym, ◌∙◌, subst, Some, None}
 use Rattle.std.specs.Prelude.{◌==◌}
-use Rattle.std.specs.List.{AllByRecursion, list_all, list_any}
+use Rattle.std.specs.List.{AllByRecursion, list_any}
 use Rattle.std.proofs.lemmas.Bool.{false≢true}
 use Rattle.ckr_base.specs.declared.code.Code.{Code}
 use Rattle.ckr_dispositions.proofs.Colliding.{or-right}
-use Rattle.ckr_events.specs.declared.event.Event.{Event}
 use Rattle.ckr_events.specs.declared.event.Event.TheVariants.{Ended as EndedEvent}
 use Rattle.ckr_events.specs.declared.event.Ending.TheVariants.{Coded as CodedEnding}
 use Rattle.ckr_library.proofs.Ordered.{same_item}
-use Rattle.ckr_meaning.specs.StepRun.{StepStart, work_at}
 use Rattle.ckr_points.specs.Following.{is_running}
-use Rattle.ckr_points.specs.Growing.{lengths_at, rewrites_nothing}
+use Rattle.ckr_points.specs.Growing.{lengths_at}
 use Rattle.ckr_points.specs.Rows.{RunRow, run_of}
 use Rattle.ckr_rules.specs.Judged.{rule_number}
-use Rattle.ckr_soundness.proofs.Entries.{equal_to, or-left, same_number, tested}
+use Rattle.ckr_soundness.proofs.Entries.{or-left, same_number, tested}
 use Rattle.ckr_turns.specs.Coded.{Reached, code_plan, rule_for, running_reached}
-use Rattle.ckr_turns.specs.Desk.{Desk, StepOn, behind, done_by, seen, seen_from, unit_done, with_progress, without_run}
-use Rattle.ckr_turns.specs.Working.{Progress, Unit, UnitEnd, went, abended}
+use Rattle.ckr_turns.specs.Desk.{Desk, StepOn, done_by, unit_done, with_progress}
+use Rattle.ckr_turns.specs.Working.{Progress, went, abended}
 use Rattle.ckr_keeping.specs.Coming.{Comes, IsWithinStep}
-use Rattle.ckr_keeping.specs.Going.{IsDesk, IsGoing, Keeps, is_accounted, is_plain_row}
+use Rattle.ckr_keeping.specs.Going.{IsDesk, IsGoing, Keeps, is_accounted}
 use Rattle.ckr_keeping.proofs.Behind.{code-kept}
 use Rattle.ckr_keeping.proofs.Others.{all-at, all-by, row-plain, running-same}
 use Rattle.ckr_keeping.proofs.Reached.{going-within, seen-is}

@@ -1,9 +1,8 @@
 -- The events of a run within a step may come: it ends with a return code, and its run ends with a code.
-use Rattle.std.proofs.Common.{◌≡◌, ◌≤◌, ℕ, Bool, true, false, ◌&&◌, ◌||◌, List, length, refl, ap, sym, ◌∙◌, subst, Option, Some, None}
+use Rattle.std.proofs.Common.{◌≡◌, ◌≤◌, ℕ, Bool, true, false, ◌&&◌, ◌||◌, List, length, refl, ap, sym, ◌∙◌, subst, Option, None}
 use Rattle.std.specs.Prelude.{◌==◌}
 use Rattle.std.specs.Option.{option_map, option_map_or}
 use Rattle.ckr_base.specs.declared.code.Code.{Code}
-use Rattle.ckr_base.specs.declared.programs.Finish.{Finish}
 use Rattle.ckr_base.specs.declared.programs.Finish.TheVariants.{Returned}
 use Rattle.ckr_dispositions.proofs.Colliding.{both, or-right}
 use Rattle.ckr_events.specs.declared.event.Event.TheVariants.{Ended as EndedEvent, StepEnded as StepEndedEvent}
@@ -12,22 +11,20 @@ use Rattle.ckr_library.proofs.Ordered.{not_None, same_item}
 use Rattle.ckr_meaning.specs.LibrarySet.{AreWithinSpace}
 use Rattle.ckr_meaning.specs.Effective.{OwnedStep, step_at}
 use Rattle.ckr_meaning.specs.declared.place.Place.{Place}
-use Rattle.ckr_meaning.specs.declared.place.Place.TheVariants.{Within}
 use Rattle.ckr_meaning.specs.JobRun.{start_at}
 use Rattle.ckr_meaning.specs.StepRun.{StepStart, work_at}
 use Rattle.ckr_points.specs.declared.run.RunState.{RunState}
 use Rattle.ckr_points.specs.declared.run.RunState.TheVariants.{Released as ReleasedRun, On}
-use Rattle.ckr_points.specs.Following.{ended_follows, is_in_state, is_running, is_within, lengths_follow, state_number}
+use Rattle.ckr_points.specs.Following.{is_in_state, is_running, is_within, lengths_follow, state_number}
 use Rattle.ckr_points.specs.Growing.{commits, is_returned, lengths_at, of_start, rewrites_nothing, start_in_office}
 use Rattle.ckr_points.specs.Judging.{auto_case}
-use Rattle.ckr_points.specs.Office.{Leg, Office, is_holder, leg_of}
+use Rattle.ckr_points.specs.Office.{Leg, is_holder, leg_of}
 use Rattle.ckr_points.specs.Restarting.{place_of, step_in}
 use Rattle.ckr_points.specs.Rows.{RunRow, run_of}
 use Rattle.ckr_points.specs.Sound.{denying, ending_names_first}
 use Rattle.ckr_rules.specs.Judged.{automatic, rule_number}
 use Rattle.ckr_rules.specs.declared.cases.Verdict.{Verdict}
 use Rattle.ckr_rules.specs.declared.cases.Verdict.TheVariants.{Step, Checkpoint, Denied}
-use Rattle.ckr_soundness.specs.Keeping.{IsHolder}
 use Rattle.ckr_soundness.proofs.Committing.{IsRunning, its_start}
 use Rattle.ckr_soundness.proofs.Entries.{found-holds, known, or-left, same_number}
 use Rattle.ckr_soundness.proofs.Running.{led-by}

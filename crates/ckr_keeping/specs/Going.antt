@@ -1,11 +1,11 @@
 -- A desk whose events are kept, and whose running steps stand where their jobs come to.
-use Rattle.std.specs.Prelude.{◌≡◌, ◌≤◌, ◌==◌, ◌||◌, ◌&&◌, ℕ, Bool, true, false, not, length, Some}
+use Rattle.std.specs.Prelude.{◌≡◌, ◌+◌, ◌≤◌, ◌==◌, ◌||◌, ◌&&◌, ℕ, Bool, true, false, not, length, Some}
 use Rattle.std.specs.List.{list_any, list_all, AllByRecursion}
 use Rattle.std.specs.Option.{is_none}
 use Rattle.ckr_base.specs.declared.programs.Finish.TheVariants.{Returned}
 use Rattle.ckr_meaning.specs.declared.place.Place.TheVariants.{Within}
 use Rattle.ckr_meaning.specs.LibrarySet.{AreWithinSpace}
-use Rattle.ckr_meaning.specs.Program.{records_taken, upto}
+use Rattle.ckr_meaning.specs.Program.{records_taken, unit_done, upto}
 use Rattle.ckr_meaning.specs.StepRun.{StepStart, case_at, work_at}
 use Rattle.ckr_points.specs.declared.run.RunState.{RunState}
 use Rattle.ckr_points.specs.declared.run.RunState.TheVariants.{Queued, On, Held, Released, Ended, Denied, Purged}
@@ -98,3 +98,7 @@ pub record IsDesk (desk : Desk) : Type 0 where
 pub record Keeps (desk : Desk) (done : TurnDone) : Type 0 where
   pub comes : EventComes desk done.event
   pub kept : IsDesk done.desk
+
+-- the writes behind the next unit, if they fit
+abbrev pub next_writes : StepStart → Progress → ℕ
+next_writes start before = before.writes + length (unit_done (case_at start) before.taken).writes.items

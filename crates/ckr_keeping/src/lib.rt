@@ -5,4 +5,4 @@ mod laws;
 mod steps;
 
 pub use laws::{events_between_steps_may_come, events_of_calls_may_come};
-pub use steps::{turns_within_a_step_keep_the_desk, units_keep_the_desk};
+pub use steps::{next_units_keep_the_desk, turns_within_a_step_keep_the_desk, units_keep_the_desk};

@@ -1,13 +1,15 @@
 //! What holds of each turn of a run within a step. A law is the contract of a function that does nothing.
-ghost use Rattle.std.specs.Prelude.{◌≡◌, ℕ, Option, None, Some};
+ghost use Rattle.std.specs.Prelude.{◌≡◌, ◌≤◌, ◌<◌, ℕ, length, Option, None, Some};
 ghost use Rattle.ckr_base.specs.declared.code.Code.{Code};
-ghost use Rattle.ckr_meaning.specs.StepRun.{StepStart};
+ghost use Rattle.ckr_base.specs.declared.programs.Finish.TheVariants.{Abend};
+ghost use Rattle.ckr_meaning.specs.Program.{records_taken, unit_done as program_unit};
+ghost use Rattle.ckr_meaning.specs.StepRun.{StepStart, case_at, work_at};
 ghost use Rattle.ckr_points.specs.Rows.{RunRow, run_of};
-ghost use Rattle.ckr_turns.specs.Desk.{Desk, carried_out, jobs_of, unit_done, work_of};
+ghost use Rattle.ckr_turns.specs.Desk.{Desk, StepOn, carried_out, jobs_of, progress_of, unit_done, work_of};
 ghost use Rattle.ckr_turns.specs.Planned.{run_plan};
-ghost use Rattle.ckr_turns.specs.Working.{Progress, went, abended};
+ghost use Rattle.ckr_turns.specs.Working.{Progress, abended, first_rewrite, went};
 ghost use Rattle.ckr_keeping.specs.Coming.{IsWithinStep};
-ghost use Rattle.ckr_keeping.specs.Going.{IsDesk, IsGoing, Keeps};
+ghost use Rattle.ckr_keeping.specs.Going.{IsDesk, IsGoing, IsOpen, Keeps, next_writes};
 
 /// A turn of an initiator whose run is within a step tells an event that may come and carries what the job gives: the step ends with
 /// its return code, or the run ends with a code that is given or with that of a system failure. The desk behind it is as its events
@@ -20,4 +22,11 @@ pub fn turns_within_a_step_keep_the_desk()
 pub fn units_keep_the_desk()
     ensures went_on { (desk : Desk) (row : RunRow) (progress : Progress) → IsDesk desk → IsGoing desk.office (record { run = row.number; progress = progress }) → Keeps desk (unit_done row (record { unit = went None; progress = progress }) desk) }
     ensures abended_so { (desk : Desk) (row : RunRow) (progress : Progress) (code : Code) → IsDesk desk → run_of desk.office.tables row.number ≡ Some row → IsGoing desk.office (record { run = row.number; progress = progress }) → Keeps desk (unit_done row (record { unit = abended code; progress = progress }) desk) }
+{}
+
+/// So does the next unit of a running step whose writes fit: one that takes a record and rewrites nothing, and one by which its program
+/// ends with a code.
+pub fn next_units_keep_the_desk()
+    ensures taking { (desk : Desk) (on : StepOn) (going : IsGoing desk.office on) → IsDesk desk → progress_of desk on.run ≡ Some on.progress → IsOpen going.start on.progress → on.progress.taken < records_taken (case_at going.start) → next_writes going.start on.progress ≤ length (work_at going.start).writes → first_rewrite (program_unit (case_at going.start) on.progress.taken).writes.items ≡ None → Keeps desk (work_of on.run desk) }
+    ensures ending { (desk : Desk) (on : StepOn) (going : IsGoing desk.office on) (code : Code) → IsDesk desk → progress_of desk on.run ≡ Some on.progress → next_writes going.start on.progress ≤ length (work_at going.start).writes → (program_unit (case_at going.start) on.progress.taken).finish ≡ Some (Abend code) → Keeps desk (work_of on.run desk) }
 {}
