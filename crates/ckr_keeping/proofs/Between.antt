@@ -22,6 +22,7 @@ use Rattle.ckr_soundness.specs.Keeping.{IsKept}
 use Rattle.ckr_submitting.specs.Form.{is_run}
 use Rattle.ckr_turns.specs.Choosing.{is_on, may_select, next_run, run_on_initiator}
 use Rattle.ckr_turns.specs.Desk.{Desk}
+use Rattle.ckr_keeping.proofs.Others.{all-at}
 use Rattle.ckr_keeping.specs.Going.{IsDesk, is_on_one, is_plain_row, is_plain_state}
 
 -- ---- runs that are found
@@ -39,11 +40,6 @@ found_at test (first ∷ rows) row found =
       | false ↦ λ fails is. let rest = found_at test rows row is in record { place = suc rest.place; at = rest.at; passes = rest.passes }
     ] refl found
 
-pub all_at : (test : RunRow → Bool) (rows : List RunRow) (place : ℕ) (row : RunRow) → list_all test rows ≡ true → slice_get rows place ≡ Some row → test row ≡ true
-all_at test [] place row all at = cc
-all_at test (first ∷ rows) zero row all at = ap test (sym (same_Some _ _ at)) ∙ (and_parts (test first) (list_all test rows) all).0
-all_at test (first ∷ rows) (suc place) row all at = all_at test rows place row (and_parts (test first) (list_all test rows) all).1 at
-
 -- a run that is found has its row under its number
 pub row_of_found : (layout : Layout) (office : Office) (test : RunRow → Bool) (row : RunRow) → IsKept layout office → find test office.tables.runs ≡ Some row → run_of office.tables row.number ≡ Some row
 row_of_found layout office test row kept found =
@@ -51,7 +47,7 @@ row_of_found layout office test row kept found =
     subst (λ n. run_of office.tables n ≡ Some row) (sym (kept.events.numbered (suc at.place) row at.at)) at.at
 
 plain_at : (desk : Desk) (place : ℕ) (row : RunRow) → IsDesk desk → slice_get desk.office.tables.runs place ≡ Some row → is_plain_row row ≡ true
-plain_at desk place row is at = all_at is_plain_row desk.office.tables.runs place row is.plain at
+plain_at desk place row is at = all-at is_plain_row desk.office.tables.runs place row is.plain at
 
 pub plain_found : (desk : Desk) (test : RunRow → Bool) (row : RunRow) → IsDesk desk → find test desk.office.tables.runs ≡ Some row → is_plain_row row ≡ true
 plain_found desk test row is found = let at = found_at test desk.office.tables.runs row found in plain_at desk at.place row is at.at

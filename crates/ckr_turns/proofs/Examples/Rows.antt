@@ -1,10 +1,12 @@
 -- Worked decks on the desk: the replies to their turns, and what the desk has then.
-use Rattle.std.specs.Prelude.{◌≡◌, ℕ, true, false, List, [], ◌∷◌, ◌++◌, replicate, codes, Some, None, refl}
+use Rattle.std.specs.Prelude.{◌≡◌, ℕ, true, false, List, [], ◌∷◌, ◌++◌, map, replicate, codes, Some, None, refl}
 use Rattle.ckr_base.specs.declared.code.Code.TheVariants.{System, User}
 use Rattle.ckr_jcl.proofs.Opened.{decks_open}
 use Rattle.ckr_jcl.proofs.Examples.Rows.{payroll}
 use Rattle.ckr_meaning.proofs.Opened.{jobs_open}
 use Rattle.ckr_meaning.proofs.Examples.Decks.{deck, copy, old_masters, merge, allocating, three_masters, passing}
+use Rattle.ckr_columns.specs.Columns.{fitted}
+use Rattle.ckr_points.specs.Office.{model_records}
 use Rattle.ckr_rules.specs.declared.cases.Rule.TheVariants.{A2}
 use Rattle.ckr_allocation.specs.declared.cause.Cause.TheVariants.{Exists}
 use Rattle.ckr_turns.specs.declared.reply.How.TheVariants.{Completed, Abended, Allocation}
@@ -92,6 +94,20 @@ paid_listed = refl
 paid_comes : all_come (turns_by 1 19) paying ≡ true
 unfolding decks_open jobs_open turns_open
 paid_comes = refl
+
+-- two inputs in order, and the first comes first where their keys are the same
+abbrev merging : Desk
+merging = with_deck (deck (merge (codes "A1" ∷ codes "C1" ∷ []) (codes "A2" ∷ codes "B2" ∷ []))) fresh
+
+merged : replies 9 merging
+    ≡ Selected 1 ∷ Started 1 (codes "S1") ∷ Worked 1 (codes "S1") 1 ∷ Worked 1 (codes "S1") 2 ∷ Worked 1 (codes "S1") 3 ∷ Worked 1 (codes "S1") 4
+    ∷ Worked 1 (codes "S1") 4 ∷ StepEnded 1 (codes "S1") 0 ∷ JobEnded 1 Completed ∷ []
+unfolding decks_open jobs_open turns_open
+merged = refl
+
+merged_records : model_records (behind 9 merging).office (codes "OUT.M") ≡ map (fitted 80) (codes "A1" ∷ codes "A2" ∷ codes "B2" ∷ codes "C1" ∷ [])
+unfolding decks_open jobs_open turns_open
+merged_records = refl
 
 -- the second input of MERGE isn't in order
 disordered : replies 6 (with_deck (deck (merge (codes "A1" ∷ codes "C1" ∷ []) (codes "B2" ∷ codes "A2" ∷ []))) fresh)
