@@ -1,5 +1,5 @@
--- What an event carries, and the law by which the events stay sound.
-use Rattle.std.specs.Prelude.{ℕ, pred, ◌-◌, ◌==◌, Bool, true, false, ◌&&◌, not, nat_le, nat_lt, nat_eq, IsTrue, List, [], ◌∷◌, ◌++◌, map, length, take, drop, slice_get, option_and_then, Option, None, Some}
+-- What an event carries of its job, so that the events stay sound.
+use Rattle.std.specs.Prelude.{ℕ, pred, ◌-◌, ◌==◌, Bool, true, false, ◌&&◌, not, nat_le, nat_lt, nat_eq, List, [], ◌∷◌, ◌++◌, map, length, take, drop, slice_get, option_and_then, Option, None, Some}
 use Rattle.std.specs.Option.{option_map_or, is_some}
 use Rattle.std.specs.List.{list_all}
 use Rattle.std.specs.Cmp.Lexicographic.{pointwise}
@@ -39,10 +39,10 @@ use Rattle.ckr_volumes.specs.declared.layout.Layout.{Layout}
 use Rattle.ckr_points.specs.Folded.{name_with_role, is_updates}
 use Rattle.ckr_points.specs.Judging.{auto_case}
 use Rattle.ckr_allocation.specs.Committing.{output_names}
-use Rattle.ckr_points.specs.Office.{Office, office, leg_of}
-use Rattle.ckr_points.specs.Restarting.{Decked, place_of, step_in}
+use Rattle.ckr_points.specs.Office.{Office, leg_of}
+use Rattle.ckr_points.specs.Restarting.{place_of, step_in}
 use Rattle.ckr_points.specs.Rows.{RunRow, TableSet, run_of, step_of_run}
-use Rattle.ckr_points.specs.Sound.{AreSound, may_come, rewrite_of}
+use Rattle.ckr_points.specs.Sound.{rewrite_of}
 
 -- the records of a name
 abbrev pub records_under : Library → Name → List (List ℕ)
@@ -222,10 +222,3 @@ carries layout now (Ended job Completed) deck = true
 carries layout now (Ended job (Coded code rule writes lengths)) deck = of_start now job (λ row. commits now.tables.sets row writes lengths.items)
 carries layout now (Ended job (Allocation dd cause first second)) deck = true
 carries layout now (Purged job) deck = true
-
--- one more event that follows, names the first rule and carries what it must keeps the events sound
-abbrev pub Grows : Type 0
-Grows =
-    (layout : Layout) (events : List Decked) (event : Decked)
-    → AreSound layout events → IsTrue (may_come layout (office events) event) → IsTrue (carries layout (office events) event.0 event.1)
-    → AreSound layout (events ++ event ∷ [])

@@ -1,10 +1,10 @@
 -- The tables of the desk, as the events are folded into them.
-use Rattle.std.specs.Prelude.{ℕ, zero, suc, Bool, List, [], filter, slice_get, slice_set, Option, None}
+use Rattle.std.specs.Prelude.{ℕ, zero, suc, Bool, List, [], filter, map, slice_get, slice_set, Option, None}
 use Rattle.ckr_base.specs.declared.code.Code.{Code}
 use Rattle.ckr_jcl.specs.declared.deck.Job.{Job}
 use Rattle.ckr_library.specs.declared.sets.DataSet.{DataSet}
 use Rattle.ckr_library.specs.declared.sets.Kept.{Kept}
-use Rattle.ckr_library.specs.Catalog.{ends_within}
+use Rattle.ckr_library.specs.Catalog.{ends_within, Holding}
 use Rattle.ckr_library.specs.Named.{Name, Named}
 use Rattle.ckr_meaning.specs.LibrarySet.{SetWays}
 use Rattle.ckr_entry.specs.declared.point.Passed.{Passed}
@@ -116,6 +116,10 @@ table_ways = record {
   emptied = λ table. cut_set 0 table;
   stamped = λ stamp table. record table { set = record table.set { stamp = stamp } };
 }
+
+-- a data set as the library has it, without the points of its entries
+abbrev pub holding_of : TableSet → Holding
+holding_of table = record { set = table.set; kept = map (λ entry. entry.kept) table.entries }
 
 -- the step of a run by its number
 abbrev pub step_of_run : RunRow → ℕ → Option OwnedStep

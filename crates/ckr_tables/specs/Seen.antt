@@ -24,10 +24,6 @@ use Rattle.ckr_points.specs.Rows.{TableSet, StartPoint, EffectPoint, RunRow, Tab
 abbrev pub table_of : Holding → TableSet
 table_of holding = record { set = holding.set; entries = [] }
 
--- a data set of the library, as the tables have it
-abbrev pub holding_of : TableSet → Holding
-holding_of table = record { set = table.set; kept = map (λ entry. entry.kept) table.entries }
-
 -- the map with each entry seen so
 abbrev pub seen_by : {X Y : Type 0} → (X → Y) → Named X → Named Y
 seen_by view named = map (λ entry. (entry.0, view entry.1)) named

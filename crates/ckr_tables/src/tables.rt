@@ -1,8 +1,8 @@
 //! The tables of the desk.
 ghost use Rattle.std.specs.Prelude.{◌≡◌, ◌≤◌, ◌<◌, [], Some, IsTrue, OnOk, IsOk, length, map, replicate, slice_get};
 ghost use Rattle.std.specs.Option.{option_copied, option_map};
-ghost use Rattle.ckr_points.specs.Rows.{no_tables, run_of};
-ghost use Rattle.ckr_tables.specs.Seen.{facts_in, facts_of, line_of, place_of, run_on, holding_of, table_of, seen_by};
+ghost use Rattle.ckr_points.specs.Rows.{no_tables, run_of, holding_of};
+ghost use Rattle.ckr_tables.specs.Seen.{facts_in, facts_of, line_of, place_of, run_on, table_of, seen_by};
 
 use crate::RunTable;
 use crate::marks_in_order::MarksInOrder;

@@ -8,13 +8,10 @@ use Rattle.ckr_events.specs.declared.event.Made.{Made}
 use Rattle.ckr_library.specs.Catalog.{Holding}
 use Rattle.ckr_library.specs.Named.{Name, Named}
 use Rattle.ckr_meaning.specs.Effective.{OwnedStep, placed_in, stamp_of}
-use Rattle.ckr_points.specs.Rows.{RunRow, TableSet, Tables, standing_of, table_ways}
+use Rattle.ckr_points.specs.Rows.{RunRow, TableSet, Tables, holding_of, standing_of, table_ways}
 use Rattle.ckr_volumes.specs.declared.layout.Layout.{Layout}
 
--- a data set as the library has it, without the points of its entries
-abbrev pub holding_of : TableSet → Holding
-holding_of table = record { set = table.set; kept = map (λ entry. entry.kept) table.entries }
-
+-- the data sets of the tables as the library has them
 abbrev pub holdings : Named TableSet → Named Holding
 holdings sets = map (λ entry. (entry.0, holding_of entry.1)) sets
 

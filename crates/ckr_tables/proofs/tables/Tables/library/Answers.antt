@@ -1,7 +1,8 @@
 use Rattle.std.proofs.Common.{◌≡◌, [], ◌∷◌, refl, ap, sym, ◌∙◌}
 use Rattle.ckr_library.specs.Catalog.{Holding}
 use Rattle.ckr_library.specs.Named.{Named}
-use Rattle.ckr_tables.specs.Seen.{bare, holding_of, seen_by, table_of}
+use Rattle.ckr_points.specs.Rows.{holding_of}
+use Rattle.ckr_tables.specs.Seen.{bare, seen_by, table_of}
 use Rattle.ckr_tables.proofs.tables.Tables.library.Goals as goal
 
 seen_back : (sets : Named Holding) → seen_by bare sets ≡ seen_by holding_of (seen_by table_of sets)
