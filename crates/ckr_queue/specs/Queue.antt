@@ -10,6 +10,11 @@ use Rattle.ckr_queue.specs.declared.entry.QueueState.TheVariants.{Queued, Select
 use Rattle.ckr_queue.specs.declared.entry.Selection.{Selection}
 use Rattle.ckr_queue.specs.declared.entry.Selection.TheVariants.{Job, Idle}
 
+-- the runs in the order of their numbers, and how many more fit with no memory taken
+pub record RoomyQueue : Type 0 where
+  pub entries : List Entry
+  pub room : ℕ
+
 -- ---- the entries
 
 abbrev pub is_of : ℕ → Entry → Bool

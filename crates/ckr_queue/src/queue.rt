@@ -1,9 +1,9 @@
 //! The runs that have neither ended nor been purged, in the order of their numbers.
-ghost use Rattle.std.specs.Prelude.{◌≡◌, [], None, Some, ◌≤◌, IsTrue, OnOk, OnErr, length, slice_get, position, find, if◌then◌else◌};
+ghost use Rattle.std.specs.Prelude.{◌≡◌, ◌+◌, ◌<◌, ◌≤◌, [], None, Some, IsOk, IsTrue, OnOk, OnErr, length, slice_get, position, find, if◌then◌else◌};
 ghost use Rattle.std.specs.Option.{option_copied};
 ghost use Rattle.ckr_library.specs.Places.{lead};
 ghost use Rattle.ckr_queue.specs.declared.entry.QueueState.TheVariants.{Selected as SelectedRun, Held as HeldRun, Released as ReleasedRun};
-ghost use Rattle.ckr_queue.specs.Queue.{is_of, is_below, is_in, is_held, is_queued, may_start, may_take, queued, rises, selection_of, state_of, with_entry, with_state, without, MayTake};
+ghost use Rattle.ckr_queue.specs.Queue.{has_names, is_of, is_below, is_in, is_held, is_queued, may_start, may_take, queued, rises, selection_of, state_of, with_entry, with_state, without, MayTake};
 
 use crate::entry::may_start;
 use crate::{Entry, QueueState, Selection};
@@ -20,13 +20,12 @@ pub struct Queue {
 }
 
 impl Model for Queue {
-    ghost use Rattle.std.specs.Prelude.{List, IsTrue};
-    ghost use Rattle.ckr_queue.specs.declared.entry.Entry.{Entry};
-    ghost use Rattle.ckr_queue.specs.Queue.{rises};
+    ghost use Rattle.std.specs.Prelude.{◌-◌, IsTrue, vec_len, vec_capacity};
+    ghost use Rattle.ckr_queue.specs.Queue.{rises, RoomyQueue};
 
-    ghost Value = { List Entry };
+    ghost Value = { RoomyQueue };
 
-    ghost view = { λ a. a.entries.items };
+    ghost view = { λ a. record { entries = a.entries.items; room = vec_capacity a.entries - vec_len a.entries } };
 
     ghost invariant = { λ a. IsTrue (rises a.entries.items) };
 }
@@ -34,20 +33,35 @@ impl Model for Queue {
 impl Queue {
     /// No runs. It takes no memory.
     pub fn new(alloc: Global) -> Queue
-        ensures { result ≡ [] }
+        ensures { result.entries ≡ [] }
     {
         Queue {
             entries: Vec::new(alloc),
         }
     }
 
-    /// Adds a run of a number that the queue doesn't have, as queued.
+    /// Makes room for `more` further runs, so that as many calls of `submit` take no memory.
+    ///
+    /// `NoMemory`: the runs and the room are as before.
+    pub fn reserve(&mut self, more: u32) -> Result<(), NoMemory>
+        ensures entries { self.new.entries ≡ self.old.entries }
+        ensures ok { OnOk result (more ≤ self.new.room) }
+        ensures room { self.old.room ≤ self.new.room }
+        ensures succeeds { more ≤ self.old.room → IsOk result }
+    {
+        self.entries.reserve(more as usize)?;
+        Ok(())
+    }
+
+    /// Adds a run of a number that the queue doesn't have, as queued. It takes no memory where there is room.
     ///
     /// `NoMemory`: nothing has changed.
     pub fn submit(&mut self, number: u32, uses: Uses) -> Result<(), NoMemory>
-        requires { state_of number self.old ≡ None }
-        ensures ok { OnOk result (self.new ≡ with_entry (queued number uses) self.old) }
-        ensures err { OnErr result (self.new ≡ self.old) }
+        requires { state_of number self.old.entries ≡ None }
+        ensures ok { OnOk result (self.new.entries ≡ with_entry (queued number uses) self.old.entries) }
+        ensures err { OnErr result (self.new.entries ≡ self.old.entries) }
+        ensures succeeds { 0 < self.old.room → IsOk result }
+        ensures room { self.old.room ≤ self.new.room + 1 }
     {
         let place = place_for(self.entries.as_slice(), number);
         let state = QueueState::Queued;
@@ -66,9 +80,9 @@ impl Queue {
     /// hasn't ended. `Idle` exactly where there is none.
     #[tactic(auto, using(crate::proofs::Selecting::first_may_be_taken), unfolding(crate::specs::Queue::selection_of))]
     pub fn select(&self) -> Selection
-        ensures selection { result ≡ selection_of self.now }
-        ensures order { IsTrue (rises self.now) }
-        ensures may { MayTake self.now result }
+        ensures selection { result ≡ selection_of self.now.entries }
+        ensures order { IsTrue (rises self.now.entries) }
+        ensures may { MayTake self.now.entries result }
     {
         let entries = self.entries.as_slice();
         match first_to_start(entries) {
@@ -79,24 +93,24 @@ impl Queue {
 
     /// An initiator takes a run that may start, as the one that `select` gives.
     pub fn take(&mut self, number: u32)
-        requires { IsTrue (may_take number self.old) }
-        ensures { self.new ≡ with_state number SelectedRun self.old }
+        requires { IsTrue (may_take number self.old.entries) }
+        ensures { self.new.entries ≡ with_state number SelectedRun self.old.entries }
     {
         self.set_state(number, QueueState::Selected);
     }
 
     /// The operator holds a run that is selected. It keeps its names.
     pub fn hold(&mut self, number: u32)
-        requires { state_of number self.old ≡ Some SelectedRun }
-        ensures { self.new ≡ with_state number HeldRun self.old }
+        requires { state_of number self.old.entries ≡ Some SelectedRun }
+        ensures { self.new.entries ≡ with_state number HeldRun self.old.entries }
     {
         self.set_state(number, QueueState::Held);
     }
 
     /// The operator releases a run. False exactly where the run isn't held; then nothing changes.
     pub fn release(&mut self, number: u32) -> bool
-        ensures answer { result ≡ is_in is_held number self.old }
-        ensures entries { self.new ≡ (if is_in is_held number self.old then with_state number ReleasedRun self.old else self.old) }
+        ensures answer { result ≡ is_in is_held number self.old.entries }
+        ensures entries { self.new.entries ≡ (if is_in is_held number self.old.entries then with_state number ReleasedRun self.old.entries else self.old.entries) }
     {
         let held = matches!(
             state_of(self.entries.as_slice(), number),
@@ -110,8 +124,8 @@ impl Queue {
 
     /// Takes a run out that waits to be selected. False exactly where the run isn't queued; then nothing changes.
     pub fn purge(&mut self, number: u32) -> bool
-        ensures answer { result ≡ is_in is_queued number self.old }
-        ensures entries { self.new ≡ (if is_in is_queued number self.old then without number self.old else self.old) }
+        ensures answer { result ≡ is_in is_queued number self.old.entries }
+        ensures entries { self.new.entries ≡ (if is_in is_queued number self.old.entries then without number self.old.entries else self.old.entries) }
     {
         let queued = matches!(
             state_of(self.entries.as_slice(), number),
@@ -123,17 +137,17 @@ impl Queue {
         queued
     }
 
-    /// Ends a run that is selected. It gives up its names.
+    /// Ends a run that has its names: it is selected, held or released. It gives them up.
     pub fn end(&mut self, number: u32)
-        requires { state_of number self.old ≡ Some SelectedRun }
-        ensures { self.new ≡ without number self.old }
+        requires { IsTrue (is_in has_names number self.old.entries) }
+        ensures { self.new.entries ≡ without number self.old.entries }
     {
         self.remove(number);
     }
 
     /// A run goes into another state.
     fn set_state(&mut self, number: u32, state: QueueState)
-        ensures { self.new ≡ with_state number state self.old }
+        ensures { self.new.entries ≡ with_state number state self.old.entries }
     {
         if let Some(place) = place_of(self.entries.as_slice(), number) {
             self.entries[place].state = state;
@@ -142,7 +156,7 @@ impl Queue {
 
     /// Takes a run out.
     fn remove(&mut self, number: u32)
-        ensures { self.new ≡ without number self.old }
+        ensures { self.new.entries ≡ without number self.old.entries }
     {
         if let Some(place) = place_of(self.entries.as_slice(), number) {
             self.entries.remove(place);

@@ -21,8 +21,8 @@ fn use_of(alloc: Global, text: &[u8], exclusive: bool) -> Result<Uses, NoMemory>
 /// An initiator takes the next run.
 #[tactic(auto, using(crate::proofs::Selecting::states))]
 fn take_next(queue: &mut Queue) -> Option<u32>
-    ensures some { IfSome result (λ number. state_of number queue.new ≡ Some SelectedRun) }
-    ensures none { IfNone result (queue.new ≡ queue.old) }
+    ensures some { IfSome result (λ number. state_of number queue.new.entries ≡ Some SelectedRun) }
+    ensures none { IfNone result (queue.new.entries ≡ queue.old.entries) }
 {
     match queue.select() {
         Selection::Job(number) => {
