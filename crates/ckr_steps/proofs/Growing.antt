@@ -12,10 +12,10 @@ use Rattle.ckr_library.specs.Named.{Name, same_name, entry_at, with_entry, with_
 use Rattle.ckr_library.proofs.Ordered.{not_None, same_item}
 use Rattle.ckr_volumes.specs.declared.layout.Layout.{Layout}
 use Rattle.ckr_volumes.specs.Kept.{records_below_kept, records_apart_kept, front_kept}
-use Rattle.ckr_volumes.specs.Places.{address_of}
+use Rattle.ckr_volumes.specs.Places.{Stretch, address_of, stretches_of, stretches_of_parts}
 use Rattle.ckr_volumes.specs.Records.{records_on}
 use Rattle.ckr_volumes.specs.Same.{SamePlaces, same_places, stands_at_length}
-use Rattle.ckr_volumes.specs.Stands.{is_laid_out, lie_apart, StandsIn}
+use Rattle.ckr_volumes.specs.Stands.{is_laid_out, lie_apart, lists_apart, StandsIn}
 use Rattle.ckr_meaning.specs.Effective.{is_among}
 use Rattle.ckr_meaning.specs.LibrarySet.{LibrarySet, Library}
 use Rattle.ckr_meaning.specs.StepRun.{extended}
@@ -161,6 +161,7 @@ module _ (layout : Layout) (laid_out : IsTrue (is_laid_out layout)) (name : Name
   keeps_written : (old new : List ℕ) → SameOutside (address_of layout set set.length) set.lrecl old new → Keeps layout catalog old new
   keeps_written old new same = record {
     records = λ other s n is le. by other s n is le (same_name other name) refl;
+    others = λ other n clear other_stands le. records_apart_kept layout laid_out set stands set.length space old new same other other_stands (clear name set was) n le;
     front = front_kept layout laid_out set stands set.length space old new same;
   }
     where
@@ -188,10 +189,20 @@ module _ (layout : Layout) (laid_out : IsTrue (is_laid_out layout)) (name : Name
 -- each data set is there still, at the same places, and no shorter
 pub record IsGrown (old new : Catalog) : Type 0 where
   pub each : (name : Name) (set : DataSet) → set_of old name ≡ Some set → (later : DataSet) × (set_of new name ≡ Some later) × SamePlaces later set × (set.length ≤ later.length)
+  pub back : (name : Name) (later : DataSet) → set_of new name ≡ Some later → (set : DataSet) × (set_of old name ≡ Some set) × SamePlaces later set
 
 pub grown_longer : (name : Name) (set : DataSet) (old new : Catalog) → IsLonger name set old new → IsGrown old new
-grown_longer name set old new grows = record { each = λ other s is. by other s is (same_name other name) refl }
+grown_longer name set old new grows = record {
+  each = λ other s is. by other s is (same_name other name) refl;
+  back = λ other later is. from other later is (same_name other name) refl;
+}
   where
+    from : (other : Name) (later : DataSet) → set_of new other ≡ Some later → (same : Bool) → same_name other name ≡ same → (s : DataSet) × (set_of old other ≡ Some s) × SamePlaces later s
+    from other later is true e =
+        let sets : one_longer set ≡ later = same_item (one_longer set) later (sym grows.here ∙ ap (set_of new) (sym (same_is other name e)) ∙ is) in
+        (set, ap (set_of old) (same_is other name e) ∙ grows.was, subst (λ (t : DataSet). SamePlaces t set) sets (record { parts = refl; lrecl = refl }))
+    from other later is false e = (later, sym (grows.others other e) ∙ is, record { parts = refl; lrecl = refl })
+
     by : (other : Name) (s : DataSet) → set_of old other ≡ Some s → (same : Bool) → same_name other name ≡ same → (later : DataSet) × (set_of new other ≡ Some later) × SamePlaces later s × (s.length ≤ later.length)
     by other s is true e =
         let sets : set ≡ s = same_item set s (sym grows.was ∙ ap (set_of old) (sym (same_is other name e)) ∙ is) in
@@ -207,6 +218,15 @@ keeps_twice layout old mid first second third grown one two = record {
       ∙ two.records name later.0 n later.1 (omega (arith, le, later.3))
       ∙ sym (same_places second layout later.0 set later.2 n)
       ∙ one.records name set n is le;
+  others = λ other n clear stands le.
+      two.others other n
+      (λ name later is.
+      let from = grown.back name later is in
+      ap (λ (stretches : List Stretch). lists_apart later.lrecl other.lrecl stretches (stretches_of other)) (ap stretches_of_parts (sym from.2.parts))
+      ∙ ap (λ (lrecl : ℕ). lists_apart lrecl other.lrecl (stretches_of from.0) (stretches_of other)) (sym from.2.lrecl)
+      ∙ clear name from.0 from.1)
+      stands le
+      ∙ one.others other n clear stands le;
   front = two.front ∙ one.front;
 }
 

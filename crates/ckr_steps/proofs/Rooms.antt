@@ -130,6 +130,7 @@ pub grown_in-grown : (name : Option Name) (old new : Catalog) → IsSetThere old
 grown_in-grown None old new there is = record {
   each = λ name set was. let le : set.length ≤ set.length = omega arith in
       (set, ap (λ sets. set_of (record { sets = sets; room = 0 }) name) is ∙ was, record { parts = refl; lrecl = refl }, le);
+  back = λ name later was. (later, ap (λ sets. set_of (record { sets = sets; room = 0 }) name) (sym is) ∙ was, record { parts = refl; lrecl = refl });
 }
 grown_in-grown (Some name) old new there is =
     let found = set_there old name there in

@@ -1,5 +1,5 @@
 -- What the writes of a unit make of the library and of the disk, and what they leave as it was.
-use Rattle.std.specs.Prelude.{◌≡◌, ◌≤◌, ℕ, ◌+◌, ◌-◌, Bool, true, false, nat_lt, if◌then◌else◌, List, [], ◌∷◌, length, filter, take, Option, None, Some, option_and_then}
+use Rattle.std.specs.Prelude.{◌≡◌, ◌≤◌, ℕ, ◌+◌, ◌-◌, Bool, true, false, nat_lt, if◌then◌else◌, List, [], ◌∷◌, length, filter, take, Option, None, Some, option_and_then, IsTrue}
 use Rattle.std.specs.Option.{option_map_or, is_some}
 use Rattle.ckr_base.specs.declared.code.Code.TheVariants.{System}
 use Rattle.ckr_base.specs.declared.programs.Finish.{Finish}
@@ -15,7 +15,7 @@ use Rattle.ckr_library.specs.Catalog.{Holding, Catalog, set_of, with_length}
 use Rattle.ckr_library.specs.Named.{Name, Named, entry_at, with_changed}
 use Rattle.ckr_volumes.specs.declared.layout.Layout.{Layout}
 use Rattle.ckr_volumes.specs.Records.{records_on}
-use Rattle.ckr_volumes.specs.Stands.{front_of}
+use Rattle.ckr_volumes.specs.Stands.{StandsIn, front_of, lie_apart}
 use Rattle.ckr_meaning.specs.LibrarySet.{LibrarySet, Library}
 use Rattle.ckr_meaning.specs.Effective.{is_among}
 use Rattle.ckr_meaning.specs.Program.{Room, room_after, fitting}
@@ -135,10 +135,15 @@ put_all files (write ∷ writes) library = put_all files writes (put_one files w
 
 -- ---- what stays
 
+-- a data set that lies apart from those of the library
+abbrev pub LiesClear : Catalog → DataSet → Type 0
+LiesClear catalog other = (name : Name) (set : DataSet) → set_of catalog name ≡ Some set → IsTrue (lie_apart set other)
+
 -- of each data set of the library the image has the records that the other image has, up to the length that the library has for it, and
--- so it is with what stands before the volumes
+-- so it is with all records of a data set that lies apart from them, and with what stands before the volumes
 pub record Keeps (layout : Layout) (catalog : Catalog) (old new : List ℕ) : Type 0 where
   pub records : (name : Name) (set : DataSet) (n : ℕ) → set_of catalog name ≡ Some set → n ≤ set.length → records_on new layout set n ≡ records_on old layout set n
+  pub others : (other : DataSet) (n : ℕ) → LiesClear catalog other → StandsIn layout other → n ≤ other.space → records_on new layout other n ≡ records_on old layout other n
   pub front : take (front_of layout) new ≡ take (front_of layout) old
 
 -- an image stems from one of these, and keeps what that one had
