@@ -32,7 +32,7 @@ use Rattle.ckr_tables.specs.declared.tables.Spare.{Spare}
 use Rattle.ckr_tables.specs.Changing.{Going, going, changed, desk_with, holding_kit, place_now, table_kit}
 use Rattle.ckr_tables.specs.Ending.{HasLengths, MayRewriteIn}
 use Rattle.ckr_points.specs.Following.{ended_follows, follows, is_rewrite, is_update, of_step, may_hold, may_restart, is_free, is_in_state, is_running, lengths_follow, of_run, selected_follows, started_follows}
-use Rattle.ckr_tables.specs.Keeping.{AreKept, HasRoom, HasRoomIn, IsRun, MayCount, MayFollow, initiator_at, is_plain_event, is_submission, put_at, room_at}
+use Rattle.ckr_tables.specs.Keeping.{AreKept, HasRoom, HasRoomIn, IsRun, IsWide, MayCount, MayFollow, initiator_at, is_plain_event, is_submission, put_at, room_at}
 use Rattle.ckr_tables.specs.Needing.{MayChange}
 use Rattle.ckr_points.specs.Restarting.{after_event, place_of, step_in}
 use Rattle.ckr_tables.specs.Rewriting.{HasFewRewrites, MayRestamp, has_master, has_set, master_dd, master_name}
@@ -45,6 +45,7 @@ use Rattle.ckr_tables.proofs.Items.{both_first, both_second}
 use Rattle.ckr_tables.proofs.Runs.{at_false, length-rows, rows-at, rows-set, runs-at, runs-set}
 use Rattle.ckr_tables.proofs.Staying.{IsSelecting, Stays, stays}
 use Rattle.ckr_tables.proofs.Steps.{few_of, got-mapped}
+use Rattle.ckr_tables.proofs.Wide.{MayMakeBy, changed-wide}
 use Rattle.ckr_tables.proofs.Viewed.{bare_view, changed_seen, going_viewed, table_view}
 
 -- ---- an event that follows is of a run that is there
@@ -223,6 +224,21 @@ module _ (library : Catalog) (lines : List Run) (tables : List RunTable) (index 
     makes_by (Ended job ending) follows = tt
     makes_by (Purged job) follows = tt
 
+    may_make : (one : Event) → RowFollows may.0 desk one row → MayMakeBy one now
+    may_make (Submitted job cards) follows = tt
+    may_make (Selected job initiator earlier step id) follows = tt
+    may_make (Denied job rule name) follows = tt
+    may_make (Started job step items) follows = (started-makes may.0 line facts library.sets (rows_of lines tables) step items.items (own_limits step) follows).1
+    may_make (Rewritten job taken writes lengths place image) follows = tt
+    may_make (Checkpointed job id taken writes lengths place bytes) follows = tt
+    may_make (Cancelled job) follows = tt
+    may_make (StepEnded job step rc writes lengths) follows = tt
+    may_make (Restarted job initiator code checkpoint) follows = tt
+    may_make (Held job code writes lengths) follows = tt
+    may_make (Released job) follows = tt
+    may_make (Ended job ending) follows = tt
+    may_make (Purged job) follows = tt
+
     module _ (runs_room lines_room : ℕ) where
       abbrev pub room : Room
       room = record {
@@ -360,6 +376,7 @@ module _ (library : Catalog) (lines : List Run) (tables : List RunTable) (index 
           → AreKept sets (slice_set lines place new) (slice_set tables place after) (put_at new.initiator (suc place) (put_at line.initiator 0 index)) marks
       kept_after marks spared fits = record {
         bare = ap (λ (all : Going Holding). all.sets) (ap (going_viewed bare) goes ∙ changed_seen bare holding_kit holding_kit bare_view event now ∙ ap (λ before. changed holding_kit event (going line facts before)) kept.bare ∙ sym goes);
+        wide = subst (EachEntry IsWide) (ap (λ (all : Going Holding). all.sets) (sym goes)) (changed-wide event now (may_make event row_follows) kept.wide);
         runs = runs-set 1 lines tables kept.runs place new after new_is;
         few = subst (λ n. n ≤ 9999999) (sym (length-set tables place after)) kept.few;
         indexed = index_changed lines index kept.indexed place line lined new fits only;

@@ -76,7 +76,7 @@ may-make stamp items named number (dd ∷ dds) sets may = (
   where
     one : (name : Option Name) → MayMakeNamed table_kit.fresh stamp items number dd name (viewed table_of sets) → MayMakeNamed fresh_holding stamp items number dd name sets
     one None may = tt
-    one (Some name) may = record { absent = λ has. entry-seen sets name (may.absent has); few = may.few; whole = may.whole; small = may.small }
+    one (Some name) may = record { absent = λ has. entry-seen sets name (may.absent has); few = may.few; whole = may.whole; small = may.small; wide = may.wide }
 
 -- ---- a step that starts
 

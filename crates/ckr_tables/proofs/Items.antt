@@ -274,6 +274,20 @@ module _ (layout : Layout) (stamp : Stamp) (items : List Made) (before : Standin
       last : (set : DataSet) → stands_in layout set ≡ true → nat_le set.space 1000000 ≡ true
       last set stands = both_second _ (nat_le set.space 1000000) stands
 
+  -- its records have at least one byte
+  clear-wide : (number : ℕ) (dd : Dd) (name : Name) (allotment : Allotment) (now : Named TableSet) → is_made_clear layout stamp items (record { dd = dd; number = number; name = name; allotment = allotment }) allotment now ≡ true → is_made allotment ≡ true → 1 ≤ dd.lrecl
+  clear-wide number dd name found now clear makes = absurd (false≢true makes)
+  clear-wide number dd name (refused flaw) now clear makes = absurd (false≢true makes)
+  clear-wide number dd name made now clear makes =
+      let set = fresh_set stamp dd (parts_from number items) in
+      least dd.lrecl (above set (both_first (stands_in layout set) (lies_clear now set) clear))
+    where
+      least : (n : ℕ) → nat_le 1 n ≡ true → 1 ≤ n
+      least n e = grind (arith, nat_tests)
+
+      above : (set : DataSet) → stands_in layout set ≡ true → nat_le 1 set.lrecl ≡ true
+      above set stands = both_second _ (nat_le 1 set.lrecl) (both_first _ (nat_le set.lrecl 256) (both_first _ (nat_le 1 set.space) (both_first _ (nat_le set.space 1000000) stands)))
+
   -- to make by allocation is to make by the items
   made-alike : (number : ℕ) (dd : Dd) (name : Name) (allotment : Allotment) (now : Named TableSet) → has_items number items ≡ is_made allotment → made_table stamp items (record { dd = dd; number = number; name = name; allotment = allotment }) allotment now ≡ made_one table_kit.fresh stamp items number dd name now
   made-alike number dd name found now same = sym (ap (λ b. cond b (with_entry name (table_kit.fresh (fresh_set stamp dd (parts_from number items))) now) now) same)
@@ -340,6 +354,7 @@ module _ (layout : Layout) (stamp : Stamp) (items : List Made) (before : Standin
                 few = here.1;
                 whole = whole-here number dd dds name is whole;
                 small = λ has. clear-small number dd name one.allotment clear (both_first (is_made_clear layout stamp items one one.allotment clear) _ is_clear) (sym here.0 ∙ has);
+                wide = λ has. clear-wide number dd name one.allotment clear (both_first (is_made_clear layout stamp items one one.allotment clear) _ is_clear) (sym here.0 ∙ has);
               },
               rest.1,
             ),

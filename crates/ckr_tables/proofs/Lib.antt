@@ -14,3 +14,6 @@ pub mod Tabled
 pub mod Roomier
 pub mod Examples
 pub mod Rewritten
+pub mod Allocated
+pub mod Allotted
+pub mod Wide

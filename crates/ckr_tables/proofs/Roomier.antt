@@ -41,7 +41,7 @@ rows-same (line ∷ lines) (one ∷ tables) zero old new here same =
 rows-same (line ∷ lines) (one ∷ tables) (suc place) old new here same = ap (λ rest. row_of line one ∷ rest) (rows-same lines tables place old new here same)
 
 module _ (lines : List Run) (tables : List RunTable) (are : AreRuns 1 lines tables) (place : ℕ) (old new : RunTable) (here : slice_get tables place ≡ Some old) where
-  line_there : (line : Run) × (slice_get lines place ≡ Some line)
+  pub line_there : (line : Run) × (slice_get lines place ≡ Some line)
   line_there = lined-at 1 lines tables are place old here
 
   is : IsRun (1 + place) line_there.0 old
@@ -49,6 +49,15 @@ module _ (lines : List Run) (tables : List RunTable) (are : AreRuns 1 lines tabl
 
   pub limits_there : IsTrue (is_within_limits old.job)
   limits_there = is.limits
+
+  pub distinct_there : HasDistinctNames (plain_job (1 + place) old.job)
+  distinct_there = is.distinct
+
+  pub numbered_there : line_there.0.number ≡ 1 + place
+  numbered_there = is.numbered
+
+  pub found_there : slice_get (rows_of lines tables) place ≡ Some (row_of line_there.0 old)
+  found_there = rows-at lines tables place line_there.0 old line_there.1 here
 
   module _ (same : facts_of new ≡ facts_of old) where
     pub rows_there : rows_of lines (slice_set tables place new) ≡ rows_of lines tables
@@ -71,6 +80,7 @@ module _ (lines : List Run) (tables : List RunTable) (are : AreRuns 1 lines tabl
     pub kept_there : (sets : Named Holding) (index : List ℕ) (marks : List Mark) → AreKept sets lines tables index marks → AreKept sets lines (slice_set tables place new) index marks
     kept_there sets index marks kept = record {
       bare = kept.bare;
+      wide = kept.wide;
       runs = runs_there;
       few = subst (λ n. n ≤ 9999999) (sym (length-set tables place new)) kept.few;
       indexed = kept.indexed;

@@ -67,8 +67,13 @@ pub record IsIndexOf (index : List ℕ) (lines : List Run) : Type 0 where
   pub on : (initiator place : ℕ) → slice_index index initiator ≡ suc place → initiator_at lines place ≡ Some initiator
   pub all : (initiator place : ℕ) → initiator_at lines place ≡ Some initiator → slice_index index initiator ≡ suc place
 
+-- records of at least one byte
+abbrev pub IsWide : Holding → Type 0
+IsWide holding = 1 ≤ holding.set.lrecl
+
 pub record AreKept (sets : Named Holding) (lines : List Run) (tables : List RunTable) (index : List ℕ) (marks : List Mark) : Type 0 where
   pub bare : AreBare sets
+  pub wide : EachEntry IsWide sets
   pub runs : AreRuns 1 lines tables
   pub few : length tables ≤ 9999999
   pub indexed : IsIndexOf index lines

@@ -1,3 +1,4 @@
+pub mod Allocating
 pub mod Changing
 pub mod Ending
 pub mod Inside
@@ -5,6 +6,7 @@ pub mod Keeping
 pub mod Making
 pub mod Marked
 pub mod Needing
+pub mod Plain
 pub mod Rewriting
 pub mod Rooms
 pub mod Seen

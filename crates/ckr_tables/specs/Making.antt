@@ -46,12 +46,13 @@ module _ {X : Type 0} (fresh : DataSet → X) (stamp : Stamp) (items : List Made
 abbrev pub HasRecords : ℕ → Made → Type 0
 HasRecords records item = (part_of item).records ≡ records
 
--- what is made isn't there, in at most five parts that have its space
+-- what is made isn't there, in at most five parts that have its space, and its records have a byte
 pub record MayMake {X : Type 0} (items : List Made) (number : ℕ) (dd : Dd) (name : Name) (sets : Named X) : Type 0 where
   pub absent : has_items number items ≡ true → entry_at sets name ≡ None
   pub few : length (items_for number items) ≤ 5
   pub whole : AllByRecursion (HasRecords (unwrap_or dd.space 0)) (items_for number items)
   pub small : has_items number items ≡ true → space_for dd ≤ 1000000
+  pub wide : has_items number items ≡ true → 1 ≤ dd.lrecl
 
 module _ {X : Type 0} (fresh : DataSet → X) (stamp : Stamp) (items : List Made) where
   abbrev pub MayMakeNamed : ℕ → Dd → Option Name → Named X → Type 0

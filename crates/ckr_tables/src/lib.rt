@@ -1,6 +1,7 @@
 //! The tables of a desk in code: its data sets and its runs, kept event by event.
 #![tactic(auto)]
 
+mod allocating;
 mod applying;
 mod changing;
 mod ending;

@@ -76,7 +76,7 @@ impl Tables {
 }
 
 /// The place of a run by its number, if there is such a run.
-fn place_in(job: u32, tables: &[RunTable]) -> Option<usize>
+pub(crate) fn place_in(job: u32, tables: &[RunTable]) -> Option<usize>
     ensures some { (place : ℕ) → result ≡ Some place → (job ≡ suc place) × (place < length tables.now) }
     ensures none { result ≡ None → HasNoPlace job (length tables.now) }
 {

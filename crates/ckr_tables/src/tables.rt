@@ -1,7 +1,9 @@
 //! The tables of the desk.
-ghost use Rattle.std.specs.Prelude.{◌≡◌, ◌≤◌, ◌<◌, [], Some, IsTrue, OnOk, IsOk, length, map, replicate, slice_get};
+ghost use Rattle.std.specs.Prelude.{◌≡◌, ℕ, ◌≤◌, ◌<◌, [], Some, IsTrue, OnOk, IsOk, length, map, replicate, slice_get};
 ghost use Rattle.std.specs.Option.{option_copied, option_map};
-ghost use Rattle.ckr_points.specs.Rows.{no_tables, run_of, holding_of};
+ghost use Rattle.ckr_library.specs.Named.{EachEntry};
+ghost use Rattle.ckr_points.specs.Rows.{no_tables, run_of, holding_of, RunRow, TableSet};
+ghost use Rattle.ckr_tables.specs.Plain.{IsPlainRow};
 ghost use Rattle.ckr_tables.specs.Seen.{facts_in, facts_of, line_of, place_of, run_on, table_of, seen_by};
 
 use crate::RunTable;
@@ -96,6 +98,20 @@ impl Tables {
     {
         let number = self.index[initiator as usize];
         if number == 0 { None } else { Some(number) }
+    }
+
+    /// Each data set has records of at least one byte. It does nothing.
+    pub fn sets_are_wide(&self)
+        ensures { EachEntry (λ (table : TableSet). 1 ≤ table.set.lrecl) self.now.desk.sets }
+    {
+        let _library = &self.library;
+    }
+
+    /// Each run continues none, has a number of at most seven digits, and a job within the limits. It does nothing.
+    pub fn runs_are_plain(&self)
+        ensures { (job : ℕ) (row : RunRow) → run_of self.now.desk job ≡ Some row → IsPlainRow job row }
+    {
+        let _lines = &self.lines;
     }
 }
 
