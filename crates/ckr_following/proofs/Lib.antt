@@ -1,0 +1,14 @@
+pub mod Lists
+pub mod Uses
+pub mod Clearing
+pub mod Counted
+pub mod Beside
+pub mod Named
+pub mod Standing
+pub mod Free
+pub mod Outputs
+pub mod Updated
+pub mod Placed
+pub mod Stands
+pub mod Turns
+pub mod Starts

@@ -1,0 +1,29 @@
+-- Whether one more rewrite of each data set can be counted.
+use Rattle.std.specs.Prelude.{ℕ, ◌&&◌, Bool, true, nat_lt, List, length}
+use Rattle.std.specs.List.{list_all}
+use Rattle.ckr_events.specs.declared.event.Event.{Event}
+use Rattle.ckr_events.specs.declared.event.Event.TheVariants.{Submitted, Selected, Denied, Started, Rewritten, Checkpointed, Cancelled, StepEnded, Restarted, Held, Released, Ended, Purged}
+use Rattle.ckr_library.specs.Named.{Name, Named}
+use Rattle.ckr_points.specs.Rows.{TableSet}
+
+abbrev pub has_few_rewrites : Name × TableSet → Bool
+has_few_rewrites entry = nat_lt entry.1.set.stamp.rewrites 4294967295
+
+-- there are fewer than 4,294,967,295 data sets, and one more rewrite of each can be counted
+abbrev pub have_few_rewrites : Named TableSet → Bool
+have_few_rewrites sets = nat_lt (length sets) 4294967295 && list_all has_few_rewrites sets
+
+abbrev pub may_count : Event → Named TableSet → Bool
+may_count (Submitted job cards) sets = true
+may_count (Selected job initiator earlier step id) sets = true
+may_count (Denied job rule name) sets = true
+may_count (Started job step made) sets = true
+may_count (Rewritten job taken writes lengths place image) sets = have_few_rewrites sets
+may_count (Checkpointed job id taken writes lengths place bytes) sets = true
+may_count (Cancelled job) sets = true
+may_count (StepEnded job step rc writes lengths) sets = true
+may_count (Restarted job initiator code checkpoint) sets = true
+may_count (Held job code writes lengths) sets = true
+may_count (Released job) sets = true
+may_count (Ended job ending) sets = true
+may_count (Purged job) sets = true

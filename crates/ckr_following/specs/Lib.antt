@@ -1,0 +1,9 @@
+pub mod Clear
+pub mod Counting
+pub mod Gathered
+pub mod Holding
+pub mod Lengths
+pub mod Placing
+pub mod Rewriting
+pub mod Standing
+pub mod Starting
