@@ -72,7 +72,7 @@ module _ (layout : Layout) (office : Office) (number : ℕ) (row : RunRow) (leg 
   abbrev disposals : Bool → List Disposal
   disposals abnormal = run_disposals row owned (own_made row owned step) (earlier_made office.tables row step) abnormal
 
-  disposals_are : (abnormal : Bool) → disposals abnormal ≡ disposals_of walk.earlier abnormal (placed_at the_start)
+  pub disposals_are : (abnormal : Bool) → disposals abnormal ≡ disposals_of walk.earlier abnormal (placed_at the_start)
   unfolding placed_at
   disposals_are abnormal =
       ap (λ (job : Effective). filter_map (λ dd. option_map (run_disposal (own_made row owned step) (earlier_made office.tables row step) abnormal dd) (name_of job.root owned dd)) owned.step.dds) (sym at_place.job)

@@ -19,11 +19,11 @@ use Rattle.ckr_jcl.specs.declared.deck.Role.TheVariants.{Reads, Writes, Updates,
 use Rattle.ckr_jcl.specs.declared.deck.Status.{Status}
 use Rattle.ckr_jcl.specs.declared.deck.Status.TheVariants.{New, Old, Shr, Mod}
 use Rattle.ckr_library.specs.declared.sets.Stamp.{Stamp}
-use Rattle.ckr_library.specs.Named.{Name, same_name, entry_at}
+use Rattle.ckr_library.specs.Named.{Name, Named, same_name, entry_at}
 use Rattle.ckr_library.proofs.Ordered.{not_None, same_item}
 use Rattle.ckr_meaning.specs.declared.place.Place.{Place}
 use Rattle.ckr_meaning.specs.declared.place.Place.TheVariants.{Before, Opened, Within}
-use Rattle.ckr_meaning.specs.LibrarySet.{Known, LibrarySet, Library, record_ways}
+use Rattle.ckr_meaning.specs.LibrarySet.{Known, LibrarySet, Library, SetWays, record_ways}
 use Rattle.ckr_meaning.specs.Allocating.{Allotment, found, made, refused, missing, wrong_kind, Placed, allotment_by, allotment_of, is_found, is_made, is_output, is_passed, opened_by, opened_one, opened_all, with_kind, is_wrong_kind}
 use Rattle.ckr_meaning.specs.Disposing.{Disposal, Standing, disposed_all, disposed_one, sets_after}
 use Rattle.ckr_meaning.specs.Effective.{Effective, OwnedStep, disposal_of, disposals_of, is_among, name_of, names_made, placed_from, placed_one, step_at}
@@ -36,7 +36,7 @@ use Rattle.ckr_soundness.proofs.Entries.{all-taken, at-with_changed, at-with_ent
 use Rattle.ckr_soundness.proofs.Passing.{after-apart, disposed-made, ended-leaves}
 use Rattle.ckr_soundness.proofs.Roles.{changes_records, formed-roles, is_right, target, target-changes, work_at-right}
 
-or_true : (a b : Bool) → (not a || b) ≡ true → a ≡ true → b ≡ true
+pub or_true : (a b : Bool) → (not a || b) ≡ true → a ≡ true → b ≡ true
 or_true true b e is = e
 or_true false b e is = absurd (false≢true is)
 
@@ -47,7 +47,7 @@ keep_is Pass e = absurd (false≢true e)
 keep_is Catlg e = absurd (false≢true e)
 keep_is Uncatlg e = absurd (false≢true e)
 
-no_output : (role : Role) → changes_records role ≡ false → is_output role ≡ false
+pub no_output : (role : Role) → changes_records role ≡ false → is_output role ≡ false
 no_output Reads e = refl
 no_output Writes e = absurd (false≢true (sym e))
 no_output Updates e = refl
@@ -64,7 +64,7 @@ shared_by role New e shr = absurd (false≢true shr)
 shared_by role Old e shr = absurd (false≢true shr)
 shared_by role Mod e shr = absurd (false≢true shr)
 
-shared_role : (program : Kind) (dd : Dd) → has_role program dd ≡ true → is_shared dd ≡ true → changes_records dd.role ≡ false
+pub shared_role : (program : Kind) (dd : Dd) → has_role program dd ≡ true → is_shared dd ≡ true → changes_records dd.role ≡ false
 shared_role program dd has shared =
     shared_by dd.role dd.disp.status (both-second _ (allows dd.role dd.disp.status) has)
     (both-first (is_shr dd.disp.status) _ (both-first (is_shr dd.disp.status && is_keep (dispose (is_temporary dd.origin) dd.disp false false)) _ shared))
@@ -109,14 +109,14 @@ pub record IsUntouched (placed : Placed) : Type 0 where
   pub unmade : is_made placed.allotment ≡ false
 
 -- a DD of a step that leaves the name, if it has it
-record Stays (name : Name) (placed : Placed) : Type 0 where
-  output : is_output placed.dd.role ≡ false
-  unmade : is_made placed.allotment ≡ false
-  normal : dispose (is_temporary placed.dd.origin) placed.dd.disp false false ≡ Keep
-  abnormal : dispose (is_temporary placed.dd.origin) placed.dd.disp false true ≡ Keep
+pub record Stays (name : Name) (placed : Placed) : Type 0 where
+  pub output : is_output placed.dd.role ≡ false
+  pub unmade : is_made placed.allotment ≡ false
+  pub normal : dispose (is_temporary placed.dd.origin) placed.dd.disp false false ≡ Keep
+  pub abnormal : dispose (is_temporary placed.dd.origin) placed.dd.disp false true ≡ Keep
 
 module _ (name : Name) where
-  abbrev Left : Placed → Type 0
+  abbrev pub Left : Placed → Type 0
   Left placed = same_name name placed.name ≡ true → Stays name placed
 
   left_one : (program : Kind) (standing : Standing LibrarySet) (number : ℕ) (dd : Dd) (other : Name) → has_role program dd ≡ true → leaves name (Some other) (is_shared dd) ≡ true → Left (placed_one record_ways standing number dd other)
@@ -151,23 +151,23 @@ module _ (name : Name) where
   unmade_all [] left = tt
   unmade_all (placed ∷ rest) left = (λ same. (left.0 same).unmade, unmade_all rest left.1)
 
-  untouched_all : (all : List Placed) → AllByRecursion Left all → AllByRecursion Untouched all
+  pub untouched_all : (all : List Placed) → AllByRecursion Left all → AllByRecursion Untouched all
   untouched_all [] left = tt
   untouched_all (placed ∷ rest) left = (λ same. record { output = (left.0 same).output; unmade = (left.0 same).unmade }, untouched_all rest left.1)
 
-  opened_left : (stamp : Stamp) (placed : Placed) (allotment : Allotment) (output : Bool) (library : Library) → (same_name name placed.name ≡ true → output ≡ false) → entry_at (opened_one record_ways stamp placed allotment output library) name ≡ entry_at library name
-  opened_left stamp placed found true library unless =
+  opened_left : {X : Type 0} (ways : SetWays X) (stamp : Stamp) (placed : Placed) (allotment : Allotment) (output : Bool) (sets : Named X) → (same_name name placed.name ≡ true → output ≡ false) → entry_at (opened_one ways stamp placed allotment output sets) name ≡ entry_at sets name
+  opened_left ways stamp placed found true sets unless =
       tested (same_name name placed.name) (λ same. absurd (false≢true (sym (unless same))))
-      (λ apart. at-with_changed placed.name name (opened_by record_ways stamp placed.dd.disp.status) library ∙ ap (λ b. cond b (option_map (opened_by record_ways stamp placed.dd.disp.status) (entry_at library name)) (entry_at library name)) apart)
-  opened_left stamp placed found false library unless = refl
-  opened_left stamp placed made output library unless = refl
-  opened_left stamp placed (refused flaw) output library unless = refl
+      (λ apart. at-with_changed placed.name name (opened_by ways stamp placed.dd.disp.status) sets ∙ ap (λ b. cond b (option_map (opened_by ways stamp placed.dd.disp.status) (entry_at sets name)) (entry_at sets name)) apart)
+  opened_left ways stamp placed found false sets unless = refl
+  opened_left ways stamp placed made output sets unless = refl
+  opened_left ways stamp placed (refused flaw) output sets unless = refl
 
-  pub opened_all-left : (stamp : Stamp) (all : List Placed) (library : Library) → AllByRecursion Untouched all → entry_at (opened_all record_ways stamp all library) name ≡ entry_at library name
-  opened_all-left stamp [] library left = refl
-  opened_all-left stamp (placed ∷ rest) library left =
-      opened_all-left stamp rest (opened_one record_ways stamp placed placed.allotment (is_output placed.dd.role) library) left.1
-      ∙ opened_left stamp placed placed.allotment (is_output placed.dd.role) library (λ same. (left.0 same).output)
+  pub opened_all-left : {X : Type 0} (ways : SetWays X) (stamp : Stamp) (all : List Placed) (sets : Named X) → AllByRecursion Untouched all → entry_at (opened_all ways stamp all sets) name ≡ entry_at sets name
+  opened_all-left ways stamp [] sets left = refl
+  opened_all-left ways stamp (placed ∷ rest) sets left =
+      opened_all-left ways stamp rest (opened_one ways stamp placed placed.allotment (is_output placed.dd.role) sets) left.1
+      ∙ opened_left ways stamp placed placed.allotment (is_output placed.dd.role) sets (λ same. (left.0 same).output)
 
   made_left : (stamp : Stamp) (placed : Placed) (allotment : Allotment) (library : Library) → (same_name name placed.name ≡ true → is_made allotment ≡ false) → entry_at (made_one stamp placed allotment library) name ≡ entry_at library name
   made_left stamp placed found library unless = refl
@@ -200,19 +200,19 @@ module _ (name : Name) where
   kept_by false placed stays = ap (λ b. dispose (is_temporary placed.dd.origin) placed.dd.disp b false) stays.unmade ∙ stays.normal
   kept_by true placed stays = ap (λ b. dispose (is_temporary placed.dd.origin) placed.dd.disp b true) stays.unmade ∙ stays.abnormal
 
-  after_left : (after : After) (other : Name) (library : Library) → (same_name name other ≡ true → after ≡ Keep) → entry_at (sets_after record_ways after other library) name ≡ entry_at library name
-  after_left after other library unless =
+  after_left : {X : Type 0} (ways : SetWays X) (after : After) (other : Name) (sets : Named X) → (same_name name other ≡ true → after ≡ Keep) → entry_at (sets_after ways after other sets) name ≡ entry_at sets name
+  after_left ways after other sets unless =
       tested (same_name name other)
-      (λ same. ap (λ a. entry_at (sets_after record_ways a other library) name) (unless same))
-      (λ apart. after-apart record_ways after other name library apart)
+      (λ same. ap (λ a. entry_at (sets_after ways a other sets) name) (unless same))
+      (λ apart. after-apart ways after other name sets apart)
 
-  disposed_left : (earlier : List Name) (abnormal : Bool) (all : List Placed) (standing : Standing LibrarySet) → AllByRecursion Left all → entry_at (disposed_all record_ways (disposals_of earlier abnormal all) standing).sets name ≡ entry_at standing.sets name
-  disposed_left earlier abnormal [] standing left = refl
-  disposed_left earlier abnormal (placed ∷ rest) standing left =
-      disposed_left earlier abnormal rest (disposed_one record_ways (disposal_of earlier abnormal placed) standing) left.1
-      ∙ after_left (disposal_of earlier abnormal placed).after placed.name standing.sets (λ same. kept_by abnormal placed (left.0 same))
+  pub disposed_all-left : {X : Type 0} (ways : SetWays X) (earlier : List Name) (abnormal : Bool) (all : List Placed) (standing : Standing X) → AllByRecursion Left all → entry_at (disposed_all ways (disposals_of earlier abnormal all) standing).sets name ≡ entry_at standing.sets name
+  disposed_all-left ways earlier abnormal [] standing left = refl
+  disposed_all-left ways earlier abnormal (placed ∷ rest) standing left =
+      disposed_all-left ways earlier abnormal rest (disposed_one ways (disposal_of earlier abnormal placed) standing) left.1
+      ∙ after_left ways (disposal_of earlier abnormal placed).after placed.name standing.sets (λ same. kept_by abnormal placed (left.0 same))
 
-  unmade_left : (earlier : List Name) (abnormal : Bool) (all : List Placed) → is_among earlier name ≡ false → AllByRecursion Left all → AllByRecursion (λ (one : Disposal). same_name name one.name ≡ true → one.made ≡ false) (disposals_of earlier abnormal all)
+  pub unmade_left : (earlier : List Name) (abnormal : Bool) (all : List Placed) → is_among earlier name ≡ false → AllByRecursion Left all → AllByRecursion (λ (one : Disposal). same_name name one.name ≡ true → one.made ≡ false) (disposals_of earlier abnormal all)
   unmade_left earlier abnormal [] none left = tt
   unmade_left earlier abnormal (placed ∷ rest) none left = (
     λ same. ap (λ b. b || is_among earlier placed.name) (left.0 same).unmade ∙ ap (is_among earlier) (sym (name_is name placed.name same)) ∙ none,
@@ -226,21 +226,21 @@ module _ (name : Name) where
     pub formed : is_formed_step root owned ≡ true
     pub leaves : list_all (leaves_dd root owned name) owned.step.dds ≡ true
 
-  placed_at-left : (start : StepStart) → LeavesStep start.root start.owned → AllByRecursion Left (placed_at start)
+  pub placed_at-left : (start : StepStart) → LeavesStep start.root start.owned → AllByRecursion Left (placed_at start)
   unfolding placed_at
   placed_at-left start left =
       left_from start.standing start.root start.owned 1 start.owned.step.dds (formed-roles start.root start.owned left.formed) left.leaves
 
   opened_at-left : (start : StepStart) → LeavesStep start.root start.owned → entry_at (opened_at start) name ≡ entry_at start.standing.sets name
   unfolding opened_at
-  opened_at-left start left = opened_all-left (stamp_at start) (placed_at start) start.standing.sets (untouched_all (placed_at start) (placed_at-left start left))
+  opened_at-left start left = opened_all-left record_ways (stamp_at start) (placed_at start) start.standing.sets (untouched_all (placed_at start) (placed_at-left start left))
 
   made_at-left : (start : StepStart) → LeavesStep start.root start.owned → entry_at (made_at start) name ≡ entry_at start.standing.sets name
   unfolding made_at
   made_at-left start left = made_all-left (stamp_at start) (placed_at start) (opened_at start) (unmade_all (placed_at start) (untouched_all (placed_at start) (placed_at-left start left))) ∙ opened_at-left start left
 
   -- a write goes elsewhere
-  elsewhere : (start : StepStart) (output : Output) (to : Name) → LeavesStep start.root start.owned → is_right start.owned.step.program output ≡ true → output_name start output ≡ Some to → same_name name to ≡ false
+  pub elsewhere : (start : StepStart) (output : Output) (to : Name) → LeavesStep start.root start.owned → is_right start.owned.step.program output ≡ true → output_name start output ≡ Some to → same_name name to ≡ false
   elsewhere start output to left right e =
       tested (same_name name to)
       (λ same.
@@ -269,7 +269,7 @@ module _ (name : Name) where
       written_all-left start writes (written_one start write library) left (both-second (is_right start.owned.step.program write.output) _ right)
       ∙ written_left start write library left (both-first (is_right start.owned.step.program write.output) _ right)
 
-  within_at-left : (start : StepStart) (writes : ℕ) → LeavesStep start.root start.owned → entry_at (within_at start writes) name ≡ entry_at start.standing.sets name
+  pub within_at-left : (start : StepStart) (writes : ℕ) → LeavesStep start.root start.owned → entry_at (within_at start writes) name ≡ entry_at start.standing.sets name
   unfolding within_at
   within_at-left start writes left =
       written_all-left start (take writes (work_at start).writes) (made_at start) left (all-taken _ writes (work_at start).writes (work_at-right start))
@@ -278,7 +278,7 @@ module _ (name : Name) where
   disposed_at-left : (start : StepStart) (abnormal : Bool) (library : Library) → LeavesStep start.root start.owned → entry_at (disposed_at start abnormal library).sets name ≡ entry_at library name
   unfolding disposed_at
   disposed_at-left start abnormal library left =
-      disposed_left start.earlier abnormal (placed_at start) (record { sets = library; passed = start.standing.passed }) (placed_at-left start left)
+      disposed_all-left record_ways start.earlier abnormal (placed_at start) (record { sets = library; passed = start.standing.passed }) (placed_at-left start left)
 
   disposed_at-made : (start : StepStart) (abnormal : Bool) (library : Library) → LeavesStep start.root start.owned → is_among start.earlier name ≡ false → is_among (passed_made start.standing.passed) name ≡ false → is_among (passed_made (disposed_at start abnormal library).passed) name ≡ false
   unfolding disposed_at
@@ -289,10 +289,10 @@ module _ (name : Name) where
   -- ---- a job
 
   -- the name has kept its data set, and no step made it
-  record Keeps (library : Library) (walk : Walk) : Type 0 where
-    set : entry_at walk.standing.sets name ≡ entry_at library name
-    free : is_among (passed_made walk.standing.passed) name ≡ false
-    unmade : is_among walk.earlier name ≡ false
+  pub record Keeps (library : Library) (walk : Walk) : Type 0 where
+    pub set : entry_at walk.standing.sets name ≡ entry_at library name
+    pub free : is_among (passed_made walk.standing.passed) name ≡ false
+    pub unmade : is_among walk.earlier name ≡ false
 
   step_walked-keeps : (library : Library) (start : StepStart) (walk : Walk) → start.standing ≡ walk.standing → start.earlier ≡ walk.earlier → LeavesStep start.root start.owned → Keeps library walk → Keeps library (step_walked start walk)
   unfolding step_walked
@@ -343,11 +343,11 @@ module _ (name : Name) where
     steps_left : AllByRecursion (LeavesStep job.root) job.steps
     steps_left = each_left job.root job.steps formed left
 
-    step_left : (number : ℕ) (owned : OwnedStep) → step_at job number ≡ Some owned → LeavesStep job.root owned
+    pub step_left : (number : ℕ) (owned : OwnedStep) → step_at job number ≡ Some owned → LeavesStep job.root owned
     step_left zero owned e = absurd (not_None owned (sym e))
     step_left (suc before) owned e = each_at job.root before job.steps owned steps_left e
 
-    before_keeps : (number : ℕ) → Keeps library (walk_before job library number)
+    pub before_keeps : (number : ℕ) → Keeps library (walk_before job library number)
     unfolding walk_before
     before_keeps number =
         walked-keeps library job.root 1 (take (pred number) job.steps) (walk_from library) (each_taken job.root (pred number) job.steps steps_left) (record { set = refl; free = refl; unmade = refl })

@@ -146,7 +146,7 @@ module _ (start : StepStart) (name : Name) (place : ℕ) (formed : is_formed_ste
   -- it is opened and made as it was
   pub updated-opened : entry_at (opened_at start) name ≡ entry_at start.standing.sets name
   unfolding opened_at placed_at
-  updated-opened = opened_all-left name (stamp_at start) (placed_at start) start.standing.sets (untouched_from start.standing 1 start.owned.step.dds all_kept)
+  updated-opened = opened_all-left name record_ways (stamp_at start) (placed_at start) start.standing.sets (untouched_from start.standing 1 start.owned.step.dds all_kept)
 
   pub updated-made : entry_at (made_at start) name ≡ entry_at start.standing.sets name
   unfolding made_at placed_at
