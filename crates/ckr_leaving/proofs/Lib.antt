@@ -1,0 +1,13 @@
+pub mod Stems
+pub mod Within
+pub mod Commits
+pub mod Sets
+pub mod Apart
+pub mod Behind
+pub mod Events
+pub mod Starts
+pub mod Fellows
+pub mod Lying
+pub mod Rewrites
+pub mod Shared
+pub mod Units

@@ -1,0 +1,4 @@
+pub mod Committed
+pub mod Stemming
+pub mod Running
+pub mod Others
