@@ -46,7 +46,7 @@ pub row_twice : (rows : List RunRow) (number : ℕ) (one two : RunRow) → with_
 row_twice rows zero one two = refl
 row_twice rows (suc place) one two = set_twice rows place one two
 
-abbrev queue_in : List RunRow → List Entry
+abbrev pub queue_in : List RunRow → List Entry
 queue_in rows = filter_map entry_of rows
 
 -- ---- a run changes its row

@@ -15,10 +15,10 @@ use Rattle.ckr_points.specs.Rows.{RunRow}
 use Rattle.ckr_turns.specs.Queueing.{entry_with, entry_of, queue_state, AreNumbered}
 
 -- the entries of runs with one more before them
-abbrev joined : Option QueueState → RunRow → List Entry → List Entry
+abbrev pub joined : Option QueueState → RunRow → List Entry → List Entry
 joined state row entries = cons_option (option_map (entry_with row) state) entries
 
-first_in : (row : RunRow) (rows : List RunRow) (state : Option QueueState) → queue_state row.state ≡ state → filter_map entry_of (row ∷ rows) ≡ joined state row (filter_map entry_of rows)
+pub first_in : (row : RunRow) (rows : List RunRow) (state : Option QueueState) → queue_state row.state ≡ state → filter_map entry_of (row ∷ rows) ≡ joined state row (filter_map entry_of rows)
 first_in row rows state is = ap (λ (s : Option QueueState). joined s row (filter_map entry_of rows)) is
 
 -- a run of another number stays as it is
@@ -43,10 +43,10 @@ renewed row new state number deck = ap₂ (λ n d. same_entry row n d state) num
 abbrev is_at : List RunRow → ℕ → RunRow → Type 0
 is_at rows place row = slice_get rows place ≡ Some row
 
-other_number : (from place : ℕ) (row : RunRow) (n : ℕ) → row.number ≡ from → n ≡ suc (from + place) → (row.number == n) ≡ false
+pub other_number : (from place : ℕ) (row : RunRow) (n : ℕ) → row.number ≡ from → n ≡ suc (from + place) → (row.number == n) ≡ false
 other_number from place row n is place_is = grind (arith, nat_tests, is, place_is)
 
-own_number : (row : RunRow) (n : ℕ) → row.number ≡ n → (row.number == n) ≡ true
+pub own_number : (row : RunRow) (n : ℕ) → row.number ≡ n → (row.number == n) ≡ true
 own_number row n is = grind (arith, nat_tests, is)
 
 -- a run changes its state within the queue

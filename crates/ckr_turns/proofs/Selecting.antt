@@ -17,7 +17,7 @@ use Rattle.ckr_turns.specs.Choosing.{may_select, next_run}
 use Rattle.ckr_turns.specs.Queueing.{entry_with, entry_of, queue_of, queue_state, selection_for}
 
 -- whether a run isn't kept out by any of these
-abbrev is_let_in : RunRow → List RunRow → Bool
+abbrev pub is_let_in : RunRow → List RunRow → Bool
 is_let_in row others =
     list_all (λ other. not (is_holder other.state && holds (uses_of row.number row.deck) (uses_of other.number other.deck))) others
 
@@ -26,7 +26,7 @@ join true out rest e = refl
 join false out rest e = e
 
 -- a queued run is kept out by an entry exactly where one of the runs keeps it out
-let_in : (row : RunRow) (state : QueueState) (others : List RunRow)
+pub let_in : (row : RunRow) (state : QueueState) (others : List RunRow)
     → not (list_any (keeps_out (entry_with row state)) (filter_map entry_of others)) ≡ is_let_in row others
 let_in row state [] = refl
 let_in row state (other ∷ others) =
