@@ -29,8 +29,8 @@ use Rattle.ckr_soundness.proofs.Holders.{run-other, run-same}
 use Rattle.ckr_soundness.proofs.Kept.{coded, step_ended}
 use Rattle.ckr_turns.specs.Desk.{Desk, behind}
 use Rattle.ckr_keeping.specs.Coming.{Comes, IsWithinStep}
-use Rattle.ckr_keeping.specs.Going.{IsDesk, is_on_one, is_plain_row, is_plain_state}
-use Rattle.ckr_keeping.proofs.Others.{Changes, accounted-then, failed-all, failed-rest, failed-same, going-rest, plain-then, running-same, taken_over-within}
+use Rattle.ckr_keeping.specs.Going.{IsAdmitted, IsDesk, is_on_one, is_plain_row, is_plain_state}
+use Rattle.ckr_keeping.proofs.Others.{Changes, accounted-then, admitted-then, failed-all, failed-rest, failed-same, going-rest, plain-then, row-admitted, running-same, taken_over-within}
 use Rattle.ckr_keeping.proofs.Outputs.{distinct-job}
 use Rattle.ckr_keeping.proofs.Within.{by-step}
 
@@ -39,6 +39,7 @@ pub record Rests (office after : Office) (job : ℕ) : Type 0 where
   pub next : RunRow
   pub changes : Changes office after job next
   pub plain : is_plain_row next ≡ true
+  pub admitted : IsAdmitted next
   pub rests : is_running next ≡ false
 
 -- a row that is put in twice
@@ -53,13 +54,13 @@ twice tables first second job row one two same again at number its = (
       ∙ ap (λ runs. run_of (let t : Tables = record { sets = first.sets; runs = runs } in t) other) same,
 )
 
-pub rests-twice : (office : Office) (library : Library) (job : ℕ) (row one two : RunRow) (sets others : Named TableSet) → run_of office.tables job ≡ Some row → one.number ≡ job → two.number ≡ job → is_plain_row two ≡ true → is_running two ≡ false → Rests office (record office { tables = with_run two (record (with_run one (record office.tables { sets = sets })) { sets = others }); library = library }) job
-rests-twice office library job row one two sets others at number its plain rests =
+pub rests-twice : (office : Office) (library : Library) (job : ℕ) (row one two : RunRow) (sets others : Named TableSet) → run_of office.tables job ≡ Some row → one.number ≡ job → two.number ≡ job → is_plain_row two ≡ true → IsAdmitted two → is_running two ≡ false → Rests office (record office { tables = with_run two (record (with_run one (record office.tables { sets = sets })) { sets = others }); library = library }) job
+rests-twice office library job row one two sets others at number its plain admitted rests =
     let both = twice office.tables (record office.tables { sets = sets }) (record (with_run one (record office.tables { sets = sets })) { sets = others }) job row one two refl refl at number its in
-    record { next = two; changes = record { mine = both.0; others = both.1; legs = refl }; plain = plain; rests = rests }
+    record { next = two; changes = record { mine = both.0; others = both.1; legs = refl }; plain = plain; admitted = admitted; rests = rests }
 
 -- what holds of the tables that a run's step brings about
-by-changed : (Q : Tables → Type 0) (tables : Tables) (job : ℕ) (row : RunRow) (owned : OwnedStep) (change : RunRow → OwnedStep → ℕ → Tables) → run_of tables job ≡ Some row → step_of_run row (step_in (place_of row)) ≡ Some owned → Q (change row owned (step_in (place_of row))) → Q (option_map_or (λ row. by_step (λ owned step. change row owned step) row tables) (run_of tables job) tables)
+pub by-changed : (Q : Tables → Type 0) (tables : Tables) (job : ℕ) (row : RunRow) (owned : OwnedStep) (change : RunRow → OwnedStep → ℕ → Tables) → run_of tables job ≡ Some row → step_of_run row (step_in (place_of row)) ≡ Some owned → Q (change row owned (step_in (place_of row))) → Q (option_map_or (λ row. by_step (λ owned step. change row owned step) row tables) (run_of tables job) tables)
 by-changed Q tables job row owned change at found holds =
     subst (λ (o : Option RunRow). Q (option_map_or (λ row. by_step (λ owned step. change row owned step) row tables) o tables)) (sym at)
     (subst (λ (o : Option OwnedStep). Q (option_map_or (λ owned. change row owned (step_in (place_of row))) o tables)) (sym found) holds)
@@ -67,6 +68,9 @@ by-changed Q tables job row owned change at found holds =
 module _ (desk : Desk) (is : IsDesk desk) (run : ℕ) (row : RunRow) (number committed_writes : ℕ) (start : StepStart) (within : IsWithinStep desk.office run row number committed_writes start) (plain : is_plain_row row ≡ true) where
   its_number : row.number ≡ run
   its_number = is.kept.events.numbered run row within.row_at
+
+  its_deck : IsAdmitted row
+  its_deck = row-admitted desk is run row within.row_at
 
   its_step : {A : Type 0} → ((owned : OwnedStep) → step_of_run row (step_in (place_of row)) ≡ Some owned → A) → A
   its_step use_it =
@@ -81,7 +85,7 @@ module _ (desk : Desk) (is : IsDesk desk) (run : ℕ) (row : RunRow) (number com
       by-changed (λ tables. Rests desk.office (record desk.office { tables = tables }) run) desk.office.tables run row owned (λ row owned step. after_step_ended row owned step rc writes lengths.items desk.office.tables) within.row_at found
       (rests-twice desk.office desk.office.library run row (record row { place = Some (Within (step_in (place_of row)) writes) })
       (record row { place = Some (Before (suc (step_in (place_of row)))); rcs = row.rcs ++ (step_in (place_of row), rc) ∷ []; in_effect = None; passed = (after_dispositions row owned (step_in (place_of row)) false (after_commit row owned (step_in (place_of row)) writes lengths.items desk.office.tables)).passed })
-      (committed (output_names row.job.root owned) lengths.items desk.office.tables.sets) _ within.row_at its_number its_number plain (ap (λ (state : RunState). (state_number state == 2) && false) within.on)))
+      (committed (output_names row.job.root owned) lengths.items desk.office.tables.sets) _ within.row_at its_number its_number plain (record { cards = its_deck.cards; accepted = its_deck.accepted; lodged = its_deck.lodged }) (ap (λ (state : RunState). (state_number state == 2) && false) within.on)))
 
   -- the desk behind the end of a step
   pub step_end-kept : (rc writes : ℕ) (lengths : ArrayVec ℕ) → Comes desk (StepEndedEvent run number rc writes lengths) → list_any (λ one. one == run) desk.failed ≡ false → IsDesk (behind (StepEndedEvent run number rc writes lengths) None desk)
@@ -92,6 +96,7 @@ module _ (desk : Desk) (is : IsDesk desk) (run : ℕ) (row : RunRow) (number com
         going = going-rest desk.office (office_after (StepEndedEvent run number rc writes lengths, None) desk.office) run rests.next rests.changes desk.running is.going;
         failed = failed-all desk.office (office_after (StepEndedEvent run number rc writes lengths, None) desk.office) run rests.next rests.changes desk.failed isnt is.failed;
         plain = plain-then desk (behind (StepEndedEvent run number rc writes lengths) None desk) is run rests.next rests.changes rests.plain;
+        admitted = admitted-then desk (behind (StepEndedEvent run number rc writes lengths) None desk) is run rests.next rests.changes rests.admitted;
         accounted = accounted-then desk (behind (StepEndedEvent run number rc writes lengths) None desk) is run rests.next rests.changes rests.rests (running-same run desk.running) (λ other apart. refl);
         spaced = is.spaced;
         spaced_legs = is.spaced_legs;
@@ -107,7 +112,7 @@ module _ (desk : Desk) (is : IsDesk desk) (run : ℕ) (row : RunRow) (number com
       (subst (λ (o : Option OwnedStep). Rests desk.office (record desk.office { tables = abnormal_by owned o; library = option_map_or (λ row. library_after desk.office row (CodedEnding code rule writes lengths)) (run_of desk.office.tables run) desk.office.library }) run) (sym found)
       (rests-twice desk.office (option_map_or (λ row. library_after desk.office row (CodedEnding code rule writes lengths)) (run_of desk.office.tables run) desk.office.library) run row (record row { place = Some (Within (step_in (place_of row)) writes) })
       (record row { place = Some (Within (step_in (place_of row)) writes); state = EndedRun; initiator = None; code = None; passed = []; in_effect = None })
-      (committed (output_names row.job.root owned) lengths.items desk.office.tables.sets) _ within.row_at its_number its_number ended_plain refl)))
+      (committed (output_names row.job.root owned) lengths.items desk.office.tables.sets) _ within.row_at its_number its_number ended_plain (record { cards = its_deck.cards; accepted = its_deck.accepted; lodged = refl }) refl)))
     where
       abnormal_by : OwnedStep → Option OwnedStep → Tables
       abnormal_by owned o =
@@ -142,6 +147,7 @@ module _ (desk : Desk) (is : IsDesk desk) (run : ℕ) (row : RunRow) (number com
         going = going-rest desk.office (office_after (EndedEvent run (CodedEnding code rule writes lengths), None) desk.office) run rests.next rests.changes desk.running is.going;
         failed = failed-rest desk.office (office_after (EndedEvent run (CodedEnding code rule writes lengths), None) desk.office) run rests.next rests.changes desk.failed is.failed;
         plain = plain-then desk (behind (EndedEvent run (CodedEnding code rule writes lengths)) None desk) is run rests.next rests.changes rests.plain;
+        admitted = admitted-then desk (behind (EndedEvent run (CodedEnding code rule writes lengths)) None desk) is run rests.next rests.changes rests.admitted;
         accounted = accounted-then desk (behind (EndedEvent run (CodedEnding code rule writes lengths)) None desk) is run rests.next rests.changes rests.rests (running-same run desk.running) (failed-same run desk.failed);
         spaced = left-within code rule writes lengths;
         spaced_legs = is.spaced_legs;

@@ -1,14 +1,14 @@
 -- The events of turns between steps, and of the other calls, may come.
-use Rattle.std.proofs.Common.{◌≡◌, ◌≤◌, ℕ, zero, suc, Bool, true, false, ◌&&◌, ◌||◌, not, nat_le, nat_eq, ◌==◌, List, [], ◌∷◌, refl, ap, sym, ◌∙◌, subst, cond, Option, None, Some, arith, slice_get, find, length}
+use Rattle.std.proofs.Common.{◌≡◌, ◌≤◌, ℕ, suc, Bool, true, false, ◌&&◌, ◌||◌, not, nat_le, nat_eq, ◌==◌, List, [], ◌∷◌, refl, ap, sym, ◌∙◌, subst, cond, Option, None, Some, arith, slice_get, find, length}
 use Rattle.std.specs.Option.{option_map_or, option_eq, is_none}
 use Rattle.std.specs.List.{list_all}
-use Rattle.std.proofs.lemmas.Option.{same_Some}
 use Rattle.std.proofs.lemmas.Bool.{and_from, and_parts}
 use Rattle.std.proofs.lemmas.Bool.{false≢true}
 use Rattle.std.proofs.lemmas.Bool.Decides.{nat_tests}
 use Rattle.ckr_events.specs.declared.event.Event.TheVariants.{Submitted as SubmittedEvent, Selected as SelectedEvent, Ended as EndedEvent, Purged as PurgedEvent}
 use Rattle.ckr_events.specs.declared.event.Ending.TheVariants.{Completed, Allocation}
 use Rattle.ckr_jcl.specs.declared.deck.Job.{Job}
+use Rattle.ckr_library.proofs.Ordered.{not_None}
 use Rattle.ckr_meaning.specs.Effective.{OwnedStep}
 use Rattle.ckr_volumes.specs.declared.layout.Layout.{Layout}
 use Rattle.ckr_points.specs.declared.run.RunState.{RunState}
@@ -19,26 +19,24 @@ use Rattle.ckr_points.specs.Restarting.{place_of}
 use Rattle.ckr_points.specs.Rows.{RunRow, Tables, run_of}
 use Rattle.ckr_points.specs.Sound.{ending_names_first, may_come}
 use Rattle.ckr_soundness.specs.Keeping.{IsKept}
+use Rattle.ckr_soundness.proofs.Entries.{found-all, found-passes, none-is, same_number, tested}
 use Rattle.ckr_submitting.specs.Form.{is_run}
 use Rattle.ckr_turns.specs.Choosing.{is_on, may_select, next_run, run_on_initiator}
 use Rattle.ckr_turns.specs.Desk.{Desk}
-use Rattle.ckr_keeping.proofs.Others.{all-at}
 use Rattle.ckr_keeping.specs.Going.{IsDesk, is_on_one, is_plain_row, is_plain_state}
 
 -- ---- runs that are found
 
-pub record FoundAt (test : RunRow → Bool) (rows : List RunRow) (row : RunRow) : Type 0 where
-  pub place : ℕ
-  pub at : slice_get rows place ≡ Some row
-  pub passes : test row ≡ true
+record FoundAt (rows : List RunRow) (row : RunRow) : Type 0 where
+  place : ℕ
+  at : slice_get rows place ≡ Some row
 
-pub found_at : (test : RunRow → Bool) (rows : List RunRow) (row : RunRow) → find test rows ≡ Some row → FoundAt test rows row
+found_at : (test : RunRow → Bool) (rows : List RunRow) (row : RunRow) → find test rows ≡ Some row → FoundAt rows row
 found_at test [] row found = cc
 found_at test (first ∷ rows) row found =
-    elim (test first) as (λ b. test first ≡ b → cond b (Some first) (find test rows) ≡ Some row → FoundAt test (first ∷ rows) row) [
-      | true ↦ λ passes is. record { place = 0; at = is; passes = ap test (sym (same_Some _ _ is)) ∙ passes }
-      | false ↦ λ fails is. let rest = found_at test rows row is in record { place = suc rest.place; at = rest.at; passes = rest.passes }
-    ] refl found
+    tested (test first)
+    (λ does. record { place = 0; at = sym (ap (λ b. cond b (Some first) (find test rows)) does) ∙ found })
+    (λ isnt. let rest = found_at test rows row (sym (ap (λ b. cond b (Some first) (find test rows)) isnt) ∙ found) in record { place = suc rest.place; at = rest.at })
 
 -- a run that is found has its row under its number
 pub row_of_found : (layout : Layout) (office : Office) (test : RunRow → Bool) (row : RunRow) → IsKept layout office → find test office.tables.runs ≡ Some row → run_of office.tables row.number ≡ Some row
@@ -46,21 +44,18 @@ row_of_found layout office test row kept found =
     let at = found_at test office.tables.runs row found in
     subst (λ n. run_of office.tables n ≡ Some row) (sym (kept.events.numbered (suc at.place) row at.at)) at.at
 
-plain_at : (desk : Desk) (place : ℕ) (row : RunRow) → IsDesk desk → slice_get desk.office.tables.runs place ≡ Some row → is_plain_row row ≡ true
-plain_at desk place row is at = all-at is_plain_row desk.office.tables.runs place row is.plain at
-
 pub plain_found : (desk : Desk) (test : RunRow → Bool) (row : RunRow) → IsDesk desk → find test desk.office.tables.runs ≡ Some row → is_plain_row row ≡ true
-plain_found desk test row is found = let at = found_at test desk.office.tables.runs row found in plain_at desk at.place row is at.at
+plain_found desk test row is found = found-all is_plain_row test desk.office.tables.runs row is.plain found
 
 -- ---- a run is selected
 
-same_number : (i other : ℕ) → nat_eq other i ≡ (i == other)
-same_number i other = grind (arith, nat_tests)
+turned_number : (i other : ℕ) → nat_eq other i ≡ (i == other)
+turned_number i other = grind (arith, nat_tests)
 
 not_on : (i : ℕ) (row : RunRow) → is_on i row.initiator ≡ false → not (option_eq nat_eq row.initiator (Some i)) ≡ true
 not_on i row off = elim row.initiator as (λ o. is_on i o ≡ false → not (option_eq nat_eq o (Some i)) ≡ true) [
   | None ↦ λ e. refl
-  | Some other ↦ λ e. ap not (same_number i other ∙ e)
+  | Some other ↦ λ e. ap not (turned_number i other ∙ e)
 ] off
 
 -- an initiator that no run is on is free
@@ -68,12 +63,9 @@ free_initiator : (i : ℕ) (rows : List RunRow) → find (λ row. is_on i row.in
 free_initiator i [] none = refl
 free_initiator i (first ∷ rows) none =
     elim (is_on i first.initiator) as (λ b. is_on i first.initiator ≡ b → cond b (Some first) (find (λ row. is_on i row.initiator) rows) ≡ None → list_all (λ row. not (option_eq nat_eq row.initiator (Some i))) (first ∷ rows) ≡ true) [
-      | true ↦ λ on some. absurd (some_none some)
+      | true ↦ λ on some. absurd (not_None first some)
       | false ↦ λ off rest. and_from _ _ (not_on i first off) (free_initiator i rows rest)
     ] refl none
-  where
-    some_none : Some first ≡ None → ⊥
-    some_none e = cc
 
 -- a run that comes next was never held: it waits, and its uses don't hold against those of a selected one
 next_waits : (tables : Tables) (row : RunRow) → may_select tables row.state row ≡ true → is_plain_state row.state ≡ true → (row.state ≡ Queued) × (may_hold tables row ≡ true)
@@ -88,25 +80,21 @@ next_waits tables row may plain = elim row.state as (λ s. may_select tables s r
 ] may plain
 
 -- what a plain run's test says, part by part
-record Plain (row : RunRow) : Type 0 where
-  state : is_plain_state row.state ≡ true
-  initiator : (is_none row.initiator || is_on_one row.state) ≡ true
-  code : is_none row.code ≡ true
-  runs : is_run row.deck ≡ true
+pub record Plain (row : RunRow) : Type 0 where
+  pub state : is_plain_state row.state ≡ true
+  pub initiator : (is_none row.initiator || is_on_one row.state) ≡ true
+  pub code : is_none row.code ≡ true
+  pub runs : is_run row.deck ≡ true
 
-plain_parts : (row : RunRow) → is_plain_row row ≡ true → Plain row
+pub plain_parts : (row : RunRow) → is_plain_row row ≡ true → Plain row
 plain_parts row plain =
     let one = and_parts (is_plain_state row.state) _ plain in
     let two = and_parts (is_none row.initiator || is_on_one row.state) _ one.1 in
     let three = and_parts (is_none row.code) (is_run row.deck) two.1 in
     record { state = one.0; initiator = two.0; code = three.0; runs = three.1 }
 
-none_is : {A : Type 0} (o : Option A) → is_none o ≡ true → o ≡ None
-none_is None e = refl
-none_is (Some x) e = absurd (false≢true e)
-
-no_restart : (deck : Job) → is_run deck ≡ true → deck.restart ≡ None
-no_restart deck runs = none_is deck.restart (and_parts (is_none deck.restart) _ (and_parts (is_none deck.rd) _ runs).1).0
+pub no_restart : (deck : Job) → is_run deck ≡ true → deck.restart ≡ None
+no_restart deck runs = none-is deck.restart (and_parts (is_none deck.restart) _ (and_parts (is_none deck.rd) _ runs).1).0
 
 pub selected_comes : (desk : Desk) (i : ℕ) (row : RunRow) → IsDesk desk → 1 ≤ i → i ≤ desk.layout.initiators → run_on_initiator desk.office.tables i ≡ None → next_run desk.office.tables ≡ Some row
     → may_come desk.layout desk.office (SelectedEvent row.number i 0 0 None, None) ≡ true
@@ -123,7 +111,7 @@ selected_comes desk i row is above below free next =
     plain = plain_parts row (plain_found desk selects row is next)
 
     waits : (row.state ≡ Queued) × (may_hold tables row ≡ true)
-    waits = next_waits tables row (found_at selects tables.runs row next).passes plain.state
+    waits = next_waits tables row (found-passes selects tables.runs row next) plain.state
 
     queued : is_in_state Queued row ≡ true
     queued = ap (λ s. state_number s == state_number Queued) waits.0
@@ -163,7 +151,7 @@ pub state_on : (desk : Desk) (i : ℕ) (row : RunRow) → IsDesk desk → run_on
 state_on desk i row is found =
     let here = λ (other : RunRow). is_on i other.initiator in
     let plain = plain_parts row (plain_found desk here row is found) in
-    on_it row.state (placed_on i row.initiator (is_on_one row.state) (found_at here desk.office.tables.runs row found).passes plain.initiator)
+    on_it row.state (placed_on i row.initiator (is_on_one row.state) (found-passes here desk.office.tables.runs row found) plain.initiator)
 
 -- a run ends behind its last step
 pub completed_comes : (desk : Desk) (i : ℕ) (row : RunRow) → IsDesk desk → run_on_initiator desk.office.tables i ≡ Some row → is_within (place_of row) ≡ false → own_step row ≡ None
@@ -210,7 +198,4 @@ purged_comes desk job row at queued =
 
 -- a deck of at least one card, with the next number
 pub submitted_comes : (desk : Desk) (first : ℕ) (cards : List ℕ) (deck : Job) → may_come desk.layout desk.office (SubmittedEvent (suc (length desk.office.tables.runs)) (first ∷ cards), Some deck) ≡ true
-submitted_comes desk first cards deck = and_from _ _ (and_from _ _ (and_from _ _ (own_number (suc (length desk.office.tables.runs))) refl) refl) refl
-  where
-    own_number : (n : ℕ) → (n == n) ≡ true
-    own_number n = grind (arith, nat_tests)
+submitted_comes desk first cards deck = and_from _ _ (and_from _ _ (and_from _ _ (same_number (suc (length desk.office.tables.runs))) refl) refl) refl

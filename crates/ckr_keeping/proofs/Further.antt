@@ -15,9 +15,10 @@ use Rattle.ckr_points.specs.Office.{Office}
 use Rattle.ckr_points.specs.Sound.{rewrite_of}
 use Rattle.ckr_turns.specs.Working.{first_rewrite}
 use Rattle.ckr_turns.specs.Desk.{StepOn}
-use Rattle.ckr_keeping.specs.Going.{IsGoing, IsOpen}
+use Rattle.ckr_keeping.specs.Going.{HasCome, IsGoing, IsOpen, next_writes}
 
-abbrev adds : Write → Bool
+-- a write that is no rewrite
+abbrev pub adds : Write → Bool
 adds write = not (is_in_place write.output)
 
 -- where no rewrite is the first, there is none
@@ -61,11 +62,11 @@ middle (y ∷ front) items more (suc most) within = middle front items more most
 -- ---- the writes of a unit that fits
 
 module _ (start : StepStart) (front items more : List Write) (whole : (work (case_at start)).writes ≡ front ++ (items ++ more)) (fit : length front + length items ≤ length (work_at start).writes) where
-  fitted_writes : (work_at start).writes ≡ take (length (work_at start).writes) (work (case_at start)).writes
+  pub fitted_writes : (work_at start).writes ≡ take (length (work_at start).writes) (work (case_at start)).writes
   unfolding work_at work_within
   fitted_writes = sym (fitting-front (work (case_at start)).writes (room_at start))
 
-  its_writes : take (length items) (drop (length front) (work_at start).writes) ≡ items
+  pub its_writes : take (length items) (drop (length front) (work_at start).writes) ≡ items
   its_writes =
       ap (λ xs. take (length items) (drop (length front) xs)) (fitted_writes ∙ ap (take (length (work_at start).writes)) whole)
       ∙ middle front items more (length (work_at start).writes) fit
@@ -81,6 +82,36 @@ module _ (start : StepStart) (front items more : List Write) (whole : (work (cas
 
 -- ---- a running step
 
+-- behind a unit whose writes fit and rewrite nothing
+pub goes-behind : (office : Office) (on : StepOn) (going : IsGoing office on) (taken : ℕ) (closed : Bool) (more : List Write) → IsOpen going.start on.progress
+    → (work (case_at going.start)).writes ≡ upto (case_at going.start) on.progress.taken ++ ((unit_done (case_at going.start) on.progress.taken).writes.items ++ more)
+    → next_writes going.start on.progress ≤ length (work_at going.start).writes → list_all adds (unit_done (case_at going.start) on.progress.taken).writes.items ≡ true
+    → HasCome going.start (record { taken = taken; writes = next_writes going.start on.progress; closed = closed }) closed
+    → IsGoing office (record { run = on.run; progress = record { taken = taken; writes = next_writes going.start on.progress; closed = closed } })
+goes-behind office on going taken closed more opened whole fit none come =
+    let items : List Write = (unit_done (case_at going.start) on.progress.taken).writes.items in
+    let front : List Write = upto (case_at going.start) on.progress.taken in
+    let count : on.progress.writes ≡ length front = opened.writes in
+    record {
+      row = going.row;
+      row_at = going.row_at;
+      on = going.on;
+      number = going.number;
+      committed = going.committed;
+      place = going.place;
+      start = going.start;
+      start_at = going.start_at;
+      fit = fit;
+      behind = let behind : going.committed ≤ on.progress.writes = going.behind in omega (arith, behind);
+      plain =
+          subst (λ n. rewrites_nothing going.start going.committed (n + length items) ≡ true) (sym count)
+          (plain-next going.start front items more whole
+          (subst (λ n. n + length items ≤ length (work_at going.start).writes) count fit)
+          going.committed (subst (λ n. going.committed ≤ n) count going.behind)
+          (subst (λ n. rewrites_nothing going.start going.committed n ≡ true) count going.plain) none);
+      come = come;
+    }
+
 -- a unit that takes a record, fits and rewrites nothing: the step is behind it
 pub goes-further : (office : Office) (on : StepOn) (going : IsGoing office on) → IsOpen going.start on.progress → on.progress.taken < records_taken (case_at going.start)
     → on.progress.writes + length (unit_done (case_at going.start) on.progress.taken).writes.items ≤ length (work_at going.start).writes
@@ -95,28 +126,11 @@ goes-further office on going opened below fit none =
     work_in_parts (case_at going.start) (suc on.progress.taken) below
     ∙ ap (λ xs. xs ++ rest (case_at going.start) (suc on.progress.taken)) later
     ∙ append_assoc (upto (case_at going.start) on.progress.taken) (unit_done (case_at going.start) on.progress.taken).writes.items (rest (case_at going.start) (suc on.progress.taken)) in
-    record {
-      row = going.row;
-      row_at = going.row_at;
-      on = going.on;
-      number = going.number;
-      committed = going.committed;
-      place = going.place;
-      start = going.start;
-      start_at = going.start_at;
-      fit = fit;
-      behind = let behind : going.committed ≤ on.progress.writes = going.behind in omega (arith, behind);
-      plain =
-          subst (λ n. rewrites_nothing going.start going.committed (n + length (unit_done (case_at going.start) on.progress.taken).writes.items) ≡ true) (sym count)
-          (plain-next going.start (upto (case_at going.start) on.progress.taken) (unit_done (case_at going.start) on.progress.taken).writes.items (rest (case_at going.start) (suc on.progress.taken)) whole
-          (subst (λ n. n + length (unit_done (case_at going.start) on.progress.taken).writes.items ≤ length (work_at going.start).writes) count fit)
-          going.committed (subst (λ n. going.committed ≤ n) count going.behind)
-          (subst (λ n. rewrites_nothing going.start going.committed n ≡ true) count going.plain)
-          (no-rewrite (unit_done (case_at going.start) on.progress.taken).writes.items none));
-      come = record {
-        taken = below;
-        writes =
-            ap (λ n. n + length (unit_done (case_at going.start) on.progress.taken).writes.items) count
-            ∙ sym (ap length later ∙ length-append (upto (case_at going.start) on.progress.taken) (unit_done (case_at going.start) on.progress.taken).writes.items);
-      };
-    }
+    goes-behind office on going (suc on.progress.taken) false (rest (case_at going.start) (suc on.progress.taken)) opened whole fit
+    (no-rewrite (unit_done (case_at going.start) on.progress.taken).writes.items none)
+    (record {
+      taken = below;
+      writes =
+          ap (λ n. n + length (unit_done (case_at going.start) on.progress.taken).writes.items) count
+          ∙ sym (ap length later ∙ length-append (upto (case_at going.start) on.progress.taken) (unit_done (case_at going.start) on.progress.taken).writes.items);
+    })

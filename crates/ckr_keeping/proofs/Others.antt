@@ -4,7 +4,7 @@ use Rattle.std.specs.Prelude.{◌==◌}
 use Rattle.std.specs.List.{AllByRecursion, list_all, list_any}
 use Rattle.std.specs.Option.{option_map_or}
 use Rattle.std.proofs.lemmas.Bool.{false≢true}
-use Rattle.ckr_dispositions.proofs.Colliding.{both, both-first, both-second}
+use Rattle.ckr_dispositions.proofs.Colliding.{both}
 use Rattle.ckr_library.specs.Named.{Name, entry_at, taken_over, with_moved}
 use Rattle.ckr_library.proofs.Laws.{each-at, each-with_entry, each-without_entry}
 use Rattle.ckr_library.proofs.Ordered.{not_None, same_item}
@@ -15,25 +15,42 @@ use Rattle.ckr_points.specs.Office.{Leg, Office}
 use Rattle.ckr_points.specs.Restarting.{place_of, step_in}
 use Rattle.ckr_points.specs.Rows.{RunRow, run_of}
 use Rattle.ckr_soundness.proofs.Entries.{equal_to, same_number, tested}
-use Rattle.ckr_soundness.proofs.Holders.{compared}
+use Rattle.ckr_soundness.proofs.Holders.{all-get, compared}
 use Rattle.ckr_turns.specs.Desk.{Desk, StepOn, start_of, without_run}
-use Rattle.ckr_keeping.specs.Going.{IsDesk, IsFailed, IsGoing, is_accounted, is_plain_row}
+use Rattle.ckr_keeping.specs.Going.{IsAdmitted, IsDesk, IsFailed, IsGoing, is_accounted, is_plain_row}
 
 -- ---- lists
-
-pub all-at : {X : Type 0} (test : X → Bool) (xs : List X) (place : ℕ) (x : X) → list_all test xs ≡ true → slice_get xs place ≡ Some x → test x ≡ true
-all-at test [] place x each at = absurd (not_None x (sym at))
-all-at test (first ∷ xs) zero x each at = ap test (sym (same_item first x at)) ∙ both-first (test first) (list_all test xs) each
-all-at test (first ∷ xs) (suc place) x each at = all-at test xs place x (both-second (test first) (list_all test xs) each) at
 
 pub all-by : {X : Type 0} (test : X → Bool) (xs : List X) → ((place : ℕ) (x : X) → slice_get xs place ≡ Some x → test x ≡ true) → list_all test xs ≡ true
 all-by test [] each = refl
 all-by test (first ∷ xs) each = both (test first) (list_all test xs) (each 0 first refl) (all-by test xs (λ place x at. each (suc place) x at))
 
+pub every-at : {X : Type 0} (P : X → Type 0) (xs : List X) (place : ℕ) (x : X) → AllByRecursion P xs → slice_get xs place ≡ Some x → P x
+every-at P [] place x each at = absurd (not_None x (sym at))
+every-at P (first ∷ xs) zero x each at = subst P (same_item first x at) each.0
+every-at P (first ∷ xs) (suc place) x each at = every-at P xs place x each.1 at
+
+pub every-by : {X : Type 0} (P : X → Type 0) (xs : List X) → ((place : ℕ) (x : X) → slice_get xs place ≡ Some x → P x) → AllByRecursion P xs
+every-by P [] each = tt
+every-by P (first ∷ xs) each = (each 0 first refl, every-by P xs (λ place x at. each (suc place) x at))
+
+-- what holds of each holds of one that passes a test
+pub some-holds : {X A : Type 0} (P : X → Type 0) (test : X → Bool) (xs : List X) → AllByRecursion P xs → list_any test xs ≡ true → ((x : X) → P x → test x ≡ true → A) → A
+some-holds P test [] each some use_it = absurd (false≢true some)
+some-holds P test (x ∷ xs) each some use_it =
+    tested (test x)
+    (λ does. use_it x each.0 does)
+    (λ isnt. some-holds P test xs each.1 (sym (ap (λ b. b || list_any test xs) isnt) ∙ some) use_it)
+
 -- a run of the desk was never held
 pub row-plain : (desk : Desk) → IsDesk desk → (run : ℕ) (row : RunRow) → run_of desk.office.tables run ≡ Some row → is_plain_row row ≡ true
 row-plain desk is zero row at = absurd (not_None row (sym at))
-row-plain desk is (suc place) row at = all-at is_plain_row desk.office.tables.runs place row is.plain at
+row-plain desk is (suc place) row at = all-get is_plain_row desk.office.tables.runs place row is.plain at
+
+-- the deck of a run of the desk was accepted
+pub row-admitted : (desk : Desk) → IsDesk desk → (run : ℕ) (row : RunRow) → run_of desk.office.tables run ≡ Some row → IsAdmitted row
+row-admitted desk is zero row at = absurd (not_None row (sym at))
+row-admitted desk is (suc place) row at = every-at IsAdmitted desk.office.tables.runs place row is.admitted at
 
 any-kept : {X : Type 0} (test keep : X → Bool) → ((x : X) → test x ≡ true → keep x ≡ true) → (xs : List X) → list_any test xs ≡ list_any test (filter keep xs)
 any-kept test keep sure [] = refl
@@ -72,25 +89,43 @@ pub record Changes (office after : Office) (job : ℕ) (next : RunRow) : Type 0 
   pub others : (other : ℕ) → other ≢ job → run_of after.tables other ≡ run_of office.tables other
   pub legs : after.legs ≡ office.legs
 
+-- a running step goes on where the row of its run and its start are as they were, and so does a mark
+pub going-still : (office after : Office) (on : StepOn) (going : IsGoing office on) → run_of after.tables on.run ≡ run_of office.tables on.run → start_of after going.row ≡ start_of office going.row → IsGoing after on
+going-still office after on going same_row same_start = record {
+  row = going.row;
+  row_at = same_row ∙ going.row_at;
+  on = going.on;
+  number = going.number;
+  committed = going.committed;
+  place = going.place;
+  start = going.start;
+  start_at = same_start ∙ going.start_at;
+  fit = going.fit;
+  behind = going.behind;
+  plain = going.plain;
+  come = going.come;
+}
+
+pub failed-still : (office after : Office) (number : ℕ) (failed : IsFailed office number) → run_of after.tables number ≡ run_of office.tables number → start_of after failed.row ≡ start_of office failed.row → IsFailed after number
+failed-still office after number failed same_row same_start = record {
+  row = failed.row;
+  number = failed.number;
+  committed = failed.committed;
+  start = failed.start;
+  within = record {
+    row_at = same_row ∙ failed.within.row_at;
+    on = failed.within.on;
+    place = failed.within.place;
+    start_at = same_start ∙ failed.within.start_at;
+  };
+}
+
 module _ (office after : Office) (job : ℕ) (next : RunRow) (changes : Changes office after job next) where
   start-there : (row : RunRow) → start_of after row ≡ start_of office row
   start-there row = ap (λ (legs : List Leg). option_map_or (λ leg. start_at leg.job leg.start (step_in (place_of row))) (find (λ leg. leg.number == row.number) legs) None) changes.legs
 
   going-there : (on : StepOn) → on.run ≢ job → IsGoing office on → IsGoing after on
-  going-there on apart going = record {
-    row = going.row;
-    row_at = changes.others on.run apart ∙ going.row_at;
-    on = going.on;
-    number = going.number;
-    committed = going.committed;
-    place = going.place;
-    start = going.start;
-    start_at = start-there going.row ∙ going.start_at;
-    fit = going.fit;
-    behind = going.behind;
-    plain = going.plain;
-    come = going.come;
-  }
+  going-there on apart going = going-still office after on going (changes.others on.run apart) (start-there going.row)
 
   -- the steps of the other runs go on
   pub going-rest : (running : List StepOn) → AllByRecursion (IsGoing office) running → AllByRecursion (IsGoing after) (without_run job running)
@@ -100,19 +135,8 @@ module _ (office after : Office) (job : ℕ) (next : RunRow) (changes : Changes 
       (λ same. subst (λ b. AllByRecursion (IsGoing after) (cond (not b) (first ∷ without_run job rest) (without_run job rest))) (sym same) (going-rest rest going.1))
       (λ isnt. subst (λ b. AllByRecursion (IsGoing after) (cond (not b) (first ∷ without_run job rest) (without_run job rest))) (sym isnt) (going-there first (apart-from first.run job isnt) going.0, going-rest rest going.1))
 
-  failed-there : (number : ℕ) → number ≢ job → IsFailed office number → IsFailed after number
-  failed-there number apart failed = record {
-    row = failed.row;
-    number = failed.number;
-    committed = failed.committed;
-    start = failed.start;
-    within = record {
-      row_at = changes.others number apart ∙ failed.within.row_at;
-      on = failed.within.on;
-      place = failed.within.place;
-      start_at = start-there failed.row ∙ failed.within.start_at;
-    };
-  }
+  pub failed-there : (number : ℕ) → number ≢ job → IsFailed office number → IsFailed after number
+  failed-there number apart failed = failed-still office after number failed (changes.others number apart) (start-there failed.row)
 
   -- the other runs that were running when the system failed are still marked
   pub failed-rest : (failed : List ℕ) → AllByRecursion (IsFailed office) failed → AllByRecursion (IsFailed after) (filter (λ number. not (number == job)) failed)
@@ -132,7 +156,7 @@ module _ (office after : Office) (job : ℕ) (next : RunRow) (changes : Changes 
 
 module _ (desk later : Desk) (is : IsDesk desk) (job : ℕ) (next : RunRow) (changes : Changes desk.office later.office job next) where
   -- what holds of each row but one holds of each
-  each_row : (old test : RunRow → Bool) → test next ≡ true → list_all old desk.office.tables.runs ≡ true → ((row : RunRow) → row.number ≢ job → old row ≡ true → test row ≡ true) → list_all test later.office.tables.runs ≡ true
+  pub each_row : (old test : RunRow → Bool) → test next ≡ true → list_all old desk.office.tables.runs ≡ true → ((row : RunRow) → row.number ≢ job → old row ≡ true → test row ≡ true) → list_all test later.office.tables.runs ≡ true
   each_row old test mine each goes =
       all-by test later.office.tables.runs
       (λ place row at.
@@ -140,10 +164,18 @@ module _ (desk later : Desk) (is : IsDesk desk) (job : ℕ) (next : RunRow) (cha
       (λ same. ap test (sym (same_item next row (sym changes.mine ∙ ap (run_of later.office.tables) (sym same) ∙ at))) ∙ mine)
       (λ apart.
       let was : run_of desk.office.tables (suc place) ≡ Some row = sym (changes.others (suc place) apart) ∙ at in
-      goes row (λ e. apart (sym (is.kept.events.numbered (suc place) row was) ∙ e)) (all-at old desk.office.tables.runs place row each was)))
+      goes row (λ e. apart (sym (is.kept.events.numbered (suc place) row was) ∙ e)) (all-get old desk.office.tables.runs place row each was)))
 
   pub plain-then : is_plain_row next ≡ true → list_all is_plain_row later.office.tables.runs ≡ true
   plain-then plain = each_row is_plain_row is_plain_row plain is.plain (λ row apart was. was)
+
+  pub admitted-then : IsAdmitted next → AllByRecursion IsAdmitted later.office.tables.runs
+  admitted-then admitted =
+      every-by IsAdmitted later.office.tables.runs
+      (λ place row at.
+      compared (suc place) job
+      (λ same. subst IsAdmitted (same_item next row (sym changes.mine ∙ ap (run_of later.office.tables) (sym same) ∙ at)) admitted)
+      (λ apart. row-admitted desk is (suc place) row (sym (changes.others (suc place) apart) ∙ at)))
 
   -- a run is accounted for by the steps and the marks of the other runs
   pub accounted-then : is_running next ≡ false → ((number : ℕ) → number ≢ job → list_any (λ (step : StepOn). step.run == number) desk.running ≡ list_any (λ (step : StepOn). step.run == number) later.running) → ((number : ℕ) → number ≢ job → list_any (λ one. one == number) desk.failed ≡ list_any (λ one. one == number) later.failed) → list_all (is_accounted later) later.office.tables.runs ≡ true

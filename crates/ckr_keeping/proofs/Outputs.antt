@@ -122,7 +122,7 @@ distinct-job job formed = distinct-steps job.root job.steps formed
 
 -- ---- a running step behind more writes
 
-within_at-parts : (start : StepStart) (writes : ℕ) → within_at start writes ≡ written_all start (take writes (work_at start).writes) (made_at start)
+pub within_at-parts : (start : StepStart) (writes : ℕ) → within_at start writes ≡ written_all start (take writes (work_at start).writes) (made_at start)
 unfolding within_at
 within_at-parts start writes = refl
 

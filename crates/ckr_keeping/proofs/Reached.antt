@@ -29,39 +29,54 @@ use Rattle.ckr_soundness.proofs.Places.{outputs-among}
 use Rattle.ckr_turns.specs.Coded.{Reached, kept_reached, reached_by, rule_for, running_reached}
 use Rattle.ckr_turns.specs.Desk.{Desk, StepOn, jobs_of, seen, seen_from, start_of}
 use Rattle.ckr_turns.specs.Jobs.{Running, running_in}
+use Rattle.ckr_turns.specs.Working.{Progress}
 use Rattle.ckr_keeping.specs.Coming.{Comes, IsWithinStep}
 use Rattle.ckr_keeping.specs.Going.{IsDesk, IsGoing}
 use Rattle.ckr_keeping.proofs.Within.{by-step, code-comes}
 
 -- ---- a running step as the jobs see it
 
-abbrev nothing_seen : StepOn → Running
-nothing_seen on = record { run = on.run; taken = on.progress.taken; writes = on.progress.writes; finished = None; lengths = [] }
+abbrev nothing_seen : ℕ → Progress → Running
+nothing_seen run progress = record { run = run; taken = progress.taken; writes = progress.writes; finished = None; lengths = [] }
 
-pub seen-is : (office : Office) (on : StepOn) (going : IsGoing office on) → seen office on.run on.progress ≡ seen_from office on.run on.progress going.start
-seen-is office on going =
-    ap (λ (o : Option StepStart). option_map_or (seen_from office on.run on.progress) o (nothing_seen on))
-    (ap (λ (o : Option RunRow). option_map_or (start_of office) o None) going.row_at ∙ going.start_at)
+pub seen-so : (office : Office) (run : ℕ) (progress : Progress) (row : RunRow) (start : StepStart) → run_of office.tables run ≡ Some row → start_of office row ≡ Some start → seen office run progress ≡ seen_from office run progress start
+seen-so office run progress row start row_at start_at =
+    ap (λ (o : Option StepStart). option_map_or (seen_from office run progress) o (nothing_seen run progress))
+    (ap (λ (o : Option RunRow). option_map_or (start_of office) o None) row_at ∙ start_at)
 
-pub record FoundStep (office : Office) (run : ℕ) (step : Running) : Type 0 where
+seen-is : (office : Office) (on : StepOn) (going : IsGoing office on) → seen office on.run on.progress ≡ seen_from office on.run on.progress going.start
+seen-is office on going = seen-so office on.run on.progress going.row going.start going.row_at going.start_at
+
+pub record FoundStep (office : Office) (running : List StepOn) (run : ℕ) (step : Running) : Type 0 where
   pub on : StepOn
+  pub at : find (λ (one : StepOn). one.run == run) running ≡ Some on
   pub going : IsGoing office on
   pub same : on.run ≡ run
   pub is : step ≡ seen_from office on.run on.progress going.start
 
-pub found-step : (office : Office) (run : ℕ) (running : List StepOn) (step : Running) → AllByRecursion (IsGoing office) running → find (λ (step : Running). step.run == run) (map (λ (on : StepOn). seen office on.run on.progress) running) ≡ Some step → FoundStep office run step
+pub found-step : (office : Office) (run : ℕ) (running : List StepOn) (step : Running) → AllByRecursion (IsGoing office) running → find (λ (step : Running). step.run == run) (map (λ (on : StepOn). seen office on.run on.progress) running) ≡ Some step → FoundStep office running run step
 found-step office run [] step going found = absurd (not_None step (sym found))
 found-step office run (first ∷ rest) step going found =
     let others : List Running = map (λ (on : StepOn). seen office on.run on.progress) rest in
     let sees : seen office first.run first.progress ≡ seen_from office first.run first.progress going.0.start = seen-is office first going.0 in
+    let its : (first.run == run) ≡ ((seen office first.run first.progress).run == run) = ap (λ (s : Running). s.run == run) (sym sees) in
     tested ((seen office first.run first.progress).run == run)
     (λ does. record {
       on = first;
+      at = ap (λ b. cond b (Some first) (find (λ (one : StepOn). one.run == run) rest)) (its ∙ does);
       going = going.0;
-      same = equal_to first.run run (ap (λ (s : Running). s.run == run) (sym sees) ∙ does);
+      same = equal_to first.run run (its ∙ does);
       is = sym (same_item _ _ (sym (ap (λ b. cond b (Some (seen office first.run first.progress)) (find (λ (step : Running). step.run == run) others)) does) ∙ found)) ∙ sees;
     })
-    (λ isnt. found-step office run rest step going.1 (sym (ap (λ b. cond b (Some (seen office first.run first.progress)) (find (λ (step : Running). step.run == run) others)) isnt) ∙ found))
+    (λ isnt.
+    let later : FoundStep office rest run step = found-step office run rest step going.1 (sym (ap (λ b. cond b (Some (seen office first.run first.progress)) (find (λ (step : Running). step.run == run) others)) isnt) ∙ found) in
+    record {
+      on = later.on;
+      at = ap (λ b. cond b (Some first) (find (λ (one : StepOn). one.run == run) rest)) (its ∙ isnt) ∙ later.at;
+      going = later.going;
+      same = later.same;
+      is = later.is;
+    })
 
 -- the run of a running step is within its step
 pub going-within : (office : Office) (on : StepOn) (going : IsGoing office on) → IsWithinStep office on.run going.row going.number going.committed going.start
@@ -74,7 +89,7 @@ going-within office on going = record {
 
 -- ---- the lengths that are committed
 
-map-same : (f g : Name → ℕ) (outputs : List Name) → ((name : Name) → is_among outputs name ≡ true → f name ≡ g name) → map f outputs ≡ map g outputs
+pub map-same : (f g : Name → ℕ) (outputs : List Name) → ((name : Name) → is_among outputs name ≡ true → f name ≡ g name) → map f outputs ≡ map g outputs
 map-same f g [] each = refl
 map-same f g (name ∷ outputs) each =
     ap (λ n. n ∷ map f outputs) (each name (or-left (same_name name name) (is_among outputs name) (names.refl name)))
@@ -133,7 +148,7 @@ module _ (desk : Desk) (is : IsDesk desk) (run : ℕ) (row : RunRow) (number com
       (subst (λ s. committed ≤ length (work_at s).writes) (sym same) (under_way desk.layout desk.office run row leg owned number committed is.kept.events running).done)
       (nothing-between start committed) code)))
       (λ step some.
-      let found : FoundStep desk.office row.number step = found-step desk.office row.number desk.running step is.going some in
+      let found : FoundStep desk.office desk.running row.number step = found-step desk.office row.number desk.running step is.going some in
       let at_run : found.on.run ≡ run = found.same ∙ is.kept.events.numbered run row within.row_at in
       let mine : found.going.row ≡ row = same_item _ _ (sym found.going.row_at ∙ ap (run_of desk.office.tables) at_run ∙ within.row_at) in
       subst EndsAt (sym (ap (λ (o : Option Running). option_map_or running_reached o (kept_reached (jobs_of desk) row)) some ∙ ap running_reached found.is))

@@ -1,5 +1,5 @@
 -- A turn of a run within a step: its event may come, and the desk behind it is as its events have brought it about.
-use Rattle.std.proofs.Common.{◌≡◌, ℕ, Bool, true, false, cond, ap, sym, ◌∙◌, subst, Option, Some, None}
+use Rattle.std.proofs.Common.{◌≡◌, ℕ, Bool, true, false, cond, refl, ap, sym, ◌∙◌, subst, Option, Some, None}
 use Rattle.std.specs.Option.{option_map_or}
 use Rattle.ckr_base.specs.declared.code.Code.{Code}
 use Rattle.ckr_base.specs.declared.programs.Finish.TheVariants.{Returned}
@@ -14,7 +14,7 @@ use Rattle.ckr_turns.specs.declared.plan.Plan.{Plan}
 use Rattle.ckr_turns.specs.declared.plan.Plan.TheVariants.{Rest}
 use Rattle.ckr_turns.specs.declared.reply.Reply.TheVariants.{Idle, NothingToFail}
 use Rattle.ckr_turns.specs.Coded.{code_plan, reached_by, rule_for}
-use Rattle.ckr_turns.specs.Desk.{Desk, carried_out, jobs_of, rc_by, work_of}
+use Rattle.ckr_turns.specs.Desk.{Desk, StepOn, carried_out, jobs_of, rc_by, work_of}
 use Rattle.ckr_turns.specs.Jobs.{Running, is_failed, running_in}
 use Rattle.ckr_turns.specs.Planned.{fail_plan, is_within, placed_plan, run_plan, running_plan, system_failure}
 use Rattle.ckr_soundness.proofs.Entries.{known, tested}
@@ -24,35 +24,29 @@ use Rattle.ckr_keeping.proofs.Behind.{code-kept, step_end-kept}
 use Rattle.ckr_keeping.proofs.Others.{row-plain}
 use Rattle.ckr_keeping.proofs.Reached.{FoundStep, found-step, going-within, reached-comes}
 use Rattle.ckr_keeping.proofs.Within.{step_ended-comes}
+use Rattle.ckr_keeping.proofs.Working.{work-keeps}
 
 -- what a plan comes to
 abbrev pub PlanKeeps : Desk → Plan → Type 0
 PlanKeeps desk plan = Keeps desk (carried_out plan desk)
 
-module _ (desk : Desk) (is : IsDesk desk) (run : ℕ) (row : RunRow) (number committed : ℕ) (start : StepStart)
-    (within : IsWithinStep desk.office run row number committed start) (same : row.number ≡ run) (works : Keeps desk (work_of row.number desk)) where
-  here : IsWithinStep desk.office row.number row number committed start
-  here = record { row_at = ap (run_of desk.office.tables) same ∙ within.row_at; on = within.on; place = within.place; start_at = within.start_at }
-
+module _ (desk : Desk) (is : IsDesk desk) (row : RunRow) (number committed : ℕ) (start : StepStart) (within : IsWithinStep desk.office row.number row number committed start) where
   plain : is_plain_row row ≡ true
-  plain = row-plain desk is run row within.row_at
+  plain = row-plain desk is row.number row within.row_at
 
   -- a code
-  pub code_plan-keeps : (code : Code) → PlanKeeps desk (code_plan desk.layout row code (reached_by (jobs_of desk) row))
+  code_plan-keeps : (code : Code) → PlanKeeps desk (code_plan desk.layout row code (reached_by (jobs_of desk) row))
   code_plan-keeps code =
-      let comes = reached-comes desk is row.number row number committed start here code in
+      let comes = reached-comes desk is row.number row number committed start within code in
       record {
         comes = comes;
-        kept = code-kept desk is row.number row number committed start here plain code (rule_number (rule_for desk.layout row code)) (reached_by (jobs_of desk) row).writes (record { items = (reached_by (jobs_of desk) row).lengths }) comes;
+        kept = code-kept desk is row.number row number committed start within plain code (rule_number (rule_for desk.layout row code)) (reached_by (jobs_of desk) row).writes (record { items = (reached_by (jobs_of desk) row).lengths }) comes;
       }
 
   -- a running step: it goes on, or it ends with its return code
-  module _ (isnt : is_failed (jobs_of desk) row.number ≡ false) (step : Running) (found : FoundStep desk.office row.number step) where
-    at_run : found.on.run ≡ run
-    at_run = found.same ∙ same
-
+  module _ (isnt : is_failed (jobs_of desk) row.number ≡ false) (step : Running) (found : FoundStep desk.office desk.running row.number step) where
     its_row : found.going.row ≡ row
-    its_row = same_item _ _ (sym found.going.row_at ∙ ap (run_of desk.office.tables) at_run ∙ within.row_at)
+    its_row = same_item _ _ (sym found.going.row_at ∙ ap (run_of desk.office.tables) found.same ∙ within.row_at)
 
     ends : (going : IsGoing desk.office found.on) → IsClosed going.start found.on.progress → going.number ≡ number → Comes desk (StepEndedEvent row.number number (rc_by (work_at going.start).finish) found.on.progress.writes (record { items = lengths_at going.start desk.office.tables.sets found.on.progress.writes }))
     ends going closed at_number =
@@ -64,23 +58,26 @@ module _ (desk : Desk) (is : IsDesk desk) (run : ℕ) (row : RunRow) (number com
     at_number : found.going.number ≡ number
     at_number = ap step_in (sym (going-within desk.office found.on found.going).place ∙ ap place_of its_row ∙ within.place)
 
-    by-closed : (closed : Bool) → HasCome found.going.start found.on.progress closed → PlanKeeps desk (running_plan row number (record {
+    goes_on : found.on.progress.closed ≡ false → Keeps desk (work_of row.number desk)
+    goes_on = work-keeps desk is row.number found.on.progress (ap (λ (o : Option StepOn). option_map_or (λ (step : StepOn). Some step.progress) o None) found.at)
+
+    by-closed : (closed : Bool) → found.on.progress.closed ≡ closed → HasCome found.going.start found.on.progress closed → PlanKeeps desk (running_plan row number (record {
       run = found.on.run;
       taken = found.on.progress.taken;
       writes = found.on.progress.writes;
       finished = cond closed (Some (rc_by (work_at found.going.start).finish)) None;
       lengths = lengths_at found.going.start desk.office.tables.sets found.on.progress.writes;
     }))
-    by-closed false come = works
-    by-closed true come =
+    by-closed false opened come = goes_on opened
+    by-closed true opened come =
         let comes = ends found.going come at_number in
         record {
           comes = comes;
-          kept = step_end-kept desk is row.number row number committed start here plain (rc_by (work_at found.going.start).finish) found.on.progress.writes (record { items = lengths_at found.going.start desk.office.tables.sets found.on.progress.writes }) comes isnt;
+          kept = step_end-kept desk is row.number row number committed start within plain (rc_by (work_at found.going.start).finish) found.on.progress.writes (record { items = lengths_at found.going.start desk.office.tables.sets found.on.progress.writes }) comes isnt;
         }
 
-    pub running_plan-keeps : PlanKeeps desk (running_plan row number step)
-    running_plan-keeps = subst (λ s. PlanKeeps desk (running_plan row number s)) (sym found.is) (by-closed found.on.progress.closed found.going.come)
+    running_plan-keeps : PlanKeeps desk (running_plan row number step)
+    running_plan-keeps = subst (λ s. PlanKeeps desk (running_plan row number s)) (sym found.is) (by-closed found.on.progress.closed refl found.going.come)
 
   -- a turn with no code
   placed_plan-keeps : is_failed (jobs_of desk) row.number ≡ false → PlanKeeps desk (placed_plan desk.layout (jobs_of desk) row (place_of row))
@@ -93,7 +90,7 @@ module _ (desk : Desk) (is : IsDesk desk) (run : ℕ) (row : RunRow) (number com
       (running_plan-keeps isnt step (found-step desk.office row.number desk.running step is.going some))))
 
   -- a turn with a code, or with none
-  pub fail_plan-keeps : is_failed (jobs_of desk) row.number ≡ false → (fail : Option Code) → PlanKeeps desk (fail_plan desk.layout (jobs_of desk) row fail)
+  fail_plan-keeps : is_failed (jobs_of desk) row.number ≡ false → (fail : Option Code) → PlanKeeps desk (fail_plan desk.layout (jobs_of desk) row fail)
   fail_plan-keeps isnt None = placed_plan-keeps isnt
   fail_plan-keeps isnt (Some code) =
       subst (λ place. PlanKeeps desk (elim (is_within place) [
@@ -102,8 +99,8 @@ module _ (desk : Desk) (is : IsDesk desk) (run : ℕ) (row : RunRow) (number com
       ])) (sym within.place) (code_plan-keeps code)
 
   -- a turn of its initiator
-  pub run_plan-keeps : (fail : Option Code) → PlanKeeps desk (run_plan desk.layout (jobs_of desk) fail row)
-  run_plan-keeps fail =
+  pub step-keeps : (fail : Option Code) → PlanKeeps desk (run_plan desk.layout (jobs_of desk) fail row)
+  step-keeps fail =
       tested (is_failed (jobs_of desk) row.number)
       (λ failed. subst PlanBy (sym failed) (code_plan-keeps system_failure))
       (λ isnt. subst PlanBy (sym isnt) (fail_plan-keeps isnt fail))

@@ -1,27 +1,49 @@
--- The turn of a unit of a running step that fits and rewrites nothing.
-use Rattle.std.proofs.Common.{◌≡◌, ◌≤◌, ◌<◌, suc, true, false, length, ap, sym, ◌∙◌, subst, Option, Some, None}
+-- The turn of a unit of a running step.
+use Rattle.std.proofs.Common.{◌≡◌, ◌≤◌, ◌<◌, ℕ, Bool, suc, List, true, false, length, ap, sym, ◌∙◌, subst, Option, Option, Some, None, arith}
+use Rattle.std.specs.Prelude.{nat_le}
 use Rattle.std.specs.Option.{option_map_or}
+use Rattle.std.proofs.lemmas.Bool.Decides.{nat_tests}
 use Rattle.ckr_base.specs.declared.code.Code.{Code}
-use Rattle.ckr_base.specs.declared.programs.Finish.TheVariants.{Abend}
+use Rattle.ckr_base.specs.declared.programs.Finish.{Finish}
+use Rattle.ckr_base.specs.declared.programs.Finish.TheVariants.{Abend, Returned}
+use Rattle.ckr_columns.specs.Columns.{fitted}
+use Rattle.ckr_events.specs.declared.event.Event.TheVariants.{Rewritten as RewrittenEvent}
 use Rattle.ckr_meaning.specs.Program.{records_taken, unit_done as program_unit}
 use Rattle.ckr_meaning.specs.StepRun.{StepStart, case_at, work_at}
-use Rattle.ckr_meaning.proofs.Prefixes.{TakesOne, takes_one}
+use Rattle.ckr_meaning.proofs.Prefixes.{takes_one}
 use Rattle.ckr_points.specs.Rows.{RunRow, run_of}
-use Rattle.ckr_turns.specs.declared.plan.Plan.TheVariants.{Rest}
-use Rattle.ckr_turns.specs.declared.reply.Reply.TheVariants.{Idle}
-use Rattle.ckr_turns.specs.Desk.{Desk, StepOn, done_by, progress_of, start_of, unit_done, work_of}
-use Rattle.ckr_turns.specs.Working.{Progress, UnitEnd, abended, finished_by, first_rewrite, no_more_space, unit_end, went}
+use Rattle.ckr_turns.specs.declared.plan.Plan.TheVariants.{Rest, Tell}
+use Rattle.ckr_turns.specs.declared.reply.Reply.TheVariants.{Idle, Worked}
+use Rattle.ckr_turns.specs.Desk.{Desk, StepOn, TurnDone, done_by, jobs_of, progress_of, seen, seen_from, start_of, unit_done, with_progress, work_of}
+use Rattle.ckr_turns.specs.Jobs.{Running, step_name_of}
+use Rattle.ckr_turns.specs.Working.{Progress, UnitEnd, abended, finished_by, first_rewrite, no_more_space, unit_end, updated_lrecl, went}
+use Rattle.ckr_keeping.specs.Coming.{IsWithinStep}
 use Rattle.ckr_keeping.specs.Going.{IsDesk, IsGoing, IsOpen, Keeps, next_writes}
+use Rattle.ckr_keeping.proofs.Closing.{full-plain, goes-closed, update-once}
 use Rattle.ckr_keeping.proofs.Further.{goes-further}
 use Rattle.ckr_keeping.proofs.Outputs.{at_least}
-use Rattle.ckr_keeping.proofs.Units.{abended-keeps, went-keeps}
+use Rattle.ckr_keeping.proofs.Reached.{going-within, seen-so}
+use Rattle.ckr_keeping.proofs.Replaced.{IsTold, rewritten-comes, rewritten-kept, told}
+use Rattle.ckr_keeping.proofs.Rewriting.{Rewrites}
+use Rattle.ckr_keeping.proofs.Taking.{rewrites-so, some-first}
+use Rattle.ckr_keeping.proofs.Moved.{abended-keeps, ended-keeps, went-keeps}
 
-fits : (start : StepStart) (before : Progress) → next_writes start before ≤ length (work_at start).writes → unit_end start before ≡ finished_by (program_unit (case_at start) before.taken).finish (program_unit (case_at start) before.taken).writes.items before (next_writes start before)
-fits start before within =
-    ap (λ b. elim b as (λ b. UnitEnd) [
-      | true ↦ finished_by (program_unit (case_at start) before.taken).finish (program_unit (case_at start) before.taken).writes.items before (next_writes start before)
-      | false ↦ record { unit = abended no_more_space; progress = record before { writes = length (work_at start).writes } }
-    ]) (at_least (next_writes start before) (length (work_at start).writes) within)
+-- what a unit comes to, by whether its writes fit
+abbrev end_by : StepStart → Progress → Bool → UnitEnd
+end_by start before fit = elim fit as (λ fit. UnitEnd) [
+  | true ↦ finished_by (program_unit (case_at start) before.taken).finish (program_unit (case_at start) before.taken).writes.items before (next_writes start before)
+  | false ↦ record { unit = abended no_more_space; progress = record before { writes = length (work_at start).writes } }
+]
+
+spills : (start : StepStart) (before : Progress) → length (work_at start).writes < next_writes start before → unit_end start before ≡ end_by start before false
+spills start before full =
+    ap (end_by start before) (no_more (next_writes start before) (length (work_at start).writes) full)
+  where
+    no_more : (count most : ℕ) → most < count → nat_le count most ≡ false
+    no_more count most less = grind (arith, nat_tests)
+
+fits : (start : StepStart) (before : Progress) → next_writes start before ≤ length (work_at start).writes → unit_end start before ≡ end_by start before true
+fits start before within = ap (end_by start before) (at_least (next_writes start before) (length (work_at start).writes) within)
 
 module _ (desk : Desk) (is : IsDesk desk) (on : StepOn) (going : IsGoing desk.office on) (known : progress_of desk on.run ≡ Some on.progress) where
   numbered : going.row.number ≡ on.run
@@ -33,27 +55,88 @@ module _ (desk : Desk) (is : IsDesk desk) (on : StepOn) (going : IsGoing desk.of
       ∙ ap (λ (o : Option StepStart). option_map_or (λ start. option_map_or (λ progress. unit_done going.row (unit_end start progress) desk) (progress_of desk on.run) (done_by (Rest Idle) desk)) o (done_by (Rest Idle) desk)) going.start_at
       ∙ ap (λ (o : Option Progress). option_map_or (λ progress. unit_done going.row (unit_end going.start progress) desk) o (done_by (Rest Idle) desk)) known
 
+  -- a unit whose writes fit, by what becomes of its program
+  works_so : (finish : Option Finish) → next_writes going.start on.progress ≤ length (work_at going.start).writes → (program_unit (case_at going.start) on.progress.taken).finish ≡ finish
+      → work_of on.run desk ≡ unit_done going.row (finished_by finish (program_unit (case_at going.start) on.progress.taken).writes.items on.progress (next_writes going.start on.progress)) desk
+  works_so finish fit becomes =
+      works
+      ∙ ap (λ end. unit_done going.row end desk)
+      (fits going.start on.progress fit ∙ ap (λ o. finished_by o (program_unit (case_at going.start) on.progress.taken).writes.items on.progress (next_writes going.start on.progress)) becomes)
+
+  goes_so : (progress : Progress) → IsGoing desk.office (record { run = on.run; progress = progress }) → IsGoing desk.office (record { run = going.row.number; progress = progress })
+  goes_so progress its = subst (λ n. IsGoing desk.office (record { run = n; progress = progress })) (sym numbered) its
+
+  here : IsWithinStep desk.office going.row.number going.row going.number going.committed going.start
+  here = subst (λ n. IsWithinStep desk.office n going.row going.number going.committed going.start) (sym numbered) (going-within desk.office on going)
+
   -- a unit that takes a record
   pub work-went : IsOpen going.start on.progress → on.progress.taken < records_taken (case_at going.start) → next_writes going.start on.progress ≤ length (work_at going.start).writes → first_rewrite (program_unit (case_at going.start) on.progress.taken).writes.items ≡ None → Keeps desk (work_of on.run desk)
   work-went opened below fit none =
-      let next : TakesOne (case_at going.start) on.progress.taken = takes_one (case_at going.start) on.progress.taken below in
       subst (Keeps desk)
-      (sym (works
-      ∙ ap (λ end. unit_done going.row end desk)
-      (fits going.start on.progress fit
-      ∙ ap (λ o. finished_by o (program_unit (case_at going.start) on.progress.taken).writes.items on.progress (next_writes going.start on.progress)) next.goes_on
-      ∙ ap (λ o. let end : UnitEnd = record { unit = went o; progress = record { taken = suc on.progress.taken; writes = next_writes going.start on.progress; closed = false } } in end) none)))
+      (sym (works_so None fit (takes_one (case_at going.start) on.progress.taken below).goes_on
+      ∙ ap (λ o. unit_done going.row (record { unit = went o; progress = record { taken = suc on.progress.taken; writes = next_writes going.start on.progress; closed = false } }) desk) none))
       (went-keeps desk is going.row (record { taken = suc on.progress.taken; writes = next_writes going.start on.progress; closed = false })
-      (subst (λ n. IsGoing desk.office (record { run = n; progress = record { taken = suc on.progress.taken; writes = next_writes going.start on.progress; closed = false } })) (sym numbered)
-      (goes-further desk.office on going opened below fit none)))
+      (goes_so _ (goes-further desk.office on going opened below fit none)))
 
   -- the closing unit of a program that ends with a code
   pub work-abended : (code : Code) → next_writes going.start on.progress ≤ length (work_at going.start).writes → (program_unit (case_at going.start) on.progress.taken).finish ≡ Some (Abend code) → Keeps desk (work_of on.run desk)
   work-abended code fit ends =
+      subst (Keeps desk) (sym (works_so (Some (Abend code)) fit ends))
+      (abended-keeps desk is going.row on.progress code (ap (run_of desk.office.tables) numbered ∙ going.row_at) (goes_so on.progress going))
+
+  -- the unit by which a program returns
+  pub work-closed : (rc : ℕ) → IsOpen going.start on.progress → next_writes going.start on.progress ≤ length (work_at going.start).writes → (program_unit (case_at going.start) on.progress.taken).finish ≡ Some (Returned rc) → Keeps desk (work_of on.run desk)
+  work-closed rc opened fit returned =
+      subst (Keeps desk) (sym (works_so (Some (Returned rc)) fit returned))
+      (went-keeps desk is going.row (record { taken = on.progress.taken; writes = next_writes going.start on.progress; closed = true })
+      (goes_so _ (goes-closed desk.office on going rc opened fit returned)))
+
+  -- the unit of which a write has no space
+  pub work-full : IsOpen going.start on.progress → length (work_at going.start).writes < next_writes going.start on.progress → Keeps desk (work_of on.run desk)
+  work-full opened full =
+      let fit : on.progress.writes ≤ length (work_at going.start).writes = going.fit in
+      let behind : going.committed ≤ on.progress.writes = going.behind in
       subst (Keeps desk)
-      (sym (works
-      ∙ ap (λ end. unit_done going.row end desk)
-      (fits going.start on.progress fit
-      ∙ ap (λ o. finished_by o (program_unit (case_at going.start) on.progress.taken).writes.items on.progress (next_writes going.start on.progress)) ends)))
-      (abended-keeps desk is going.row on.progress code (ap (run_of desk.office.tables) numbered ∙ going.row_at)
-      (subst (λ n. IsGoing desk.office (record { run = n; progress = on.progress })) (sym numbered) going))
+      (sym (works ∙ ap (λ end. unit_done going.row end desk) (spills going.start on.progress full)))
+      (ended-keeps desk is going.row going.number going.committed going.start here
+      (record on.progress { writes = length (work_at going.start).writes }) no_more_space (omega (arith, behind, fit)) (omega arith) (full-plain desk.office on going opened full))
+
+  -- the unit by which UPDATE rewrites a record
+  module _ (at : ℕ × List ℕ) (opened : IsOpen going.start on.progress) (below : on.progress.taken < records_taken (case_at going.start)) (fit : next_writes going.start on.progress ≤ length (work_at going.start).writes) (first : first_rewrite (program_unit (case_at going.start) on.progress.taken).writes.items ≡ Some at) where
+    its_rewrite : Rewrites going.start on.progress.writes (suc on.progress.taken) at
+    its_rewrite = rewrites-so desk.office on going at opened below fit first
+
+    count : next_writes going.start on.progress ≡ suc on.progress.writes
+    count =
+        let once : length (program_unit (case_at going.start) on.progress.taken).writes.items ≤ 1 = update-once going.start on.progress.taken opened.taken its_rewrite.updates in
+        let some : 1 ≤ length (program_unit (case_at going.start) on.progress.taken).writes.items = some-first (program_unit (case_at going.start) on.progress.taken).writes.items at first in
+        omega (arith, once, some)
+
+    abbrev its_progress : Progress
+    its_progress = record { taken = suc on.progress.taken; writes = suc on.progress.writes; closed = false }
+
+    abbrev its_told : IsTold desk.office going.row going.start on.progress.writes at
+    its_told = told desk is going.row.number going.row going.number going.committed going.start here on.progress.writes (suc on.progress.taken) at going.behind going.plain its_rewrite
+
+    -- as the jobs see the step behind it
+    its_seen : seen desk.office going.row.number its_progress ≡ seen_from desk.office going.row.number its_progress going.start
+    its_seen = seen-so desk.office going.row.number its_progress going.row going.start here.row_at going.start_at
+
+    abbrev told_by : Running → ℕ → TurnDone
+    told_by step lrecl =
+        done_by (Tell (Worked going.row.number (step_name_of going.row) step.taken)
+        (RewrittenEvent going.row.number step.taken step.writes (record { items = step.lengths }) at.0 (fitted lrecl at.1)))
+        (with_progress going.row.number its_progress desk)
+
+    pub work-rewrote : Keeps desk (work_of on.run desk)
+    work-rewrote =
+        subst (Keeps desk)
+        (sym (works_so None fit (takes_one (case_at going.start) on.progress.taken below).goes_on
+        ∙ ap (λ o. unit_done going.row (record { unit = went o; progress = record { taken = suc on.progress.taken; writes = next_writes going.start on.progress; closed = false } }) desk) first
+        ∙ ap (λ n. unit_done going.row (record { unit = went (Some at); progress = record { taken = suc on.progress.taken; writes = n; closed = false } }) desk) count
+        ∙ ap (λ step. told_by step (updated_lrecl (jobs_of (with_progress going.row.number its_progress desk)) going.row)) its_seen
+        ∙ ap (told_by (seen_from desk.office going.row.number its_progress going.start)) its_told.lrecl))
+        (record {
+          comes = rewritten-comes desk is going.row.number going.row going.number going.committed going.start here on.progress.writes (suc on.progress.taken) at going.behind going.plain its_rewrite;
+          kept = rewritten-kept desk is going.row.number going.row going.number going.committed going.start here on.progress.writes (suc on.progress.taken) at going.behind going.plain its_rewrite;
+        })

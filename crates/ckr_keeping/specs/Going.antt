@@ -1,22 +1,25 @@
 -- A desk whose events are kept, and whose running steps stand where their jobs come to.
-use Rattle.std.specs.Prelude.{◌≡◌, ◌+◌, ◌≤◌, ◌==◌, ◌||◌, ◌&&◌, ℕ, Bool, true, false, not, length, Some}
+use Rattle.std.specs.Prelude.{◌≡◌, ◌+◌, ◌≤◌, ◌==◌, ◌||◌, ◌&&◌, ℕ, Bool, true, false, not, List, length, Some, Ok}
 use Rattle.std.specs.List.{list_any, list_all, AllByRecursion}
-use Rattle.std.specs.Option.{is_none}
+use Rattle.std.specs.Option.{is_none, is_some}
 use Rattle.ckr_base.specs.declared.programs.Finish.TheVariants.{Returned}
+use Rattle.ckr_jcl.specs.Deck.{stored_deck}
 use Rattle.ckr_meaning.specs.declared.place.Place.TheVariants.{Within}
 use Rattle.ckr_meaning.specs.LibrarySet.{AreWithinSpace}
 use Rattle.ckr_meaning.specs.Program.{records_taken, unit_done, upto}
 use Rattle.ckr_meaning.specs.StepRun.{StepStart, case_at, work_at}
 use Rattle.ckr_points.specs.declared.run.RunState.{RunState}
 use Rattle.ckr_points.specs.declared.run.RunState.TheVariants.{Queued, On, Held, Released, Ended, Denied, Purged}
-use Rattle.ckr_points.specs.Following.{is_running}
+use Rattle.ckr_points.specs.Following.{is_running, own_step}
 use Rattle.ckr_points.specs.Growing.{rewrites_nothing}
 use Rattle.ckr_points.specs.Office.{Leg, Office}
 use Rattle.ckr_points.specs.Rows.{RunRow, run_of}
 use Rattle.ckr_soundness.specs.Keeping.{IsKept}
 use Rattle.ckr_submitting.specs.Form.{is_run}
+use Rattle.ckr_turns.specs.declared.reply.Turn.{Turn}
 use Rattle.ckr_turns.specs.Desk.{Desk, StepOn, TurnDone, start_of}
 use Rattle.ckr_turns.specs.Working.{Progress}
+use Rattle.ckr_volumes.specs.declared.layout.Layout.{Layout}
 use Rattle.ckr_keeping.specs.Coming.{EventComes, IsWithinStep}
 
 -- how far a step has come: behind so many records taken, with the writes for them; or closed, with all its writes
@@ -79,6 +82,12 @@ is_plain_state Purged = true
 abbrev pub is_plain_row : RunRow → Bool
 is_plain_row row = is_plain_state row.state && ((is_none row.initiator || is_on_one row.state) && (is_none row.code && is_run row.deck))
 
+-- the cards of an accepted deck were read, and a run that is on an initiator has one
+pub record IsAdmitted (row : RunRow) : Type 0 where
+  pub cards : List ℕ
+  pub accepted : stored_deck cards ≡ Ok row.deck
+  pub lodged : (not (is_on_one row.state) || is_some row.initiator) ≡ true
+
 -- a run on an initiator within a step is running, or was when the system failed
 abbrev pub is_accounted : Desk → RunRow → Bool
 is_accounted desk row =
@@ -90,14 +99,32 @@ pub record IsDesk (desk : Desk) : Type 0 where
   pub going : AllByRecursion (IsGoing desk.office) desk.running
   pub failed : AllByRecursion (IsFailed desk.office) desk.failed
   pub plain : list_all is_plain_row desk.office.tables.runs ≡ true
+  pub admitted : AllByRecursion IsAdmitted desk.office.tables.runs
   pub accounted : list_all (is_accounted desk) desk.office.tables.runs ≡ true
   pub spaced : AreWithinSpace desk.office.library
   pub spaced_legs : AllByRecursion (λ (leg : Leg). AreWithinSpace leg.start) desk.office.legs
+
+-- a run on an initiator within a step has that step
+abbrev pub has_its_step : RunRow → Bool
+has_its_step row = not (is_running row) || is_some (own_step row)
+
+-- what the events of a desk have brought about beside kept tables, whichever steps are running
+pub record HasRuns (office : Office) : Type 0 where
+  pub plain : list_all is_plain_row office.tables.runs ≡ true
+  pub admitted : AllByRecursion IsAdmitted office.tables.runs
+  pub stepped : list_all has_its_step office.tables.runs ≡ true
+  pub spaced : AreWithinSpace office.library
+  pub spaced_legs : AllByRecursion (λ (leg : Leg). AreWithinSpace leg.start) office.legs
 
 -- what a turn comes to: its event may come, and the desk behind it is as its events have brought it about
 pub record Keeps (desk : Desk) (done : TurnDone) : Type 0 where
   pub comes : EventComes desk done.event
   pub kept : IsDesk done.desk
+
+-- a turn of an initiator that the layout has
+pub record IsTurnOf (layout : Layout) (turn : Turn) : Type 0 where
+  pub above : 1 ≤ turn.initiator
+  pub below : turn.initiator ≤ layout.initiators
 
 -- the writes behind the next unit, if they fit
 abbrev pub next_writes : StepStart → Progress → ℕ

@@ -12,10 +12,10 @@ ghost use Rattle.ckr_keeping.specs.Coming.{IsWithinStep};
 ghost use Rattle.ckr_keeping.specs.Going.{IsDesk, IsGoing, IsOpen, Keeps, next_writes};
 
 /// A turn of an initiator whose run is within a step tells an event that may come and carries what the job gives: the step ends with
-/// its return code, or the run ends with a code that is given or with that of a system failure. The desk behind it is as its events
-/// have brought it about. So it is with any such turn where it is so with the next unit of the step.
+/// its return code, a record is rewritten, or the run ends with a code: one that is given, that of a system failure, that of its
+/// program, or SB37. The desk behind it is as its events have brought it about, also where the turn tells none.
 pub fn turns_within_a_step_keep_the_desk()
-    ensures { (desk : Desk) (row : RunRow) (number committed : ℕ) (start : StepStart) (fail : Option Code) → IsDesk desk → IsWithinStep desk.office row.number row number committed start → Keeps desk (work_of row.number desk) → Keeps desk (carried_out (run_plan desk.layout (jobs_of desk) fail row) desk) }
+    ensures { (desk : Desk) (row : RunRow) (number committed : ℕ) (start : StepStart) (fail : Option Code) → IsDesk desk → IsWithinStep desk.office row.number row number committed start → Keeps desk (carried_out (run_plan desk.layout (jobs_of desk) fail row) desk) }
 {}
 
 /// A unit by which a step goes on without a rewrite, or by which it ends with a code of its program, keeps the desk.

@@ -1,4 +1,4 @@
-use Rattle.ckr_keeping.proofs.Units.{abended-keeps, went-keeps}
+use Rattle.ckr_keeping.proofs.Moved.{abended-keeps, went-keeps}
 use Rattle.ckr_keeping.proofs.steps.units_keep_the_desk.Goals as goal
 
 pub returns : goal.returns
