@@ -1,0 +1,24 @@
+use Rattle.std.proofs.Common.{◌≡◌, ap, sym, ◌∙◌, subst}
+use Rattle.std.proofs.lemmas.Result.{IfOk-weaker}
+use Rattle.ckr_turns.specs.Choosing.{next_run}
+use Rattle.ckr_turns.specs.Queueing.{AreNumbered, queue_of}
+use Rattle.ckr_jobs.specs.Seen.{jobs_of}
+use Rattle.ckr_jobs.proofs.Planned.{free-chosen, free-idle, next-none, next-one}
+use Rattle.ckr_jobs.proofs.jobs.Jobs.free_plan.Goals as goal
+
+pub returns-in-Idle-clause-plan : goal.returns-in-Idle-clause-plan
+unfolding jobs_of
+returns-in-Idle-clause-plan c =
+    let desk = ap (λ v. v.tables.desk) c.self.view_is in
+    sym (free-idle c.args.layout.now (jobs_of c.args.self.now) c.args.initiator c.args.fail (sym c.if-is_some.ensures)
+    (next-none c.args.self.now.tables.desk c.self.inside.queue.entries (c.self.invariant.same ∙ ap queue_of desk) c.in-Idle.ensures.selection))
+
+pub returns-in-Job-clause-plan : goal.returns-in-Job-clause-plan
+unfolding jobs_of
+returns-in-Job-clause-plan c =
+    let desk = ap (λ v. v.tables.desk) c.self.view_is in
+    let numbered = subst (λ tables. AreNumbered 1 tables.runs) desk c.self.invariant.numbered in
+    let one = next-one c.args.self.now.tables.desk c.self.inside.queue.entries (c.self.invariant.same ∙ ap queue_of desk) numbered c.in-Job.job c.in-Job.ensures.selection in
+    IfOk-weaker c.chosen.result _ _
+    (λ plan is. is ∙ sym (free-chosen c.args.layout.now (jobs_of c.args.self.now) c.args.initiator c.args.fail (sym c.if-is_some.ensures) one.0 one.1))
+    (c.chosen.ensures.plan one.0 one.2)

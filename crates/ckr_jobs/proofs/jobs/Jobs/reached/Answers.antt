@@ -1,0 +1,23 @@
+use Rattle.std.proofs.Common.{◌==◌, ap, sym, ◌∙◌}
+use Rattle.ckr_points.specs.Growing.{writes_in}
+use Rattle.ckr_jobs.specs.Inside.{step_seen}
+use Rattle.ckr_jobs.specs.Planning.{reached_seen, HasCounts}
+use Rattle.ckr_jobs.specs.Seen.{StepSeen}
+use Rattle.ckr_jobs.proofs.Found.{find-is, reached-kept, reached-running, same-number}
+use Rattle.ckr_jobs.proofs.jobs.Jobs.reached.Goals as goal
+
+pub progress-requires : goal.progress-requires
+progress-requires c =
+    (find-is HasCounts (λ (on : StepSeen). on.run == c.args.run) c.args.self.now.running (step_seen c.in-Some.on.now) c.requires.counted (sym c.in-Some.ensures)).holds
+
+pub returns-in-Some-clause-reached : goal.returns-in-Some-clause-reached
+returns-in-Some-clause-reached c =
+    let on = step_seen c.in-Some.on.now in
+    let is = find-is HasCounts (λ (on : StepSeen). on.run == c.args.run) c.args.self.now.running on c.requires.counted (sym c.in-Some.ensures) in
+    reached-running c.args.self.now c.args.run c.args.table.now c.requires.known on (same-number on.run c.args.run is.passes) c.in-Some.ensures
+    (reached_seen (record { writes = c.progress.result.writes; lengths = c.lengths_of.result })) c.progress.ensures.writes c.lengths_of.ensures.lengths
+
+pub returns-in-None-clause-reached : goal.returns-in-None-clause-reached
+returns-in-None-clause-reached c =
+    reached-kept c.args.self.now c.args.run c.args.table.now c.requires.known c.library.result.now.sets (c.library.ensures.seen ∙ ap (λ v. v.tables.desk.sets) c.self.view_is) c.in-None.ensures
+    (reached_seen (record { writes = c.writes_in.result; lengths = c.lengths_of-in-None.result })) (c.writes_in.ensures ∙ ap writes_in (c.place_of.ensures c.args.run)) c.lengths_of-in-None.ensures.lengths

@@ -1,0 +1,31 @@
+use Rattle.std.proofs.Common.{◌≡◌, ap, sym, ◌∙◌, List, ℕ, [], Option}
+use Rattle.std.specs.Option.{option_map_or}
+use Rattle.ckr_events.specs.declared.event.Event.TheVariants.{StepEnded as StepEndedEvent}
+use Rattle.ckr_meaning.specs.Effective.{OwnedStep, owned_by, plain_job, step_at}
+use Rattle.ckr_points.specs.Restarting.{place_of, step_in}
+use Rattle.ckr_turns.specs.declared.plan.Plan.TheVariants.{Tell}
+use Rattle.ckr_turns.specs.declared.reply.Reply.TheVariants.{StepEnded}
+use Rattle.ckr_turns.specs.Jobs.{step_name_of}
+use Rattle.ckr_jobs.specs.Planning.{row_for}
+use Rattle.ckr_jobs.proofs.Found.{first-step}
+use Rattle.ckr_jobs.proofs.planning.step_ended.Goals as goal
+
+pub step_ended_event-requires-clause-step : goal.step_ended_event-requires-clause-step
+step_ended_event-requires-clause-step c =
+    let job = c.args.table.now.job in
+    first-step (plain_job 0 job) c.step_in-number.result (owned_by 0 job c.in-Some.own.now) (sym (c.in-Some.ensures 0))
+
+pub returns-clause-plan : goal.returns-clause-plan
+returns-clause-plan c =
+    let run = c.args.run in
+    let row = row_for run c.args.table.now in
+    let step : c.step_in-number.result ≡ step_in (place_of row) = c.step_in-number.ensures ∙ ap step_in (c.place_of.ensures run) in
+    let name : c.copied.result ≡ step_name_of row =
+    c.copied.ensures
+    ∙ ap (λ (found : Option OwnedStep). option_map_or (λ own. own.step.name) found []) (c.in-Some.ensures run ∙ ap (step_at (plain_job run c.args.table.now.job)) step) in
+    ap (λ n. Tell (StepEnded run n c.args.rc) c.step_ended_event.result) name
+    ∙ ap (Tell (StepEnded run (step_name_of row) c.args.rc))
+    (c.step_ended_event.ensures.event
+    ∙ ap (λ n. StepEndedEvent run n c.args.rc c.progress.result.writes c.lengths_of.result) step
+    ∙ ap (λ n. StepEndedEvent run (step_in (place_of row)) c.args.rc n c.lengths_of.result) c.progress.ensures.writes
+    ∙ ap (λ (ls : List ℕ). StepEndedEvent run (step_in (place_of row)) c.args.rc c.args.on.now.step.writes (record { items = ls })) c.lengths_of.ensures.lengths)

@@ -1,0 +1,27 @@
+use Rattle.std.proofs.Common.{◌≡◌, ap, sym, ◌∙◌, [], Option, Some, None}
+use Rattle.std.specs.Option.{option_map_or}
+use Rattle.ckr_library.proofs.Ordered.{not_None}
+use Rattle.ckr_meaning.specs.Effective.{OwnedStep, plain_job, step_at}
+use Rattle.ckr_points.specs.Restarting.{place_of, step_in}
+use Rattle.ckr_turns.specs.declared.reply.Reply.TheVariants.{Worked}
+use Rattle.ckr_turns.specs.Jobs.{step_name_of}
+use Rattle.ckr_jobs.specs.Planning.{row_for}
+use Rattle.ckr_jobs.proofs.telling.worked_reply.Goals as goal
+
+pub returns-in_err-own : goal.returns-in_err-own
+returns-in_err-own c = λ own there.
+    let run = c.args.on.now.run in
+    let row = row_for run c.args.table.now in
+    let step : c.step_in.result ≡ step_in (place_of row) = c.step_in.ensures ∙ ap step_in (c.place_of.ensures run) in
+    absurd (not_None own (sym there ∙ sym (c.in_err-own.ensures run ∙ ap (step_at (plain_job run c.args.table.now.job)) step)))
+
+pub returns : goal.returns
+returns c = λ own there.
+    let run = c.args.on.now.run in
+    let row = row_for run c.args.table.now in
+    let step : c.step_in.result ≡ step_in (place_of row) = c.step_in.ensures ∙ ap step_in (c.place_of.ensures run) in
+    let name : c.copied.result ≡ step_name_of row =
+    c.copied.ensures
+    ∙ ap (λ (found : Option OwnedStep). option_map_or (λ own. own.step.name) found []) (c.in_ok-own.ensures run ∙ ap (step_at (plain_job run c.args.table.now.job)) step) in
+    ap (λ n. Some (Worked run n c.progress.result.taken)) name
+    ∙ ap (λ n. Some (Worked run (step_name_of row) n)) c.progress.ensures.taken

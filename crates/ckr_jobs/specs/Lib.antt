@@ -1,0 +1,9 @@
+pub mod Behind
+pub mod Going
+pub mod Holding
+pub mod Inside
+pub mod Planning
+pub mod Preparing
+pub mod Replaying
+pub mod Seen
+pub mod Starting
