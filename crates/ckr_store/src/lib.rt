@@ -2,6 +2,7 @@
 #![tactic(auto)]
 
 mod error;
+mod stepping;
 mod store;
 
 pub use error::{StoreError, Unopened};

@@ -30,12 +30,12 @@ const SMALL: usize = 4096;
 /// one that stopped the store. After a fault each call answers `Stopped`, and the disk has to be opened again.
 #[derive(Drop)]
 pub struct Store<D: Disk> {
-    disk: D,
-    layout: Layout,
+    pub(crate) disk: D,
+    pub(crate) layout: Layout,
     book: Book,
     /// Where an event other than `Submitted` is spelled.
     buffer: Vec<u8>,
-    fault: Option<u64>,
+    pub(crate) fault: Option<u64>,
 }
 
 impl<D: Disk> Model for Store<D> {
