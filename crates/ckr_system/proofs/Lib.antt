@@ -1,0 +1,9 @@
+pub mod Kept
+pub mod Behind
+pub mod Few
+pub mod Opened
+pub mod Replays
+pub mod Planning
+pub mod Seeing
+pub mod Lengths
+pub mod Plans

@@ -1,0 +1,100 @@
+-- A system that stands for a desk plans what the desk plans.
+use Rattle.std.proofs.Common.{◌≡◌, ◌≤◌, ℕ, Bool, true, false, cond, List, [], ◌∷◌, length, map, find, refl, ap, sym, ◌∙◌, subst, Option, Some, None}
+use Rattle.std.specs.Prelude.{◌==◌}
+use Rattle.std.specs.Option.{option_map, option_map_or}
+use Rattle.ckr_jobs.specs.Seen.{StepSeen, jobs_of, lengths_of_row, running_of}
+use Rattle.ckr_keeping.specs.Going.{IsDesk, IsGoing}
+use Rattle.ckr_keeping.proofs.Reached.{going-within, seen-so as seen-as}
+use Rattle.ckr_keeping.proofs.Within.{by-step}
+use Rattle.ckr_leaving.specs.Running.{HasSets}
+use Rattle.ckr_library.proofs.Ordered.{same_item}
+use Rattle.ckr_meaning.specs.Effective.{names_of}
+use Rattle.ckr_meaning.specs.StepRun.{StepStart, work_at}
+use Rattle.ckr_points.specs.Growing.{lengths_at, rewrites_nothing}
+use Rattle.ckr_points.specs.Office.{Office}
+use Rattle.ckr_points.specs.Restarting.{Decked}
+use Rattle.ckr_points.specs.Rows.{RunRow, Tables, run_of}
+use Rattle.ckr_soundness.proofs.Committing.{its_start}
+use Rattle.ckr_soundness.proofs.Entries.{found-holds}
+use Rattle.ckr_steps.specs.Standing.{ShowsWithin}
+use Rattle.ckr_turns.specs.Desk.{Desk, StepOn, seen, seen_from, start_of, jobs_of as jobs_of_desk}
+use Rattle.ckr_turns.specs.Jobs.{Jobs, Running}
+use Rattle.ckr_turns.specs.Planned.{plan_of}
+use Rattle.ckr_turns.specs.declared.reply.Turn.{Turn}
+use Rattle.ckr_system.specs.Standing.{BothStand, StepStands, Stands}
+use Rattle.ckr_system.specs.State.{SystemState}
+use Rattle.ckr_system.proofs.Lengths.{lengths-so}
+use Rattle.ckr_system.proofs.Planning.{same-plan}
+use Rattle.ckr_system.proofs.Seeing.{seen-so}
+
+-- the first one of a run among what is seen is what is seen of the first one
+find-seen : {X : Type 0} (view : X → Running) (number : X → ℕ) → ((x : X) → (view x).run ≡ number x) → (run : ℕ) (xs : List X) → find (λ (step : Running). step.run == run) (map view xs) ≡ option_map view (find (λ x. number x == run) xs)
+find-seen view number same run [] = refl
+find-seen view number same run (x ∷ xs) =
+    ap (λ (n : ℕ). cond (n == run) (Some (view x)) (find (λ (step : Running). step.run == run) (map view xs))) (same x)
+    ∙ by (find-seen view number same run xs) (number x == run)
+  where
+    by : find (λ (step : Running). step.run == run) (map view xs) ≡ option_map view (find (λ x. number x == run) xs) → (b : Bool) → cond b (Some (view x)) (find (λ (step : Running). step.run == run) (map view xs)) ≡ option_map view (cond b (Some x) (find (λ x. number x == run) xs))
+    by later true = refl
+    by later false = later
+
+seen-run : (office : Office) (step : StepOn) → (seen office step.run step.progress).run ≡ step.run
+seen-run office step = by (run_of office.tables step.run)
+  where
+    of_start : (o : Option StepStart) → (option_map_or (seen_from office step.run step.progress) o (record { run = step.run; taken = step.progress.taken; writes = step.progress.writes; finished = None; lengths = [] })).run ≡ step.run
+    of_start None = refl
+    of_start (Some start) = refl
+
+    by : (o : Option RunRow) → (option_map_or (seen_from office step.run step.progress) (option_map_or (start_of office) o None) (record { run = step.run; taken = step.progress.taken; writes = step.progress.writes; finished = None; lengths = [] })).run ≡ step.run
+    by None = refl
+    by (Some row) = of_start (start_of office row)
+
+module _ (desk : Desk) (is : IsDesk desk) (image : List ℕ) where
+  -- a running step as a turn sees it, by the jobs in memory and by the desk
+  same-step : (on : StepSeen) (step : StepOn) → IsGoing desk.office step → StepStands desk.layout desk.office image on step → running_of desk.office.tables on ≡ seen desk.office step.run step.progress
+  same-step on step going stands =
+      let row : going.row ≡ stands.row = same_item going.row stands.row (sym going.row_at ∙ stands.row_at) in
+      let start : going.start ≡ stands.start = same_item going.start stands.start (sym going.start_at ∙ ap (start_of desk.office) row ∙ stands.start_at) in
+      seen-so desk.layout desk.office image on step stands
+      (ap (λ run. option_map_or (lengths_of_row on.sets.sets) (run_of desk.office.tables run) []) stands.run
+      ∙ ap (λ (o : Option RunRow). option_map_or (lengths_of_row on.sets.sets) o []) going.row_at
+      ∙ by-step desk is step.run going.row going.number going.committed going.start (going-within desk.office step going)
+      (λ leg owned running starts spaced.
+      let its : its_start leg owned going.number ≡ stands.start = sym starts ∙ start in
+      lengths-so desk.layout desk.office step.run going.row leg owned going.number going.committed step.progress.writes is.kept.events running spaced going.behind
+      (subst (λ (s : StepStart). step.progress.writes ≤ length (work_at s).writes) starts going.fit)
+      (subst (λ (s : StepStart). rewrites_nothing s going.committed step.progress.writes ≡ true) starts going.plain)
+      image on.sets
+      (subst (λ (s : StepStart). HasSets desk.office.tables.sets (names_of s.root s.owned) on.sets) (sym its) stands.sets)
+      (subst (λ (s : StepStart). ShowsWithin (Unit {0}) image desk.layout s step.progress.writes on.sets) (sym its) stands.shows)
+      stands.checked
+      ∙ ap (λ (s : StepStart). lengths_at s desk.office.tables.sets step.progress.writes) its))
+      ∙ sym (seen-as desk.office step.run step.progress stands.row stands.start stands.row_at stands.start_at)
+
+  same-found : (found : Option StepSeen) (other : Option StepOn) → ((step : StepOn) → other ≡ Some step → IsGoing desk.office step) → BothStand desk.layout desk.office image found other → option_map (running_of desk.office.tables) found ≡ option_map (λ (step : StepOn). seen desk.office step.run step.progress) other
+  same-found None None going both = refl
+  same-found None (Some step) going both = absurd both
+  same-found (Some on) None going both = absurd both
+  same-found (Some on) (Some step) going both = ap Some (same-step on step (going step refl) both)
+
+  pub same-running : (running : List StepSeen) → ((run : ℕ) → BothStand desk.layout desk.office image (find (λ (on : StepSeen). on.run == run) running) (find (λ (step : StepOn). step.run == run) desk.running))
+      → (run : ℕ) → find (λ (step : Running). step.run == run) (map (running_of desk.office.tables) running) ≡ find (λ (step : Running). step.run == run) (jobs_of_desk desk).running
+  same-running running both run =
+      find-seen (running_of desk.office.tables) (λ (on : StepSeen). on.run) (λ on. refl) run running
+      ∙ same-found (find (λ (on : StepSeen). on.run == run) running) (find (λ (step : StepOn). step.run == run) desk.running)
+      (λ step found. found-holds (IsGoing desk.office) (λ (step : StepOn). step.run == run) desk.running step is.going found) (both run)
+      ∙ sym (find-seen (λ (step : StepOn). seen desk.office step.run step.progress) (λ (step : StepOn). step.run) (seen-run desk.office) run desk.running)
+
+abbrev with_running : Tables → List ℕ → List Running → Jobs
+with_running tables failed running = record { tables = tables; running = running; failed = failed }
+
+module _ {D : Type 0} (content : D → List ℕ) (may_leave : D → List ℕ → Type 0) where
+  -- what a turn comes to by the jobs in memory is what it comes to at the desk
+  pub plans-so : (system : SystemState D) (events : List Decked) (desk : Desk) (turn : Turn) → Stands content may_leave system events desk → plan_of system.store.layout (jobs_of system.jobs) turn ≡ plan_of desk.layout (jobs_of_desk desk) turn
+  unfolding jobs_of
+  plans-so system events desk turn stands =
+      ap (λ layout. plan_of layout (with_running system.jobs.tables.desk system.jobs.failed (map (running_of system.jobs.tables.desk) system.jobs.running)) turn) (sym stands.layout)
+      ∙ ap (λ tables. plan_of desk.layout (with_running tables system.jobs.failed (map (running_of tables) system.jobs.running)) turn) stands.tables
+      ∙ ap (λ failed. plan_of desk.layout (with_running desk.office.tables failed (map (running_of desk.office.tables) system.jobs.running)) turn) stands.failed
+      ∙ same-plan desk.layout desk.office.tables desk.failed (map (running_of desk.office.tables) system.jobs.running) (jobs_of_desk desk).running
+      (same-running desk stands.is_desk (content system.store.disk) system.jobs.running stands.running) turn

@@ -1,0 +1,7 @@
+pub mod State
+pub mod Errors
+pub mod Calls
+pub mod Submitting
+pub mod Opening
+pub mod Replaying
+pub mod Standing

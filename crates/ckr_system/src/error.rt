@@ -1,0 +1,98 @@
+//! Why a disk isn't opened, and why a call of the system did nothing, or not all that was asked.
+ghost use Rattle.std.specs.Prelude.{◌≡◌};
+ghost use Rattle.ckr_store.specs.declared.error.StoreError.{StoreError as OfStore};
+ghost use Rattle.ckr_system.specs.Errors.{of_store};
+ghost use Rattle.ckr_system.specs.declared.error.OpenError.TheVariants as OpenErrors;
+ghost use Rattle.ckr_system.specs.declared.error.SystemError.TheVariants.{NoMemory as WithoutMemory};
+
+use ckr_base::NoMemory;
+use ckr_outside::Failed;
+use ckr_store::StoreError;
+use thiserror::Error;
+
+/// Why a call of the system did nothing, or not all that was asked.
+#[derive(Clone, Copy, Debug, Drop, Error, PartialEq, Eq)]
+pub enum SystemError {
+    /// There was no memory. Nothing has changed.
+    #[error("there is no memory")]
+    NoMemory,
+    /// The disk failed, and its count of faults rose. The system has stopped.
+    #[error("the disk failed")]
+    DiskFault,
+    /// The event needs more bytes of the book than are left. Nothing has changed.
+    #[error("the event needs {need} bytes of the book, and {room} are left")]
+    BookFull { need: u32, room: u32 },
+    /// The system has stopped since an earlier call, whose fault was the disk's one of this number. Nothing has changed.
+    #[error("stopped by fault {fault} of the disk")]
+    Stopped { fault: u64 },
+    /// The event that the step asks for doesn't follow, so the disk doesn't read what was written. Nothing has changed.
+    #[error("the disk doesn't read what was written")]
+    Misread,
+}
+
+impl From<NoMemory> for SystemError {
+    ghost from_gives = { λ _ e. e ≡ WithoutMemory };
+
+    fn from(_: NoMemory) -> Self {
+        SystemError::NoMemory
+    }
+}
+
+impl From<StoreError> for SystemError {
+    ghost from_gives = { λ error e. e ≡ of_store error };
+
+    fn from(error: StoreError) -> Self {
+        match error {
+            StoreError::NoMemory => SystemError::NoMemory,
+            StoreError::DiskFault => SystemError::DiskFault,
+            StoreError::BookFull { need, room } => SystemError::BookFull { need, room },
+            StoreError::Stopped { fault } => SystemError::Stopped { fault },
+        }
+    }
+}
+
+/// Why a disk isn't opened. All but the first two come exactly by the bytes that the disk reads, in this order.
+#[derive(Clone, Copy, Debug, Drop, Error, PartialEq, Eq)]
+pub enum OpenError {
+    /// There is no memory.
+    #[error("there is no memory")]
+    NoMemory,
+    /// The disk failed, and its count of faults rose.
+    #[error("the disk failed")]
+    Fault,
+    /// There are fewer than 512 bytes, the gate isn't open, or the mark isn't there.
+    #[error("the disk isn't formatted")]
+    NotFormatted,
+    /// The header has this version, which isn't known.
+    #[error("the disk has version {0}, which isn't known")]
+    Version(u16),
+    /// The field of the header at this offset is the first that is out of its limits.
+    #[error("the header is wrong at {offset}")]
+    BadHeader { offset: u32 },
+    /// The record whose gate is at this place of the book is the first that is too long, is no event or doesn't follow.
+    #[error("the book is wrong at {offset}")]
+    BadBook { offset: u32 },
+}
+
+/// A disk that isn't opened, and why.
+#[derive(Debug, Drop)]
+pub struct Opening<D> {
+    pub error: OpenError,
+    pub disk: D,
+}
+
+impl From<NoMemory> for OpenError {
+    ghost from_gives = { λ _ e. e ≡ OpenErrors.NoMemory };
+
+    fn from(_: NoMemory) -> Self {
+        OpenError::NoMemory
+    }
+}
+
+impl From<Failed> for OpenError {
+    ghost from_gives = { λ _ e. e ≡ OpenErrors.Fault };
+
+    fn from(_: Failed) -> Self {
+        OpenError::Fault
+    }
+}

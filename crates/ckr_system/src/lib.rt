@@ -1,0 +1,14 @@
+//! The system: an event is on the disk before the jobs go on by it.
+#![tactic(auto)]
+
+mod error;
+mod laws;
+mod opening;
+mod submitting;
+mod system;
+#[cfg(test)]
+mod tests;
+
+pub use error::{OpenError, Opening, SystemError};
+pub use laws::plans_are_those_of_the_desk;
+pub use system::System;
