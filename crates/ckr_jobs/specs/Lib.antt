@@ -7,3 +7,4 @@ pub mod Preparing
 pub mod Replaying
 pub mod Seen
 pub mod Starting
+pub mod Updating

@@ -17,7 +17,10 @@ use Rattle.ckr_tables.specs.Keeping.{HasRoom}
 use Rattle.ckr_tables.specs.Seen.{RoomyTables, facts_in, facts_of, row_with}
 use Rattle.ckr_turns.specs.declared.plan.Plan.{Plan}
 use Rattle.ckr_turns.specs.declared.plan.Plan.TheVariants.{Rest, Tell, Work}
-use Rattle.ckr_turns.specs.declared.reply.Reply.TheVariants.{Worked as WorkedReply}
+use Rattle.ckr_turns.specs.declared.reply.How.{How}
+use Rattle.ckr_turns.specs.declared.reply.How.TheVariants.{Completed, Abended, Allocation}
+use Rattle.ckr_turns.specs.declared.reply.Reply.{Reply}
+use Rattle.ckr_turns.specs.declared.reply.Reply.TheVariants.{JobEnded, Worked as WorkedReply}
 use Rattle.ckr_turns.specs.Coded.{Reached as ReachedByTurn, code_plan, running_reached}
 use Rattle.ckr_turns.specs.Jobs.{Running, step_name_of}
 use Rattle.ckr_turns.specs.Spelled.{IsCode, IsSpelled}
@@ -60,10 +63,20 @@ abbrev pub IsAnyCode : Option Code → Type 0
 IsAnyCode None = Unit {0}
 IsAnyCode (Some code) = IsCode code
 
--- the event of a plan, if there is one, has a spelling
+-- the code that a reply tells, if there is one, has a spelling
+abbrev pub HasCode : How → Type 0
+HasCode Completed = Unit {0}
+HasCode (Abended code rule) = IsCode code
+HasCode (Allocation step dd cause) = Unit {0}
+
+abbrev pub IsToldReply : Reply → Type 0
+IsToldReply (JobEnded job how) = HasCode how
+IsToldReply _ = Unit {0}
+
+-- the event of a plan, if there is one, has a spelling, and so has the code of its reply
 abbrev pub IsSpelledPlan : Plan → Type 0
-IsSpelledPlan (Rest reply) = Unit {0}
-IsSpelledPlan (Tell reply event) = IsSpelled event
+IsSpelledPlan (Rest reply) = IsToldReply reply
+IsSpelledPlan (Tell reply event) = IsSpelled event × IsToldReply reply
 IsSpelledPlan (Work job) = Unit {0}
 
 -- there is room for it

@@ -37,7 +37,7 @@ fn copy_of_parts(parts: &[Part]) -> ArrayVec<Part, 5>
 }
 
 /// The same data set.
-pub(crate) fn copy_of_set(set: &DataSet) -> DataSet
+pub fn copy_of_set(set: &DataSet) -> DataSet
     ensures { result ≡ set.now }
 {
     DataSet {

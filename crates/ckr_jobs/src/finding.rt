@@ -4,7 +4,8 @@ ghost use Rattle.std.specs.List.{list_any, AllByRecursion};
 ghost use Rattle.std.specs.Option.{option_copied, option_map};
 ghost use Rattle.ckr_events.specs.Format.{length_list};
 ghost use Rattle.ckr_jcl.specs.declared.deck.Dd.{Dd as DdOfDeck};
-ghost use Rattle.ckr_jobs.specs.Holding.{IsAcceptedRow};
+ghost use Rattle.ckr_jobs.specs.Behind.{is_of_run};
+ghost use Rattle.ckr_jobs.specs.Holding.{AreJobs, IsAcceptedRow, IsRunnable};
 ghost use Rattle.ckr_jobs.specs.Inside.{step_seen};
 ghost use Rattle.ckr_jobs.specs.Planning.{reached_seen, row_for, HasCounts, IsKnown};
 ghost use Rattle.ckr_jobs.specs.Seen.{jobs_of, StepSeen};
@@ -14,6 +15,7 @@ ghost use Rattle.ckr_points.specs.Growing.{writes_in};
 ghost use Rattle.ckr_points.specs.Rows.{run_of, step_of_run, RunRow};
 ghost use Rattle.ckr_turns.specs.Coded.{reached_by};
 ghost use Rattle.ckr_turns.specs.Jobs.{is_failed};
+ghost use Rattle.ckr_volumes.specs.declared.layout.Layout.{Layout as LayoutOfDisk};
 
 use crate::coding::{Reached, lengths_of, place_of};
 use crate::making::step_at;
@@ -76,6 +78,14 @@ impl Jobs {
         ensures { option_map step_seen (option_copied result) ≡ find (λ (on : StepSeen). on.run == run) self.now.running }
     {
         first_on(self.running.as_slice(), run)
+    }
+
+    /// The running step of a run, if there is one.
+    pub fn running_step(&self, run: u32) -> Option<&RunningStep>
+        ensures step { option_map step_seen (option_copied result) ≡ find (is_of_run run) self.now.running }
+        ensures runnable { (layout : LayoutOfDisk) → AreJobs layout self.now → IfSome (option_copied result) (λ on. IsRunnable layout (step_seen on)) }
+    {
+        self.running_in(run)
     }
 
     /// The name of a step of a run, by its number from 1. None where there is no such step.

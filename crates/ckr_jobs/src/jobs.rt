@@ -2,6 +2,7 @@
 ghost use Rattle.std.specs.Prelude.{◌≡◌, ◌≤◌, [], length, map};
 ghost use Rattle.ckr_points.specs.Rows.{no_tables, holding_of};
 ghost use Rattle.ckr_tables.specs.Seen.{line_of, seen_by, table_of};
+ghost use Rattle.ckr_jobs.specs.Inside.{step_seen};
 
 use ckr_library::Library;
 use ckr_points::Run;
@@ -81,5 +82,12 @@ impl Jobs {
         ensures few { length self.now.tables.desk.runs ≤ 9999999 }
     {
         self.tables.runs()
+    }
+
+    /// The running steps, each with its own data sets.
+    pub fn running(&self) -> &[RunningStep]
+        ensures { map step_seen result.now ≡ self.now.running }
+    {
+        self.running.as_slice()
     }
 }

@@ -13,6 +13,8 @@ mod replaying;
 mod starting;
 mod taking;
 mod telling;
+mod updating;
 
+pub use copying::copy_of_set;
 pub use jobs::{Jobs, RunningStep};
 pub use making::Prepared;

@@ -1,10 +1,10 @@
 //! What a turn tells of a unit that was done.
-ghost use Rattle.std.specs.Prelude.{◌≡◌, ◌≤◌, Some};
+ghost use Rattle.std.specs.Prelude.{◌≡◌, ◌≤◌, IfSome, Some};
 ghost use Rattle.std.specs.List.{AllByRecursion};
 ghost use Rattle.ckr_events.specs.Format.{length_list};
 ghost use Rattle.ckr_jobs.specs.Holding.{IsAcceptedRow};
 ghost use Rattle.ckr_jobs.specs.Inside.{step_seen};
-ghost use Rattle.ckr_jobs.specs.Planning.{reached_seen, row_for, told_by, IsSpelledPlan, IsWorkedCode};
+ghost use Rattle.ckr_jobs.specs.Planning.{reached_seen, row_for, told_by, IsSpelledPlan, IsToldReply, IsWorkedCode};
 ghost use Rattle.ckr_jobs.specs.Seen.{lengths_of_row, running_of};
 ghost use Rattle.ckr_meaning.specs.Effective.{OwnedStep};
 ghost use Rattle.ckr_points.specs.Restarting.{place_of as place_of_row, step_in as step_in_place};
@@ -25,7 +25,8 @@ use ckr_volumes::Layout;
 /// The reply to a unit of a running step that goes on. None where its run is within no step of its deck.
 fn worked_reply(on: &RunningStep, table: &RunTable) -> Option<Reply>
     requires { AreCounted on.now.step }
-    ensures { let row = row_for on.now.run table.now in (own : OwnedStep) → step_of_run row (step_in_place (place_of_row row)) ≡ Some own → result ≡ Some (Reply.Worked on.now.run (step_name_of row) (taken_of on.now.step.state)) }
+    ensures reply { let row = row_for on.now.run table.now in (own : OwnedStep) → step_of_run row (step_in_place (place_of_row row)) ≡ Some own → result ≡ Some (Reply.Worked on.now.run (step_name_of row) (taken_of on.now.step.state)) }
+    ensures told { IfSome result IsToldReply }
 {
     let own = step_at(&table.job, step_in(place_of(table)))?;
     Some(Reply::Worked {

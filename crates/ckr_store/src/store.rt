@@ -112,6 +112,20 @@ impl<D: Disk> Store<D> {
         disk
     }
 
+    /// How many bytes of the book an event needs. Nothing changes.
+    ///
+    /// `NoMemory`: there is none for its bytes.
+    pub fn need(&mut self, event: &Event) -> Result<u32, NoMemory>
+        requires counted { IsCounted event.now }
+        requires small { length (spelling event.now) ≤ 4294967289 }
+        ensures need { IfOk result (λ need. need ≡ length (spelling event.now) + 6) }
+        ensures same { self.new ≡ self.old }
+    {
+        let large = spelled(&mut self.buffer, event)?;
+        let bytes = either(&large, &self.buffer);
+        Ok(bytes.len() as u32 + 6)
+    }
+
     /// Adds an event behind the others, for good.
     ///
     /// `NoMemory`: there is none for its bytes. `BookFull`: its bytes and 6 more exceed the room of the book. After

@@ -8,15 +8,15 @@ use Rattle.ckr_turns.specs.Jobs.{step_name_of}
 use Rattle.ckr_jobs.specs.Planning.{row_for}
 use Rattle.ckr_jobs.proofs.telling.worked_reply.Goals as goal
 
-pub returns-in_err-own : goal.returns-in_err-own
-returns-in_err-own c = λ own there.
+pub returns-in_err-own-clause-reply : goal.returns-in_err-own-clause-reply
+returns-in_err-own-clause-reply c = λ own there.
     let run = c.args.on.now.run in
     let row = row_for run c.args.table.now in
     let step : c.step_in.result ≡ step_in (place_of row) = c.step_in.ensures ∙ ap step_in (c.place_of.ensures run) in
     absurd (not_None own (sym there ∙ sym (c.in_err-own.ensures run ∙ ap (step_at (plain_job run c.args.table.now.job)) step)))
 
-pub returns : goal.returns
-returns c = λ own there.
+pub returns-clause-reply : goal.returns-clause-reply
+returns-clause-reply c = λ own there.
     let run = c.args.on.now.run in
     let row = row_for run c.args.table.now in
     let step : c.step_in.result ≡ step_in (place_of row) = c.step_in.ensures ∙ ap step_in (c.place_of.ensures run) in
