@@ -1,5 +1,13 @@
 -- The jobs stay such as the layout of the disk has them where the disk fails.
-use Rattle.std.proofs.Common.{◌≡◌, ℕ, [], ap, subst, sym}
+use Rattle.std.proofs.Common.{◌≡◌, ◌&&◌, ℕ, Bool, true, false, [], Option, ap, subst, sym}
+use Rattle.ckr_events.specs.declared.event.Event.{Event}
+use Rattle.ckr_following.proofs.Counted.{counted-may}
+use Rattle.ckr_following.specs.Counting.{may_count}
+use Rattle.ckr_jcl.specs.declared.deck.Job.{Job}
+use Rattle.ckr_points.specs.Following.{follows}
+use Rattle.ckr_system.specs.Calls.{may_keep}
+use Rattle.ckr_system.specs.State.{SystemState}
+use Rattle.ckr_tables.specs.Keeping.{MayCount}
 use Rattle.std.specs.List.{AllByRecursion}
 use Rattle.ckr_jobs.specs.Holding.{AreJobs, IsAcceptedRow, IsRunnable}
 use Rattle.ckr_jobs.specs.Seen.{JobsSeen}
@@ -41,3 +49,12 @@ module _ {D : Type 0} (faults : D → ℕ) (old new : StoreState D) where
   append-layout need DiskFault cause = ap (λ (s : StoreState D). s.layout) cause.1
   append-layout need (BookFull its room) cause = ap (λ (s : StoreState D). s.layout) cause.3
   append-layout need (Stopped fault) cause = ap (λ (s : StoreState D). s.layout) cause.1
+
+and_first : (a b : Bool) → (a && b) ≡ true → b ≡ true
+and_first true b both = both
+and_first false b both = absurd (subst (λ (x : Bool). elim x as (λ _. Type 0) [ true ↦ ⊥ | false ↦ Unit {0} ]) both tt)
+
+-- the stamps of an event that may be kept aren't counted out
+pub may-counted : {D : Type 0} (event : Event) (deck : Option Job) (system : SystemState D) → may_keep event deck system ≡ true → MayCount event system.jobs.tables.desk.sets
+may-counted event deck system may =
+    counted-may event system.jobs.tables.desk.sets (and_first (follows system.store.layout system.jobs.tables.desk event deck) (may_count event system.jobs.tables.desk.sets) may)

@@ -3,7 +3,3 @@ pub mod Behind
 pub mod Few
 pub mod Opened
 pub mod Replays
-pub mod Planning
-pub mod Seeing
-pub mod Lengths
-pub mod Plans

@@ -4,4 +4,3 @@ pub mod Calls
 pub mod Submitting
 pub mod Opening
 pub mod Replaying
-pub mod Standing

@@ -2,7 +2,6 @@
 #![tactic(auto)]
 
 mod error;
-mod laws;
 mod opening;
 mod submitting;
 mod system;
@@ -10,5 +9,4 @@ mod system;
 mod tests;
 
 pub use error::{OpenError, Opening, SystemError};
-pub use laws::plans_are_those_of_the_desk;
 pub use system::System;

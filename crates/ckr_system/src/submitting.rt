@@ -44,7 +44,7 @@ impl<D: Disk> System<D> {
             ≡ event_records self.old.store.layout (D.content self.old.store.disk) ++ spelling (Events.Submitted number (kept_of_stored cards.now)) ∷ []) }
         ensures size { D.size self.new.store.disk ≡ D.size self.old.store.disk }
         ensures faults { D.faults self.old.store.disk ≤ D.faults self.new.store.disk }
-        ensures cause { IfErr result (NotKept D.faults (Events.Submitted number (kept_of_stored cards.now)) self.old self.new) }
+        ensures cause { IfErr result (NotKept D.faults (Events.Submitted number (kept_of_stored cards.now)) (Some job) self.old self.new) }
     {
         let event = submitted_event(self.alloc, number, cards)?;
         self.tell(&event, Some(job))

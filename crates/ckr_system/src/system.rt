@@ -1,5 +1,5 @@
 //! The jobs in memory with their disk.
-ghost use Rattle.std.specs.Prelude.{◌≡◌, ◌≤◌, ℕ, ◌++◌, ◌∷◌, [], IfErr, IsTrue, OnOk, length, map};
+ghost use Rattle.std.specs.Prelude.{◌≡◌, ◌≤◌, ℕ, ◌++◌, ◌∷◌, [], Err, IfErr, IfSome, IsTrue, OnOk, length, map};
 ghost use Rattle.std.specs.Option.{option_copied};
 ghost use Rattle.ckr_book.specs.Book.{IsBeforeOrAfter};
 ghost use Rattle.ckr_events.specs.Event.{IsCounted, spelling};
@@ -12,7 +12,7 @@ ghost use Rattle.ckr_tables.specs.Keeping.{is_plain_event, MaySubmit};
 ghost use Rattle.ckr_tables.specs.Seen.{line_of, seen_by};
 ghost use Rattle.ckr_volumes.specs.Records.{records_on};
 ghost use Rattle.ckr_volumes.specs.Stands.{StandsIn};
-ghost use Rattle.ckr_system.specs.Calls.{HasGoneOn, NotKept};
+ghost use Rattle.ckr_system.specs.Calls.{HasGoneOn, NotKept, may_keep};
 
 use crate::SystemError;
 use ckr_events::Event;
@@ -75,13 +75,23 @@ impl<D: Disk> System<D> {
         store.into_disk()
     }
 
+    /// Whether an event may be kept.
+    fn may_keep(&self, event: &Event, deck: Option<&Job>) -> bool
+        requires { IsTrue (is_plain_event event.now) }
+        ensures { result ≡ may_keep event.now (option_copied deck.entry) self.now }
+    {
+        let tables = self.jobs.tables();
+        follows(tables, self.store.layout(), event, deck) && may_count(tables, event)
+    }
+
     /// Keeps a plain event that follows: what was written before is synced, the event is put on the disk, and the jobs go on by it. A
     /// deck is given exactly where the event is Submitted and its cards are a deck, and it is that deck, accepted and of a form that
     /// the desk runs.
     ///
-    /// `NoMemory`, `BookFull` where the event needs more than the room of the book, `Misread` where it doesn't follow: nothing has
-    /// changed then. `DiskFault`: only where the disk's faults rose in this call; then the system has stopped. `Stopped`: exactly where
-    /// it had stopped before (this project's profile).
+    /// `Stopped`: exactly where the system had stopped before. `Misread`: exactly where the event doesn't follow, or a count of rewrites
+    /// is at its end. `NoMemory`; `BookFull` exactly where the event needs more than the room of the book. What the jobs are and where the
+    /// disk stands is the same after each of these. `DiskFault`: only where the disk's faults rose in this call; then the system has
+    /// stopped (this project's profile).
     pub fn tell(&mut self, event: &Event, deck: Option<Job>) -> Result<(), SystemError>
         requires plain { IsTrue (is_plain_event event.now) }
         requires counted { IsCounted event.now }
@@ -97,13 +107,16 @@ impl<D: Disk> System<D> {
         ensures settled { OnOk result (Only (D.content self.new.store.disk) (D.may_leave self.new.store.disk)) }
         ensures size { D.size self.new.store.disk ≡ D.size self.old.store.disk }
         ensures faults { D.faults self.old.store.disk ≤ D.faults self.new.store.disk }
-        ensures cause { IfErr result (NotKept D.faults event.now self.old self.new) }
+        ensures stopped { IfSome self.old.store.fault (λ fault. result ≡ Err (SystemError.Stopped fault)) }
+        ensures cause { IfErr result (NotKept D.faults event.now deck self.old self.new) }
     {
-        let layout = self.store.layout();
-        let tables = self.jobs.tables();
-        if !follows(tables, layout, event, deck.as_ref()) || !may_count(tables, event) {
+        if let Some(fault) = self.store.fault() {
+            return Err(SystemError::Stopped { fault });
+        }
+        if !self.may_keep(event, deck.as_ref()) {
             return Err(SystemError::Misread);
         }
+        let _layout = self.store.layout();
         let prepared = self.jobs.prepare(event, deck.as_ref())?;
         self.store.sync()?;
         self.store.append(event)?;

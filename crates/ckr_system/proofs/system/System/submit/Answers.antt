@@ -15,7 +15,7 @@ unfolding submit_call
 returns-in-Refused-clause-done g c =
     let now = c.args.self.now in
     subst (λ (s : Submission). HasDone (call_by now.jobs.tables.desk c.args.cards.now s) now now) (sym c.in-Refused.is ∙ c.in_ok-number.ensures)
-    (record { tables = refl; running = refl; failed = refl; store = refl })
+    (record { jobs = record { tables = refl; running = refl; failed = refl }; store = refl })
 
 pub returns-in-Refused-clause-told : goal.returns-in-Refused-clause-told
 unfolding submit_call

@@ -1,12 +1,11 @@
 use Rattle.std.proofs.Common.{ap, sym, subst, ◌∙◌}
-use Rattle.ckr_following.proofs.Counted.{counted-may}
 use Rattle.ckr_outside.specs.Disk.{SameOutside}
 use Rattle.ckr_points.specs.Rows.{Tables}
 use Rattle.ckr_tables.specs.Keeping.{MayCount}
 use Rattle.ckr_volumes.specs.declared.layout.Layout.{Layout}
 use Rattle.ckr_volumes.specs.Records.{records_on}
 use Rattle.ckr_system.proofs.Behind.{records-stay}
-use Rattle.ckr_system.proofs.Kept.{append-layout, failed-layout, jobs-stay}
+use Rattle.ckr_system.proofs.Kept.{append-layout, failed-layout, jobs-stay, may-counted}
 use Rattle.ckr_system.proofs.system.System.tell.Goals as goal
 
 pub invariant_of-self-in_err-sync : goal.invariant_of-self-in_err-sync
@@ -23,8 +22,8 @@ invariant_of-self-in_err-append g c =
 
 pub keep-requires-clause-count : goal.keep-requires-clause-count
 keep-requires-clause-count g c =
-    subst (λ (tables : Tables). MayCount c.args.event.now tables.sets) (ap (λ tables. tables.desk) c.tables-tables.ensures ∙ sym c.prepare.ensures.desk)
-    (counted-may c.args.event.now c.tables-tables.result.now.desk.sets (sym c.may_count.ensures ∙ c.if-not-may_count.false))
+    subst (λ (tables : Tables). MayCount c.args.event.now tables.sets) (sym (ap (λ s. s.jobs.tables.desk) c.self.view_is) ∙ sym c.prepare.ensures.desk)
+    (may-counted c.args.event.now _ c.args.self.now (sym c.may_keep.ensures ∙ c.if-not-may_keep.false))
 
 pub returns-clause-records : goal.returns-clause-records
 returns-clause-records g c =

@@ -2,7 +2,7 @@
 use Rattle.std.proofs.Common.{◌≡◌, ◌≤◌, ℕ, Bool, true, false, cond, List, [], ◌∷◌, length, map, find, refl, ap, sym, ◌∙◌, subst, Option, Some, None}
 use Rattle.std.specs.Prelude.{◌==◌}
 use Rattle.std.specs.Option.{option_map, option_map_or}
-use Rattle.ckr_jobs.specs.Seen.{StepSeen, jobs_of, lengths_of_row, running_of}
+use Rattle.ckr_jobs.specs.Seen.{JobsSeen, StepSeen, jobs_of, lengths_of_row, running_of}
 use Rattle.ckr_keeping.specs.Going.{IsDesk, IsGoing}
 use Rattle.ckr_keeping.proofs.Reached.{going-within, seen-so as seen-as}
 use Rattle.ckr_keeping.proofs.Within.{by-step}
@@ -12,7 +12,6 @@ use Rattle.ckr_meaning.specs.Effective.{names_of}
 use Rattle.ckr_meaning.specs.StepRun.{StepStart, work_at}
 use Rattle.ckr_points.specs.Growing.{lengths_at, rewrites_nothing}
 use Rattle.ckr_points.specs.Office.{Office}
-use Rattle.ckr_points.specs.Restarting.{Decked}
 use Rattle.ckr_points.specs.Rows.{RunRow, Tables, run_of}
 use Rattle.ckr_soundness.proofs.Committing.{its_start}
 use Rattle.ckr_soundness.proofs.Entries.{found-holds}
@@ -21,11 +20,11 @@ use Rattle.ckr_turns.specs.Desk.{Desk, StepOn, seen, seen_from, start_of, jobs_o
 use Rattle.ckr_turns.specs.Jobs.{Jobs, Running}
 use Rattle.ckr_turns.specs.Planned.{plan_of}
 use Rattle.ckr_turns.specs.declared.reply.Turn.{Turn}
-use Rattle.ckr_system.specs.Standing.{BothStand, StepStands, Stands}
-use Rattle.ckr_system.specs.State.{SystemState}
-use Rattle.ckr_system.proofs.Lengths.{lengths-so}
-use Rattle.ckr_system.proofs.Planning.{same-plan}
-use Rattle.ckr_system.proofs.Seeing.{seen-so}
+use Rattle.ckr_standing.specs.Standing.{AllStand, StepStands, Stands}
+use Rattle.ckr_volumes.specs.declared.layout.Layout.{Layout}
+use Rattle.ckr_standing.proofs.Lengths.{lengths-so}
+use Rattle.ckr_standing.proofs.Planning.{same-plan}
+use Rattle.ckr_standing.proofs.Seeing.{seen-so}
 
 -- the first one of a run among what is seen is what is seen of the first one
 find-seen : {X : Type 0} (view : X → Running) (number : X → ℕ) → ((x : X) → (view x).run ≡ number x) → (run : ℕ) (xs : List X) → find (λ (step : Running). step.run == run) (map view xs) ≡ option_map view (find (λ x. number x == run) xs)
@@ -71,30 +70,50 @@ module _ (desk : Desk) (is : IsDesk desk) (image : List ℕ) where
       ∙ ap (λ (s : StepStart). lengths_at s desk.office.tables.sets step.progress.writes) its))
       ∙ sym (seen-as desk.office step.run step.progress stands.row stands.start stands.row_at stands.start_at)
 
-  same-found : (found : Option StepSeen) (other : Option StepOn) → ((step : StepOn) → other ≡ Some step → IsGoing desk.office step) → BothStand desk.layout desk.office image found other → option_map (running_of desk.office.tables) found ≡ option_map (λ (step : StepOn). seen desk.office step.run step.progress) other
+  -- the running step of a run, on both sides or on none
+  abbrev BothStand : Option StepSeen → Option StepOn → Type 0
+  BothStand None None = Unit {0}
+  BothStand None (Some step) = ⊥
+  BothStand (Some on) None = ⊥
+  BothStand (Some on) (Some step) = StepStands desk.layout desk.office image on step
+
+  both-stand : (run : ℕ) (seen : List StepSeen) (running : List StepOn) → AllStand desk.layout desk.office image seen running
+      → BothStand (find (λ (on : StepSeen). on.run == run) seen) (find (λ (step : StepOn). step.run == run) running)
+  both-stand run [] [] all = tt
+  both-stand run [] (step ∷ running) all = absurd all
+  both-stand run (on ∷ seen) [] all = absurd all
+  both-stand run (on ∷ seen) (step ∷ running) all =
+      subst (λ (n : ℕ). BothStand (cond (n == run) (Some on) (find (λ (on : StepSeen). on.run == run) seen)) (cond (step.run == run) (Some step) (find (λ (step : StepOn). step.run == run) running))) (sym all.0.run)
+      (by (step.run == run) (both-stand run seen running all.1))
+    where
+      by : (b : Bool) → BothStand (find (λ (on : StepSeen). on.run == run) seen) (find (λ (step : StepOn). step.run == run) running)
+          → BothStand (cond b (Some on) (find (λ (on : StepSeen). on.run == run) seen)) (cond b (Some step) (find (λ (step : StepOn). step.run == run) running))
+      by true later = all.0
+      by false later = later
+
+  same-found : (found : Option StepSeen) (other : Option StepOn) → ((step : StepOn) → other ≡ Some step → IsGoing desk.office step) → BothStand found other → option_map (running_of desk.office.tables) found ≡ option_map (λ (step : StepOn). seen desk.office step.run step.progress) other
   same-found None None going both = refl
   same-found None (Some step) going both = absurd both
   same-found (Some on) None going both = absurd both
   same-found (Some on) (Some step) going both = ap Some (same-step on step (going step refl) both)
 
-  pub same-running : (running : List StepSeen) → ((run : ℕ) → BothStand desk.layout desk.office image (find (λ (on : StepSeen). on.run == run) running) (find (λ (step : StepOn). step.run == run) desk.running))
+  pub same-running : (running : List StepSeen) → AllStand desk.layout desk.office image running desk.running
       → (run : ℕ) → find (λ (step : Running). step.run == run) (map (running_of desk.office.tables) running) ≡ find (λ (step : Running). step.run == run) (jobs_of_desk desk).running
-  same-running running both run =
+  same-running running all run =
       find-seen (running_of desk.office.tables) (λ (on : StepSeen). on.run) (λ on. refl) run running
       ∙ same-found (find (λ (on : StepSeen). on.run == run) running) (find (λ (step : StepOn). step.run == run) desk.running)
-      (λ step found. found-holds (IsGoing desk.office) (λ (step : StepOn). step.run == run) desk.running step is.going found) (both run)
+      (λ step found. found-holds (IsGoing desk.office) (λ (step : StepOn). step.run == run) desk.running step is.going found) (both-stand run running desk.running all)
       ∙ sym (find-seen (λ (step : StepOn). seen desk.office step.run step.progress) (λ (step : StepOn). step.run) (seen-run desk.office) run desk.running)
 
 abbrev with_running : Tables → List ℕ → List Running → Jobs
 with_running tables failed running = record { tables = tables; running = running; failed = failed }
 
-module _ {D : Type 0} (content : D → List ℕ) (may_leave : D → List ℕ → Type 0) where
-  -- what a turn comes to by the jobs in memory is what it comes to at the desk
-  pub plans-so : (system : SystemState D) (events : List Decked) (desk : Desk) (turn : Turn) → Stands content may_leave system events desk → plan_of system.store.layout (jobs_of system.jobs) turn ≡ plan_of desk.layout (jobs_of_desk desk) turn
-  unfolding jobs_of
-  plans-so system events desk turn stands =
-      ap (λ layout. plan_of layout (with_running system.jobs.tables.desk system.jobs.failed (map (running_of system.jobs.tables.desk) system.jobs.running)) turn) (sym stands.layout)
-      ∙ ap (λ tables. plan_of desk.layout (with_running tables system.jobs.failed (map (running_of tables) system.jobs.running)) turn) stands.tables
-      ∙ ap (λ failed. plan_of desk.layout (with_running desk.office.tables failed (map (running_of desk.office.tables) system.jobs.running)) turn) stands.failed
-      ∙ same-plan desk.layout desk.office.tables desk.failed (map (running_of desk.office.tables) system.jobs.running) (jobs_of_desk desk).running
-      (same-running desk stands.is_desk (content system.store.disk) system.jobs.running stands.running) turn
+-- what a turn comes to by the jobs in memory is what it comes to at the desk
+pub plans-so : (layout : Layout) (jobs : JobsSeen) (image : List ℕ) (desk : Desk) (turn : Turn) → Stands layout jobs image desk → plan_of layout (jobs_of jobs) turn ≡ plan_of desk.layout (jobs_of_desk desk) turn
+unfolding jobs_of
+plans-so layout jobs image desk turn stands =
+    ap (λ layout. plan_of layout (with_running jobs.tables.desk jobs.failed (map (running_of jobs.tables.desk) jobs.running)) turn) (sym stands.layout_is)
+    ∙ ap (λ tables. plan_of desk.layout (with_running tables jobs.failed (map (running_of tables) jobs.running)) turn) stands.tables
+    ∙ ap (λ failed. plan_of desk.layout (with_running desk.office.tables failed (map (running_of desk.office.tables) jobs.running)) turn) stands.failed
+    ∙ same-plan desk.layout desk.office.tables desk.failed (map (running_of desk.office.tables) jobs.running) (jobs_of_desk desk).running
+    (same-running desk stands.is_desk image jobs.running stands.running) turn

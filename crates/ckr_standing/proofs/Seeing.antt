@@ -15,7 +15,7 @@ use Rattle.ckr_steps.proofs.Taking.{taken_is}
 use Rattle.ckr_turns.specs.Desk.{StepOn, rc_by, seen_from}
 use Rattle.ckr_turns.specs.Jobs.{Running}
 use Rattle.ckr_volumes.specs.declared.layout.Layout.{Layout}
-use Rattle.ckr_system.specs.Standing.{StepStands}
+use Rattle.ckr_standing.specs.Standing.{StepStands}
 
 finished-is : (start : StepStart) (closed : Bool) (due : NextDue) → DueAt start closed due → finished_by due ≡ (cond closed (Some (rc_by (work_at start).finish)) None)
 finished-is start true (Dues.Finished rc) at = ap (λ finish. Some (rc_by finish)) (sym at)
