@@ -1,0 +1,166 @@
+-- The jobs in memory behind a unit stand for the desk behind it.
+use Rattle.std.proofs.Common.{◌≡◌, ◌≢◌, ℕ, Bool, false, List, ◌∷◌, refl, ap, sym, ◌∙◌, subst, Option, Some, None}
+use Rattle.std.specs.Option.{option_map_or}
+use Rattle.ckr_jobs.specs.Behind.{without_first}
+use Rattle.ckr_jobs.specs.Seen.{JobsSeen, StepSeen}
+use Rattle.ckr_keeping.proofs.Working.{work-keeps}
+use Rattle.ckr_keeping.specs.Going.{IsDesk, IsGoing}
+use Rattle.ckr_leaving.proofs.Units.{committed-kept}
+use Rattle.ckr_leaving.specs.Committed.{HasCommitted}
+use Rattle.ckr_library.proofs.Ordered.{same_item}
+use Rattle.ckr_meaning.specs.Effective.{names_of}
+use Rattle.ckr_meaning.specs.StepRun.{StepStart}
+use Rattle.ckr_points.specs.Rows.{RunRow, run_of}
+use Rattle.ckr_standing.specs.Standing.{AllStand, StepStands, Stands}
+use Rattle.ckr_steps.specs.declared.stepping.Worked.{Worked}
+use Rattle.ckr_steps.specs.declared.stepping.Worked.TheVariants.{Went}
+use Rattle.ckr_steps.specs.Standing.{GoesOn, GoesTo, ShowsWithin, StandsAt}
+use Rattle.ckr_steps.specs.Stepping.{HasWorked}
+use Rattle.ckr_steps.specs.Writing.{Keeps}
+use Rattle.ckr_turns.specs.Desk.{Desk, StepOn, TurnDone, done_by, progress_of, start_of, unit_done, with_progress, without_run, work_of}
+use Rattle.ckr_turns.specs.declared.plan.Plan.TheVariants.{Rest}
+use Rattle.ckr_turns.specs.declared.reply.Reply.TheVariants.{Idle}
+use Rattle.ckr_turns.specs.declared.reply.Turn.{Turn}
+use Rattle.ckr_turns.specs.Working.{Progress, UnitEnd, unit_end, went}
+use Rattle.ckr_volumes.specs.declared.layout.Layout.{Layout}
+use Rattle.ckr_working.specs.Unit.{IsPutBack, UnitDone}
+use Rattle.ckr_working.proofs.Due.{IsDue, is-due}
+use Rattle.ckr_working.proofs.Ends.{end-went, open_at}
+use Rattle.ckr_working.proofs.Lists.{IsPair, differ-put, others-stay, pair-of}
+use Rattle.ckr_working.proofs.Others.{other-stays}
+use Rattle.ckr_working.proofs.Own.{own-stands}
+
+module _ (layout : Layout) (old : JobsSeen) (before after : List ℕ) (desk : Desk) (turn : Turn) (run : ℕ) (on moved : StepSeen) (worked : Worked) (unit : UnitDone layout old before after desk turn run on moved worked) where
+  pub its-desk : IsDesk desk
+  its-desk = unit.stands.is_desk
+
+  -- the running step of the desk
+  pub pair : IsPair desk.layout desk.office before run on desk.running
+  pair = pair-of desk.layout desk.office before run on old.running desk.running unit.stands.running its-desk.going unit.found
+
+  due : IsDue desk run
+  due = is-due desk turn run its-desk unit.planned
+
+  pub unclosed : pair.step.progress.closed ≡ false
+  unclosed = ap (λ (step : StepOn). step.progress.closed) (same_item pair.step due.step (sym pair.at ∙ due.at)) ∙ due.unclosed
+
+  abbrev pub start : StepStart
+  start = pair.stands.start
+
+  abbrev pub taken_before : ℕ
+  taken_before = pair.step.progress.taken
+
+  -- ---- in the layout of the desk
+
+  pub keeps-so : Keeps desk.layout on.sets before after
+  keeps-so = subst (λ (l : Layout). Keeps l on.sets before after) (sym unit.stands.layout_is) unit.keeps
+
+  pub did-so : HasWorked (Unit {0}) before after desk.layout on.step moved.step on.sets moved.sets worked
+  did-so = subst (λ (l : Layout). HasWorked (Unit {0}) before after l on.step moved.step on.sets moved.sets worked) (sym unit.stands.layout_is) unit.did
+
+  pub stands-at : StandsAt start taken_before false on.step on.sets
+  stands-at = subst (λ b. StandsAt pair.stands.start pair.step.progress.taken b on.step on.sets) unclosed pair.stands.stands
+
+  pub shows-at : ShowsWithin (Unit {0}) before desk.layout start on.step.writes on.sets
+  shows-at = subst (λ n. ShowsWithin (Unit {0}) before desk.layout pair.stands.start n on.sets) (sym pair.stands.writes) pair.stands.shows
+
+  pub goes-so : GoesOn (Unit {0}) after desk.layout start taken_before on.step moved.step moved.sets worked
+  goes-so =
+      subst (λ (l : Layout). GoesOn (Unit {0}) after l pair.stands.start pair.step.progress.taken on.step moved.step moved.sets worked) (sym unit.stands.layout_is)
+      (unit.goes pair.stands.start pair.step.progress.taken stands-at
+      (subst (λ (l : Layout). ShowsWithin (Unit {0}) before l pair.stands.start on.step.writes on.sets) unit.stands.layout_is shows-at))
+
+  -- ---- the turn of the desk
+
+  pub row-at : run_of desk.office.tables run ≡ Some pair.stands.row
+  row-at = ap (run_of desk.office.tables) (sym pair.same) ∙ pair.stands.row_at
+
+  pub numbered : pair.stands.row.number ≡ run
+  numbered = its-desk.kept.events.numbered run pair.stands.row row-at
+
+  pub progress-at : progress_of desk run ≡ Some pair.step.progress
+  progress-at = ap (λ (o : Option StepOn). option_map_or (λ (step : StepOn). Some step.progress) o None) pair.at
+
+  progress-is : pair.step.progress ≡ open_at taken_before on.step.writes
+  progress-is =
+      ap (λ (n : ℕ). let progress : Progress = record { taken = pair.step.progress.taken; writes = n; closed = pair.step.progress.closed } in progress) (sym pair.stands.writes)
+      ∙ ap (λ (b : Bool). let progress : Progress = record { taken = pair.step.progress.taken; writes = on.step.writes; closed = b } in progress) unclosed
+
+  pub work-is : (end : UnitEnd) → unit_end start (open_at taken_before on.step.writes) ≡ end → work_of run desk ≡ unit_done pair.stands.row end desk
+  work-is end is =
+      ap (λ (o : Option RunRow). option_map_or (λ row. option_map_or (λ start. option_map_or (λ progress. unit_done row (unit_end start progress) desk) (progress_of desk run) (done_by (Rest Idle) desk)) (start_of desk.office row) (done_by (Rest Idle) desk)) o (done_by (Rest Idle) desk)) row-at
+      ∙ ap (λ (o : Option StepStart). option_map_or (λ start. option_map_or (λ progress. unit_done pair.stands.row (unit_end start progress) desk) (progress_of desk run) (done_by (Rest Idle) desk)) o (done_by (Rest Idle) desk)) pair.stands.start_at
+      ∙ ap (λ (o : Option Progress). option_map_or (λ progress. unit_done pair.stands.row (unit_end pair.stands.start progress) desk) o (done_by (Rest Idle) desk)) progress-at
+      ∙ ap (λ (progress : Progress). unit_done pair.stands.row (unit_end pair.stands.start progress) desk) progress-is
+      ∙ ap (λ (end : UnitEnd). unit_done pair.stands.row end desk) is
+
+  pub work-kept : IsDesk (work_of run desk).desk
+  work-kept = (work-keeps desk its-desk run pair.step.progress progress-at unclosed).kept
+
+  -- ---- what stays
+
+  pub each-stays : (other : StepSeen) (step : StepOn) → IsGoing desk.office step → StepStands desk.layout desk.office before other step → step.run ≢ run → StepStands desk.layout desk.office after other step
+  each-stays other step going stands apart =
+      other-stays desk its-desk before on other pair.step step pair.going going pair.stands stands (λ e. apart (e ∙ pair.same)) after keeps-so
+
+  pub committed-so : (from image : List ℕ) → HasCommitted desk.layout desk.office from → Keeps layout on.sets from image → HasCommitted desk.layout desk.office image
+  committed-so from image had keeps =
+      committed-kept desk.layout desk.office.tables.sets (names_of pair.stands.start.root pair.stands.start.owned) on.sets its-desk.kept.events.extents pair.stands.sets from image
+      (subst (λ (l : Layout). Keeps l on.sets from image) (sym unit.stands.layout_is) keeps) desk.office refl had
+
+  pub run-moved : moved.run ≡ run
+  run-moved = unit.same_run ∙ pair.stands.run ∙ pair.same
+
+-- ---- the step goes on
+
+module _ (layout : Layout) (old : JobsSeen) (before after : List ℕ) (desk : Desk) (turn : Turn) (run : ℕ) (on moved : StepSeen) (taken : ℕ) (unit : UnitDone layout old before after desk turn run on moved (Went taken)) where
+  abbrev p : IsPair desk.layout desk.office before run on desk.running
+  p = pair layout old before after desk turn run on moved (Went taken) unit
+
+  pub goes-to : GoesTo (Unit {0}) after desk.layout p.stands.start taken moved.step moved.sets
+  goes-to = goes-so layout old before after desk turn run on moved (Went taken) unit
+
+  abbrev pub progress : Progress
+  progress = record { taken = taken; writes = moved.step.writes; closed = goes-to.closed }
+
+  pub went-done : work_of run desk ≡ unit_done p.stands.row (record { unit = went None; progress = progress }) desk
+  went-done =
+      work-is layout old before after desk turn run on moved (Went taken) unit (record { unit = went None; progress = progress })
+      (end-went before after desk.layout p.stands.start p.step.progress.taken on.step moved.step on.sets moved.sets (Went taken)
+      (stands-at layout old before after desk turn run on moved (Went taken) unit) (shows-at layout old before after desk turn run on moved (Went taken) unit) (did-so layout old before after desk turn run on moved (Went taken) unit)
+      taken refl goes-to)
+
+  its_run : p.stands.row.number ≡ run
+  its_run = numbered layout old before after desk turn run on moved (Went taken) unit
+
+  abbrev put_step : ℕ → StepOn
+  put_step number = record { run = number; progress = progress }
+
+  own : StepStands desk.layout desk.office after moved (put_step run)
+  own =
+      subst (λ (n : ℕ). StepStands desk.layout desk.office after moved (put_step n)) p.same
+      (own-stands desk unit.stands.is_desk before after on moved p.step p.going p.stands (Went taken) (did-so layout old before after desk turn run on moved (Went taken) unit) unit.same_run taken goes-to)
+
+  others : AllStand desk.layout desk.office after (without_first run old.running) (without_run run desk.running)
+  others =
+      others-stay desk.layout desk.office before after run (each-stays layout old before after desk turn run on moved (Went taken) unit)
+      old.running desk.running unit.stands.is_desk.going unit.stands.differ_so unit.stands.running
+
+  abbrev later : Desk
+  later = with_progress p.stands.row.number progress desk
+
+  running-so : AllStand desk.layout desk.office after (moved ∷ without_first run old.running) later.running
+  running-so = subst (λ (n : ℕ). AllStand desk.layout desk.office after (moved ∷ without_first run old.running) (put_step n ∷ without_run n desk.running)) (sym its_run) (own, others)
+
+  pub went-stands : (put : JobsSeen) → IsPutBack run moved old put → Stands layout put after (work_of run desk).desk
+  went-stands put back =
+      subst (Stands layout put after) (sym (ap (λ (done : TurnDone). done.desk) went-done))
+      (record {
+        layout_is = unit.stands.layout_is;
+        is_desk = subst IsDesk (ap (λ (done : TurnDone). done.desk) went-done) (work-kept layout old before after desk turn run on moved (Went taken) unit);
+        tables = back.tables ∙ unit.stands.tables;
+        failed = back.failed ∙ unit.stands.failed;
+        running = subst (λ (seen : List StepSeen). AllStand desk.layout desk.office after seen later.running) (sym back.running) running-so;
+        differ_so = differ-put (put_step p.stands.row.number) desk.running unit.stands.differ_so;
+        committed = committed-so layout old before after desk turn run on moved (Went taken) unit before after unit.stands.committed unit.keeps;
+      })

@@ -1,0 +1,16 @@
+pub mod Contents
+pub mod Lengthened
+pub mod Others
+pub mod Lists
+pub mod Own
+pub mod Uncancelled
+pub mod Planned
+pub mod Due
+pub mod Ends
+pub mod Endings
+pub mod Behind
+pub mod Turns
+pub mod Told
+pub mod Coded
+pub mod Rewritten
+pub mod Telling
