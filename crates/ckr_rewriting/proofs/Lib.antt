@@ -1,0 +1,14 @@
+pub mod Lists
+pub mod Taken
+pub mod Unit
+pub mod Told
+pub mod Led
+pub mod Behind
+pub mod Own
+pub mod Others
+pub mod Committed
+pub mod Records
+pub mod Asking
+pub mod Standing
+pub mod Updated
+pub mod Again
