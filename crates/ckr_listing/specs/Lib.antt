@@ -1,0 +1,3 @@
+pub mod Listed
+pub mod Lengths
+pub mod Holding
