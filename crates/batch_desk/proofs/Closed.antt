@@ -9,12 +9,13 @@ use Rattle.ckr_formatting.specs.declared.formatting.Outcome.TheVariants as Outco
 use Rattle.ckr_formatting.specs.Formats.{Ends, CausedBy, IsFormatted, CarriedOut}
 use Rattle.ckr_desk.specs.declared.error.OpenError.{OpenError}
 use Rattle.ckr_desk.specs.Replaying.{OpenCause}
+use Rattle.ckr_desk.specs.Sound.{AllSound}
 use Rattle.ckr_desk.specs.State.{State}
-use Rattle.ckr_desk.proofs.Formatted.{fresh_image}
 use Rattle.batch_desk.specs.declared.stop.Stop.{Stop}
 use Rattle.batch_desk.specs.Served.{Serving, faults_of}
-use Rattle.batch_desk.specs.Closing.{AllSound, Ended, NotOpened, HasRun, HasFormatted, opening_status, serving_status, formatting_status}
+use Rattle.batch_desk.specs.Closing.{Ended, NotOpened, HasRun, HasFormatted, opening_status, serving_status, formatting_status}
 use Rattle.batch_desk.proofs.Ends.{serving_from}
+use Rattle.batch_desk.proofs.Formatted.{fresh_image}
 
 Keeps-refl : (a : Option (List ℕ)) → Keeps a a
 Keeps-refl None = tt
@@ -23,7 +24,7 @@ Keeps-refl (Some xs) = refl
 -- ---- a stream
 
 pub run_ended : (told trusted trusted' : Type 0) (opening : Result State OpenError) (state : State) (outcome : Result Bool Stop) (status a b c d before between now : ℕ) (left rest old new : Option (List ℕ))
-    → (told → opening ≡ Ok state) → status ≡ serving_status outcome → before ≤ between → (trusted' → trusted)
+    → (trusted' → opening ≡ Ok state) → status ≡ serving_status outcome → before ≤ between → (trusted' → trusted)
     → Serving trusted state outcome (faults_of a b c d between now) left rest old new → HasRun told trusted' opening status (faults_of a b c d before now) left rest old new
 run_ended told trusted trusted' opening state outcome status a b c d before between now left rest old new opened is later holds s = record {
   end = Ended outcome;
@@ -45,7 +46,7 @@ module _ {D : Type 0} (told : Type 0) (content : D → List ℕ) (may_leave : D 
   all_sound : {E : Type 0} (said : Result Layout E) → told → IsOkAnd said (IsFormatted told (content disk) (may_leave disk) (size disk)) → AllSound told may_leave size disk
   all_sound (Ok layout) holds f = record {
     tells = holds;
-    sound = λ image left. (fresh_image layout (content disk) image (size disk) (f.settled image left) (f.header holds) (f.empty holds)).1;
+    sound = λ image left. fresh_image layout (content disk) image (size disk) (f.settled image left) (f.header holds) (f.empty holds);
   }
   all_sound (Err e) holds f = absurd f
 

@@ -20,14 +20,14 @@ use Rattle.batch_desk.proofs.Halting.{stops_behind, halts_behind}
 use Rattle.batch_desk.proofs.Serving.{Serves-from, Serves-append}
 use Rattle.batch_desk.proofs.Streams.{lines_behind}
 
-module _ {D : Type 0} where
-  lines_waiting : (first : View) (all : List ℕ) (f : Flow D) (start now : Option (List ℕ)) (p : Progress first all f start now) → lines all ≡ map strip_carriage_return p.parts ++ last_lines f.partial.items
+module _ {D : Type 0} (content : D → List ℕ) where
+  lines_waiting : (first : View) (all : List ℕ) (f : Flow D) (start now : Option (List ℕ)) (p : Progress content first all f start now) → lines all ≡ map strip_carriage_return p.parts ++ last_lines f.partial.items
   lines_waiting first all f start now p =
       ap lines (sym (append-nil all)) ∙ ap lines_of_parts (p.split []) ∙ lines_behind p.parts (f.partial.items ++ [])
       ∙ ap (λ w. map strip_carriage_return p.parts ++ lines w) (append-nil f.partial.items)
       ∙ ap (λ w. map strip_carriage_return p.parts ++ lines_of_parts w) (slice_split_none is_line_end f.partial.items p.waits)
 
-  requests_of_all : (first : View) (all : List ℕ) (f : Flow D) (start now : Option (List ℕ)) (p : Progress first all f start now)
+  requests_of_all : (first : View) (all : List ℕ) (f : Flow D) (start now : Option (List ℕ)) (p : Progress content first all f start now)
       → handed_within first_session (map strip_carriage_return p.parts) ++ end_requests f ≡ requests_of all
   requests_of_all first all f start now p =
       ap (λ s. handed_within first_session (map strip_carriage_return p.parts) ++ handed_by s (last_lines f.partial.items)) p.standing
@@ -36,13 +36,13 @@ module _ {D : Type 0} where
       ∙ sym (requests_of-lines all)
 
   -- all of the text is written
-  pub finished : (f : Flow D) (g : View) (old new : Option (List ℕ)) (from text : List ℕ) → Serves (seen f.session.office) g (end_requests f) from text → from ≡ [] → Appends old new text
-      → Finishes f g.refused old new
+  pub finished : (f : Flow D) (g : View) (old new : Option (List ℕ)) (from text : List ℕ) → Serves (seen content f.session.office) g (end_requests f) from text → from ≡ [] → Appends old new text
+      → Finishes content f g.refused old new
   finished f g old new from text s e w first all start clean p =
       let serves : Serves first g (requests_of all) [] (p.text ++ text) =
       subst (λ (items : List Handed). Serves first g items [] (p.text ++ text)) (requests_of_all first all f start old p)
-      (Serves-from first (seen f.session.office) g (handed_within first_session (map strip_carriage_return p.parts)) (end_requests f) p.text text p.serves
-      (subst (λ (t : List ℕ). Serves (seen f.session.office) g (end_requests f) t text) e s)) in (
+      (Serves-from first (seen content f.session.office) g (handed_within first_session (map strip_carriage_return p.parts)) (end_requests f) p.text text p.serves
+      (subst (λ (t : List ℕ). Serves (seen content f.session.office) g (end_requests f) t text) e s)) in (
         serves.fits,
         subst (Appends start new) serves.text (Appends-trans start old new p.text text p.written w),
         serves.refused ∙ ap (λ r. r || list_any is_refusal (calls first.state (requests_of all))) clean,
@@ -50,12 +50,12 @@ module _ {D : Type 0} where
 
   -- the serving stops within the last requests
   pub finish_broken : (stop : Stop) (before now : ℕ) (f : Flow D) (old new : Option (List ℕ))
-      → StopsWithin stop before now (seen f.session.office).state (end_requests f) old new → FinishBreaks stop before now f old new
+      → StopsWithin stop before now (seen content f.session.office).state (end_requests f) old new → FinishBreaks content stop before now f old new
   finish_broken stop before now f old new so first all start p =
       let xs = handed_within first_session (map strip_carriage_return p.parts) in
       subst (λ (items : List Handed). StopsWithin stop before now first.state items start new)
       (append-nil (xs ++ end_requests f) ∙ requests_of_all first all f start old p)
-      (stops_behind stop before before now first (seen f.session.office) xs (end_requests f) [] p.text start old new (omega arith) p.serves p.written so)
+      (stops_behind stop before before now first (seen content f.session.office) xs (end_requests f) [] p.text start old new (omega arith) p.serves p.written so)
 
   -- what is asked at the end, where a line waits: it, and then the deck that is open
   pub end_requests_of : (f : Flow D) (line cards : List ℕ) → line ≡ f.partial.items → (length f.partial.items == 0) ≡ false

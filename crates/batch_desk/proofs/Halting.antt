@@ -10,7 +10,7 @@ use Rattle.batch_desk.specs.declared.stop.Halt.{Halt}
 use Rattle.batch_desk.specs.declared.stop.Halt.TheVariants as Halts
 use Rattle.batch_desk.specs.declared.stop.Stop.{Stop}
 use Rattle.batch_desk.specs.declared.stop.Stop.TheVariants as Stops
-use Rattle.batch_desk.specs.Calls.{after_all, all_fit, replies_of, BrokenOff}
+use Rattle.batch_desk.specs.Calls.{after_all, all_fit, replies_of, broken_off}
 use Rattle.batch_desk.specs.Texts.{answer_text}
 use Rattle.batch_desk.specs.Serves.{View, Serves, BreaksOff, HaltsSo, HaltCause, WritesSo, StopsWithin, Caused, RestWritten, text_to}
 use Rattle.batch_desk.proofs.Serving.{Serves-append, all_fit-append, after_all-append, text_to-append, text_to-full}
@@ -29,9 +29,10 @@ breaks_off_behind s s' xs ys text fit is off = record {
   later = off.later;
   given = ap (λ st. replies_of st off.broken) (after_all-append s xs off.served ∙ ap (λ st. after_all st off.served) (sym is)) ∙ off.given;
   told = ap (λ t. text_to s xs ++ t) off.told
-      ∙ ap (λ st. text_to s xs ++ (text_to st off.served ++ answer_text (BrokenOff off.replies))) is
-      ∙ sym (append_assoc (text_to s xs) (text_to (after_all s xs) off.served) (answer_text (BrokenOff off.replies)))
-      ∙ ap (λ t. t ++ answer_text (BrokenOff off.replies)) (sym (text_to-append s xs off.served fit));
+      ∙ ap (λ st. text_to s xs ++ (text_to st off.served ++ answer_text (broken_off (after_all st off.served) off.broken off.replies))) is
+      ∙ sym (append_assoc (text_to s xs) (text_to (after_all s xs) off.served) (answer_text (broken_off (after_all (after_all s xs) off.served) off.broken off.replies)))
+      ∙ ap (λ t. t ++ answer_text (broken_off (after_all (after_all s xs) off.served) off.broken off.replies)) (sym (text_to-append s xs off.served fit))
+      ∙ ap (λ st. text_to s (xs ++ off.served) ++ answer_text (broken_off st off.broken off.replies)) (sym (after_all-append s xs off.served));
 }
 
 pub breaks_off_before : (s : State) (xs ys : List Handed) (text : List ℕ) → BreaksOff s xs text → BreaksOff s (xs ++ ys) text
@@ -63,6 +64,7 @@ halts_behind Halts.Book a b xs ys t u v first so = (
       ∙ ap (λ st. t ++ (text_to a.state xs ++ text_to st ys)) first.state
       ∙ ap (λ w. t ++ w) (sym (text_to-append a.state xs ys first.fits)),
 )
+halts_behind Halts.Misread a b xs ys t u v first so = absurd so
 halts_behind Halts.Disk a b xs ys t u v first so = (
   text_to a.state xs ++ so.0,
   so.1 ∙ ap (λ w. w ++ so.0) first.text ∙ append_assoc t (text_to a.state xs) so.0,
@@ -72,6 +74,7 @@ halts_behind Halts.Disk a b xs ys t u v first so = (
 pub halts_before : (halt : Halt) (s : State) (xs ys : List Handed) (t v : List ℕ) → HaltsSo halt s xs t v → HaltsSo halt s (xs ++ ys) t v
 halts_before Halts.Memory s xs ys t v so = tt
 halts_before Halts.Book s xs ys t v so = (full_before s xs ys so.0, so.1 ∙ ap (λ w. t ++ w) (sym (text_to-full s xs ys so.0)))
+halts_before Halts.Misread s xs ys t v so = absurd so
 halts_before Halts.Disk s xs ys t v so = (so.0, so.1, breaks_off_before s xs ys so.0 so.2)
 
 -- ---- what is written
@@ -109,15 +112,19 @@ stops_earlier Stops.Limit before between now s xs old new later so = so
 stops_earlier Stops.Sink before between now s xs old new later so = so
 stops_earlier Stops.Memory before between now s xs old new later so = so
 stops_earlier Stops.Book before between now s xs old new later so = (so.0, writes_earlier before between now old new (text_to s xs) later so.1)
+stops_earlier Stops.Misread before between now s xs old new later so = absurd so
 stops_earlier Stops.Disk before between now s xs old new later so = (so.0, so.1, writes_earlier before between now old new so.0 later so.2)
 
-pub cause_earlier : (stop : Stop) (before between now before' between' now' : ℕ) → before ≤ between → before' ≤ between' → Caused stop between now between' now' → Caused stop before now before' now'
-cause_earlier Stops.Source before between now before' between' now' later later' so = so
-cause_earlier Stops.Limit before between now before' between' now' later later' so = so
-cause_earlier Stops.Sink before between now before' between' now' later later' so = rose_earlier before between now later so
-cause_earlier Stops.Memory before between now before' between' now' later later' so = tt
-cause_earlier Stops.Book before between now before' between' now' later later' so = tt
-cause_earlier Stops.Disk before between now before' between' now' later later' so = rose_earlier before' between' now' later' so
+-- counted from an earlier moment on, and of a disk that is trusted where this one is
+pub cause_earlier : (trusted trusted' : Type 0) (stop : Stop) (before between now before' between' now' : ℕ) → before ≤ between → before' ≤ between' → (trusted' → trusted)
+    → Caused trusted stop between now between' now' → Caused trusted' stop before now before' now'
+cause_earlier trusted trusted' Stops.Source before between now before' between' now' later later' holds so = so
+cause_earlier trusted trusted' Stops.Limit before between now before' between' now' later later' holds so = so
+cause_earlier trusted trusted' Stops.Sink before between now before' between' now' later later' holds so = rose_earlier before between now later so
+cause_earlier trusted trusted' Stops.Memory before between now before' between' now' later later' holds so = tt
+cause_earlier trusted trusted' Stops.Book before between now before' between' now' later later' holds so = tt
+cause_earlier trusted trusted' Stops.Disk before between now before' between' now' later later' holds so = rose_earlier before' between' now' later' so
+cause_earlier trusted trusted' Stops.Misread before between now before' between' now' later later' holds so = λ h. so (holds h)
 
 -- The text of the whole is that of what was served, of what was asked then, and of more.
 stops_front : (s s' : State) (xs ys more : List Handed) (start old new : Option (List ℕ)) → all_fit s xs ≡ true → s' ≡ after_all s xs
@@ -151,6 +158,7 @@ stops_behind Stops.Book before between now a b xs ys more t start old new later 
     ∙ ap (λ st. text_to a.state xs ++ text_to st ys) first.state
     ∙ sym (text_to-append a.state xs ys first.fits) ∙ sym (text_to-full a.state (xs ++ ys) more full) in
     (full_before a.state (xs ++ ys) more full, subst (WritesSo before now start new) text (writes_behind before between now start old new t (text_to b.state ys) later written so.1))
+stops_behind Stops.Misread before between now a b xs ys more t start old new later first written so = absurd so
 stops_behind Stops.Disk before between now a b xs ys more t start old new later first written so = (
   t ++ so.0,
   breaks_off_before a.state (xs ++ ys) more (t ++ so.0)
@@ -167,14 +175,16 @@ rest_written Halts.Memory stop before now s xs out old new so rest =
     (subst (λ (end : Option (List ℕ)). AppendsFront old end (text_to s xs)) (sym rest.1) ([], text_to s xs, refl, Appends-nil old))
 rest_written Halts.Book stop before now s xs out old new so rest =
     subst (λ (w : Stop). StopsWithin w before now s xs old new) (sym rest.0) (so.0, subst (WritesSo before now old new) so.1 rest.1)
+rest_written Halts.Misread stop before now s xs out old new so rest = absurd so
 rest_written Halts.Disk stop before now s xs out old new so rest =
     subst (λ (w : Stop). StopsWithin w before now s xs old new) (sym rest.0) (so.0, so.2, subst (WritesSo before now old new) so.1 rest.1)
 
-pub rest_caused : (halt : Halt) (stop : Stop) (before now : ℕ) (disk disk' : ℕ) (out : List ℕ) (old new : Option (List ℕ))
-    → HaltCause halt disk disk' → RestWritten halt stop before now old new out → Caused stop before now disk disk'
-rest_caused Halts.Memory stop before now disk disk' out old new cause rest = subst (λ (w : Stop). Caused w before now disk disk') (sym rest.0) tt
-rest_caused Halts.Book stop before now disk disk' out old new cause rest = subst (λ (w : Stop). Caused w before now disk disk') (sym rest.0) tt
-rest_caused Halts.Disk stop before now disk disk' out old new cause rest = subst (λ (w : Stop). Caused w before now disk disk') (sym rest.0) cause
+pub rest_caused : (trusted : Type 0) (halt : Halt) (stop : Stop) (before now : ℕ) (disk disk' : ℕ) (out : List ℕ) (old new : Option (List ℕ))
+    → HaltCause trusted halt disk disk' → RestWritten halt stop before now old new out → Caused trusted stop before now disk disk'
+rest_caused trusted Halts.Memory stop before now disk disk' out old new cause rest = subst (λ (w : Stop). Caused trusted w before now disk disk') (sym rest.0) tt
+rest_caused trusted Halts.Book stop before now disk disk' out old new cause rest = subst (λ (w : Stop). Caused trusted w before now disk disk') (sym rest.0) tt
+rest_caused trusted Halts.Disk stop before now disk disk' out old new cause rest = subst (λ (w : Stop). Caused trusted w before now disk disk') (sym rest.0) cause
+rest_caused trusted Halts.Misread stop before now disk disk' out old new cause rest = subst (λ (w : Stop). Caused trusted w before now disk disk') (sym rest.0) cause
 
 -- ---- of a call's result
 
@@ -195,15 +205,17 @@ pub memory_on : {T : Type 0} (r : Result T Halt) (s : State) (xs : List Handed) 
 memory_on (Ok x) s xs t v is = tt
 memory_on (Err h) s xs t v is = subst (λ (w : Halt). HaltsSo w s xs t v) (sym is) tt
 
-pub cause_handed_on : {T : Type 0} (r : Result T Halt) (halt : Halt) (before now now' : ℕ) → IsErrAnd r (λ h. h ≡ halt) → HaltCause halt before now → now ≡ now' → IfErr r (λ h. HaltCause h before now')
-cause_handed_on (Ok x) halt before now now' is cause same = tt
-cause_handed_on (Err h) halt before now now' is cause same = subst (λ (w : Halt). HaltCause w before now') (sym is) (subst (λ (n : ℕ). HaltCause halt before n) same cause)
+pub cause_handed_on : {T : Type 0} (trusted : Type 0) (r : Result T Halt) (halt : Halt) (before now now' : ℕ) → IsErrAnd r (λ h. h ≡ halt) → HaltCause trusted halt before now → now ≡ now' → IfErr r (λ h. HaltCause trusted h before now')
+cause_handed_on trusted (Ok x) halt before now now' is cause same = tt
+cause_handed_on trusted (Err h) halt before now now' is cause same = subst (λ (w : Halt). HaltCause trusted w before now') (sym is) (subst (λ (n : ℕ). HaltCause trusted halt before n) same cause)
 
-halt_earlier : (halt : Halt) (before between now : ℕ) → before ≤ between → HaltCause halt between now → HaltCause halt before now
-halt_earlier Halts.Memory before between now later cause = tt
-halt_earlier Halts.Book before between now later cause = tt
-halt_earlier Halts.Disk before between now later cause = rose_earlier before between now later cause
+pub halt_earlier : (trusted trusted' : Type 0) (halt : Halt) (before between now : ℕ) → before ≤ between → (trusted' → trusted) → HaltCause trusted halt between now → HaltCause trusted' halt before now
+halt_earlier trusted trusted' Halts.Memory before between now later holds cause = tt
+halt_earlier trusted trusted' Halts.Book before between now later holds cause = tt
+halt_earlier trusted trusted' Halts.Disk before between now later holds cause = rose_earlier before between now later cause
+halt_earlier trusted trusted' Halts.Misread before between now later holds cause = λ h. cause (holds h)
 
-pub cause_on : {T : Type 0} (r : Result T Halt) (before between now : ℕ) → before ≤ between → IfErr r (λ halt. HaltCause halt between now) → IfErr r (λ halt. HaltCause halt before now)
-cause_on (Ok x) before between now later cause = tt
-cause_on (Err halt) before between now later cause = halt_earlier halt before between now later cause
+pub cause_on : {T : Type 0} (trusted trusted' : Type 0) (r : Result T Halt) (before between now : ℕ) → before ≤ between → (trusted' → trusted)
+    → IfErr r (λ halt. HaltCause trusted halt between now) → IfErr r (λ halt. HaltCause trusted' halt before now)
+cause_on trusted trusted' (Ok x) before between now later holds cause = tt
+cause_on trusted trusted' (Err halt) before between now later holds cause = halt_earlier trusted trusted' halt before between now later holds cause

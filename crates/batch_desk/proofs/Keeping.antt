@@ -1,24 +1,16 @@
 -- What a stop leaves, one call after another.
-use Rattle.std.proofs.Common.{◌≡◌, ◌++◌, [], ℕ, List, Option, Some, None, Result, Ok, Err, IsErrAnd, refl, ap, sym, ◌∙◌, subst, append_assoc, append-nil}
+use Rattle.std.proofs.Common.{◌≡◌, ◌≤◌, ◌++◌, [], ℕ, List, Result, Ok, Err, IsErrAnd, refl, ap, sym, ◌∙◌, subst, append_assoc, append-nil}
 use Rattle.ckr_outside.specs.Moments.{and_then, in_other_words}
 use Rattle.ckr_volumes.specs.declared.layout.Layout.{Layout}
-use Rattle.ckr_events.specs.declared.event.Event.{Event}
-use Rattle.ckr_course.specs.declared.stage.Standing.{Standing}
 use Rattle.ckr_store.specs.Opens.{event_records}
-use Rattle.ckr_store.specs.declared.error.StoreError.{StoreError}
-use Rattle.ckr_desk.specs.Calls.{Done, with_event}
-use Rattle.ckr_desk.specs.Sound.{Sound, HasKept, IsKeptFrom, IsTrusted, KeepsWithin, spelled}
+use Rattle.ckr_desk.specs.Sound.{HasKept, KeepsWithin}
 use Rattle.ckr_desk.specs.State.{DeskState}
-use Rattle.batch_desk.specs.Keeping.{Within, Goes, GoesBy}
+use Rattle.batch_desk.specs.Keeping.{IsKeptFrom, Within, Goes, GoesBy}
 
 kept_from : (layout : Layout) (size : ℕ) (before came : List (List ℕ)) (image : List ℕ) → HasKept layout size before came image → IsKeptFrom layout size before image
 kept_from layout size before came image has = record { sound = has.sound; more = has.front; events = has.events }
 
-with_spelled : (before : List (List ℕ)) (event : Option Event) → with_event before event ≡ before ++ spelled event
-with_spelled before None = sym (append-nil before)
-with_spelled before (Some event) = refl
-
-module _ {D : Type 0} (told : Type 0) (content : D → List ℕ) (may_leave : D → List ℕ → Type 0) (moment : D → ℕ) (left_since : D → ℕ → List ℕ → Type 0) (size faults : D → ℕ) where
+module _ {D : Type 0} (content : D → List ℕ) (moment : D → ℕ) (left_since : D → ℕ → List ℕ → Type 0) (size : D → ℕ) where
   pub within_of : (old new : DeskState D) (came : List (List ℕ)) → KeepsWithin content moment left_since size old new came → Within content moment left_since size old new
   within_of old new came kept =
       in_other_words moment left_since old.store.disk new.store.disk _ _ kept
@@ -28,17 +20,20 @@ module _ {D : Type 0} (told : Type 0) (content : D → List ℕ) (may_leave : D 
   pub goes_nowhere : (desk : DeskState D) → KeepsWithin content moment left_since size desk desk [] → Goes content moment left_since size desk desk
   goes_nowhere desk kept = record { within = within_of desk desk [] kept; same_layout = refl; same_size = refl; came = []; events = sym (append-nil (event_records desk.store.layout (content desk.store.disk))) }
 
-  -- a call of the desk
-  pub goes_done : {T : Type 0} (result : Result T StoreError) (event : Option Event) (run : Option Standing) (old new : DeskState D) → Done told content may_leave moment left_since size faults event run old new result
-      → IsTrusted told content may_leave old → KeepsWithin content moment left_since size old new (spelled event) → GoesBy content moment left_since size result old new
-  goes_done (Ok x) event run old new done trusted kept = record {
-    within = within_of old new (spelled event) kept;
-    same_layout = done.ok.same_layout;
-    same_size = done.same_size;
-    came = spelled event;
-    events = done.events trusted.tells ∙ with_spelled (event_records old.store.layout (content old.store.disk)) event;
-  }
-  goes_done (Err e) event run old new done trusted kept = within_of old new (spelled event) kept
+  -- a call of the desk, on a disk of which a read gives one of the images
+  pub goes_done : (may_leave : D → List ℕ → Type 0) (old new : DeskState D) (came : List (List ℕ)) → may_leave new.store.disk (content new.store.disk)
+      → ((t : ℕ) (image : List ℕ) → t ≤ moment new.store.disk → may_leave new.store.disk image → left_since new.store.disk t image)
+      → new.store.layout ≡ old.store.layout → size new.store.disk ≡ size old.store.disk
+      → KeepsWithin content moment left_since size old new came → Goes content moment left_since size old new
+  goes_done may_leave old new came reads counts same_layout same_size kept =
+      let has = kept.each (content new.store.disk) (counts (moment old.store.disk) (content new.store.disk) kept.later reads) in
+      record {
+        within = within_of old new came kept;
+        same_layout = same_layout;
+        same_size = same_size;
+        came = has.front;
+        events = has.events;
+      }
 
   kept_before : (a b : DeskState D) (goes : Goes content moment left_since size a b) (image : List ℕ)
       → IsKeptFrom b.store.layout (size b.store.disk) (event_records b.store.layout (content b.store.disk)) image

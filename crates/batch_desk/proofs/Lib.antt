@@ -6,13 +6,15 @@ pub mod CodeNames
 pub mod Ends
 pub mod Feeds
 pub mod Finish
+pub mod Formatted
 pub mod Halting
 pub mod Keeping
+pub mod Listing
+pub mod Pushing
 pub mod Serving
 pub mod Steps
 pub mod Stopping
 pub mod Streams
 pub mod Told
-pub mod Turned
 pub mod Waiting
 pub mod Written

@@ -5,7 +5,7 @@ use Rattle.std.proofs.lemmas.Bool.{false≢true}
 use Rattle.std.proofs.lemmas.Grind.{flat_map-append}
 use Rattle.ckr_statements.specs.Session.{Handed}
 use Rattle.ckr_desk.specs.State.{State}
-use Rattle.batch_desk.specs.Calls.{Answer, answer, after, fits, replies_of, calls, after_all, all_fit, is_refusal, BrokenOff}
+use Rattle.batch_desk.specs.Calls.{Answer, answer, after, fits, replies_of, calls, after_all, all_fit, is_refusal, broken_off}
 use Rattle.batch_desk.specs.Texts.{answer_text}
 use Rattle.batch_desk.specs.Serves.{View, Serves, text_to}
 
@@ -34,7 +34,7 @@ after_all-append s (x ∷ xs) ys = after_all-append (after s x) xs ys
 
 -- one call, and those behind it
 abbrev call_and : State → Handed → List Answer → Bool → List Answer
-call_and s x rest b = cond b (answer s x ∷ rest) (BrokenOff (replies_of s x) ∷ [])
+call_and s x rest b = cond b (answer s x ∷ rest) (broken_off s x (replies_of s x) ∷ [])
 
 -- ---- what is answered
 
@@ -126,5 +126,5 @@ serves_one (Ok x) a b request t u fit state refused text =
     or_false false = refl
 
 -- where the book has no room for it
-pub text_to-one : (s : State) (request : Handed) → fits s request ≡ false → text_to s (request ∷ []) ≡ answer_text (BrokenOff (replies_of s request))
-text_to-one s request full = ap (λ b. flat_map answer_text (call_and s request [] b)) full ∙ append-nil (answer_text (BrokenOff (replies_of s request)))
+pub text_to-one : (s : State) (request : Handed) → fits s request ≡ false → text_to s (request ∷ []) ≡ answer_text (broken_off s request (replies_of s request))
+text_to-one s request full = ap (λ b. flat_map answer_text (call_and s request [] b)) full ∙ append-nil (answer_text (broken_off s request (replies_of s request)))

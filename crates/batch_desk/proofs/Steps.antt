@@ -3,14 +3,13 @@ use Rattle.std.proofs.Common.{◌≡◌, ℕ, false, List, [], ◌∷◌, ◌++�
 use Rattle.std.specs.List.{slice_split, All}
 use Rattle.std.specs.Str.Lines.{strip_carriage_return}
 use Rattle.std.proofs.lemmas.List.{map-append}
-use Rattle.std.proofs.lemmas.List.Elements.{All-nil, All-push}
+use Rattle.std.proofs.lemmas.List.Elements.{All-nil}
 use Rattle.std.proofs.lemmas.List.Splits.{slice_split_at}
 use Rattle.ckr_outside.proofs.Fronts.{Appends-trans}
 use Rattle.ckr_statements.specs.Session.{Handed, Session as Standing, first_session, session_behind, session_behind_all, handed_with, handed_within}
 use Rattle.ckr_statements.proofs.Sessions.{handed_within-append}
 use Rattle.batch_desk.specs.declared.flow.Flow.{Flow}
 use Rattle.batch_desk.specs.Serves.{View, Serves, seen}
-use Rattle.batch_desk.specs.Sessions.{standing_of}
 use Rattle.batch_desk.specs.Stream.{is_line_end}
 use Rattle.batch_desk.specs.Flows.{EndsLine, Progress}
 use Rattle.batch_desk.proofs.Serving.{Serves-from}
@@ -33,9 +32,9 @@ pushed_standing parts line =
     ap (session_behind_all first_session) (pushed_lines parts line)
     ∙ session_behind_all-append first_session (map strip_carriage_return parts) (strip_carriage_return line ∷ [])
 
-module _ {D : Type 0} where
+module _ {D : Type 0} (content : D → List ℕ) where
   -- the parts behind a line's end
-  pub split_at_end : (first : View) (taken : List ℕ) (f : Flow D) (start now : Option (List ℕ)) (p : Progress first taken f start now) → (rest : List ℕ)
+  pub split_at_end : (first : View) (taken : List ℕ) (f : Flow D) (start now : Option (List ℕ)) (p : Progress content first taken f start now) → (rest : List ℕ)
       → slice_split is_line_end (taken ++ 10 ∷ rest) ≡ (p.parts ++ f.partial.items ∷ []) ++ slice_split is_line_end rest
   split_at_end first taken f start now p rest =
       p.split (10 ∷ rest)
@@ -43,8 +42,8 @@ module _ {D : Type 0} where
       ∙ sym (append_assoc p.parts (f.partial.items ∷ []) (slice_split is_line_end rest))
 
   -- a line's end comes, and the line is served
-  pub line_served : (first : View) (taken : List ℕ) (f g : Flow D) (start old new : Option (List ℕ)) → EndsLine f g old new
-      → Progress first taken f start old → Progress first (taken ++ 10 ∷ []) g start new
+  pub line_served : (first : View) (taken : List ℕ) (f g : Flow D) (start old new : Option (List ℕ)) → EndsLine content f g old new
+      → Progress content first taken f start old → Progress content first (taken ++ 10 ∷ []) g start new
   line_served first taken f g start old new e p = record {
     parts = p.parts ++ f.partial.items ∷ [];
     split = λ rest.
@@ -55,8 +54,8 @@ module _ {D : Type 0} where
     standing = e.cuts.standing ∙ ap (λ s. session_behind s (strip_carriage_return f.partial.items)) p.standing ∙ sym (pushed_standing p.parts f.partial.items);
     text = p.text ++ e.text;
     serves =
-        (let more = subst (λ (s : Standing). Serves (seen f.session.office) (seen g.session.office) (handed_with s (strip_carriage_return f.partial.items)) [] e.text) p.standing e.serves in
-        subst (λ (xs : List Handed). Serves first (seen g.session.office) xs [] (p.text ++ e.text)) (sym (pushed_requests p.parts f.partial.items))
-        (Serves-from first (seen f.session.office) (seen g.session.office) _ _ p.text e.text p.serves more));
+        (let more = subst (λ (s : Standing). Serves (seen content f.session.office) (seen content g.session.office) (handed_with s (strip_carriage_return f.partial.items)) [] e.text) p.standing e.serves in
+        subst (λ (xs : List Handed). Serves first (seen content g.session.office) xs [] (p.text ++ e.text)) (sym (pushed_requests p.parts f.partial.items))
+        (Serves-from first (seen content f.session.office) (seen content g.session.office) _ _ p.text e.text p.serves more));
     written = Appends-trans start old new p.text e.text p.written e.written;
   }

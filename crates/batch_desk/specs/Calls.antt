@@ -1,61 +1,80 @@
 -- The calls of the desk that a stream makes, and what is answered, up to the one that the book has no room for.
-use Rattle.std.specs.Prelude.{ℕ, zero, suc, ◌==◌, ◌&&◌, Bool, true, false, if◌then◌else◌, List, [], ◌∷◌, Option, None, Some}
-use Rattle.ckr_course.specs.Submitting.{submit_answer, submitted, event_of_submit}
-use Rattle.ckr_course.specs.Listing.{records_of, lines_of}
-use Rattle.ckr_course.specs.declared.run.Run.{Run}
-use Rattle.ckr_course.specs.declared.reply.Reply.{Reply}
-use Rattle.ckr_course.specs.declared.reply.Reply.TheVariants.{Idle}
-use Rattle.ckr_course.specs.declared.reply.Turn.{Turn}
-use Rattle.ckr_course.specs.declared.reply.Submitted.{Submitted}
-use Rattle.ckr_course.specs.declared.reply.Submitted.TheVariants.{Job, Refused}
-use Rattle.ckr_desk.specs.State.{State, has_room, reply_of, event_of_turn, behind_turn, behind_deck}
+use Rattle.std.specs.Prelude.{ℕ, zero, suc, ◌==◌, ◌&&◌, Bool, true, false, if◌then◌else◌, List, [], ◌∷◌, map, Option, None, Some}
+use Rattle.ckr_library.specs.Named.{Name}
+use Rattle.ckr_library.specs.declared.sets.DataSet.{DataSet}
+use Rattle.ckr_listing.specs.Listed.{listed, records_of}
+use Rattle.ckr_points.specs.Rows.{Tables}
+use Rattle.ckr_points.specs.declared.run.Run.{Run}
 use Rattle.ckr_statements.specs.Session.{Handed}
 use Rattle.ckr_statements.specs.Session.Handed.{Deck, Order as Command, Refusal}
+use Rattle.ckr_desk.specs.Calling.{behind_call, call_fits}
+use Rattle.ckr_desk.specs.Turning.{behind_turn, reply_of, turn_fits}
+use Rattle.ckr_desk.specs.State.{State}
+use Rattle.ckr_desk.specs.Submitting.{submit_answer, submit_call, is_queued, purge_call}
+use Rattle.ckr_tables.specs.Seen.{line_of}
+use Rattle.ckr_turns.specs.declared.reply.Reply.{Reply}
+use Rattle.ckr_turns.specs.declared.reply.Reply.TheVariants.{Idle}
+use Rattle.ckr_turns.specs.declared.reply.Turn.{Turn}
+use Rattle.ckr_turns.specs.declared.reply.Submitted.{Submitted}
+use Rattle.ckr_turns.specs.declared.reply.Submitted.TheVariants.{Job, Refused}
+use Rattle.ckr_volumes.specs.declared.layout.Layout.{Layout}
 use Rattle.batch_desk.specs.declared.orders.Order.{Order}
-use Rattle.batch_desk.specs.declared.orders.Order.TheVariants.{Turns, ListOf, Unknown}
+use Rattle.batch_desk.specs.declared.orders.Order.TheVariants.{Turns, ListOf, Sets, Jobs, Purge, Unknown}
 use Rattle.batch_desk.specs.Orders.{order_of}
 
+-- the layout tells the serials of volumes
 pub data Answer : Type 0 where
   Accepted : (number : ℕ) (name : List ℕ) → Answer
   DeckRefused : (number card : ℕ) → Answer
   LineRefused : (number : ℕ) → Answer
-  Turned : (replies : List Reply) → Answer
+  Turned : (layout : Layout) (initiator : ℕ) (replies : List Reply) → Answer
   Listed : (records : List (List ℕ)) → Answer
+  SetsListed : (layout : Layout) (sets : List (Name × DataSet)) → Answer
+  JobsListed : (runs : List Run) → Answer
+  Purged : (job : ℕ) → Answer
   -- a call that didn't end, and the replies that were given before
-  BrokenOff : (replies : List Reply) → Answer
+  BrokenOff : (layout : Layout) (initiator : ℕ) (replies : List Reply) → Answer
+
+-- the tables behind the events
+abbrev pub tables_of : State → Tables
+tables_of state = state.desk.office.tables
+
+abbrev pub lines_of : Tables → List Run
+lines_of tables = map line_of tables.runs
 
 -- ---- turns
 
--- a turn of initiator 1
-abbrev pub plain_turn : Turn
-plain_turn = record { initiator = 1; fail = None }
+-- a turn of an initiator
+abbrev pub plain_turn : ℕ → Turn
+plain_turn initiator = record { initiator = initiator; fail = None }
 
 abbrev pub is_idle : Reply → Bool
 is_idle Idle = true
 is_idle _ = false
 
--- the book has room for the event of the next turn
-unfoldable pub turn_fits : State → Bool
-turn_fits state = has_room state.room (event_of_turn state plain_turn)
-
--- the replies to at most so many turns, up to the first Idle, or to the first turn that the book has no room for
-abbrev pub turns : ℕ → State → List Reply
-turns zero state = []
-turns (suc n) state =
-    if turn_fits state then reply_of state plain_turn ∷ (if is_idle (reply_of state plain_turn) then [] else turns n (behind_turn state plain_turn))
+-- the replies to at most so many turns of an initiator, up to the first Idle, or to the first turn that the book has no room for
+abbrev pub turns : ℕ → ℕ → State → List Reply
+turns initiator zero state = []
+turns initiator (suc n) state =
+    if turn_fits state (plain_turn initiator) then
+    reply_of state (plain_turn initiator)
+    ∷ (if is_idle (reply_of state (plain_turn initiator)) then [] else turns initiator n (behind_turn state (plain_turn initiator)))
     else []
 
-abbrev pub after_turns : ℕ → State → State
-after_turns zero state = state
-after_turns (suc n) state =
-    if turn_fits state then (if is_idle (reply_of state plain_turn) then behind_turn state plain_turn else after_turns n (behind_turn state plain_turn))
+abbrev pub after_turns : ℕ → ℕ → State → State
+after_turns initiator zero state = state
+after_turns initiator (suc n) state =
+    if turn_fits state (plain_turn initiator) then
+    if is_idle (reply_of state (plain_turn initiator)) then behind_turn state (plain_turn initiator)
+    else after_turns initiator n (behind_turn state (plain_turn initiator))
     else state
 
 -- the book has room for all of them
-abbrev pub turns_fit : ℕ → State → Bool
-turns_fit zero state = true
-turns_fit (suc n) state =
-    if turn_fits state then (if is_idle (reply_of state plain_turn) then true else turns_fit n (behind_turn state plain_turn))
+abbrev pub turns_fit : ℕ → ℕ → State → Bool
+turns_fit initiator zero state = true
+turns_fit initiator (suc n) state =
+    if turn_fits state (plain_turn initiator) then
+    if is_idle (reply_of state (plain_turn initiator)) then true else turns_fit initiator n (behind_turn state (plain_turn initiator))
     else false
 
 -- ---- decks
@@ -69,11 +88,14 @@ abbrev pub answer_to_deck : Submitted → List Run → Answer
 answer_to_deck (Job number) runs = Accepted number (name_in number runs)
 answer_to_deck (Refused number card) runs = DeckRefused number card
 
-unfoldable pub deck_answer : State → List ℕ → Answer
-deck_answer state cards = answer_to_deck (submit_answer state.run cards) (lines_of (submitted state.run cards))
+abbrev pub behind_deck : State → List ℕ → State
+behind_deck state cards = behind_call state (submit_call (tables_of state) cards)
 
-unfoldable pub deck_fits : State → List ℕ → Bool
-deck_fits state cards = has_room state.room (event_of_submit state.run cards)
+unfoldable pub deck_answer : State → List ℕ → Answer
+deck_answer state cards = answer_to_deck (submit_answer (tables_of state) cards) (lines_of (tables_of (behind_deck state cards)))
+
+abbrev pub deck_fits : State → List ℕ → Bool
+deck_fits state cards = call_fits state (submit_call (tables_of state) cards)
 
 -- ---- commands
 
@@ -81,57 +103,92 @@ abbrev pub list_answer : ℕ → Option (List (List ℕ)) → Answer
 list_answer number None = LineRefused number
 list_answer number (Some records) = Listed records
 
+abbrev pub purge_answer : ℕ → ℕ → Bool → Answer
+purge_answer number job true = Purged job
+purge_answer number job false = LineRefused number
+
 abbrev pub order_answer : State → ℕ → Order → Answer
-order_answer state number (Turns n) = Turned (turns n state)
-order_answer state number (ListOf name) = list_answer number (records_of state.run name)
+order_answer state number (Turns initiator n) = Turned state.desk.layout initiator (turns initiator n state)
+order_answer state number (ListOf name) = list_answer number (records_of state.desk name)
+order_answer state number Sets = SetsListed state.desk.layout (listed state.desk)
+order_answer state number Jobs = JobsListed (lines_of (tables_of state))
+order_answer state number (Purge job) = purge_answer number job (is_queued (tables_of state) job)
 order_answer state number Unknown = LineRefused number
 
 abbrev pub after_order : State → Order → State
-after_order state (Turns n) = after_turns n state
+after_order state (Turns initiator n) = after_turns initiator n state
 after_order state (ListOf name) = state
+after_order state Sets = state
+after_order state Jobs = state
+after_order state (Purge job) = behind_call state (purge_call (tables_of state) job)
 after_order state Unknown = state
 
 abbrev pub order_fits : State → Order → Bool
-order_fits state (Turns n) = turns_fit n state
+order_fits state (Turns initiator n) = turns_fit initiator n state
 order_fits state (ListOf name) = true
+order_fits state Sets = true
+order_fits state Jobs = true
+order_fits state (Purge job) = call_fits state (purge_call (tables_of state) job)
 order_fits state Unknown = true
 
--- the replies to a command
+-- the replies to a command, up to the first turn that the book has no room for
 abbrev pub replies_to : State → Order → List Reply
-replies_to state (Turns n) = turns n state
+replies_to state (Turns initiator n) = turns initiator n state
 replies_to state (ListOf name) = []
+replies_to state Sets = []
+replies_to state Jobs = []
+replies_to state (Purge job) = []
 replies_to state Unknown = []
+
+-- the initiator whose replies they are
+abbrev pub initiator_of : Order → ℕ
+initiator_of (Turns initiator n) = initiator
+initiator_of (ListOf name) = 0
+initiator_of Sets = 0
+initiator_of Jobs = 0
+initiator_of (Purge job) = 0
+initiator_of Unknown = 0
 
 -- ---- requests
 
+-- what a line asks for, by the initiators that there are
+abbrev pub order_in : State → List ℕ → Order
+order_in state text = order_of state.desk.layout.initiators text
+
 abbrev pub answer : State → Handed → Answer
 answer state (Deck cards) = deck_answer state cards
-answer state (Command number text) = order_answer state number (order_of text)
+answer state (Command number text) = order_answer state number (order_in state text)
 answer state (Refusal number) = LineRefused number
 
 abbrev pub after : State → Handed → State
 after state (Deck cards) = behind_deck state cards
-after state (Command number text) = after_order state (order_of text)
+after state (Command number text) = after_order state (order_in state text)
 after state (Refusal number) = state
 
 -- the book has room for the events of a request
 abbrev pub fits : State → Handed → Bool
 fits state (Deck cards) = deck_fits state cards
-fits state (Command number text) = order_fits state (order_of text)
+fits state (Command number text) = order_fits state (order_in state text)
 fits state (Refusal number) = true
 
 -- the replies that a request brings, one after another
 abbrev pub replies_of : State → Handed → List Reply
 replies_of state (Deck cards) = []
-replies_of state (Command number text) = replies_to state (order_of text)
+replies_of state (Command number text) = replies_to state (order_in state text)
 replies_of state (Refusal number) = []
+
+-- what is answered where a request is broken off behind these replies
+abbrev pub broken_off : State → Handed → List Reply → Answer
+broken_off state (Deck cards) replies = BrokenOff state.desk.layout 0 replies
+broken_off state (Command number text) replies = BrokenOff state.desk.layout (initiator_of (order_in state text)) replies
+broken_off state (Refusal number) replies = BrokenOff state.desk.layout 0 replies
 
 -- what is answered to the requests, one after another, up to the first that the book has no room for
 abbrev pub calls : State → List Handed → List Answer
 calls state [] = []
 calls state (request ∷ requests) =
     if fits state request then answer state request ∷ calls (after state request) requests
-    else BrokenOff (replies_of state request) ∷ []
+    else broken_off state request (replies_of state request) ∷ []
 
 -- the desk behind requests that the book has room for
 abbrev pub after_all : State → List Handed → State
@@ -146,6 +203,9 @@ abbrev pub is_refusal : Answer → Bool
 is_refusal (Accepted number name) = false
 is_refusal (DeckRefused number card) = true
 is_refusal (LineRefused number) = true
-is_refusal (Turned replies) = false
+is_refusal (Turned layout initiator replies) = false
 is_refusal (Listed records) = false
-is_refusal (BrokenOff replies) = false
+is_refusal (SetsListed layout sets) = false
+is_refusal (JobsListed runs) = false
+is_refusal (Purged job) = false
+is_refusal (BrokenOff layout initiator replies) = false

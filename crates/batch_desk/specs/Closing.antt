@@ -9,16 +9,10 @@ use Rattle.ckr_formatting.specs.Formats.{Ends, CausedBy}
 use Rattle.ckr_desk.specs.declared.error.OpenError.{OpenError}
 use Rattle.ckr_desk.specs.declared.error.OpenError.TheVariants as OpenErrors
 use Rattle.ckr_desk.specs.Replaying.{OpenCause}
-use Rattle.ckr_desk.specs.Sound.{Sound}
 use Rattle.ckr_desk.specs.State.{State}
 use Rattle.batch_desk.specs.declared.stop.Stop.{Stop}
 use Rattle.batch_desk.specs.declared.stop.Stop.TheVariants as Stops
 use Rattle.batch_desk.specs.Served.{Faults, Serving}
-
--- a disk tells what it holds, and whatever a stop leaves of it opens with what its events have committed
-pub record AllSound {D : Type 0} (told : Type 0) (may_leave : D → List ℕ → Type 0) (size : D → ℕ) (disk : D) : Type 0 where
-  pub tells : told
-  pub sound : (image : List ℕ) → may_leave disk image → Sound (size disk) image
 
 -- ---- a stream
 
@@ -41,6 +35,7 @@ serving_status (Err Stops.Sink) = 5
 serving_status (Err Stops.Disk) = 6
 serving_status (Err Stops.Memory) = 7
 serving_status (Err Stops.Limit) = 9
+serving_status (Err Stops.Misread) = 2
 
 abbrev pub status_of : RunEnd → ℕ
 status_of (NotOpened error) = opening_status error
@@ -52,15 +47,15 @@ pub record IsNotOpened (told : Type 0) (opening : Result State OpenError) (error
   pub takes_nothing : Keeps left rest
   pub writes_nothing : Keeps old new
 
--- the disk is opened in a state of the desk, from which the stream is served
-pub record IsOpened (told trusted : Type 0) (opening : Result State OpenError) (outcome : Result Bool Stop) (faults : Faults) (left rest old new : Option (List ℕ)) : Type 0 where
+-- the disk is opened, where it is trusted in this state of the desk, and from there the stream is served
+pub record IsOpened (trusted : Type 0) (opening : Result State OpenError) (outcome : Result Bool Stop) (faults : Faults) (left rest old new : Option (List ℕ)) : Type 0 where
   pub state : State
-  pub opened : told → opening ≡ Ok state
+  pub opened : trusted → opening ≡ Ok state
   pub serving : Serving trusted state outcome faults left rest old new
 
 abbrev pub EndsSo : Type 0 → Type 0 → Result State OpenError → RunEnd → Faults → Option (List ℕ) → Option (List ℕ) → Option (List ℕ) → Option (List ℕ) → Type 0
 EndsSo told trusted opening (NotOpened error) faults left rest old new = IsNotOpened told opening error faults left rest old new
-EndsSo told trusted opening (Ended outcome) faults left rest old new = IsOpened told trusted opening outcome faults left rest old new
+EndsSo told trusted opening (Ended outcome) faults left rest old new = IsOpened trusted opening outcome faults left rest old new
 
 -- how a run ended with a status
 pub record HasRun (told trusted : Type 0) (opening : Result State OpenError) (status : ℕ) (faults : Faults) (left rest old new : Option (List ℕ)) : Type 0 where

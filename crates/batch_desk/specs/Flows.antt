@@ -32,11 +32,16 @@ module _ {D : Type 0} where
     pub standing : standing_of g.session ≡ session_behind (standing_of f.session) (strip_carriage_return f.partial.items)
     pub partial : g.partial.items ≡ []
 
+  -- what is asked at the end of the stream
+  abbrev pub end_requests : Flow D → List Handed
+  end_requests f = handed_by (standing_of f.session) (last_lines f.partial.items)
+
+module _ {D : Type 0} (content : D → List ℕ) where
   -- the line is served whose bytes waited
   pub record EndsLine (f g : Flow D) (old new : Option (List ℕ)) : Type 0 where
     pub cuts : CutsLine f g
     pub text : List ℕ
-    pub serves : Serves (seen f.session.office) (seen g.session.office) (line_requests f) [] text
+    pub serves : Serves (seen content f.session.office) (seen content g.session.office) (line_requests f) [] text
     pub written : Appends old new text
 
   -- From the first view the bytes taken were served up to the line that waits, and what is written grew from start to now.
@@ -48,7 +53,7 @@ module _ {D : Type 0} where
     pub waits : All (λ b. is_line_end b ≡ false) f.partial.items
     pub standing : standing_of f.session ≡ session_behind_all first_session (map strip_carriage_return parts)
     pub text : List ℕ
-    pub serves : Serves first (seen f.session.office) (handed_within first_session (map strip_carriage_return parts)) [] text
+    pub serves : Serves first (seen content f.session.office) (handed_within first_session (map strip_carriage_return parts)) [] text
     pub written : Appends start now text
 
   -- the piece is served, whatever was served before
@@ -59,10 +64,6 @@ module _ {D : Type 0} where
   abbrev pub Breaks : Stop → ℕ → ℕ → Flow D → List ℕ → Option (List ℕ) → Option (List ℕ) → Type 0
   Breaks stop before now f piece old new = (first : View) (taken : List ℕ) (start : Option (List ℕ)) → Progress first taken f start old
       → (rest : List ℕ) → StopsWithin stop before now first.state (requests_of (taken ++ piece ++ rest)) start new
-
-  -- what is asked at the end of the stream
-  abbrev pub end_requests : Flow D → List Handed
-  end_requests f = handed_by (standing_of f.session) (last_lines f.partial.items)
 
   -- the stream ends here: all of its text is written, and it is known whether a line or a deck was refused
   abbrev pub Finishes : Flow D → Bool → Option (List ℕ) → Option (List ℕ) → Type 0

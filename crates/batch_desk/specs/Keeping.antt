@@ -1,10 +1,16 @@
 -- What a stop leaves of the disk, whenever it comes while requests are served.
-use Rattle.std.specs.Prelude.{◌≡◌, ◌⊎◌, ℕ, List, ◌++◌, Result, Ok, Err}
+use Rattle.std.specs.Prelude.{◌≡◌, ℕ, List, ◌++◌, Result, Ok, Err}
 use Rattle.ckr_outside.specs.Disk.{EachSince}
 use Rattle.ckr_store.specs.Opens.{event_records}
-use Rattle.ckr_desk.specs.Opening.{opening_of}
-use Rattle.ckr_desk.specs.Sound.{Sound, IsKeptFrom}
-use Rattle.ckr_desk.specs.State.{State, DeskState}
+use Rattle.ckr_desk.specs.Sound.{Sound}
+use Rattle.ckr_volumes.specs.declared.layout.Layout.{Layout}
+use Rattle.ckr_desk.specs.State.{DeskState}
+
+-- a stop leaves a sound image that lacks none of the events before
+pub record IsKeptFrom (layout : Layout) (size : ℕ) (before : List (List ℕ)) (image : List ℕ) : Type 0 where
+  pub sound : Sound size image
+  pub more : List (List ℕ)
+  pub events : event_records layout image ≡ before ++ more
 
 module _ {D : Type 0} (content : D → List ℕ) (moment : D → ℕ) (left_since : D → ℕ → List ℕ → Type 0) (size : D → ℕ) where
   -- a stop at any moment from one desk to the other leaves a disk that opens, has what its events have committed, and lacks no
@@ -28,9 +34,3 @@ module _ {D : Type 0} (content : D → List ℕ) (moment : D → ℕ) (left_sinc
   abbrev pub GoesBy : {T E : Type 0} → Result T E → DeskState D → DeskState D → Type 0
   GoesBy (Ok x) old new = Goes old new
   GoesBy (Err e) old new = Within old new
-
--- an image that a stop may leave from a disk on that reads these bytes: it is one that the disk might have left before, or one
--- that lacks none of the events that the disk reads, and it opens and has what its events have committed
-pub record IsSafe (before : List ℕ → Type 0) (content : List ℕ) (size : ℕ) (image : List ℕ) : Type 0 where
-  pub sound : Sound size image
-  pub lacks_none : before image ⊎ ((state : State) → opening_of content size ≡ Ok state → (more : List (List ℕ)) × (event_records state.layout image ≡ event_records state.layout content ++ more))

@@ -1,5 +1,6 @@
 pub mod Orders
 pub mod Calls
+pub mod Listings
 pub mod Texts
 pub mod Turning
 pub mod Serves

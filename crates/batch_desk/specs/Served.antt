@@ -35,13 +35,14 @@ pub record Faults : Type 0 where
   pub disk_now : ℕ
 
 -- why the serving of a stream stopped behind these bytes
-abbrev pub StopCause : Stop → Faults → List ℕ → Type 0
-StopCause Stops.Source faults taken = Rose faults.source_before faults.source_now
-StopCause Stops.Limit faults taken = length taken ≡ 16_777_217
-StopCause Stops.Sink faults taken = Caused Stops.Sink faults.sink_before faults.sink_now faults.disk_before faults.disk_now
-StopCause Stops.Memory faults taken = Caused Stops.Memory faults.sink_before faults.sink_now faults.disk_before faults.disk_now
-StopCause Stops.Book faults taken = Caused Stops.Book faults.sink_before faults.sink_now faults.disk_before faults.disk_now
-StopCause Stops.Disk faults taken = Caused Stops.Disk faults.sink_before faults.sink_now faults.disk_before faults.disk_now
+abbrev pub StopCause : Type 0 → Stop → Faults → List ℕ → Type 0
+StopCause trusted Stops.Source faults taken = Rose faults.source_before faults.source_now
+StopCause trusted Stops.Limit faults taken = length taken ≡ 16_777_217
+StopCause trusted Stops.Sink faults taken = Caused trusted Stops.Sink faults.sink_before faults.sink_now faults.disk_before faults.disk_now
+StopCause trusted Stops.Memory faults taken = Caused trusted Stops.Memory faults.sink_before faults.sink_now faults.disk_before faults.disk_now
+StopCause trusted Stops.Book faults taken = Caused trusted Stops.Book faults.sink_before faults.sink_now faults.disk_before faults.disk_now
+StopCause trusted Stops.Disk faults taken = Caused trusted Stops.Disk faults.sink_before faults.sink_now faults.disk_before faults.disk_now
+StopCause trusted Stops.Misread faults taken = Caused trusted Stops.Misread faults.sink_before faults.sink_now faults.disk_before faults.disk_now
 
 -- the items that end within the bytes were served, and their text is written
 pub record HasServed (state : State) (bytes : List ℕ) (old new : Option (List ℕ)) : Type 0 where
@@ -56,12 +57,13 @@ StopsAt Stops.Sink faults state taken all old new = StopsWithin Stops.Sink fault
 StopsAt Stops.Memory faults state taken all old new = StopsWithin Stops.Memory faults.sink_before faults.sink_now state (requests_of all) old new
 StopsAt Stops.Book faults state taken all old new = StopsWithin Stops.Book faults.sink_before faults.sink_now state (requests_of all) old new
 StopsAt Stops.Disk faults state taken all old new = StopsWithin Stops.Disk faults.sink_before faults.sink_now state (requests_of all) old new
+StopsAt Stops.Misread faults state taken all old new = StopsWithin Stops.Misread faults.sink_before faults.sink_now state (requests_of all) old new
 
 -- The serving stopped: these bytes were taken. Where the disk is trusted, this is written of the text for the whole stream.
 pub record IsStopped (trusted : Type 0) (state : State) (stop : Stop) (faults : Faults) (left rest old new : Option (List ℕ)) : Type 0 where
   pub taken : List ℕ
   pub given : Consumes left rest taken
-  pub cause : StopCause stop faults taken
+  pub cause : StopCause trusted stop faults taken
   pub stops : trusted → StopsAt stop faults state taken (taken ++ unwrap_or rest []) old new
 
 abbrev pub faults_of : ℕ → ℕ → ℕ → ℕ → ℕ → ℕ → Faults
@@ -72,13 +74,13 @@ abbrev pub Serving : Type 0 → State → Result Bool Stop → Faults → Option
 Serving trusted state (Ok refused) faults left rest old new = IsServed trusted state refused left rest old new
 Serving trusted state (Err stop) faults left rest old new = IsStopped trusted state stop faults left rest old new
 
-module _ {D : Type 0} where
+module _ {D : Type 0} (content : D → List ℕ) where
   -- so many bytes were given, and where the disk is trusted, they were served up to the line that waits
   pub record Feeding (trusted : Type 0) (first : View) (f : Flow D) (count : ℕ) (left rest old now : Option (List ℕ)) : Type 0 where
     pub taken : List ℕ
     pub given : Consumes left rest taken
     pub counted : length taken ≡ count
-    pub progress : trusted → Progress first taken f old now
+    pub progress : trusted → Progress content first taken f old now
 
   -- all bytes were given
   pub record FedAll (trusted : Type 0) (first : View) (f : Flow D) (left rest old now : Option (List ℕ)) : Type 0 where
@@ -86,4 +88,4 @@ module _ {D : Type 0} where
     pub given : Consumes left rest all
     pub end : IsAtEnd rest
     pub few : length all ≤ 16_777_216
-    pub progress : trusted → Progress first all f old now
+    pub progress : trusted → Progress content first all f old now

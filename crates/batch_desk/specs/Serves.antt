@@ -4,15 +4,16 @@ use Rattle.std.specs.List.{flat_map, list_any}
 use Rattle.std.specs.Io.KnownBytes.{Appends}
 use Rattle.ckr_outside.specs.Faults.{Rose}
 use Rattle.ckr_outside.specs.Front.{AppendsFront}
-use Rattle.ckr_course.specs.declared.reply.Reply.{Reply}
-use Rattle.ckr_desk.specs.State.{State, state_of}
+use Rattle.ckr_desk.specs.Sound.{state_of}
+use Rattle.ckr_desk.specs.State.{State}
+use Rattle.ckr_turns.specs.declared.reply.Reply.{Reply}
 use Rattle.ckr_statements.specs.Session.{Handed}
 use Rattle.batch_desk.specs.declared.office.Office.{Office}
 use Rattle.batch_desk.specs.declared.stop.Halt.{Halt}
 use Rattle.batch_desk.specs.declared.stop.Halt.TheVariants as Halts
 use Rattle.batch_desk.specs.declared.stop.Stop.{Stop}
 use Rattle.batch_desk.specs.declared.stop.Stop.TheVariants as Stops
-use Rattle.batch_desk.specs.Calls.{calls, after_all, all_fit, replies_of, is_refusal, BrokenOff}
+use Rattle.batch_desk.specs.Calls.{calls, after_all, all_fit, replies_of, is_refusal, broken_off}
 use Rattle.batch_desk.specs.Texts.{answer_text}
 
 -- the desk between two calls, and whether a line or a deck was refused
@@ -20,8 +21,8 @@ pub record View : Type 0 where
   pub state : State
   pub refused : Bool
 
-abbrev pub seen : {D : Type 0} → Office D → View
-seen office = record { state = state_of office.desk; refused = office.refused }
+abbrev pub seen : {D : Type 0} → (D → List ℕ) → Office D → View
+seen content office = record { state = state_of content office.desk; refused = office.refused }
 
 -- the text of what is answered to requests
 abbrev pub text_to : State → List Handed → List ℕ
@@ -45,25 +46,35 @@ pub record BreaksOff (state : State) (requests : List Handed) (text : List ℕ) 
   pub replies : List Reply
   pub later : List Reply
   pub given : replies_of (after_all state served) broken ≡ replies ++ later
-  pub told : text ≡ text_to state served ++ answer_text (BrokenOff replies)
+  pub told : text ≡ text_to state served ++ answer_text (broken_off (after_all state served) broken replies)
 
 -- serving requests stopped, and this is what the text grew by; it isn't told where memory ran out
 abbrev pub HaltsSo : Halt → State → List Handed → List ℕ → List ℕ → Type 0
 HaltsSo Halts.Memory state requests before now = Unit {0}
 HaltsSo Halts.Book state requests before now = (all_fit state requests ≡ false) × (now ≡ before ++ text_to state requests)
 HaltsSo Halts.Disk state requests before now = (text : List ℕ) × (now ≡ before ++ text) × BreaksOff state requests text
+HaltsSo Halts.Misread state requests before now = ⊥
 
--- only a disk whose faults rose is told to have failed
-abbrev pub HaltCause : Halt → ℕ → ℕ → Type 0
-HaltCause Halts.Memory before now = Unit {0}
-HaltCause Halts.Book before now = Unit {0}
-HaltCause Halts.Disk before now = Rose before now
+-- only a disk whose faults rose is told to have failed, and only one that isn't trusted to read wrong
+abbrev pub HaltCause : Type 0 → Halt → ℕ → ℕ → Type 0
+HaltCause trusted Halts.Memory before now = Unit {0}
+HaltCause trusted Halts.Book before now = Unit {0}
+HaltCause trusted Halts.Disk before now = Rose before now
+HaltCause trusted Halts.Misread before now = trusted → ⊥
 
--- why the records of a data set weren't listed, and nothing of them is told
-abbrev pub ListHalt : Halt → ℕ → ℕ → List ℕ → List ℕ → Type 0
-ListHalt Halts.Memory faults faults' before now = Unit {0}
-ListHalt Halts.Book faults faults' before now = ⊥
-ListHalt Halts.Disk faults faults' before now = Rose faults faults' × (now ≡ before)
+-- nothing is told of a data set whose records weren't listed
+abbrev pub ListHalt : Halt → List ℕ → List ℕ → Type 0
+ListHalt Halts.Memory before now = Unit {0}
+ListHalt Halts.Book before now = ⊥
+ListHalt Halts.Disk before now = now ≡ before
+ListHalt Halts.Misread before now = ⊥
+
+-- nor of a job that wasn't taken from the queue: whether the book has room for the event
+abbrev pub PurgeHalt : Halt → Bool → List ℕ → List ℕ → Type 0
+PurgeHalt Halts.Memory fits before now = Unit {0}
+PurgeHalt Halts.Book fits before now = (fits ≡ false) × (now ≡ before)
+PurgeHalt Halts.Disk fits before now = now ≡ before
+PurgeHalt Halts.Misread fits before now = ⊥
 
 -- ---- what is written then
 
@@ -79,18 +90,21 @@ StopsWithin Stops.Sink before now state requests old new = AppendsFront old new 
 StopsWithin Stops.Memory before now state requests old new = AppendsFront old new (text_to state requests)
 StopsWithin Stops.Book before now state requests old new = (all_fit state requests ≡ false) × WritesSo before now old new (text_to state requests)
 StopsWithin Stops.Disk before now state requests old new = (text : List ℕ) × BreaksOff state requests text × WritesSo before now old new text
+StopsWithin Stops.Misread before now state requests old new = ⊥
 
 -- why serving requests stopped: the faults of the sink and of the disk are counted before and now
-abbrev pub Caused : Stop → ℕ → ℕ → ℕ → ℕ → Type 0
-Caused Stops.Source sink sink' disk disk' = ⊥
-Caused Stops.Limit sink sink' disk disk' = ⊥
-Caused Stops.Sink sink sink' disk disk' = Rose sink sink'
-Caused Stops.Memory sink sink' disk disk' = Unit {0}
-Caused Stops.Book sink sink' disk disk' = Unit {0}
-Caused Stops.Disk sink sink' disk disk' = Rose disk disk'
+abbrev pub Caused : Type 0 → Stop → ℕ → ℕ → ℕ → ℕ → Type 0
+Caused trusted Stops.Source sink sink' disk disk' = ⊥
+Caused trusted Stops.Limit sink sink' disk disk' = ⊥
+Caused trusted Stops.Sink sink sink' disk disk' = Rose sink sink'
+Caused trusted Stops.Memory sink sink' disk disk' = Unit {0}
+Caused trusted Stops.Book sink sink' disk disk' = Unit {0}
+Caused trusted Stops.Disk sink sink' disk disk' = Rose disk disk'
+Caused trusted Stops.Misread sink sink' disk disk' = trusted → ⊥
 
 -- what was answered before the serving stopped is written, as far as the sink takes it
 abbrev pub RestWritten : Halt → Stop → ℕ → ℕ → Option (List ℕ) → Option (List ℕ) → List ℕ → Type 0
 RestWritten Halts.Memory stop before now old new text = (stop ≡ Stops.Memory) × (new ≡ old)
 RestWritten Halts.Book stop before now old new text = (stop ≡ Stops.Book) × WritesSo before now old new text
 RestWritten Halts.Disk stop before now old new text = (stop ≡ Stops.Disk) × WritesSo before now old new text
+RestWritten Halts.Misread stop before now old new text = (stop ≡ Stops.Misread) × WritesSo before now old new text

@@ -7,7 +7,7 @@ ghost use Rattle.ckr_outside.specs.Faults.{Rose};
 ghost use Rattle.ckr_statements.specs.Session.{first_session};
 ghost use Rattle.ckr_desk.specs.Sound.{IsTrusted};
 ghost use Rattle.batch_desk.specs.Keeping.{GoesBy};
-ghost use Rattle.ckr_desk.specs.State.{state_of};
+ghost use Rattle.ckr_desk.specs.Sound.{state_of};
 ghost use Rattle.batch_desk.specs.Serves.{Serves, HaltsSo, HaltCause, StopsWithin, RestWritten, Caused, seen};
 ghost use Rattle.batch_desk.specs.Sessions.{HasWholeCards, standing_of};
 ghost use Rattle.batch_desk.specs.Flows.{CutsLine, EndsLine, Carries, Breaks, Finishes, FinishBreaks, IsBegun, end_requests, line_requests};
@@ -56,6 +56,10 @@ fn write_rest<K: Sink>(halt: Halt, sink: &mut K, text: &Text) -> Stop
             let _ = put_all(sink, text.bytes());
             Stop::Disk
         }
+        Halt::Misread => {
+            let _ = put_all(sink, text.bytes());
+            Stop::Misread
+        }
     }
 }
 
@@ -82,14 +86,14 @@ impl<D: Disk> Flow<D> {
         requires few { self.old.session.number < 2 ^ 25 }
         requires whole { HasWholeCards self.old.session }
         requires is_open { self.old.session.office.desk.store.fault ≡ None }
-        ensures ok { IsTrusted D.told D.content D.may_leave self.old.session.office.desk → OnOk result (EndsLine self.old self.new (K.written sink.old) (K.written sink.new)) }
+        ensures ok { IsTrusted D.told D.content D.may_leave self.old.session.office.desk → OnOk result (EndsLine D.content self.old self.new (K.written sink.old) (K.written sink.new)) }
         ensures trusted { OnOk result (IsTrusted D.told D.content D.may_leave self.old.session.office.desk → IsTrusted D.told D.content D.may_leave self.new.session.office.desk) }
         ensures goes { IsTrusted D.told D.content D.may_leave self.old.session.office.desk → GoesBy D.content D.moment D.left_since D.size result self.old.session.office.desk self.new.session.office.desk }
         ensures is_open { OnOk result (self.new.session.office.desk.store.fault ≡ None) }
-        ensures err { IsTrusted D.told D.content D.may_leave self.old.session.office.desk → IfErr result (λ stop. StopsWithin stop (K.faults sink.old) (K.faults sink.new) (state_of self.old.session.office.desk) (line_requests self.old) (K.written sink.old) (K.written sink.new)) }
+        ensures err { IsTrusted D.told D.content D.may_leave self.old.session.office.desk → IfErr result (λ stop. StopsWithin stop (K.faults sink.old) (K.faults sink.new) (state_of D.content self.old.session.office.desk) (line_requests self.old) (K.written sink.old) (K.written sink.new)) }
         ensures sink_later { K.faults sink.old ≤ K.faults sink.new }
         ensures disk_later { D.faults self.old.session.office.desk.store.disk ≤ D.faults self.new.session.office.desk.store.disk }
-        ensures cause { IfErr result (λ stop. Caused stop (K.faults sink.old) (K.faults sink.new) (D.faults self.old.session.office.desk.store.disk) (D.faults self.new.session.office.desk.store.disk)) }
+        ensures cause { IfErr result (λ stop. Caused (IsTrusted D.told D.content D.may_leave self.old.session.office.desk) stop (K.faults sink.old) (K.faults sink.new) (D.faults self.old.session.office.desk.store.disk) (D.faults self.new.session.office.desk.store.disk)) }
         ensures cuts { OnOk result (CutsLine self.old self.new) }
         ensures whole { OnOk result (HasWholeCards self.new.session) }
     {
@@ -109,14 +113,14 @@ impl<D: Disk> Flow<D> {
         requires few { self.old.session.number < 2 ^ 25 }
         requires whole { HasWholeCards self.old.session }
         requires is_open { self.old.session.office.desk.store.fault ≡ None }
-        ensures ok { IsTrusted D.told D.content D.may_leave self.old.session.office.desk → OnOk result (Carries self.old self.new (byte ∷ []) (K.written sink.old) (K.written sink.new)) }
+        ensures ok { IsTrusted D.told D.content D.may_leave self.old.session.office.desk → OnOk result (Carries D.content self.old self.new (byte ∷ []) (K.written sink.old) (K.written sink.new)) }
         ensures trusted { OnOk result (IsTrusted D.told D.content D.may_leave self.old.session.office.desk → IsTrusted D.told D.content D.may_leave self.new.session.office.desk) }
         ensures goes { IsTrusted D.told D.content D.may_leave self.old.session.office.desk → GoesBy D.content D.moment D.left_since D.size result self.old.session.office.desk self.new.session.office.desk }
         ensures is_open { OnOk result (self.new.session.office.desk.store.fault ≡ None) }
-        ensures err { IsTrusted D.told D.content D.may_leave self.old.session.office.desk → IfErr result (λ stop. Breaks stop (K.faults sink.old) (K.faults sink.new) self.old (byte ∷ []) (K.written sink.old) (K.written sink.new)) }
+        ensures err { IsTrusted D.told D.content D.may_leave self.old.session.office.desk → IfErr result (λ stop. Breaks D.content stop (K.faults sink.old) (K.faults sink.new) self.old (byte ∷ []) (K.written sink.old) (K.written sink.new)) }
         ensures sink_later { K.faults sink.old ≤ K.faults sink.new }
         ensures disk_later { D.faults self.old.session.office.desk.store.disk ≤ D.faults self.new.session.office.desk.store.disk }
-        ensures cause { IfErr result (λ stop. Caused stop (K.faults sink.old) (K.faults sink.new) (D.faults self.old.session.office.desk.store.disk) (D.faults self.new.session.office.desk.store.disk)) }
+        ensures cause { IfErr result (λ stop. Caused (IsTrusted D.told D.content D.may_leave self.old.session.office.desk) stop (K.faults sink.old) (K.faults sink.new) (D.faults self.old.session.office.desk.store.disk) (D.faults self.new.session.office.desk.store.disk)) }
         ensures few { OnOk result (self.new.session.number + length self.new.partial.items ≤ self.old.session.number + length self.old.partial.items + 1) }
         ensures whole { OnOk result (HasWholeCards self.new.session) }
     {
@@ -133,14 +137,14 @@ impl<D: Disk> Flow<D> {
         requires few { self.old.session.number + length self.old.partial.items + length piece.now ≤ 2 ^ 24 }
         requires whole { HasWholeCards self.old.session }
         requires is_open { self.old.session.office.desk.store.fault ≡ None }
-        ensures ok { IsTrusted D.told D.content D.may_leave self.old.session.office.desk → OnOk result (Carries self.old self.new piece.now (K.written sink.old) (K.written sink.new)) }
+        ensures ok { IsTrusted D.told D.content D.may_leave self.old.session.office.desk → OnOk result (Carries D.content self.old self.new piece.now (K.written sink.old) (K.written sink.new)) }
         ensures trusted { OnOk result (IsTrusted D.told D.content D.may_leave self.old.session.office.desk → IsTrusted D.told D.content D.may_leave self.new.session.office.desk) }
         ensures goes { IsTrusted D.told D.content D.may_leave self.old.session.office.desk → GoesBy D.content D.moment D.left_since D.size result self.old.session.office.desk self.new.session.office.desk }
         ensures is_open { OnOk result (self.new.session.office.desk.store.fault ≡ None) }
-        ensures err { IsTrusted D.told D.content D.may_leave self.old.session.office.desk → IfErr result (λ stop. Breaks stop (K.faults sink.old) (K.faults sink.new) self.old piece.now (K.written sink.old) (K.written sink.new)) }
+        ensures err { IsTrusted D.told D.content D.may_leave self.old.session.office.desk → IfErr result (λ stop. Breaks D.content stop (K.faults sink.old) (K.faults sink.new) self.old piece.now (K.written sink.old) (K.written sink.new)) }
         ensures sink_later { K.faults sink.old ≤ K.faults sink.new }
         ensures disk_later { D.faults self.old.session.office.desk.store.disk ≤ D.faults self.new.session.office.desk.store.disk }
-        ensures cause { IfErr result (λ stop. Caused stop (K.faults sink.old) (K.faults sink.new) (D.faults self.old.session.office.desk.store.disk) (D.faults self.new.session.office.desk.store.disk)) }
+        ensures cause { IfErr result (λ stop. Caused (IsTrusted D.told D.content D.may_leave self.old.session.office.desk) stop (K.faults sink.old) (K.faults sink.new) (D.faults self.old.session.office.desk.store.disk) (D.faults self.new.session.office.desk.store.disk)) }
         ensures few { OnOk result (self.new.session.number + length self.new.partial.items ≤ self.old.session.number + length self.old.partial.items + length piece.now) }
         ensures whole { OnOk result (HasWholeCards self.new.session) }
     {
@@ -156,14 +160,14 @@ impl<D: Disk> Flow<D> {
         requires few { self.old.session.number < 2 ^ 25 }
         requires whole { HasWholeCards self.old.session }
         requires is_open { self.old.session.office.desk.store.fault ≡ None }
-        ensures ok { IsTrusted D.told D.content D.may_leave self.old.session.office.desk → IfOk result (λ refused. Finishes self.old refused (K.written sink.old) (K.written sink.new)) }
+        ensures ok { IsTrusted D.told D.content D.may_leave self.old.session.office.desk → IfOk result (λ refused. Finishes D.content self.old refused (K.written sink.old) (K.written sink.new)) }
         ensures trusted { OnOk result (IsTrusted D.told D.content D.may_leave self.old.session.office.desk → IsTrusted D.told D.content D.may_leave self.new.session.office.desk) }
         ensures goes { IsTrusted D.told D.content D.may_leave self.old.session.office.desk → GoesBy D.content D.moment D.left_since D.size result self.old.session.office.desk self.new.session.office.desk }
         ensures is_open { OnOk result (self.new.session.office.desk.store.fault ≡ None) }
-        ensures err { IsTrusted D.told D.content D.may_leave self.old.session.office.desk → IfErr result (λ stop. FinishBreaks stop (K.faults sink.old) (K.faults sink.new) self.old (K.written sink.old) (K.written sink.new)) }
+        ensures err { IsTrusted D.told D.content D.may_leave self.old.session.office.desk → IfErr result (λ stop. FinishBreaks D.content stop (K.faults sink.old) (K.faults sink.new) self.old (K.written sink.old) (K.written sink.new)) }
         ensures sink_later { K.faults sink.old ≤ K.faults sink.new }
         ensures disk_later { D.faults self.old.session.office.desk.store.disk ≤ D.faults self.new.session.office.desk.store.disk }
-        ensures cause { IfErr result (λ stop. Caused stop (K.faults sink.old) (K.faults sink.new) (D.faults self.old.session.office.desk.store.disk) (D.faults self.new.session.office.desk.store.disk)) }
+        ensures cause { IfErr result (λ stop. Caused (IsTrusted D.told D.content D.may_leave self.old.session.office.desk) stop (K.faults sink.old) (K.faults sink.new) (D.faults self.old.session.office.desk.store.disk) (D.faults self.new.session.office.desk.store.disk)) }
     {
         let mut out = Text::new(self.session.office.alloc);
         match self.end_requests(&mut out) {
@@ -180,13 +184,13 @@ impl<D: Disk> Flow<D> {
         requires few { self.old.session.number < 2 ^ 25 }
         requires whole { HasWholeCards self.old.session }
         requires is_open { self.old.session.office.desk.store.fault ≡ None }
-        ensures serves { IsTrusted D.told D.content D.may_leave self.old.session.office.desk → OnOk result (Serves (seen self.old.session.office) (seen self.new.session.office) (end_requests self.old) out.old out.new) }
+        ensures serves { IsTrusted D.told D.content D.may_leave self.old.session.office.desk → OnOk result (Serves (seen D.content self.old.session.office) (seen D.content self.new.session.office) (end_requests self.old) out.old out.new) }
         ensures trusted { OnOk result (IsTrusted D.told D.content D.may_leave self.old.session.office.desk → IsTrusted D.told D.content D.may_leave self.new.session.office.desk) }
         ensures goes { IsTrusted D.told D.content D.may_leave self.old.session.office.desk → GoesBy D.content D.moment D.left_since D.size result self.old.session.office.desk self.new.session.office.desk }
         ensures is_open { OnOk result (self.new.session.office.desk.store.fault ≡ None) }
         ensures later { D.faults self.old.session.office.desk.store.disk ≤ D.faults self.new.session.office.desk.store.disk }
-        ensures halt { IsTrusted D.told D.content D.may_leave self.old.session.office.desk → IfErr result (λ halt. HaltsSo halt (state_of self.old.session.office.desk) (end_requests self.old) out.old out.new) }
-        ensures cause { IfErr result (λ halt. HaltCause halt (D.faults self.old.session.office.desk.store.disk) (D.faults self.new.session.office.desk.store.disk)) }
+        ensures halt { IsTrusted D.told D.content D.may_leave self.old.session.office.desk → IfErr result (λ halt. HaltsSo halt (state_of D.content self.old.session.office.desk) (end_requests self.old) out.old out.new) }
+        ensures cause { IfErr result (λ halt. HaltCause (IsTrusted D.told D.content D.may_leave self.old.session.office.desk) halt (D.faults self.old.session.office.desk.store.disk) (D.faults self.new.session.office.desk.store.disk)) }
     {
         if self.partial.is_empty() {
             return self.session.end(out);

@@ -2,11 +2,14 @@
 #![tactic(auto)]
 
 mod flow;
+mod listing_lines;
 mod office;
 mod orders;
 #[cfg(test)]
 mod refusal_tests;
 mod report;
+#[cfg(test)]
+mod row_tests;
 mod runs;
 mod session;
 mod stop;

@@ -1,24 +1,26 @@
 //! The requests of a stream, one after another.
 ghost use Rattle.std.specs.Prelude.{◌≡◌, ◌<◌, ◌≤◌, ◌%◌, ◌*◌, ◌||◌, length, [], ◌∷◌, ◌++◌, OnOk, IfErr, None, false, true};
-ghost use Rattle.ckr_course.specs.Listing.{records_of, lines_of};
-ghost use Rattle.ckr_desk.specs.Sound.{IsTrusted};
+ghost use Rattle.ckr_listing.specs.Listed.{listed, records_of};
+ghost use Rattle.ckr_desk.specs.Calling.{behind_call, call_fits};
+ghost use Rattle.ckr_desk.specs.Sound.{IsTrusted, state_of};
+ghost use Rattle.ckr_desk.specs.Submitting.{is_queued, purge_call};
 ghost use Rattle.batch_desk.specs.Keeping.{Goes, GoesBy};
-ghost use Rattle.ckr_desk.specs.State.{state_of};
 ghost use Rattle.ckr_statements.specs.Session.Handed.{Deck, Order as Command, Refusal};
-ghost use Rattle.batch_desk.specs.Calls.{Accepted, DeckRefused, LineRefused, Listed, name_in, list_answer, is_refusal};
+ghost use Rattle.batch_desk.specs.Calls.{Accepted, DeckRefused, JobsListed, LineRefused, Listed, Purged, SetsListed, lines_of, name_in, list_answer, purge_answer, is_refusal};
 ghost use Rattle.batch_desk.specs.Texts.{answer_text};
-ghost use Rattle.batch_desk.specs.Serves.{HaltsSo, HaltCause, ListHalt, Serves, seen};
+ghost use Rattle.batch_desk.specs.Serves.{HaltsSo, HaltCause, ListHalt, PurgeHalt, Serves, seen};
 
+use crate::listing_lines::{jobs, sets};
 use crate::orders::{Order, read_order};
-use crate::report::{accepted, deck_refused, line_refused, listed};
+use crate::report::{accepted, deck_refused, line_refused, listed, purged};
 use crate::runs::turned;
 use crate::stop::Halt;
 use crate::text::Text;
 use ckr_base::{DsName, NoMemory, Rec};
-use ckr_course::{Run, Submitted};
-use ckr_desk::Desk;
+use ckr_desk::{Desk, DeskError};
 use ckr_outside::Disk;
-use ckr_store::StoreError;
+use ckr_points::Run;
+use ckr_turns::Submitted;
 use std::alloc::Global;
 
 /// The desk, and whether a line or a deck was refused.
@@ -55,6 +57,17 @@ fn tell(records: &[Rec], out: &mut Text) -> Result<(), Halt>
     }
 }
 
+/// A job is told that was taken from the queue.
+fn tell_purged(job: u32, out: &mut Text) -> Result<(), Halt>
+    ensures text { OnOk result (out.new ≡ out.old ++ answer_text (Purged job)) }
+    ensures halt { IfErr result (λ halt. halt ≡ Halt.Memory) }
+{
+    match purged(job, out) {
+        Ok(()) => Ok(()),
+        Err(NoMemory) => Err(Halt::Memory),
+    }
+}
+
 impl<D: Disk> Office<D> {
     pub fn new(alloc: Global, desk: Desk<D>) -> Office<D>
         ensures desk { result.desk ≡ desk }
@@ -73,27 +86,28 @@ impl<D: Disk> Office<D> {
         requires some { 81 ≤ length cards.now }
         requires few { length cards.now < 81 * 4294967295 }
         requires is_open { self.old.desk.store.fault ≡ None }
-        ensures serves { OnOk result (Serves (seen self.old) (seen self.new) (Deck cards.now ∷ []) out.old out.new) }
+        ensures serves { IsTrusted D.told D.content D.may_leave self.old.desk → OnOk result (Serves (seen D.content self.old) (seen D.content self.new) (Deck cards.now ∷ []) out.old out.new) }
         ensures trusted { OnOk result (IsTrusted D.told D.content D.may_leave self.old.desk → IsTrusted D.told D.content D.may_leave self.new.desk) }
         ensures goes { IsTrusted D.told D.content D.may_leave self.old.desk → GoesBy D.content D.moment D.left_since D.size result self.old.desk self.new.desk }
         ensures is_open { OnOk result (self.new.desk.store.fault ≡ None) }
         ensures later { D.faults self.old.desk.store.disk ≤ D.faults self.new.desk.store.disk }
-        ensures halt { IfErr result (λ halt. HaltsSo halt (state_of self.old.desk) (Deck cards.now ∷ []) out.old out.new) }
-        ensures cause { IfErr result (λ halt. HaltCause halt (D.faults self.old.desk.store.disk) (D.faults self.new.desk.store.disk)) }
+        ensures halt { IsTrusted D.told D.content D.may_leave self.old.desk → IfErr result (λ halt. HaltsSo halt (state_of D.content self.old.desk) (Deck cards.now ∷ []) out.old out.new) }
+        ensures cause { IfErr result (λ halt. HaltCause (IsTrusted D.told D.content D.may_leave self.old.desk) halt (D.faults self.old.desk.store.disk) (D.faults self.new.desk.store.disk)) }
     {
         match self.desk.submit(cards) {
             Ok(Submitted::Job(number)) => self.accept(number, out),
             Ok(Submitted::Refused { number, card }) => self.refuse_deck(number, card, out),
-            Err(StoreError::NoMemory) => Err(Halt::Memory),
-            Err(StoreError::BookFull { .. }) => Err(Halt::Book),
-            Err(StoreError::DiskFault) => Err(Halt::Disk),
-            Err(StoreError::Stopped { .. }) => unreachable!(),
+            Err(DeskError::NoMemory) => Err(Halt::Memory),
+            Err(DeskError::BookFull { .. }) => Err(Halt::Book),
+            Err(DeskError::DiskFault) => Err(Halt::Disk),
+            Err(DeskError::Misread) => Err(Halt::Misread),
+            Err(DeskError::Stopped { .. }) => unreachable!(),
         }
     }
 
     fn accept(&mut self, number: u32, out: &mut Text) -> Result<(), Halt>
         ensures office { self.new ≡ self.old }
-        ensures text { OnOk result (out.new ≡ out.old ++ answer_text (Accepted number (name_in number (lines_of self.old.desk.run)))) }
+        ensures text { OnOk result (out.new ≡ out.old ++ answer_text (Accepted number (name_in number (lines_of self.old.desk.jobs.tables.desk)))) }
         ensures halt { IfErr result (λ halt. halt ≡ Halt.Memory) }
     {
         match accepted(number, name_in(number, self.desk.runs()), out) {
@@ -118,18 +132,21 @@ impl<D: Disk> Office<D> {
     /// A command ends.
     pub fn obey(&mut self, number: u32, text: &[u8], out: &mut Text) -> Result<(), Halt>
         requires is_open { self.old.desk.store.fault ≡ None }
-        ensures serves { IsTrusted D.told D.content D.may_leave self.old.desk → OnOk result (Serves (seen self.old) (seen self.new) (Command number text.now ∷ []) out.old out.new) }
+        ensures serves { IsTrusted D.told D.content D.may_leave self.old.desk → OnOk result (Serves (seen D.content self.old) (seen D.content self.new) (Command number text.now ∷ []) out.old out.new) }
         ensures trusted { OnOk result (IsTrusted D.told D.content D.may_leave self.old.desk → IsTrusted D.told D.content D.may_leave self.new.desk) }
         ensures goes { IsTrusted D.told D.content D.may_leave self.old.desk → GoesBy D.content D.moment D.left_since D.size result self.old.desk self.new.desk }
         ensures is_open { OnOk result (self.new.desk.store.fault ≡ None) }
         ensures later { D.faults self.old.desk.store.disk ≤ D.faults self.new.desk.store.disk }
-        ensures halt { IfErr result (λ halt. HaltsSo halt (state_of self.old.desk) (Command number text.now ∷ []) out.old out.new) }
-        ensures cause { IfErr result (λ halt. HaltCause halt (D.faults self.old.desk.store.disk) (D.faults self.new.desk.store.disk)) }
+        ensures halt { IsTrusted D.told D.content D.may_leave self.old.desk → IfErr result (λ halt. HaltsSo halt (state_of D.content self.old.desk) (Command number text.now ∷ []) out.old out.new) }
+        ensures cause { IfErr result (λ halt. HaltCause (IsTrusted D.told D.content D.may_leave self.old.desk) halt (D.faults self.old.desk.store.disk) (D.faults self.new.desk.store.disk)) }
     {
         let _layout = self.desk.layout();
-        match read_order(text) {
-            Order::Turns(count) => turned(&mut self.desk, count, out),
+        match read_order(self.desk.layout().initiators, text) {
+            Order::Turns { initiator, count } => turned(&mut self.desk, initiator, count, out),
             Order::ListOf(name) => self.list(number, &name, out),
+            Order::Sets => self.list_sets(out),
+            Order::Jobs => self.list_jobs(out),
+            Order::Purge(job) => self.purge(number, job, out),
             Order::Unknown => self.refuse_line(number, out),
         }
     }
@@ -147,30 +164,81 @@ impl<D: Disk> Office<D> {
         }
     }
 
-    fn list(&mut self, number: u32, name: &DsName, out: &mut Text) -> Result<(), Halt>
+    /// The data sets are told.
+    fn list_sets(&mut self, out: &mut Text) -> Result<(), Halt>
+        ensures office { self.new ≡ self.old }
+        ensures text { IsTrusted D.told D.content D.may_leave self.old.desk → OnOk result (out.new ≡ out.old ++ answer_text (SetsListed self.old.desk.store.layout (listed (state_of D.content self.old.desk).desk))) }
+        ensures halt { IfErr result (λ halt. halt ≡ Halt.Memory) }
+    {
+        match sets(&self.desk, out) {
+            Ok(()) => Ok(()),
+            Err(NoMemory) => Err(Halt::Memory),
+        }
+    }
+
+    /// The jobs are told.
+    fn list_jobs(&mut self, out: &mut Text) -> Result<(), Halt>
+        ensures office { self.new ≡ self.old }
+        ensures text { OnOk result (out.new ≡ out.old ++ answer_text (JobsListed (lines_of self.old.desk.jobs.tables.desk))) }
+        ensures halt { IfErr result (λ halt. halt ≡ Halt.Memory) }
+    {
+        match jobs(self.desk.runs(), out) {
+            Ok(()) => Ok(()),
+            Err(NoMemory) => Err(Halt::Memory),
+        }
+    }
+
+    /// A job is taken from the queue.
+    fn purge(&mut self, number: u32, job: u32, out: &mut Text) -> Result<(), Halt>
         requires is_open { self.old.desk.store.fault ≡ None }
-        ensures state { OnOk result (state_of self.new.desk ≡ state_of self.old.desk) }
-        ensures refused { OnOk result (self.new.refused ≡ (self.old.refused || is_refusal (list_answer number (records_of self.old.desk.run name.now)))) }
-        ensures text { IsTrusted D.told D.content D.may_leave self.old.desk → OnOk result (out.new ≡ out.old ++ answer_text (list_answer number (records_of self.old.desk.run name.now))) }
+        ensures fits { IsTrusted D.told D.content D.may_leave self.old.desk → OnOk result (call_fits (state_of D.content self.old.desk) (purge_call self.old.desk.jobs.tables.desk job) ≡ true) }
+        ensures after { IsTrusted D.told D.content D.may_leave self.old.desk → OnOk result (state_of D.content self.new.desk ≡ behind_call (state_of D.content self.old.desk) (purge_call self.old.desk.jobs.tables.desk job)) }
+        ensures refused { OnOk result (self.new.refused ≡ (self.old.refused || is_refusal (purge_answer number job (is_queued self.old.desk.jobs.tables.desk job)))) }
+        ensures text { OnOk result (out.new ≡ out.old ++ answer_text (purge_answer number job (is_queued self.old.desk.jobs.tables.desk job))) }
         ensures trusted { OnOk result (IsTrusted D.told D.content D.may_leave self.old.desk → IsTrusted D.told D.content D.may_leave self.new.desk) }
         ensures goes { IsTrusted D.told D.content D.may_leave self.old.desk → GoesBy D.content D.moment D.left_since D.size result self.old.desk self.new.desk }
         ensures is_open { OnOk result (self.new.desk.store.fault ≡ None) }
         ensures later { D.faults self.old.desk.store.disk ≤ D.faults self.new.desk.store.disk }
-        ensures halt { IfErr result (λ halt. ListHalt halt (D.faults self.old.desk.store.disk) (D.faults self.new.desk.store.disk) out.old out.new) }
+        ensures halt { IsTrusted D.told D.content D.may_leave self.old.desk → IfErr result (λ halt. PurgeHalt halt (call_fits (state_of D.content self.old.desk) (purge_call self.old.desk.jobs.tables.desk job)) out.old out.new) }
+        ensures cause { IfErr result (λ halt. HaltCause (IsTrusted D.told D.content D.may_leave self.old.desk) halt (D.faults self.old.desk.store.disk) (D.faults self.new.desk.store.disk)) }
+    {
+        match self.desk.purge(job) {
+            Ok(true) => tell_purged(job, out),
+            Ok(false) => self.refuse_line(number, out),
+            Err(DeskError::NoMemory) => Err(Halt::Memory),
+            Err(DeskError::BookFull { .. }) => Err(Halt::Book),
+            Err(DeskError::DiskFault) => Err(Halt::Disk),
+            Err(DeskError::Misread) => Err(Halt::Misread),
+            Err(DeskError::Stopped { .. }) => unreachable!(),
+        }
+    }
+
+    fn list(&mut self, number: u32, name: &DsName, out: &mut Text) -> Result<(), Halt>
+        requires is_open { self.old.desk.store.fault ≡ None }
+        ensures state { IsTrusted D.told D.content D.may_leave self.old.desk → OnOk result (state_of D.content self.new.desk ≡ state_of D.content self.old.desk) }
+        ensures refused { IsTrusted D.told D.content D.may_leave self.old.desk → OnOk result (self.new.refused ≡ (self.old.refused || is_refusal (list_answer number (records_of (state_of D.content self.old.desk).desk name.now)))) }
+        ensures text { IsTrusted D.told D.content D.may_leave self.old.desk → OnOk result (out.new ≡ out.old ++ answer_text (list_answer number (records_of (state_of D.content self.old.desk).desk name.now))) }
+        ensures trusted { OnOk result (IsTrusted D.told D.content D.may_leave self.old.desk → IsTrusted D.told D.content D.may_leave self.new.desk) }
+        ensures goes { IsTrusted D.told D.content D.may_leave self.old.desk → GoesBy D.content D.moment D.left_since D.size result self.old.desk self.new.desk }
+        ensures is_open { OnOk result (self.new.desk.store.fault ≡ None) }
+        ensures later { D.faults self.old.desk.store.disk ≤ D.faults self.new.desk.store.disk }
+        ensures halt { IsTrusted D.told D.content D.may_leave self.old.desk → IfErr result (λ halt. ListHalt halt out.old out.new) }
+        ensures cause { IfErr result (λ halt. HaltCause (IsTrusted D.told D.content D.may_leave self.old.desk) halt (D.faults self.old.desk.store.disk) (D.faults self.new.desk.store.disk)) }
     {
         match self.desk.records(name) {
             Ok(Some(records)) => tell(records.as_slice(), out),
             Ok(None) => self.refuse_line(number, out),
-            Err(StoreError::NoMemory) => Err(Halt::Memory),
-            Err(StoreError::DiskFault) => Err(Halt::Disk),
-            Err(StoreError::BookFull { .. } | StoreError::Stopped { .. }) => unreachable!(),
+            Err(DeskError::NoMemory) => Err(Halt::Memory),
+            Err(DeskError::DiskFault) => Err(Halt::Disk),
+            Err(DeskError::BookFull { .. } | DeskError::Misread) => Err(Halt::Misread),
+            Err(DeskError::Stopped { .. }) => unreachable!(),
         }
     }
 
     /// A line is refused.
     pub fn refuse(&mut self, number: u32, out: &mut Text) -> Result<(), Halt>
         requires is_open { self.old.desk.store.fault ≡ None }
-        ensures serves { OnOk result (Serves (seen self.old) (seen self.new) (Refusal number ∷ []) out.old out.new) }
+        ensures serves { OnOk result (Serves (seen D.content self.old) (seen D.content self.new) (Refusal number ∷ []) out.old out.new) }
         ensures desk { self.new.desk ≡ self.old.desk }
         ensures goes { IsTrusted D.told D.content D.may_leave self.old.desk → Goes D.content D.moment D.left_since D.size self.old.desk self.new.desk }
         ensures halt { IfErr result (λ halt. halt ≡ Halt.Memory) }

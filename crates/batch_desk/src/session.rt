@@ -3,7 +3,7 @@ ghost use Rattle.std.specs.Prelude.{◌≡◌, ◌<◌, ◌≤◌, ◌+◌, ◌*
 ghost use Rattle.ckr_statements.specs.Session.{first_session, handed_deck, handed_before, handed_alone, handed_with, session_behind};
 ghost use Rattle.ckr_desk.specs.Sound.{IsTrusted};
 ghost use Rattle.batch_desk.specs.Keeping.{GoesBy};
-ghost use Rattle.ckr_desk.specs.State.{state_of};
+ghost use Rattle.ckr_desk.specs.Sound.{state_of};
 ghost use Rattle.batch_desk.specs.Serves.{HaltsSo, HaltCause, Serves, seen};
 ghost use Rattle.batch_desk.specs.Sessions.{standing_of, HasWholeCards, cards_left, cards_with};
 
@@ -31,13 +31,13 @@ fn end_deck<D: Disk>(office: &mut Office<D>, deck: &mut Vec<u8>, out: &mut Text)
     requires whole { length deck.old.items % 81 ≡ 0 }
     requires few { length deck.old.items < 81 * 4294967295 }
     requires is_open { office.old.desk.store.fault ≡ None }
-    ensures serves { IsTrusted D.told D.content D.may_leave office.old.desk → OnOk result (Serves (seen office.old) (seen office.new) (handed_deck deck.old.items) out.old out.new) }
+    ensures serves { IsTrusted D.told D.content D.may_leave office.old.desk → OnOk result (Serves (seen D.content office.old) (seen D.content office.new) (handed_deck deck.old.items) out.old out.new) }
     ensures trusted { OnOk result (IsTrusted D.told D.content D.may_leave office.old.desk → IsTrusted D.told D.content D.may_leave office.new.desk) }
     ensures goes { IsTrusted D.told D.content D.may_leave office.old.desk → GoesBy D.content D.moment D.left_since D.size result office.old.desk office.new.desk }
     ensures is_open { OnOk result (office.new.desk.store.fault ≡ None) }
     ensures later { D.faults office.old.desk.store.disk ≤ D.faults office.new.desk.store.disk }
-    ensures halt { IsTrusted D.told D.content D.may_leave office.old.desk → IfErr result (λ halt. HaltsSo halt (state_of office.old.desk) (handed_deck deck.old.items) out.old out.new) }
-    ensures cause { IfErr result (λ halt. HaltCause halt (D.faults office.old.desk.store.disk) (D.faults office.new.desk.store.disk)) }
+    ensures halt { IsTrusted D.told D.content D.may_leave office.old.desk → IfErr result (λ halt. HaltsSo halt (state_of D.content office.old.desk) (handed_deck deck.old.items) out.old out.new) }
+    ensures cause { IfErr result (λ halt. HaltCause (IsTrusted D.told D.content D.may_leave office.old.desk) halt (D.faults office.old.desk.store.disk) (D.faults office.new.desk.store.disk)) }
     ensures deck { OnOk result (deck.new.items ≡ []) }
 {
     let _layout = office.desk.layout();
@@ -59,13 +59,13 @@ fn end_before<D: Disk>(
     requires whole { length deck.old.items % 81 ≡ 0 }
     requires few { length deck.old.items < 81 * 4294967295 }
     requires is_open { office.old.desk.store.fault ≡ None }
-    ensures serves { IsTrusted D.told D.content D.may_leave office.old.desk → OnOk result (Serves (seen office.old) (seen office.new) (handed_before kind deck.old.items) out.old out.new) }
+    ensures serves { IsTrusted D.told D.content D.may_leave office.old.desk → OnOk result (Serves (seen D.content office.old) (seen D.content office.new) (handed_before kind deck.old.items) out.old out.new) }
     ensures trusted { OnOk result (IsTrusted D.told D.content D.may_leave office.old.desk → IsTrusted D.told D.content D.may_leave office.new.desk) }
     ensures goes { IsTrusted D.told D.content D.may_leave office.old.desk → GoesBy D.content D.moment D.left_since D.size result office.old.desk office.new.desk }
     ensures is_open { OnOk result (office.new.desk.store.fault ≡ None) }
     ensures later { D.faults office.old.desk.store.disk ≤ D.faults office.new.desk.store.disk }
-    ensures halt { IsTrusted D.told D.content D.may_leave office.old.desk → IfErr result (λ halt. HaltsSo halt (state_of office.old.desk) (handed_before kind deck.old.items) out.old out.new) }
-    ensures cause { IfErr result (λ halt. HaltCause halt (D.faults office.old.desk.store.disk) (D.faults office.new.desk.store.disk)) }
+    ensures halt { IsTrusted D.told D.content D.may_leave office.old.desk → IfErr result (λ halt. HaltsSo halt (state_of D.content office.old.desk) (handed_before kind deck.old.items) out.old out.new) }
+    ensures cause { IfErr result (λ halt. HaltCause (IsTrusted D.told D.content D.may_leave office.old.desk) halt (D.faults office.old.desk.store.disk) (D.faults office.new.desk.store.disk)) }
     ensures deck { OnOk result (deck.new.items ≡ cards_left kind deck.old.items) }
 {
     let _layout = office.desk.layout();
@@ -99,13 +99,13 @@ fn serve_line<D: Disk>(
     out: &mut Text,
 ) -> Result<(), Halt>
     requires is_open { office.old.desk.store.fault ≡ None }
-    ensures serves { IsTrusted D.told D.content D.may_leave office.old.desk → OnOk result (Serves (seen office.old) (seen office.new) (handed_alone kind number text.now) out.old out.new) }
+    ensures serves { IsTrusted D.told D.content D.may_leave office.old.desk → OnOk result (Serves (seen D.content office.old) (seen D.content office.new) (handed_alone kind number text.now) out.old out.new) }
     ensures trusted { OnOk result (IsTrusted D.told D.content D.may_leave office.old.desk → IsTrusted D.told D.content D.may_leave office.new.desk) }
     ensures goes { IsTrusted D.told D.content D.may_leave office.old.desk → GoesBy D.content D.moment D.left_since D.size result office.old.desk office.new.desk }
     ensures is_open { OnOk result (office.new.desk.store.fault ≡ None) }
     ensures later { D.faults office.old.desk.store.disk ≤ D.faults office.new.desk.store.disk }
-    ensures halt { IsTrusted D.told D.content D.may_leave office.old.desk → IfErr result (λ halt. HaltsSo halt (state_of office.old.desk) (handed_alone kind number text.now) out.old out.new) }
-    ensures cause { IfErr result (λ halt. HaltCause halt (D.faults office.old.desk.store.disk) (D.faults office.new.desk.store.disk)) }
+    ensures halt { IsTrusted D.told D.content D.may_leave office.old.desk → IfErr result (λ halt. HaltsSo halt (state_of D.content office.old.desk) (handed_alone kind number text.now) out.old out.new) }
+    ensures cause { IfErr result (λ halt. HaltCause (IsTrusted D.told D.content D.may_leave office.old.desk) halt (D.faults office.old.desk.store.disk) (D.faults office.new.desk.store.disk)) }
 {
     let _layout = office.desk.layout();
     match kind {
@@ -144,13 +144,13 @@ impl<D: Disk> Session<D> {
         requires few { self.old.number < 2 ^ 25 }
         requires whole { HasWholeCards self.old }
         requires is_open { self.old.office.desk.store.fault ≡ None }
-        ensures serves { IsTrusted D.told D.content D.may_leave self.old.office.desk → OnOk result (Serves (seen self.old.office) (seen self.new.office) (handed_with (standing_of self.old) text.now) out.old out.new) }
+        ensures serves { IsTrusted D.told D.content D.may_leave self.old.office.desk → OnOk result (Serves (seen D.content self.old.office) (seen D.content self.new.office) (handed_with (standing_of self.old) text.now) out.old out.new) }
         ensures trusted { OnOk result (IsTrusted D.told D.content D.may_leave self.old.office.desk → IsTrusted D.told D.content D.may_leave self.new.office.desk) }
         ensures goes { IsTrusted D.told D.content D.may_leave self.old.office.desk → GoesBy D.content D.moment D.left_since D.size result self.old.office.desk self.new.office.desk }
         ensures is_open { OnOk result (self.new.office.desk.store.fault ≡ None) }
         ensures later { D.faults self.old.office.desk.store.disk ≤ D.faults self.new.office.desk.store.disk }
-        ensures halt { IsTrusted D.told D.content D.may_leave self.old.office.desk → IfErr result (λ halt. HaltsSo halt (state_of self.old.office.desk) (handed_with (standing_of self.old) text.now) out.old out.new) }
-        ensures cause { IfErr result (λ halt. HaltCause halt (D.faults self.old.office.desk.store.disk) (D.faults self.new.office.desk.store.disk)) }
+        ensures halt { IsTrusted D.told D.content D.may_leave self.old.office.desk → IfErr result (λ halt. HaltsSo halt (state_of D.content self.old.office.desk) (handed_with (standing_of self.old) text.now) out.old out.new) }
+        ensures cause { IfErr result (λ halt. HaltCause (IsTrusted D.told D.content D.may_leave self.old.office.desk) halt (D.faults self.old.office.desk.store.disk) (D.faults self.new.office.desk.store.disk)) }
         ensures standing { OnOk result (standing_of self.new ≡ session_behind (standing_of self.old) text.now) }
         ensures whole { OnOk result (HasWholeCards self.new) }
     {
@@ -166,13 +166,13 @@ impl<D: Disk> Session<D> {
         requires few { self.old.number < 2 ^ 26 }
         requires whole { HasWholeCards self.old }
         requires is_open { self.old.office.desk.store.fault ≡ None }
-        ensures serves { IsTrusted D.told D.content D.may_leave self.old.office.desk → OnOk result (Serves (seen self.old.office) (seen self.new.office) (handed_deck self.old.deck.items) out.old out.new) }
+        ensures serves { IsTrusted D.told D.content D.may_leave self.old.office.desk → OnOk result (Serves (seen D.content self.old.office) (seen D.content self.new.office) (handed_deck self.old.deck.items) out.old out.new) }
         ensures trusted { OnOk result (IsTrusted D.told D.content D.may_leave self.old.office.desk → IsTrusted D.told D.content D.may_leave self.new.office.desk) }
         ensures goes { IsTrusted D.told D.content D.may_leave self.old.office.desk → GoesBy D.content D.moment D.left_since D.size result self.old.office.desk self.new.office.desk }
         ensures is_open { OnOk result (self.new.office.desk.store.fault ≡ None) }
         ensures later { D.faults self.old.office.desk.store.disk ≤ D.faults self.new.office.desk.store.disk }
-        ensures halt { IsTrusted D.told D.content D.may_leave self.old.office.desk → IfErr result (λ halt. HaltsSo halt (state_of self.old.office.desk) (handed_deck self.old.deck.items) out.old out.new) }
-        ensures cause { IfErr result (λ halt. HaltCause halt (D.faults self.old.office.desk.store.disk) (D.faults self.new.office.desk.store.disk)) }
+        ensures halt { IsTrusted D.told D.content D.may_leave self.old.office.desk → IfErr result (λ halt. HaltsSo halt (state_of D.content self.old.office.desk) (handed_deck self.old.deck.items) out.old out.new) }
+        ensures cause { IfErr result (λ halt. HaltCause (IsTrusted D.told D.content D.may_leave self.old.office.desk) halt (D.faults self.old.office.desk.store.disk) (D.faults self.new.office.desk.store.disk)) }
     {
         end_deck(&mut self.office, &mut self.deck, out)
     }

@@ -12,6 +12,8 @@ pub enum Halt {
     Book,
     /// The disk failed.
     Disk,
+    /// The disk doesn't read what was written.
+    Misread,
 }
 
 /// Why a stream isn't served any further.
@@ -29,6 +31,8 @@ pub enum Stop {
     Book,
     /// The disk failed.
     Disk,
+    /// The disk doesn't read what was written.
+    Misread,
 }
 
 impl From<NoMemory> for Halt {

@@ -4,7 +4,7 @@ ghost use Rattle.std.specs.Io.KnownBytes.{Consumes, Keeps, IsAtEnd};
 ghost use Rattle.ckr_outside.specs.Faults.{Rose};
 ghost use Rattle.ckr_desk.specs.Sound.{IsTrusted};
 ghost use Rattle.batch_desk.specs.Keeping.{GoesBy, Within, WithinTo};
-ghost use Rattle.ckr_desk.specs.State.{state_of};
+ghost use Rattle.ckr_desk.specs.Sound.{state_of};
 ghost use Rattle.batch_desk.specs.Flows.{IsBegun};
 ghost use Rattle.batch_desk.specs.Serves.{seen};
 ghost use Rattle.batch_desk.specs.Sessions.{HasWholeCards};
@@ -48,13 +48,13 @@ fn feed_all<S: Source, K: Sink, D: Disk>(
 ) -> Result<(), Stop>
     requires begun { IsBegun flow.old }
     requires is_open { flow.old.session.office.desk.store.fault ≡ None }
-    ensures ok { OnOk result (FedAll (IsTrusted D.told D.content D.may_leave flow.old.session.office.desk) (seen flow.old.session.office) flow.new (S.left source.old) (S.left source.new) (K.written sink.old) (K.written sink.new)) }
+    ensures ok { OnOk result (FedAll D.content (IsTrusted D.told D.content D.may_leave flow.old.session.office.desk) (seen D.content flow.old.session.office) flow.new (S.left source.old) (S.left source.new) (K.written sink.old) (K.written sink.new)) }
     ensures trusted { OnOk result (IsTrusted D.told D.content D.may_leave flow.old.session.office.desk → IsTrusted D.told D.content D.may_leave flow.new.session.office.desk) }
     ensures goes { IsTrusted D.told D.content D.may_leave flow.old.session.office.desk → GoesBy D.content D.moment D.left_since D.size result flow.old.session.office.desk flow.new.session.office.desk }
     ensures is_open { OnOk result (flow.new.session.office.desk.store.fault ≡ None) }
     ensures few { OnOk result (flow.new.session.number < 2 ^ 25) }
     ensures whole { OnOk result (HasWholeCards flow.new.session) }
-    ensures stop { IfErr result (λ stop. IsStopped (IsTrusted D.told D.content D.may_leave flow.old.session.office.desk) (state_of flow.old.session.office.desk) stop
+    ensures stop { IfErr result (λ stop. IsStopped (IsTrusted D.told D.content D.may_leave flow.old.session.office.desk) (state_of D.content flow.old.session.office.desk) stop
         (faults_of (S.faults source.old) (S.faults source.new) (K.faults sink.old) (K.faults sink.new) (D.faults flow.old.session.office.desk.store.disk) (D.faults flow.new.session.office.desk.store.disk)) (S.left source.old) (S.left source.new) (K.written sink.old) (K.written sink.new)) }
     ensures source_later { S.faults source.old ≤ S.faults source.new }
     ensures sink_later { K.faults sink.old ≤ K.faults sink.new }
@@ -91,7 +91,7 @@ pub fn serve<S: Source, K: Sink, D: Disk>(
     desk: Desk<D>,
 ) -> Served<D>
     requires is_open { desk.store.fault ≡ None }
-    ensures served { Serving (IsTrusted D.told D.content D.may_leave desk) (state_of desk) result.outcome
+    ensures served { Serving (IsTrusted D.told D.content D.may_leave desk) (state_of D.content desk) result.outcome
         (faults_of (S.faults source.old) (S.faults source.new) (K.faults sink.old) (K.faults sink.new) (D.faults desk.store.disk) (D.faults result.disk)) (S.left source.old) (S.left source.new) (K.written sink.old) (K.written sink.new) }
     ensures within { IsTrusted D.told D.content D.may_leave desk → WithinTo D.content D.moment D.left_since D.size desk result.disk }
     ensures source_later { S.faults source.old ≤ S.faults source.new }
@@ -115,7 +115,7 @@ fn serve_on<S: Source, K: Sink, D: Disk>(
 ) -> Result<bool, Stop>
     requires begun { IsBegun flow.old }
     requires is_open { flow.old.session.office.desk.store.fault ≡ None }
-    ensures served { Serving (IsTrusted D.told D.content D.may_leave flow.old.session.office.desk) (state_of flow.old.session.office.desk) result
+    ensures served { Serving (IsTrusted D.told D.content D.may_leave flow.old.session.office.desk) (state_of D.content flow.old.session.office.desk) result
         (faults_of (S.faults source.old) (S.faults source.new) (K.faults sink.old) (K.faults sink.new) (D.faults flow.old.session.office.desk.store.disk) (D.faults flow.new.session.office.desk.store.disk)) (S.left source.old) (S.left source.new) (K.written sink.old) (K.written sink.new) }
     ensures within { IsTrusted D.told D.content D.may_leave flow.old.session.office.desk → Within D.content D.moment D.left_since D.size flow.old.session.office.desk flow.new.session.office.desk }
     ensures source_later { S.faults source.old ≤ S.faults source.new }

@@ -6,11 +6,11 @@ use std::alloc::{AllocError, Global};
 use std::test::Fail;
 
 /// The installation of the worked streams.
-const CARDS: &[u8] =
+pub const CARDS: &[u8] =
     b"INITIATORS 2\nUNITS 2\nBOOK 100000\nVOLUME VOL001 200000\nVOLUME VOL002 200000\n";
 
 /// The bytes of its disk.
-const SIZE: u64 = 500_512;
+pub const SIZE: u64 = 500_512;
 
 /// A smaller one, and its disk.
 const SMALL_CARDS: &[u8] = b"BOOK 1000\nVOLUME VOL001 2000\n";
@@ -82,6 +82,18 @@ fn formatted(
     Ok(ended.disk)
 }
 
+/// The status and the text after a stream on a fresh disk of this installation.
+pub fn text_of(
+    alloc: Global,
+    cards: &[u8],
+    size: u64,
+    stream: &[u8],
+) -> Result<(u8, Vec<u8>), Fail> {
+    let disk = formatted(alloc, cards, size, None, None)?;
+    let Ended { status, text, .. } = call(alloc, "run", stream, disk)?;
+    Ok((status, text))
+}
+
 /// The status and the sink after a stream whose source and sink fail at one call each, on a fresh disk.
 pub fn served(alloc: Global, bytes: Vec<u8>, take: u32, put: u32) -> Result<(u8, MemSink), Fail> {
     let disk = formatted(alloc, SMALL_CARDS, SMALL_SIZE, None, None)?;
@@ -138,6 +150,28 @@ fn the_book_is_full(rt: HostRuntime) -> Result<(), Fail> {
         assert!(rt; ended.status == 3 && ended.text.as_slice() == text);
         let ended = call(alloc, "run", b"", ended.disk)?;
         assert!(rt; ended.status == 0);
+    }
+    Ok(())
+}
+
+#[test]
+fn a_deck_needs_its_room_of_the_book(rt: HostRuntime) -> Result<(), Fail> {
+    let deck = b"//J JOB\n//S1 EXEC PGM=IEFBR14\n//*\n//*\n";
+    let table = [
+        (
+            b"BOOK 334\nVOLUME VOL001 2000\n".as_slice(),
+            3,
+            b"".as_slice(),
+        ),
+        (
+            b"BOOK 335\nVOLUME VOL001 2000\n".as_slice(),
+            0,
+            b"J0000001 J SUBMITTED\n".as_slice(),
+        ),
+    ];
+    for (cards, status, text) in table {
+        let (ended, written) = text_of(rt.alloc(), cards, SMALL_SIZE, deck)?;
+        assert!(rt; ended == status && written.as_slice() == text);
     }
     Ok(())
 }
@@ -208,13 +242,14 @@ fn any_stop_leaves_a_disk_that_opens_with_what_was_answered(rt: HostRuntime) -> 
                 break;
             }
             assert!(rt; ended.status == 6, "call {call_after}");
-            // A job that was acknowledged is there, and so the desk takes no second one.
-            let again = call(alloc, "run", DECK, ended.disk.stop(pick))?;
-            assert!(rt; again.status == 0 || again.status == 8, "call {call_after}");
-            assert!(rt;
-                ended.text.is_empty() || again.status == 8,
-                "call {call_after}"
-            );
+            // A job that was acknowledged is there, and so the next one is the second. (Two of the first one don't fit into the book.)
+            let next = b"//NEXT JOB\n//S1 EXEC PGM=IEFBR14\n//\n";
+            let again = call(alloc, "run", next, ended.disk.stop(pick))?;
+            assert!(rt; again.status == 0, "call {call_after}");
+            let second = again.text.as_slice() == b"J0000002 NEXT SUBMITTED\n".as_slice();
+            let first = again.text.as_slice() == b"J0000001 NEXT SUBMITTED\n".as_slice();
+            assert!(rt; second || first, "call {call_after}");
+            assert!(rt; ended.text.is_empty() || second, "call {call_after}");
         }
     }
     Ok(())
@@ -264,12 +299,12 @@ fn streams_have_their_texts(rt: HostRuntime) -> Result<(), Fail> {
             b"J0000001 J SUBMITTED\n".as_slice(),
         ),
         (
-            b"//J JOB\n//S EXEC PGM=IEFBR14\n//\n".as_slice(),
-            8,
-            b"DECK REFUSED J00 CARD 1\n".as_slice(),
+            b"//J JOB\n//S EXEC PGM=IEFBR14\n//\n$T 2 1".as_slice(),
+            0,
+            b"J0000001 J SUBMITTED\nI2 J0000001 SELECTED\n".as_slice(),
         ),
         (
-            b"\n$T 2 1\n$T 1 01\n$T 1 1000001\nHELLO\n$Z\n".as_slice(),
+            b"\n$T 3 1\n$T 1 01\n$T 1 1000001\nHELLO\n$Z\n".as_slice(),
             8,
             b"LINE 2 REFUSED\nLINE 3 REFUSED\nLINE 4 REFUSED\nLINE 5 REFUSED\nLINE 6 REFUSED\n".as_slice(),
         ),

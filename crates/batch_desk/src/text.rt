@@ -1,7 +1,7 @@
 //! The text that is written.
 ghost use Rattle.std.specs.Prelude.{◌≡◌, [], ◌∷◌, ◌++◌, OnOk, replicate};
 ghost use Rattle.std.specs.Fmt.{decimal};
-ghost use Rattle.batch_desk.specs.Texts.{job_text};
+ghost use Rattle.batch_desk.specs.Listings.{initiator_text, job_text};
 
 use ckr_base::NoMemory;
 use std::alloc::Global;
@@ -70,5 +70,13 @@ impl Text {
         self.push(b"J")?;
         self.zeros(7usize.saturating_sub(digits.len()))?;
         self.push(digits.as_bytes())
+    }
+
+    /// `I` and the initiator's number.
+    pub fn initiator(&mut self, initiator: u8) -> Result<(), NoMemory>
+        ensures { OnOk result (self.new ≡ self.old ++ initiator_text initiator) }
+    {
+        self.push(b"I")?;
+        self.number(u32::from(initiator))
     }
 }

@@ -1,13 +1,12 @@
 //! The top call.
 ghost use Rattle.std.specs.Prelude.{◌≡◌, ◌≤◌, ◌↔◌, Ok, map, string_bytes};
 ghost use Rattle.std.specs.Io.KnownBytes.{Keeps};
-ghost use Rattle.ckr_desk.specs.Opening.{opening_of};
+ghost use Rattle.ckr_desk.specs.Sound.{AllSound, IsSafe, desk_opening};
 ghost use Rattle.ckr_formatting.specs.Formats.{IsFormatted};
 ghost use Rattle.ckr_outside.specs.Disk.{EachSince};
-ghost use Rattle.batch_desk.specs.Keeping.{IsSafe};
 ghost use Rattle.batch_desk.specs.Served.{faults_of};
 ghost use Rattle.batch_desk.specs.Words.{command_of};
-ghost use Rattle.batch_desk.specs.Closing.{AllSound, HasFormatted, HasRun, serving_status, opening_status, formatting_status};
+ghost use Rattle.batch_desk.specs.Closing.{HasFormatted, HasRun, serving_status, opening_status, formatting_status};
 
 use crate::stop::Stop;
 use crate::stream::{Served, serve};
@@ -37,6 +36,7 @@ fn serving_status(outcome: Result<bool, Stop>) -> u8
         Err(Stop::Disk) => 6,
         Err(Stop::Memory) => 7,
         Err(Stop::Limit) => 9,
+        Err(Stop::Misread) => 2,
     }
 }
 
@@ -61,7 +61,7 @@ fn run<S: Source, K: Sink, D: Disk>(
     sink: &mut K,
     disk: D,
 ) -> Closed<D>
-    ensures run { HasRun D.told (AllSound D.told D.may_leave D.size disk) (opening_of (D.content disk) (D.size disk)) result.status
+    ensures run { HasRun D.told (AllSound D.told D.may_leave D.size disk) (desk_opening (D.content disk) (D.size disk)) result.status
         (faults_of (S.faults source.old) (S.faults source.new) (K.faults sink.old) (K.faults sink.new) (D.faults disk) (D.faults result.disk))
         (S.left source.old) (S.left source.new) (K.written sink.old) (K.written sink.new) }
 
@@ -145,7 +145,7 @@ pub fn batch_desk<S: Source, K: Sink, D: Disk>(
         (faults_of (S.faults source.old) (S.faults source.new) (K.faults sink.old) (K.faults sink.new) (D.faults disk) (D.faults result.disk))
         (S.left source.old) (S.left source.new) (K.written sink.old) (K.written sink.new) }
     ensures run { command_of (map string_bytes words.now) ≡ Ok Command.Run →
-        HasRun D.told (AllSound D.told D.may_leave D.size disk) (opening_of (D.content disk) (D.size disk)) result.status
+        HasRun D.told (AllSound D.told D.may_leave D.size disk) (desk_opening (D.content disk) (D.size disk)) result.status
         (faults_of (S.faults source.old) (S.faults source.new) (K.faults sink.old) (K.faults sink.new) (D.faults disk) (D.faults result.disk))
         (S.left source.old) (S.left source.new) (K.written sink.old) (K.written sink.new) }
 

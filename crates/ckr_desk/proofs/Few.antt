@@ -1,4 +1,4 @@
--- A deck that is accepted has few cards, and its event is small enough for a book.
+-- A deck that is accepted has few cards.
 use Rattle.std.proofs.Common.{◌≡◌, ◌≤◌, ◌+◌, ◌/◌, ℕ, zero, suc, Bool, true, false, List, [], ◌∷◌, length, drop, Option, Some, None, Result, Ok, Err, refl, ap, sym, ◌∙◌, subst, cond, nat_lt, nat_le, arith}
 use Rattle.std.proofs.lemmas.Bool.Decides.{nat_tests}
 use Rattle.std.proofs.lemmas.Option.{none-some}
@@ -13,14 +13,13 @@ use Rattle.ckr_jcl.specs.Text.{if_holds}
 use Rattle.ckr_jcl.specs.DeckFaults.{lesser, step_beyond, dd_beyond, card_beyond, no_step, limit_fault, checkpoint_name_fault, deck_faults, faults_of_names, faults_of_uses}
 use Rattle.ckr_jcl.specs.Least.{Stands, HasNone, IsDeckJob}
 use Rattle.ckr_jcl.specs.Deck.{stored_deck}
-use Rattle.ckr_jcl.proofs.Refusing.{job_law}
 use Rattle.ckr_jcl.specs.declared.faults.Fault.{Fault}
-use Rattle.ckr_events.specs.declared.event.Event.TheVariants.{Submitted as SubmittedEvent}
-use Rattle.ckr_course.specs.declared.stage.Standing.{Standing}
-use Rattle.ckr_course.specs.declared.reply.Submitted.{Submitted}
-use Rattle.ckr_course.specs.declared.reply.Submitted.TheVariants.{Job as Accepted, Refused}
-use Rattle.ckr_course.specs.Following.{kept_of_stored}
-use Rattle.ckr_course.specs.Submitting.{is_not_run, answer_to, event_with, submit_answer, event_of_submit}
+use Rattle.ckr_jobs.specs.Holding.{IsAcceptedRow}
+use Rattle.ckr_points.specs.Folded.{queued_run}
+use Rattle.ckr_submitting.specs.Form.{is_run, submission_by, submission_of}
+use Rattle.ckr_submitting.specs.declared.submission.Submission.{Submission}
+use Rattle.ckr_submitting.specs.declared.submission.Submission.TheVariants.{Accepted, Refused}
+use Rattle.ckr_jcl.proofs.Refusing.{job_law}
 
 lesser_none : (a b : Option ℕ) → lesser a b ≡ None → (a ≡ None) × (b ≡ None)
 lesser_none None b none = (refl, none)
@@ -82,38 +81,24 @@ unfolding stored_deck
 few_cards bytes job accepted =
     omega (arith, cards_long bytes, few_statements (length (cards_in_bytes bytes)) (statements_of (cards_in_bytes bytes)) job (job_law (cards_in_bytes bytes) job accepted).1)
 
--- ---- by what is answered
+-- ---- what is accepted
 
-job_not_refused : (n number card : ℕ) → Accepted n ≡ Refused number card → ⊥
-job_not_refused n number card same = subst (λ (s : Submitted). elim s as (λ _. Type 0) [ Accepted _ ↦ Unit {0} | Refused _ _ ↦ ⊥ ]) same tt
-
-by_answer : (run : Option Standing) (cards : List ℕ) (deck : Result Job Fault) → answer_to run deck ≡ Accepted 1
-    → ((job : Job) × (deck ≡ Ok job)) × (event_with run cards deck ≡ Some (SubmittedEvent 1 (kept_of_stored cards)))
-by_answer run cards (Err fault) is = absurd (job_not_refused 1 fault.number fault.card (sym is))
-by_answer run cards (Ok job) is = ((job, refl), by_test (is_not_run run job) is)
+by_deck : (deck : Result Job Fault) (job : Job) → submission_by deck ≡ Accepted job → (deck ≡ Ok job) × (is_run job ≡ true)
+by_deck (Err fault) job e = absurd (subst (λ (s : Submission). elim s as (λ _. Type 0) [ Accepted _ ↦ ⊥ | Refused _ _ ↦ Unit {0} ]) e tt)
+by_deck (Ok its) job e = by_test (is_run its) refl e
   where
-    by_test : (not : Bool) → cond not (Refused 0 1) (Accepted 1) ≡ Accepted 1 → cond not None (Some (SubmittedEvent 1 (kept_of_stored cards))) ≡ Some (SubmittedEvent 1 (kept_of_stored cards))
-    by_test true is = absurd (job_not_refused 1 0 1 (sym is))
-    by_test false is = refl
+    by_test : (run : Bool) → is_run its ≡ run → cond run (Accepted its) (Refused 0 1) ≡ Accepted job → ((let deck : Result Job Fault = Ok its in deck) ≡ Ok job) × (is_run job ≡ true)
+    by_test true is e = let same : its ≡ job = ap (λ (s : Submission). elim s as (λ _. Job) [ Accepted j ↦ j | Refused _ _ ↦ its ]) e in (ap Ok same, ap is_run (sym same) ∙ is)
+    by_test false is e = absurd (subst (λ (s : Submission). elim s as (λ _. Type 0) [ Accepted _ ↦ ⊥ | Refused _ _ ↦ Unit {0} ]) e tt)
 
-by_refusal : (run : Option Standing) (cards : List ℕ) (deck : Result Job Fault) (number card : ℕ) → answer_to run deck ≡ Refused number card → event_with run cards deck ≡ None
-by_refusal run cards (Err fault) number card is = refl
-by_refusal run cards (Ok job) number card is = by_test (is_not_run run job) is
-  where
-    by_test : (not : Bool) → cond not (Refused 0 1) (Accepted 1) ≡ Refused number card → cond not None (Some (SubmittedEvent 1 (kept_of_stored cards))) ≡ None
-    by_test true is = refl
-    by_test false is = absurd (job_not_refused 1 number card is)
+-- a deck that the desk runs was accepted
+pub accepted-deck : (cards : List ℕ) (job : Job) → submission_of cards ≡ Accepted job → (stored_deck cards ≡ Ok job) × (is_run job ≡ true)
+unfolding submission_of
+accepted-deck cards job e = by_deck (stored_deck cards) job e
 
-pub few_accepted : (run : Option Standing) (cards : List ℕ) → submit_answer run cards ≡ Accepted 1 → length cards / 81 ≤ 100000
-unfolding submit_answer
-few_accepted run cards is =
-    let deck = (by_answer run cards (stored_deck cards) is).0 in
-    few_cards cards deck.0 deck.1
+pub few-accepted : (cards : List ℕ) (job : Job) → submission_of cards ≡ Accepted job → length cards / 81 ≤ 100000
+few-accepted cards job e = few_cards cards job (accepted-deck cards job e).0
 
-pub event_accepted : (run : Option Standing) (cards : List ℕ) → submit_answer run cards ≡ Accepted 1 → event_of_submit run cards ≡ Some (SubmittedEvent 1 (kept_of_stored cards))
-unfolding submit_answer event_of_submit
-event_accepted run cards is = (by_answer run cards (stored_deck cards) is).1
-
-pub event_refused : (run : Option Standing) (cards : List ℕ) (number card : ℕ) → submit_answer run cards ≡ Refused number card → event_of_submit run cards ≡ None
-unfolding submit_answer event_of_submit
-event_refused run cards number card is = by_refusal run cards (stored_deck cards) number card is
+-- its row is such as the desk runs
+pub accepted-row : (cards : List ℕ) (number : ℕ) (job : Job) → submission_of cards ≡ Accepted job → IsAcceptedRow (queued_run number job)
+accepted-row cards number job e = let its = accepted-deck cards job e in record { cards = cards; accepted = its.0; is_run = its.1; plain = refl }

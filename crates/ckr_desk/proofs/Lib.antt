@@ -1,13 +1,29 @@
-mod Admitted
-mod Behind
-mod Committed
-mod Entered
-mod Few
-mod Listed
-mod Opened
-mod Planned
-mod Reopened
-mod Replays
-mod Wrote
-pub mod Formatted
 pub mod Kept
+pub mod Behind
+pub mod Few
+pub mod Opened
+pub mod Replays
+pub mod Codes
+pub mod Left
+pub mod LeftBehind
+pub mod Grown
+pub mod Written
+pub mod Plain
+pub mod Trusted
+pub mod Images
+pub mod Same
+pub mod Turned
+pub mod Under
+pub mod Called
+pub mod Going
+pub mod Worked
+pub mod Done
+pub mod Planned
+pub mod Ensuing
+pub mod OpenLengths
+pub mod OpenAgain
+pub mod OpenRecord
+pub mod OpenTrusted
+pub mod AskLeft
+pub mod AskCalled
+pub mod AskRecords

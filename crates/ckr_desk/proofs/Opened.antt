@@ -1,13 +1,13 @@
 -- What opening gives, by the header and by the events.
-use Rattle.std.proofs.Common.{◌≡◌, ◌≤◌, ℕ, List, take, Option, Ok, Err, ap, sym, ◌∙◌, subst, inl, inr, ⊎_elim, arith}
+use Rattle.std.proofs.Common.{◌≡◌, ◌≤◌, ℕ, List, take, Ok, Err, ap, sym, ◌∙◌, subst, inl, inr, ⊎_elim, arith}
 use Rattle.ckr_outside.specs.Disk.{part}
 use Rattle.ckr_outside.specs.Faults.{Rose}
+use Rattle.ckr_points.specs.Rows.{Tables}
 use Rattle.ckr_volumes.specs.declared.layout.Layout.{Layout}
 use Rattle.ckr_volumes.specs.Header.{header_of}
 use Rattle.ckr_journal.specs.declared.error.LayoutError.{LayoutError}
 use Rattle.ckr_journal.specs.declared.error.LayoutError.TheVariants as LayoutErrors
 use Rattle.ckr_journal.specs.Layouts.{Answers}
-use Rattle.ckr_course.specs.declared.stage.Standing.{Standing}
 use Rattle.ckr_desk.specs.declared.error.OpenError.{OpenError}
 use Rattle.ckr_desk.specs.declared.error.OpenError.TheVariants as OpenErrors
 use Rattle.ckr_desk.specs.Opening.{by_book, by_header, opening_of}
@@ -33,12 +33,11 @@ pub by_its_book : (image : List ℕ) (size : ℕ) (layout : Layout) → header_o
 unfolding opening_of
 by_its_book image size layout is = ap (by_header image) is
 
-pub found_so : (image : List ℕ) (size : ℕ) (layout : Layout) (run : Option Standing) (end : ℕ) → header_of (take 512 image) size ≡ Ok layout
-    → IsReplayedTo layout (part 512 layout.book image) run end → IsFound image size layout run end
-found_so image size layout run end header replayed = record {
+pub found_so : (image : List ℕ) (size : ℕ) (layout : Layout) (tables : Tables) (end : ℕ) → header_of (take 512 image) size ≡ Ok layout
+    → IsReplayedTo layout (part 512 layout.book image) tables end → IsFound image size layout tables end
+found_so image size layout tables end header replayed = record {
   header = header;
   opens = by_its_book image size layout header ∙ replayed.opens;
-  read = replayed.read;
   is_end = replayed.is_end;
   closed = replayed.closed;
 }
@@ -53,12 +52,12 @@ book_cause rose before told image size layout (OpenErrors.BadHeader offset) earl
 book_cause rose before told image size layout (OpenErrors.BadBook offset) earlier header cause = λ is. by_its_book image size layout (header is) ∙ cause is
 
 -- the disk was read on between the header and the events
-pub found_behind : (image image' image'' : List ℕ) (size size'' : ℕ) (layout : Layout) (run : Option Standing) (end : ℕ) → header_of (take 512 image) size ≡ Ok layout
-    → image' ≡ image → image'' ≡ image' → size'' ≡ size → IsReplayedTo layout (part 512 layout.book image') run end → IsFound image'' size'' layout run end
-found_behind image image' image'' size size'' layout run end header same same' same_size replayed =
-    subst (λ (i : List ℕ). IsFound i size'' layout run end) (sym same')
-    (subst (λ (n : ℕ). IsFound image' n layout run end) (sym same_size)
-    (found_so image' size layout run end (ap (λ (i : List ℕ). header_of (take 512 i) size) same ∙ header) replayed))
+pub found_behind : (image image' image'' : List ℕ) (size size'' : ℕ) (layout : Layout) (tables : Tables) (end : ℕ) → header_of (take 512 image) size ≡ Ok layout
+    → image' ≡ image → image'' ≡ image' → size'' ≡ size → IsReplayedTo layout (part 512 layout.book image') tables end → IsFound image'' size'' layout tables end
+found_behind image image' image'' size size'' layout tables end header same same' same_size replayed =
+    subst (λ (i : List ℕ). IsFound i size'' layout tables end) (sym same')
+    (subst (λ (n : ℕ). IsFound image' n layout tables end) (sym same_size)
+    (found_so image' size layout tables end (ap (λ (i : List ℕ). header_of (take 512 i) size) same ∙ header) replayed))
 
 pub book_cause_behind : (before later told : Type 0) (image image' image'' : List ℕ) (size : ℕ) (layout : Layout) (error : OpenError) → (later → before)
     → (told → header_of (take 512 image') size ≡ Ok layout) → image' ≡ image → image'' ≡ image'

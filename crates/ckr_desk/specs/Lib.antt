@@ -1,5 +1,12 @@
 pub mod State
+pub mod Calls
+pub mod Calling
+pub mod Turning
+pub mod Errors
 pub mod Opening
 pub mod Replaying
 pub mod Sound
-pub mod Calls
+pub mod Submitting
+pub mod Rewriting
+pub mod Working
+pub mod Reading

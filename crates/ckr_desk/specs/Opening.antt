@@ -1,53 +1,58 @@
--- What opening a disk gives: the state that its events have brought about, or the first reason why there is none.
+-- What opening a disk gives: what its events have brought about, or the first reason why there is none.
 use Rattle.std.specs.Prelude.{ℕ, ◌+◌, ◌-◌, if◌then◌else◌, List, [], ◌∷◌, length, take, drop, Option, Some, None, Result, Ok, Err}
+use Rattle.ckr_book.specs.Records.{records_from, end_from, starts_open}
+use Rattle.ckr_events.specs.declared.event.Event.{Event}
+use Rattle.ckr_events.specs.Event.{event_of}
+use Rattle.ckr_jobs.specs.Behind.{failed_in}
+use Rattle.ckr_jobs.specs.Replaying.{replayed}
 use Rattle.ckr_outside.specs.Disk.{part}
+use Rattle.ckr_points.specs.Rows.{Tables, no_tables}
 use Rattle.ckr_volumes.specs.declared.layout.Layout.{Layout}
 use Rattle.ckr_volumes.specs.declared.header.HeaderError.{HeaderError}
 use Rattle.ckr_volumes.specs.declared.header.HeaderError.TheVariants as HeaderErrors
 use Rattle.ckr_volumes.specs.Header.{header_of}
-use Rattle.ckr_book.specs.Records.{records_from, end_from, starts_open}
-use Rattle.ckr_events.specs.declared.event.Event.{Event}
-use Rattle.ckr_events.specs.Event.{event_of}
-use Rattle.ckr_course.specs.declared.stage.Standing.{Standing}
-use Rattle.ckr_course.specs.Following.{run_by}
 use Rattle.ckr_desk.specs.declared.error.OpenError.{OpenError}
 use Rattle.ckr_desk.specs.declared.error.OpenError.TheVariants.{NotFormatted, Version, BadHeader, BadBook}
-use Rattle.ckr_desk.specs.State.{State}
+use Rattle.ckr_desk.specs.State.{Opened}
 
-abbrev pub run_by_read : Layout → Option Standing → Result Event ℕ → Option Standing
-run_by_read layout run (Ok event) = run_by layout run event
-run_by_read layout run (Err offset) = None
+abbrev pub behind_read : Layout → Tables → Result Event ℕ → Option Tables
+behind_read layout tables (Ok event) = replayed layout tables event
+behind_read layout tables (Err offset) = None
 
--- the run behind a record of the book: none where the record is no event, or one that doesn't follow
-unfoldable pub run_by_record : Layout → Option Standing → List ℕ → Option Standing
-run_by_record layout run bytes = run_by_read layout run (event_of bytes)
+-- the tables behind a record of the book: none where the record is no event, or one that doesn't follow
+unfoldable pub behind_record : Layout → Tables → List ℕ → Option Tables
+behind_record layout tables bytes = behind_read layout tables (event_of bytes)
 
-abbrev pub or_bad : ℕ → Option Standing → (Standing → Result (Option Standing) ℕ) → Result (Option Standing) ℕ
+abbrev pub or_bad : ℕ → Option Tables → (Tables → Result Tables ℕ) → Result Tables ℕ
 or_bad place None go_on = Err place
-or_bad place (Some standing) go_on = go_on standing
+or_bad place (Some tables) go_on = go_on tables
 
--- the run behind the records of a book from a place on; else the place of the first that is no event or doesn't follow
-abbrev pub run_by_records : Layout → Option Standing → ℕ → List (List ℕ) → Result (Option Standing) ℕ
-run_by_records layout run place [] = Ok run
-run_by_records layout run place (bytes ∷ rest) =
-    or_bad place (run_by_record layout run bytes) (λ standing. run_by_records layout (Some standing) (place + (length bytes + 5)) rest)
+-- the tables behind the records of a book from a place on; else the place of the first that is no event or doesn't follow
+abbrev pub behind_records : Layout → Tables → ℕ → List (List ℕ) → Result Tables ℕ
+behind_records layout tables place [] = Ok tables
+behind_records layout tables place (bytes ∷ rest) =
+    or_bad place (behind_record layout tables bytes) (λ behind. behind_records layout behind (place + (length bytes + 5)) rest)
+
+-- with these tables the runs that are within a step were running
+abbrev pub opened_at : Layout → Tables → ℕ → Opened
+opened_at layout tables room = record { layout = layout; tables = tables; failed = failed_in tables; room = room }
 
 -- a gate that stands open before no whole record comes behind the records
-abbrev pub by_end : Layout → List ℕ → Result (Option Standing) ℕ → Result State OpenError
+abbrev pub by_end : Layout → List ℕ → Result Tables ℕ → Result Opened OpenError
 by_end layout bytes (Err place) = Err (BadBook place)
-by_end layout bytes (Ok run) =
+by_end layout bytes (Ok tables) =
     if starts_open (drop (end_from 0 bytes) bytes) then Err (BadBook (end_from 0 bytes))
-    else Ok (record { layout = layout; run = run; room = layout.book - end_from 0 bytes })
+    else Ok (opened_at layout tables (layout.book - end_from 0 bytes))
 
-abbrev pub by_book : Layout → List ℕ → Result State OpenError
-by_book layout bytes = by_end layout bytes (run_by_records layout None 0 (records_from 0 bytes))
+abbrev pub by_book : Layout → List ℕ → Result Opened OpenError
+by_book layout bytes = by_end layout bytes (behind_records layout no_tables 0 (records_from 0 bytes))
 
-abbrev pub by_header : List ℕ → Result Layout HeaderError → Result State OpenError
+abbrev pub by_header : List ℕ → Result Layout HeaderError → Result Opened OpenError
 by_header image (Err HeaderErrors.NotFormatted) = Err NotFormatted
 by_header image (Err (HeaderErrors.Version version)) = Err (Version version)
 by_header image (Err (HeaderErrors.BadHeader offset)) = Err (BadHeader offset)
 by_header image (Ok layout) = by_book layout (part 512 layout.book image)
 
 -- what opening a disk of this size gives that reads these bytes
-unfoldable pub opening_of : List ℕ → ℕ → Result State OpenError
+unfoldable pub opening_of : List ℕ → ℕ → Result Opened OpenError
 opening_of image size = by_header image (header_of (take 512 image) size)

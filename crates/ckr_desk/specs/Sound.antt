@@ -1,26 +1,77 @@
 -- Which images of a disk are sound, and what a desk keeps of its disk.
-use Rattle.std.specs.Prelude.{◌≡◌, ℕ, List, [], ◌∷◌, ◌++◌, Option, Some, None, Ok}
-use Rattle.ckr_outside.specs.Disk.{EachSince}
-use Rattle.ckr_book.specs.Book.{IsBeforeOrAfter}
-use Rattle.ckr_volumes.specs.declared.layout.Layout.{Layout}
+use Rattle.std.specs.Prelude.{◌≡◌, ◌⊎◌, ℕ, List, [], ◌∷◌, ◌++◌, Option, Result, Ok, Err}
+use Rattle.std.specs.List.{flat_map}
+use Rattle.ckr_book.specs.Book.{room_of}
 use Rattle.ckr_events.specs.declared.event.Event.{Event}
-use Rattle.ckr_events.specs.Event.{spelling}
-use Rattle.ckr_course.specs.Course.{AnyRunStands, reopened}
-use Rattle.ckr_course.specs.Leaving.{HasLeft, ReadsWork}
+use Rattle.ckr_events.specs.Event.{event_of}
+use Rattle.ckr_jobs.specs.Replaying.{deck_of}
+use Rattle.ckr_keeping.specs.Going.{HasRuns}
+use Rattle.ckr_leaving.specs.Committed.{HasCommitted}
+use Rattle.ckr_outside.specs.Disk.{EachSince}
+use Rattle.ckr_points.specs.Office.{Office, office}
+use Rattle.ckr_points.specs.Restarting.{Decked}
+use Rattle.ckr_points.specs.Rows.{no_tables}
+use Rattle.ckr_soundness.specs.Keeping.{IsKept}
+use Rattle.ckr_standing.specs.Standing.{Stands, desk_seen}
 use Rattle.ckr_store.specs.Opens.{event_records}
-use Rattle.ckr_desk.specs.Opening.{opening_of, run_by_records}
-use Rattle.ckr_desk.specs.State.{State, DeskState}
+use Rattle.ckr_turns.specs.Desk.{opened as opened_desk}
+use Rattle.ckr_volumes.specs.declared.layout.Layout.{Layout}
+use Rattle.ckr_desk.specs.declared.error.OpenError.{OpenError}
+use Rattle.ckr_standing.specs.Again.{HasCommittedAgain, HasLast, last_event}
+use Rattle.ckr_desk.specs.Opening.{behind_records, opened_at, opening_of}
+use Rattle.ckr_desk.specs.State.{Opened, State, DeskState}
 
--- an image opens, and has the records that its events have committed
+-- ---- the events of a disk
+
+abbrev pub decked_by : Result Event ℕ → List Decked
+decked_by (Ok event) = (event, deck_of event) ∷ []
+decked_by (Err offset) = []
+
+-- the events that records of a book spell, each with the deck of its cards
+abbrev pub events_in : List (List ℕ) → List Decked
+events_in records = flat_map (λ bytes. decked_by (event_of bytes)) records
+
+-- what the events of an image have brought about
+unfoldable pub office_on : Layout → List ℕ → Office
+office_on layout image = office (events_in (event_records layout image))
+
+-- the last of its events
+unfoldable pub last_on : Layout → List ℕ → Option Event
+last_on layout image = last_event (events_in (event_records layout image))
+
+-- ---- opening
+
+abbrev pub desk_of_opened : List ℕ → Result Opened OpenError → Result State OpenError
+desk_of_opened image (Err error) = Err error
+desk_of_opened image (Ok opened) = Ok (record { desk = opened_desk opened.layout (office_on opened.layout image); room = opened.room })
+
+-- how the desk stands that a disk of this size opens to which reads these bytes, or the first reason why there is none
+unfoldable pub desk_opening : List ℕ → ℕ → Result State OpenError
+desk_opening image size = desk_of_opened image (opening_of image size)
+
+-- ---- sound images
+
+-- An image opens; its events are kept, and are those of plain runs; and it has what they have committed, once the record is written again
+-- that the last of them tells.
 pub record Sound (size : ℕ) (image : List ℕ) : Type 0 where
-  pub state : State
-  pub opens : opening_of image size ≡ Ok state
-  pub left : HasLeft state.layout image state.run
+  pub layout : Layout
+  pub room : ℕ
+  pub opens : opening_of image size ≡ Ok (opened_at layout (office_on layout image).tables room)
+  pub kept : IsKept layout (office_on layout image)
+  pub runs : HasRuns (office_on layout image)
+  pub committed : HasCommittedAgain layout (office_on layout image) (last_on layout image) image
+  pub last : HasLast (office_on layout image) (last_on layout image)
 
--- the bytes of the event of a call, if there is one
-abbrev pub spelled : Option Event → List (List ℕ)
-spelled None = []
-spelled (Some event) = spelling event ∷ []
+-- a disk tells what it holds, and whatever a stop leaves of it is sound
+pub record AllSound {D : Type 0} (told : Type 0) (may_leave : D → List ℕ → Type 0) (size : D → ℕ) (disk : D) : Type 0 where
+  pub tells : told
+  pub sound : (image : List ℕ) → may_leave disk image → Sound (size disk) image
+
+-- An image that a stop may leave from a disk on that reads these bytes: it is one that the disk might have left before, or one that lacks
+-- none of the events that the disk reads; and it is sound.
+pub record IsSafe (before : List ℕ → Type 0) (content : List ℕ) (size : ℕ) (image : List ℕ) : Type 0 where
+  pub sound : Sound size image
+  pub lacks_none : before image ⊎ ((opened : Opened) → opening_of content size ≡ Ok opened → (more : List (List ℕ)) × (event_records opened.layout image ≡ event_records opened.layout content ++ more))
 
 -- a stop leaves a sound image that has the events before, and the first of those that came then
 pub record HasKept (layout : Layout) (size : ℕ) (before came : List (List ℕ)) (image : List ℕ) : Type 0 where
@@ -30,29 +81,25 @@ pub record HasKept (layout : Layout) (size : ℕ) (before came : List (List ℕ)
   pub split : came ≡ front ++ more
   pub events : event_records layout image ≡ before ++ front
 
--- a stop leaves a sound image that lacks none of the events before
-pub record IsKeptFrom (layout : Layout) (size : ℕ) (before : List (List ℕ)) (image : List ℕ) : Type 0 where
-  pub sound : Sound size image
-  pub more : List (List ℕ)
-  pub events : event_records layout image ≡ before ++ more
+-- ---- a desk on a disk that tells what it holds
 
--- the events before a call, with the call's one event or without
-abbrev pub AreBeforeOrWith : List (List ℕ) → Option Event → List (List ℕ) → Type 0
-AreBeforeOrWith before None now = now ≡ before
-AreBeforeOrWith before (Some event) now = IsBeforeOrAfter before (spelling event) now
+module _ {D : Type 0} (content : D → List ℕ) where
+  -- the desk of the events, and the room of the book
+  abbrev pub state_of : DeskState D → State
+  state_of desk = record {
+    desk = desk_seen desk.store.layout (office_on desk.store.layout (content desk.store.disk)) desk.jobs;
+    room = room_of desk.store.book;
+  }
 
 module _ {D : Type 0} (told : Type 0) (content : D → List ℕ) (may_leave : D → List ℕ → Type 0) where
-  -- there is space for the run, the events that the disk reads have brought about where it stands once it is reopened, and
-  -- the disk reads what its step has written
-  pub record IsDesk (desk : DeskState D) : Type 0 where
-    pub stands : AnyRunStands desk.store.layout desk.run
-    pub told_run : desk.store.fault ≡ None → told → run_by_records desk.store.layout None 0 (event_records desk.store.layout (content desk.store.disk)) ≡ Ok (reopened desk.run)
-    pub reads : desk.store.fault ≡ None → told → ReadsWork desk.store.layout (content desk.store.disk) desk.run
-
-  -- the disk was sound when it was opened: each image has the records that the run has committed
+  -- The disk tells what it holds. Its events have brought about the tables; the jobs in memory stand for the desk of the events; and each image has what
+  -- the events have committed.
   pub record IsTrusted (desk : DeskState D) : Type 0 where
     pub tells : told
-    pub left : (image : List ℕ) → may_leave desk.store.disk image → HasLeft desk.store.layout image desk.run
+    pub opens : behind_records desk.store.layout no_tables 0 (event_records desk.store.layout (content desk.store.disk)) ≡ Ok desk.jobs.tables.desk
+    pub stands : Stands desk.store.layout desk.jobs (content desk.store.disk) (state_of content desk).desk
+    pub last : HasLast (office_on desk.store.layout (content desk.store.disk)) (last_on desk.store.layout (content desk.store.disk))
+    pub committed : (image : List ℕ) → may_leave desk.store.disk image → HasCommitted desk.store.layout (office_on desk.store.layout (content desk.store.disk)) image
 
 module _ {D : Type 0} (content : D → List ℕ) (moment : D → ℕ) (left_since : D → ℕ → List ℕ → Type 0) (size : D → ℕ) where
   -- a stop at any moment from one desk to the other leaves such an image

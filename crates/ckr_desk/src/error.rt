@@ -1,14 +1,57 @@
-//! Why a disk isn't opened.
+//! Why a disk isn't opened, and why a call of the desk did nothing, or not all that was asked.
 ghost use Rattle.std.specs.Prelude.{◌≡◌};
-ghost use Rattle.ckr_desk.specs.declared.error.OpenError.TheVariants.{NoMemory as WithoutMemory, Fault};
+ghost use Rattle.ckr_desk.specs.Errors.{of_store};
+ghost use Rattle.ckr_desk.specs.declared.error.OpenError.TheVariants as OpenErrors;
+ghost use Rattle.ckr_desk.specs.declared.error.DeskError.TheVariants.{NoMemory as WithoutMemory};
 
 use ckr_base::NoMemory;
-use ckr_journal::FormatError;
 use ckr_outside::Failed;
+use ckr_store::StoreError;
 use thiserror::Error;
 
+/// Why a call of the desk did nothing, or not all that was asked.
+#[derive(Clone, Copy, Debug, Drop, Error, PartialEq, Eq)]
+pub enum DeskError {
+    /// There was no memory. Nothing has changed, but where a turn had done a unit of work whose event found none.
+    #[error("there is no memory")]
+    NoMemory,
+    /// The disk failed, and its count of faults rose. The desk has stopped.
+    #[error("the disk failed")]
+    DiskFault,
+    /// The event needs more bytes of the book than are left. Nothing has changed, but where a turn had done the unit of work that it tells of.
+    #[error("the event needs {need} bytes of the book, and {room} are left")]
+    BookFull { need: u32, room: u32 },
+    /// The desk has stopped since an earlier call, whose fault was the disk's one of this number. Nothing has changed.
+    #[error("stopped by fault {fault} of the disk")]
+    Stopped { fault: u64 },
+    /// An event doesn't follow, so the disk doesn't read what was written.
+    #[error("the disk doesn't read what was written")]
+    Misread,
+}
+
+impl From<NoMemory> for DeskError {
+    ghost from_gives = { λ _ e. e ≡ WithoutMemory };
+
+    fn from(_: NoMemory) -> Self {
+        DeskError::NoMemory
+    }
+}
+
+impl From<StoreError> for DeskError {
+    ghost from_gives = { λ error e. e ≡ of_store error };
+
+    fn from(error: StoreError) -> Self {
+        match error {
+            StoreError::NoMemory => DeskError::NoMemory,
+            StoreError::DiskFault => DeskError::DiskFault,
+            StoreError::BookFull { need, room } => DeskError::BookFull { need, room },
+            StoreError::Stopped { fault } => DeskError::Stopped { fault },
+        }
+    }
+}
+
 /// Why a disk isn't opened. All but the first two come exactly by the bytes that the disk reads, in this order.
-#[derive(Clone, Copy, PartialEq, Eq, Debug, Drop, Error)]
+#[derive(Clone, Copy, Debug, Drop, Error, PartialEq, Eq)]
 pub enum OpenError {
     /// There is no memory.
     #[error("there is no memory")]
@@ -30,13 +73,6 @@ pub enum OpenError {
     BadBook { offset: u32 },
 }
 
-/// A disk that isn't formatted, and why.
-#[derive(Debug, Drop)]
-pub struct Formatting<D> {
-    pub error: FormatError,
-    pub disk: D,
-}
-
 /// A disk that isn't opened, and why.
 #[derive(Debug, Drop)]
 pub struct Opening<D> {
@@ -45,7 +81,7 @@ pub struct Opening<D> {
 }
 
 impl From<NoMemory> for OpenError {
-    ghost from_gives = { λ _ e. e ≡ WithoutMemory };
+    ghost from_gives = { λ _ e. e ≡ OpenErrors.NoMemory };
 
     fn from(_: NoMemory) -> Self {
         OpenError::NoMemory
@@ -53,7 +89,7 @@ impl From<NoMemory> for OpenError {
 }
 
 impl From<Failed> for OpenError {
-    ghost from_gives = { λ _ e. e ≡ Fault };
+    ghost from_gives = { λ _ e. e ≡ OpenErrors.Fault };
 
     fn from(_: Failed) -> Self {
         OpenError::Fault

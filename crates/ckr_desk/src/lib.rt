@@ -1,12 +1,19 @@
-//! The desk: decks are submitted as jobs, jobs run turn by turn, and any stop of its disk is gone on from.
+//! The desk: an event is on the disk before the jobs go on by it.
 #![tactic(auto)]
 
+mod asking;
+mod calls;
 mod desk;
 mod error;
 mod opening;
 mod reading;
-#[cfg(test)]
-mod tests;
+mod rewriting;
+mod submitting;
+mod turning;
+mod working;
 
 pub use desk::Desk;
-pub use error::{Formatting, OpenError, Opening};
+pub use error::{DeskError, OpenError, Opening};
+
+#[cfg(test)]
+mod tests;

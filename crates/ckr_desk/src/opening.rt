@@ -1,26 +1,41 @@
-//! The disk as it is opened: its layout, and the run that its events have brought about.
-ghost use Rattle.std.specs.Prelude.{◌≡◌, ◌≤◌, ◌+◌, ◌<◌, ◌^◌, None, IfOk, IfErr, OnOk, IsTrue, Ok, Err, length, take, drop};
-ghost use Rattle.ckr_outside.specs.Disk.{Only, OnlyReads, part};
+//! The disk as it is opened: its layout, and the jobs that its events have brought about.
+ghost use Rattle.std.specs.Prelude.{◌≡◌, ◌≤◌, ◌+◌, ◌<◌, [], IfOk, IfErr, OnOk, IsTrue, Ok, Err, None, take, drop};
+ghost use Rattle.ckr_jobs.specs.Behind.{failed_in};
+ghost use Rattle.ckr_jobs.specs.Holding.{AreJobs};
+ghost use Rattle.ckr_journal.specs.Events.{ReadAt, GoesOn};
+ghost use Rattle.std.specs.Option.{is_some};
+ghost use Rattle.ckr_book.specs.Records.{records_from};
+ghost use Rattle.ckr_outside.specs.Disk.{EachSince, Only, OnlyReads, part};
 ghost use Rattle.ckr_outside.specs.Faults.{Rose};
+ghost use Rattle.ckr_points.specs.Rows.{run_of};
+ghost use Rattle.ckr_standing.specs.Again.{last_event};
+ghost use Rattle.ckr_store.specs.Opens.{event_records};
 ghost use Rattle.ckr_volumes.specs.Header.{header_of, IsHeader};
 ghost use Rattle.ckr_volumes.specs.Stands.{is_laid_out};
-ghost use Rattle.ckr_course.specs.Course.{AnyRunStands};
-ghost use Rattle.ckr_journal.specs.Events.{ReadAt, GoesOn};
 ghost use Rattle.ckr_desk.specs.Opening.{opening_of};
-ghost use Rattle.ckr_desk.specs.Replaying.{IsReplayed, IsReplayedTo, GoneOn, ReplayCause, EventCause, OpenCause, IsFound};
+ghost use Rattle.ckr_desk.specs.Calls.{HasSameJobs};
+ghost use Rattle.ckr_desk.specs.Replaying.{IsReplayed, IsReplayedTo, GoneOn, LastGone, ReplayCause, EventCause, OpenCause, IsFound};
+ghost use Rattle.ckr_desk.specs.Replaying.{HasFailedAgain, IsLackingAgain, IsWrittenAgain, fits_in, has_record};
+ghost use Rattle.ckr_desk.specs.Sound.{AllSound, IsSafe, IsTrusted, desk_opening, events_in, last_on, state_of};
+ghost use Rattle.ckr_desk.specs.State.{opened_of};
 
-use crate::error::OpenError;
-use ckr_course::Course;
+use crate::{Desk, OpenError, Opening};
+use ckr_base::Rec;
+use ckr_events::Event;
+use ckr_jobs::Jobs;
 use ckr_journal::{LayoutError, Next, NextEventError, next_event, read_layout};
+use ckr_library::DataSet;
 use ckr_outside::Disk;
+use ckr_store::{Store, Unopened};
 use ckr_volumes::Layout;
 use std::alloc::Global;
 
-/// The run so far, and the place of the next gate.
+/// The jobs so far, the place of the next gate, and the last event before it.
 #[derive(Drop)]
-pub(crate) struct Replayed {
-    pub(crate) course: Course,
-    pub(crate) place: u32,
+struct Replayed {
+    jobs: Jobs,
+    place: u32,
+    last: Option<Event>,
 }
 
 /// The event whose gate is at this place of the book, or its end.
@@ -52,23 +67,26 @@ fn replay_one<D: Disk>(
 ) -> Result<bool, OpenError>
     requires header { IsHeader layout.now (D.size disk.old) }
     requires place { found.old.place ≤ layout.now.book }
-    ensures goes { IfOk result (GoneOn D.told layout.now (part 512 layout.now.book (D.content disk.old)) found.old.course found.old.place found.new.course found.new.place) }
-    ensures stands { OnOk result (AnyRunStands layout.now found.old.course → AnyRunStands layout.now found.new.course) }
+    ensures goes { IfOk result (GoneOn D.told layout.now (part 512 layout.now.book (D.content disk.old)) found.old.jobs.tables.desk found.old.place found.new.jobs.tables.desk found.new.place) }
+    ensures last { D.told → IfOk result (LastGone (part 512 layout.now.book (D.content disk.old)) found.old.place found.old.last found.new.place found.new.last) }
+    ensures jobs { OnOk result (AreJobs layout.now found.old.jobs → AreJobs layout.now found.new.jobs) }
+    ensures running { OnOk result (found.new.jobs.running ≡ found.old.jobs.running) }
     ensures only_reads { OnlyReads D.content D.may_leave D.moment D.left_since disk.old disk.new }
     ensures size { D.size disk.new ≡ D.size disk.old }
     ensures faults { D.faults disk.old ≤ D.faults disk.new }
     ensures cause { IfErr result (ReplayCause (Rose (D.faults disk.old) (D.faults disk.new))
-        (D.told × IsReplayed layout.now (part 512 layout.now.book (D.content disk.old)) found.old.course found.old.place) layout.now (part 512 layout.now.book (D.content disk.old))) }
+        (D.told × IsReplayed layout.now (part 512 layout.now.book (D.content disk.old)) found.old.jobs.tables.desk found.old.place) layout.now (part 512 layout.now.book (D.content disk.old))) }
 {
     match event_at(alloc, disk, layout.book, found.place)? {
         Next::End => Ok(false),
         Next::Event { event, next } => {
-            if !found.course.follow(alloc, layout, &event)? {
+            if !found.jobs.replay(layout, &event)? {
                 return Err(OpenError::BadBook {
                     offset: found.place,
                 });
             }
             found.place = next;
+            found.last = Some(event);
             Ok(true)
         }
     }
@@ -77,17 +95,20 @@ fn replay_one<D: Disk>(
 /// Reads the events of the book one after another.
 fn replay<D: Disk>(alloc: Global, disk: &mut D, layout: &Layout) -> Result<Replayed, OpenError>
     requires header { IsHeader layout.now (D.size disk.old) }
-    ensures replayed { D.told → IfOk result (λ found. IsReplayedTo layout.now (part 512 layout.now.book (D.content disk.old)) found.course found.place) }
+    ensures replayed { D.told → IfOk result (λ found. IsReplayedTo layout.now (part 512 layout.now.book (D.content disk.old)) found.jobs.tables.desk found.place) }
+    ensures last { D.told → IfOk result (λ found. last_event (events_in (records_from 0 (part 512 layout.now.book (D.content disk.old)))) ≡ found.last) }
     ensures place { IfOk result (λ found. found.place ≤ layout.now.book) }
-    ensures stands { IfOk result (λ found. AnyRunStands layout.now found.course) }
+    ensures jobs { IfOk result (λ found. AreJobs layout.now found.jobs) }
+    ensures running { IfOk result (λ found. found.jobs.running ≡ []) }
     ensures only_reads { OnlyReads D.content D.may_leave D.moment D.left_since disk.old disk.new }
     ensures size { D.size disk.new ≡ D.size disk.old }
     ensures faults { D.faults disk.old ≤ D.faults disk.new }
     ensures cause { IfErr result (ReplayCause (Rose (D.faults disk.old) (D.faults disk.new)) D.told layout.now (part 512 layout.now.book (D.content disk.old))) }
 {
     let mut found = Replayed {
-        course: Course::new(alloc)?,
+        jobs: Jobs::new(alloc),
         place: 0,
+        last: None,
     };
     while replay_one(alloc, disk, layout, &mut found)? {}
     Ok(found)
@@ -114,20 +135,25 @@ fn layout_of<D: Disk>(disk: &mut D) -> Result<Layout, OpenError>
 
 /// A disk as it is opened.
 #[derive(Drop)]
-pub(crate) struct Found {
-    pub(crate) layout: Layout,
-    pub(crate) course: Course,
+struct Found {
+    layout: Layout,
+    jobs: Jobs,
     /// The place in the book of its first closed gate.
-    pub(crate) end: u32,
+    end: u32,
+    /// The last event of the book.
+    last: Option<Event>,
 }
 
 /// Reads the disk. It begins with a sync.
-pub(crate) fn read_disk<D: Disk>(alloc: Global, disk: &mut D) -> Result<Found, OpenError>
-    ensures found { D.told → IfOk result (λ found. IsFound (D.content disk.new) (D.size disk.new) found.layout found.course found.end) }
+fn read_disk<D: Disk>(alloc: Global, disk: &mut D) -> Result<Found, OpenError>
+    ensures found { D.told → IfOk result (λ found. IsFound (D.content disk.new) (D.size disk.new) found.layout found.jobs.tables.desk found.end) }
+    ensures last { D.told → IfOk result (λ found. last_on found.layout (D.content disk.new) ≡ found.last) }
     ensures header { IfOk result (λ found. IsHeader found.layout (D.size disk.new)) }
     ensures laid { IfOk result (λ found. IsTrue (is_laid_out found.layout)) }
     ensures end { IfOk result (λ found. found.end ≤ found.layout.book) }
-    ensures stands { IfOk result (λ found. AnyRunStands found.layout found.course) }
+    ensures jobs { IfOk result (λ found. AreJobs found.layout found.jobs) }
+    ensures failed { IfOk result (λ found. found.jobs.failed ≡ failed_in found.jobs.tables.desk) }
+    ensures running { IfOk result (λ found. found.jobs.running ≡ []) }
     ensures settled { OnOk result (Only (D.content disk.new) (D.may_leave disk.new)) }
     ensures only_reads { OnlyReads D.content D.may_leave D.moment D.left_since disk.old disk.new }
     ensures size { D.size disk.new ≡ D.size disk.old }
@@ -136,10 +162,173 @@ pub(crate) fn read_disk<D: Disk>(alloc: Global, disk: &mut D) -> Result<Found, O
 {
     disk.sync()?;
     let layout = layout_of(disk)?;
-    let Replayed { course, place } = replay(alloc, disk, &layout)?;
+    let Replayed {
+        mut jobs,
+        place,
+        last,
+    } = replay(alloc, disk, &layout)?;
+    jobs.open()?;
     Ok(Found {
         layout,
-        course,
+        jobs,
         end: place,
+        last,
     })
+}
+
+/// Whether a record fits in a data set at a place.
+fn fits_in(set: &DataSet, place: u32, image: &Rec) -> bool
+    ensures { result ≡ fits_in place image.now set.now }
+{
+    place < set.space && image.bytes().len() == usize::from(set.lrecl)
+}
+
+/// A desk as its disk was read, and the last event of the disk.
+#[derive(Drop)]
+struct Read<D: Disk> {
+    desk: Desk<D>,
+    last: Option<Event>,
+}
+
+impl<D: Disk> Desk<D> {
+    /// The desk that a disk reads. It begins with a sync, and writes nothing.
+    fn read_on(alloc: Global, mut disk: D) -> Result<Read<D>, Opening<D>>
+        ensures opened { D.told → IfOk result (λ found. opening_of (D.content disk) (D.size disk) ≡ Ok (opened_of found.desk)) }
+        ensures last { D.told → IfOk result (λ found. last_on found.desk.store.layout (D.content disk) ≡ found.last) }
+        ensures failed { IfOk result (λ found. found.desk.jobs.failed ≡ failed_in found.desk.jobs.tables.desk) }
+        ensures running { IfOk result (λ found. found.desk.jobs.running ≡ []) }
+        ensures is_open { IfOk result (λ found. found.desk.store.fault ≡ None) }
+        ensures settled { IfOk result (λ found. Only (D.content found.desk.store.disk) (D.may_leave found.desk.store.disk)) }
+        ensures only_reads { IfOk result (λ found. OnlyReads D.content D.may_leave D.moment D.left_since disk found.desk.store.disk) }
+        ensures left { IfErr result (λ opening. OnlyReads D.content D.may_leave D.moment D.left_since disk opening.disk) }
+        ensures size { IfOk result (λ found. D.size found.desk.store.disk ≡ D.size disk) }
+        ensures size_left { IfErr result (λ opening. D.size opening.disk ≡ D.size disk) }
+        ensures never_falls { IfOk result (λ found. D.faults disk ≤ D.faults found.desk.store.disk) }
+        ensures never_falls_left { IfErr result (λ opening. D.faults disk ≤ D.faults opening.disk) }
+        ensures cause { IfErr result (λ opening. OpenCause (Rose (D.faults disk) (D.faults opening.disk)) D.told
+            (opening_of (D.content disk) (D.size disk)) opening.error) }
+    {
+        match read_disk(alloc, &mut disk) {
+            Ok(
+                Found {
+                    layout,
+                    jobs,
+                    end,
+                    last,
+                },
+            ) => match Store::open(alloc, disk, layout, end) {
+                Ok(store) => Ok(Read {
+                    desk: Desk { alloc, store, jobs },
+                    last,
+                }),
+                Err(Unopened { disk }) => Err(Opening {
+                    error: OpenError::NoMemory,
+                    disk,
+                }),
+            },
+            Err(error) => Err(Opening { error, disk }),
+        }
+    }
+
+    /// Whether there is a run of this number.
+    fn has_run(&self, run: u32) -> bool
+        ensures { result ≡ is_some (run_of self.now.jobs.tables.desk run) }
+    {
+        run != 0 && run as usize <= self.jobs.runs().len()
+    }
+
+    /// Whether the tables have the record that an event tells of.
+    fn has_record(&self, event: &Event) -> bool
+        ensures { result ≡ has_record self.now.jobs.tables.desk event.now }
+    {
+        let Event::Rewritten {
+            job,
+            place,
+            image,
+            ..
+        } = event
+        else {
+            return false;
+        };
+        if !self.has_run(*job) {
+            return false;
+        }
+        let Some(name) = self.jobs.updated(*job) else {
+            return false;
+        };
+        let Some(set) = self.jobs.library().get(&name) else {
+            return false;
+        };
+        fits_in(set, *place, image)
+    }
+
+    /// The record that the last event tells of is written again, for good, if the tables have it.
+    fn write_again(&mut self, last: &Option<Event>) -> Result<(), OpenError>
+        requires is_open { self.old.store.fault ≡ None }
+        requires settled { Only (D.content self.old.store.disk) (D.may_leave self.old.store.disk) }
+        ensures written { D.told → OnOk result (IsWrittenAgain self.old.store.layout self.old.jobs.tables.desk last.now (D.content self.old.store.disk) (D.content self.new.store.disk)) }
+        ensures settled { OnOk result (Only (D.content self.new.store.disk) (D.may_leave self.new.store.disk)) }
+        ensures left { EachSince D.moment D.left_since self.old.store.disk self.new.store.disk (IsLackingAgain D.content D.size last.now self.old) }
+        ensures events { D.told → event_records self.old.store.layout (D.content self.new.store.disk) ≡ event_records self.old.store.layout (D.content self.old.store.disk) }
+        ensures jobs { HasSameJobs self.old self.new }
+        ensures kept { OnOk result (self.new.store ≡ record self.old.store { disk = self.new.store.disk }) }
+        ensures size { D.size self.new.store.disk ≡ D.size self.old.store.disk }
+        ensures faults { D.faults self.old.store.disk ≤ D.faults self.new.store.disk }
+        ensures cause { IfErr result (HasFailedAgain (D.faults self.old.store.disk) (D.faults self.new.store.disk)) }
+    {
+        let _layout = self.store.layout();
+        let Some(event) = last else {
+            return Ok(());
+        };
+        if !self.has_record(event) {
+            return Ok(());
+        }
+        match self.rewrite(event) {
+            Ok(()) => Ok(()),
+            Err(_) => Err(OpenError::Fault),
+        }
+    }
+
+    /// Opens a disk. It begins with a sync; and where the last event tells of a record that was rewritten in place, that record is
+    /// written again. No step is running; the runs that are within a step by the events were running when the disk was left, and
+    /// have failed.
+    ///
+    /// `OpenError`: `NoMemory`, and `Fault` only where the disk's faults rose in this call; the causes behind them exactly by the bytes
+    /// that the disk reads, the first one in their order (this project's profile). A stop at any moment leaves an image that the disk
+    /// might have left before, or one that lacks none of the events that the disk reads.
+    pub fn open_on(alloc: Global, disk: D) -> Result<Desk<D>, Opening<D>>
+        ensures opened { AllSound D.told D.may_leave D.size disk → IfOk result (λ desk. desk_opening (D.content disk) (D.size disk) ≡ Ok (state_of D.content desk)) }
+        ensures trusted { AllSound D.told D.may_leave D.size disk → IfOk result (λ desk. IsTrusted D.told D.content D.may_leave desk) }
+        ensures read { D.told → IfOk result (λ desk. opening_of (D.content disk) (D.size disk) ≡ Ok (opened_of desk)) }
+        ensures failed { IfOk result (λ desk. desk.jobs.failed ≡ failed_in desk.jobs.tables.desk) }
+        ensures running { IfOk result (λ desk. desk.jobs.running ≡ []) }
+        ensures is_open { IfOk result (λ desk. desk.store.fault ≡ None) }
+        ensures settled { IfOk result (λ desk. Only (D.content desk.store.disk) (D.may_leave desk.store.disk)) }
+        ensures size { IfOk result (λ desk. D.size desk.store.disk ≡ D.size disk) }
+        ensures size_left { IfErr result (λ opening. D.size opening.disk ≡ D.size disk) }
+        ensures never_falls { IfOk result (λ desk. D.faults disk ≤ D.faults desk.store.disk) }
+        ensures never_falls_left { IfErr result (λ opening. D.faults disk ≤ D.faults opening.disk) }
+        ensures cause { IfErr result (λ opening. OpenCause (Rose (D.faults disk) (D.faults opening.disk)) D.told
+            (desk_opening (D.content disk) (D.size disk)) opening.error) }
+        ensures kept { AllSound D.told D.may_leave D.size disk → IfOk result (λ desk. EachSince D.moment D.left_since disk desk.store.disk
+            (IsSafe (D.may_leave disk) (D.content disk) (D.size disk))) }
+        ensures kept_left { AllSound D.told D.may_leave D.size disk → IfErr result (λ opening. EachSince D.moment D.left_since disk opening.disk
+            (IsSafe (D.may_leave disk) (D.content disk) (D.size disk))) }
+        ensures events { AllSound D.told D.may_leave D.size disk → IfOk result (λ desk.
+            desk_opening (D.content desk.store.disk) (D.size disk) ≡ desk_opening (D.content disk) (D.size disk)) }
+        ensures records { AllSound D.told D.may_leave D.size disk → IfOk result (λ desk.
+            event_records desk.store.layout (D.content desk.store.disk) ≡ event_records desk.store.layout (D.content disk)) }
+    {
+        let Read { mut desk, last } = Desk::read_on(alloc, disk)?;
+        match desk.write_again(&last) {
+            Ok(()) => {
+                let _layout = desk.store.layout();
+                Ok(desk)
+            }
+            Err(error) => Err(Opening {
+                error,
+                disk: desk.close(),
+            }),
+        }
+    }
 }

@@ -3,7 +3,7 @@ ghost use Rattle.std.specs.Prelude.{◌≡◌, ◌≤◌, ◌<◌, ◌∷◌, []
 ghost use Rattle.ckr_outside.specs.Disk.{OnlyReads};
 ghost use Rattle.ckr_volumes.specs.Records.{record_at, records_on};
 ghost use Rattle.ckr_volumes.specs.Stands.{StandsIn};
-ghost use Rattle.ckr_desk.specs.Calls.{ReadingCause};
+ghost use Rattle.ckr_desk.specs.Reading.{ReadingCause};
 
 use ckr_base::Records;
 use ckr_library::DataSet;

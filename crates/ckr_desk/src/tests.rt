@@ -1,19 +1,20 @@
-//! A job from its deck to its records, and a job whose disk was closed while its step ran.
+//! A disk that is opened and opened again, decks that are submitted, and a job that runs to its end.
 ghost use Rattle.std.specs.Prelude.{IfOk};
 ghost use Rattle.ckr_volumes.specs.Header.{IsHeader};
 ghost use Rattle.ckr_volumes.specs.Stands.{disk_needed};
 
 use super::*;
 use arrayvec::ArrayVec;
-use ckr_base::{Code, DsName, Name8, Records, Volser};
-use ckr_course::{How, Reply, Rule, Submitted, Turn};
-use ckr_outside::{Disk, MemDisk};
+use ckr_base::{Code, DsName, Name8, Volser, trimmed};
+use ckr_journal::format;
+use ckr_outside::MemDisk;
+use ckr_turns::{Reply, Submitted, Turn};
 use ckr_volumes::{Layout, Volume};
 use std::alloc::Global;
 use std::process::Abort;
 use std::test::Fail;
 
-/// The layout of `INITIATORS 2`, `UNITS 2`, `BOOK 100000`, `VOLUME VOL001 200000`, `VOLUME VOL002 200000`.
+/// The layout of `INITIATORS 2`, `UNITS 2`, `BOOK 100000`, `VOLUME VOL001 200000`.
 fn worked() -> Result<Layout, Fail>
     ensures { IfOk result (λ layout. IsHeader layout (disk_needed layout)) }
 {
@@ -23,15 +24,8 @@ fn worked() -> Result<Layout, Fail>
         start: 100_512,
         bytes: 200_000,
     });
-    volumes.push(Volume {
-        serial: Volser::read(b"VOL002").ok_or("the serial is well formed")?,
-        start: 300_512,
-        bytes: 200_000,
-    });
     let mut eligible = ArrayVec::new();
-    eligible.push(Code::System(0x001));
-    eligible.push(Code::System(0x2f3));
-    eligible.push(Code::System(0xb37));
+    eligible.push(Code::System(0x0c1));
     Ok(Layout {
         version: 1,
         initiators: 2,
@@ -45,17 +39,39 @@ fn worked() -> Result<Layout, Fail>
 
 /// A disk of that layout, formatted.
 fn formatted(alloc: Global) -> Result<MemDisk, Fail> {
-    let zeros = MemDisk::new(alloc, 500_512, Vec::new(alloc), None)?;
-    match Desk::format(&worked()?, zeros) {
-        Ok(disk) => Ok(disk),
-        Err(failed) => Err(failed.error.into()),
-    }
+    let mut disk = MemDisk::new(alloc, 300_512, Vec::new(alloc), None)?;
+    format(&mut disk, &worked()?)?;
+    Ok(disk)
 }
 
 fn open(alloc: Global, disk: MemDisk) -> Result<Desk<MemDisk>, Fail> {
     match Desk::open_on(alloc, disk) {
         Ok(desk) => Ok(desk),
         Err(opening) => Err(opening.error.into()),
+    }
+}
+
+#[test]
+fn opened_again(rt: HostRuntime) -> Result<(), Fail> {
+    let alloc = rt.alloc();
+    let desk = open(alloc, formatted(alloc)?)?;
+    assert!(rt; desk.runs().is_empty());
+    let again = open(alloc, desk.close())?;
+    assert!(rt; again.runs().is_empty());
+    assert_eq!(rt; again.layout().book, 100_000);
+    Ok(())
+}
+
+#[test]
+fn never_formatted(rt: HostRuntime) -> Result<(), Fail> {
+    let alloc = rt.alloc();
+    let zeros = MemDisk::new(alloc, 512, Vec::new(alloc), None)?;
+    match Desk::open_on(alloc, zeros) {
+        Ok(_) => Err("it was never formatted".into()),
+        Err(opening) => {
+            assert_eq!(rt; opening.error, OpenError::NotFormatted);
+            Ok(())
+        }
     }
 }
 
@@ -71,15 +87,8 @@ fn cards_of(alloc: Global, lines: &[&[u8]]) -> Result<Vec<u8>, Fail> {
     Ok(cards)
 }
 
-fn submit<D: Disk>(desk: &mut Desk<D>, cards: &[u8]) -> Result<Submitted, Fail> {
-    if cards.len() % 81 != 0 || cards.len() < 81 || 8_100 < cards.len() {
-        return Err("the cards have 81 bytes each".into());
-    }
-    Ok(desk.submit(cards)?)
-}
-
-/// Submits a copy of the records `ALPHA` and `BETA` to `OUT.A`.
-fn submit_copy<D: Disk>(alloc: Global, desk: &mut Desk<D>) -> Result<Submitted, Fail> {
+/// Submits a copy of the record `ALPHA` to `OUT.A`.
+fn submit_copy(alloc: Global, desk: &mut Desk<MemDisk>) -> Result<Submitted, Fail> {
     let cards = cards_of(
         alloc,
         &[
@@ -87,129 +96,97 @@ fn submit_copy<D: Disk>(alloc: Global, desk: &mut Desk<D>) -> Result<Submitted, 
             b"//S1 EXEC PGM=COPY",
             b"//SYSUT1 DD *",
             b"ALPHA",
-            b"BETA",
             b"/*",
             b"//SYSUT2 DD DSN=OUT.A,DISP=(NEW,CATLG),SPACE=(80,10)",
         ],
     )?;
-    submit(desk, &cards)
+    if cards.len() % 81 != 0 || cards.len() < 81 || 8_100 < cards.len() {
+        return Err("the cards have 81 bytes each".into());
+    }
+    Ok(desk.submit(&cards)?)
 }
 
-/// A turn of the first initiator.
-fn turn<D: Disk>(desk: &mut Desk<D>) -> Result<Reply, Fail> {
+/// Submits two decks, and purges the first one's job; whether all is answered so.
+fn submit_and_purge(alloc: Global, desk: &mut Desk<MemDisk>) -> Result<bool, Fail> {
+    Ok(
+        submit_copy(alloc, desk)? == Submitted::Job(1)
+            && submit_copy(alloc, desk)? == Submitted::Job(2)
+            && desk.purge(1)?
+            && !desk.purge(1)?,
+    )
+}
+
+#[test]
+fn submitted_and_purged(rt: HostRuntime) -> Result<(), Fail> {
+    let alloc = rt.alloc();
+    let mut desk = open(alloc, formatted(alloc)?)?;
+    let answered = submit_and_purge(alloc, &mut desk)?;
+    let again = open(alloc, desk.close())?;
+    let runs = again.runs().len();
+    again.close();
+    assert!(rt; answered && runs == 2);
+    Ok(())
+}
+
+/// One turn of the first initiator.
+fn turn(desk: &mut Desk<MemDisk>) -> Result<Reply, Fail> {
     if desk.layout().initiators < 1 {
-        return Err("there is an initiator".into());
+        return Err("a layout has an initiator".into());
     }
-    Ok(desk.turn(Turn {
+    let turn = Turn {
         initiator: 1,
         fail: None,
-    })?)
-}
-
-/// The name of the job's step.
-fn step() -> Result<Name8, Fail> {
-    Ok(Name8::read(b"S1").ok_or("the name is well formed")?)
-}
-
-/// The answer to a turn that did a unit of work, where so many records are taken then.
-fn unit(taken: u32) -> Result<Reply, Fail> {
-    Ok(Reply::Worked {
-        job: 1,
-        step: step()?,
-        taken,
-    })
-}
-
-/// The first four turns of the job.
-fn begin<D: Disk>(rt: &impl Abort, desk: &mut Desk<D>) -> Result<(), Fail> {
-    let started = Reply::Started {
-        job: 1,
-        step: step()?,
     };
-    assert_eq!(rt; turn(desk)?, Reply::Selected { job: 1 });
-    assert_eq!(rt; turn(desk)?, started);
-    assert_eq!(rt; turn(desk)?, unit(1)?);
-    assert_eq!(rt; turn(desk)?, unit(2)?);
-    Ok(())
+    Ok(desk.turn(turn)?)
 }
 
-/// The other turns of the job.
-fn complete<D: Disk>(rt: &impl Abort, desk: &mut Desk<D>) -> Result<(), Fail> {
-    let step_ended = Reply::StepEnded {
-        job: 1,
-        step: step()?,
-        rc: 0,
-    };
-    let job_ended = Reply::JobEnded {
-        job: 1,
-        how: How::Completed,
-    };
-    assert_eq!(rt; turn(desk)?, unit(2)?);
-    assert_eq!(rt; turn(desk)?, step_ended);
-    assert_eq!(rt; turn(desk)?, job_ended);
-    assert_eq!(rt; turn(desk)?, Reply::Idle);
-    assert_eq!(rt; turn(desk)?, Reply::Idle);
-    Ok(())
-}
-
-/// The records of `OUT.A`.
-fn copied<D: Disk>(desk: &mut Desk<D>) -> Result<Option<Records>, Fail> {
+/// Whether the one data set that is listed has the record that the job copies, and nothing more.
+fn has_copied(desk: &mut Desk<MemDisk>) -> Result<bool, Fail> {
     let name = DsName::read(b"OUT.A").ok_or("the name is well formed")?;
-    Ok(desk.records(&name)?)
+    let listed = desk.set_at(0).ok_or("a data set is listed")?;
+    if listed.name != name || listed.set.length != 1 || desk.set_at(1).is_some() {
+        return Ok(false);
+    }
+    let records = desk.records(&name)?.ok_or("no run holds it")?;
+    let mut copied = records.as_slice().iter();
+    Ok(
+        copied
+            .next()
+            .is_some_and(|it| trimmed(it.bytes()) == b"ALPHA".as_slice())
+            && copied.next().is_none(),
+    )
 }
 
-fn has_both(records: &Records) -> bool {
-    match records.as_slice() {
-        [alpha, beta] => {
-            alpha.bytes().len() == 80
-                && alpha.bytes().starts_with(b"ALPHA   ")
-                && beta.bytes().len() == 80
-                && beta.bytes().starts_with(b"BETA   ")
-        }
-        _ => false,
+/// Runs the copy; whether each turn is answered so.
+fn run_copy(alloc: Global, desk: &mut Desk<MemDisk>) -> Result<bool, Fail> {
+    let step = Name8::read(b"S1").ok_or("the name is well formed")?;
+    let started = submit_copy(alloc, desk)? == Submitted::Job(1)
+        && turn(desk)? == Reply::Selected { job: 1 }
+        && turn(desk)?
+            == Reply::Started {
+                job: 1,
+                step: step.copied(),
+            }
+        && turn(desk)?
+            == Reply::Worked {
+                job: 1,
+                step,
+                taken: 1,
+            };
+    for _ in 0..3 {
+        turn(desk)?;
     }
-}
-
-fn has_copied<D: Disk>(rt: &impl Abort, desk: &mut Desk<D>) -> Result<(), Fail> {
-    match copied(desk)? {
-        Some(records) => assert!(rt; has_both(&records)),
-        None => return Err("the data set is there".into()),
-    }
-    let name = DsName::read(b"OUT.A").ok_or("the name is well formed")?;
-    match desk.library().get(&name) {
-        Some(set) => assert!(rt; set.cataloged),
-        None => return Err("the data set is there".into()),
-    }
-    Ok(())
+    Ok(started && turn(desk)? == Reply::Idle && has_copied(desk)?)
 }
 
 #[test]
-fn a_job_from_its_deck_to_its_records(rt: HostRuntime) -> Result<(), Fail> {
+fn run_to_its_end(rt: HostRuntime) -> Result<(), Fail> {
     let alloc = rt.alloc();
     let mut desk = open(alloc, formatted(alloc)?)?;
-    assert_eq!(rt; submit_copy(alloc, &mut desk)?, Submitted::Job(1));
-    let refused = Submitted::Refused { number: 0, card: 1 };
-    assert_eq!(rt; submit_copy(alloc, &mut desk)?, refused);
-    begin(&rt, &mut desk)?;
-    assert!(rt; copied(&mut desk)?.is_none());
-    complete(&rt, &mut desk)?;
-    has_copied(&rt, &mut desk)?;
-    let mut desk = open(alloc, desk.close())?;
-    has_copied(&rt, &mut desk)
-}
-
-#[test]
-fn a_step_that_ran_as_the_disk_was_closed(rt: HostRuntime) -> Result<(), Fail> {
-    let alloc = rt.alloc();
-    let mut desk = open(alloc, formatted(alloc)?)?;
-    assert_eq!(rt; submit_copy(alloc, &mut desk)?, Submitted::Job(1));
-    begin(&rt, &mut desk)?;
-    let mut desk = open(alloc, desk.close())?;
-    let how = How::Abended {
-        code: Code::System(0x2f3),
-        rule: Rule::A2,
-    };
-    assert_eq!(rt; turn(&mut desk)?, Reply::JobEnded { job: 1, how });
-    assert_eq!(rt; turn(&mut desk)?, Reply::Idle);
+    let ran = run_copy(alloc, &mut desk)?;
+    let mut again = open(alloc, desk.close())?;
+    let kept = has_copied(&mut again)?;
+    again.close();
+    assert!(rt; ran && kept);
     Ok(())
 }

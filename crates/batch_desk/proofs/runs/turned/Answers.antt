@@ -1,7 +1,10 @@
-use Rattle.std.proofs.Common.{◌≡◌, ◌-◌, ◌+◌, ℕ, suc, true, false, None, sym, subst, ◌∙◌, arith}
+use Rattle.std.proofs.Common.{◌≡◌, ◌-◌, ◌+◌, ◌++◌, [], ℕ, suc, true, false, None, refl, sym, subst, ◌∙◌, arith}
+use Rattle.std.specs.List.{flat_map}
+use Rattle.ckr_desk.specs.Sound.{state_of}
+use Rattle.ckr_volumes.specs.declared.layout.Layout.{Layout}
 use Rattle.batch_desk.specs.Calls.{is_idle}
-use Rattle.ckr_desk.specs.State.{state_of}
-use Rattle.batch_desk.specs.Turning.{Turns}
+use Rattle.batch_desk.specs.Texts.{run_text, told_runs, with_waiting}
+use Rattle.batch_desk.specs.Turning.{Adds, Turns}
 use Rattle.batch_desk.proofs.Waiting.{turns_begun, turn_made, turn_idle, turns_made, turns_halted}
 use Rattle.batch_desk.proofs.Keeping.{goes_nowhere, goes_then, within_then, goes_by, handed_within}
 use Rattle.batch_desk.proofs.runs.turned.Goals as goal
@@ -10,97 +13,135 @@ same_count : (n : ℕ) → n ≡ n - 0
 same_count n = omega arith
 
 pub loop-init : goal.loop-init
-loop-init g c = record {
-  turns = subst (λ (k : ℕ). Turns c.args.count k (state_of c.args.desk.now) (state_of c.args.desk.now) None c.args.out.now c.args.out.now) (same_count c.args.count) (turns_begun c.args.count (state_of c.args.desk.now) c.args.out.now);
-  few = omega arith;
-  is_open = c.requires.is_open;
-  trusted = λ holds. holds;
-  goes = λ holds. goes_nowhere g.D.Disk.told g.D.Disk.content g.D.Disk.may_leave g.D.Disk.moment g.D.Disk.left_since g.D.Disk.size g.D.Disk.faults c.args.desk.now (c.layout-layout.ensures.kept c.requires.is_open holds);
-  later = omega arith;
-}
+loop-init g c =
+    let d = g.D.Disk in
+    let s = state_of d.content c.args.desk.now in
+    record {
+      turns = λ holds. subst (λ (k : ℕ). Turns c.args.desk.now.store.layout c.args.initiator c.args.count k s s None c.args.out.now c.args.out.now) (same_count c.args.count)
+          (turns_begun c.args.desk.now.store.layout c.args.initiator c.args.count s c.args.out.now);
+      told = tt;
+      few = omega arith;
+      is_open = c.requires.is_open;
+      layout = refl;
+      trusted = λ holds. holds;
+      goes = λ holds. goes_nowhere d.content d.moment d.left_since d.size c.args.desk.now (c.layout-layout.ensures.kept c.requires.is_open holds);
+      later = omega arith;
+    }
 
 pub loop-preserved : goal.loop-preserved
 loop-preserved g c =
+    let d = g.D.Disk in
     let i = c.loop.invariant in
     let o = c.in-Ok.ensures in
-    let k = c.args.count - c.loop.counter in
+    let layout = c.args.desk.now.store.layout in
     let m = c.args.count - (c.loop.counter + 1) in
-    let less : k ≡ suc m = omega arith in
+    let less : c.args.count - c.loop.counter ≡ suc m = omega arith in
     let busy : is_idle c.in-Ok.reply ≡ false = sym c.is_idle-idle.ensures ∙ c.if-idle.false in
+    let adds = subst (λ (l : Layout). Adds l c.args.initiator c.loop.waiting c.in-Ok.reply c.in_ok-waiting-in-Ok.waiting c.loop.out c.add.new.out)
+    (c.layout.ensures.layout ∙ o.layout ∙ i.layout) c.in_ok-waiting-in-Ok.ensures.adds in
     record {
-      turns = turn_made c.args.count k m _ _ _ c.in-Ok.reply _ _ _ _ _ less o.fits o.reply o.after busy i.turns c.in_ok-waiting-in-Ok.ensures.adds c.in_ok-waiting-in-Ok.ensures.told;
+      turns = λ holds. turn_made layout c.args.initiator c.args.count (c.args.count - c.loop.counter) m _ _ _ c.in-Ok.reply _ _ _ _ _ less (o.fits (i.trusted holds)) (o.reply (i.trusted holds)) (o.after (i.trusted holds)) busy (i.turns holds) adds;
+      told = c.in_ok-waiting-in-Ok.ensures.told;
       few = omega (arith, c.in_ok-waiting-in-Ok.ensures.count, i.few);
       is_open = o.is_open;
+      layout = o.layout ∙ i.layout;
       trusted = λ holds. o.trusted (i.trusted holds);
-      goes = λ holds. goes_then g.D.Disk.told g.D.Disk.content g.D.Disk.may_leave g.D.Disk.moment g.D.Disk.left_since g.D.Disk.size g.D.Disk.faults c.args.desk.now c.loop.desk c.one_turn.new.desk (i.goes holds) (o.goes (i.trusted holds));
+      goes = λ holds. goes_then d.content d.moment d.left_since d.size c.args.desk.now c.loop.desk c.one_turn.new.desk (i.goes holds) (o.goes (i.trusted holds));
       later = omega (arith, i.later, o.later);
     }
 
 pub returns-then-idle-clause-text : goal.returns-then-idle-clause-text
-returns-then-idle-clause-text g c =
+returns-then-idle-clause-text g c holds =
     let i = c.loop.invariant in
     let o = c.in-Ok.ensures in
-    let k = c.args.count - c.loop.counter in
+    let here = i.trusted holds in
+    let layout = c.args.desk.now.store.layout in
     let m = c.args.count - (c.loop.counter + 1) in
-    let less : k ≡ suc m = omega arith in
+    let less : c.args.count - c.loop.counter ≡ suc m = omega arith in
     let rests : is_idle c.in-Ok.reply ≡ true = sym c.is_idle-idle.ensures ∙ c.if-idle.true in
-    (turn_idle c.args.count k m _ _ _ c.in-Ok.reply _ _ _ _ _ _ less o.fits o.reply o.after rests i.turns c.in_ok-waiting-in-Ok.ensures.adds c.in_ok-finish-in-Ok.ensures).text
+    let adds = subst (λ (l : Layout). Adds l c.args.initiator c.loop.waiting c.in-Ok.reply c.in_ok-waiting-in-Ok.waiting c.loop.out c.add.new.out)
+    (c.layout.ensures.layout ∙ o.layout ∙ i.layout) c.in_ok-waiting-in-Ok.ensures.adds in
+    let last = subst (λ (l : Layout). c.finish.new.out ≡ c.add.new.out ++ flat_map (run_text l c.args.initiator) (with_waiting c.in_ok-waiting-in-Ok.waiting []))
+    (c.layout-then-idle.ensures.layout ∙ o.layout ∙ i.layout) c.in_ok-finish-in-Ok.ensures in
+    (turn_idle layout c.args.initiator c.args.count (c.args.count - c.loop.counter) m _ _ _ c.in-Ok.reply _ _ _ _ _ _ less (o.fits here) (o.reply here) (o.after here) rests (i.turns holds) adds last).text
 
 pub returns-then-idle-clause-after : goal.returns-then-idle-clause-after
-returns-then-idle-clause-after g c =
+returns-then-idle-clause-after g c holds =
     let i = c.loop.invariant in
     let o = c.in-Ok.ensures in
-    let k = c.args.count - c.loop.counter in
+    let here = i.trusted holds in
+    let layout = c.args.desk.now.store.layout in
     let m = c.args.count - (c.loop.counter + 1) in
-    let less : k ≡ suc m = omega arith in
+    let less : c.args.count - c.loop.counter ≡ suc m = omega arith in
     let rests : is_idle c.in-Ok.reply ≡ true = sym c.is_idle-idle.ensures ∙ c.if-idle.true in
-    (turn_idle c.args.count k m _ _ _ c.in-Ok.reply _ _ _ _ _ _ less o.fits o.reply o.after rests i.turns c.in_ok-waiting-in-Ok.ensures.adds c.in_ok-finish-in-Ok.ensures).after
+    let adds = subst (λ (l : Layout). Adds l c.args.initiator c.loop.waiting c.in-Ok.reply c.in_ok-waiting-in-Ok.waiting c.loop.out c.add.new.out)
+    (c.layout.ensures.layout ∙ o.layout ∙ i.layout) c.in_ok-waiting-in-Ok.ensures.adds in
+    let last = subst (λ (l : Layout). c.finish.new.out ≡ c.add.new.out ++ flat_map (run_text l c.args.initiator) (with_waiting c.in_ok-waiting-in-Ok.waiting []))
+    (c.layout-then-idle.ensures.layout ∙ o.layout ∙ i.layout) c.in_ok-finish-in-Ok.ensures in
+    (turn_idle layout c.args.initiator c.args.count (c.args.count - c.loop.counter) m _ _ _ c.in-Ok.reply _ _ _ _ _ _ less (o.fits here) (o.reply here) (o.after here) rests (i.turns holds) adds last).after
 
 pub returns-then-idle-clause-fits : goal.returns-then-idle-clause-fits
-returns-then-idle-clause-fits g c =
+returns-then-idle-clause-fits g c holds =
     let i = c.loop.invariant in
     let o = c.in-Ok.ensures in
-    let k = c.args.count - c.loop.counter in
+    let here = i.trusted holds in
+    let layout = c.args.desk.now.store.layout in
     let m = c.args.count - (c.loop.counter + 1) in
-    let less : k ≡ suc m = omega arith in
+    let less : c.args.count - c.loop.counter ≡ suc m = omega arith in
     let rests : is_idle c.in-Ok.reply ≡ true = sym c.is_idle-idle.ensures ∙ c.if-idle.true in
-    (turn_idle c.args.count k m _ _ _ c.in-Ok.reply _ _ _ _ _ _ less o.fits o.reply o.after rests i.turns c.in_ok-waiting-in-Ok.ensures.adds c.in_ok-finish-in-Ok.ensures).fits
+    let adds = subst (λ (l : Layout). Adds l c.args.initiator c.loop.waiting c.in-Ok.reply c.in_ok-waiting-in-Ok.waiting c.loop.out c.add.new.out)
+    (c.layout.ensures.layout ∙ o.layout ∙ i.layout) c.in_ok-waiting-in-Ok.ensures.adds in
+    let last = subst (λ (l : Layout). c.finish.new.out ≡ c.add.new.out ++ flat_map (run_text l c.args.initiator) (with_waiting c.in_ok-waiting-in-Ok.waiting []))
+    (c.layout-then-idle.ensures.layout ∙ o.layout ∙ i.layout) c.in_ok-finish-in-Ok.ensures in
+    (turn_idle layout c.args.initiator c.args.count (c.args.count - c.loop.counter) m _ _ _ c.in-Ok.reply _ _ _ _ _ _ less (o.fits here) (o.reply here) (o.after here) rests (i.turns holds) adds last).fits
 
 pub returns-in-Err-clause-halt : goal.returns-in-Err-clause-halt
-returns-in-Err-clause-halt g c =
+returns-in-Err-clause-halt g c holds =
     let i = c.loop.invariant in
-    let k = c.args.count - c.loop.counter in
+    let layout = c.args.desk.now.store.layout in
     let m = c.args.count - (c.loop.counter + 1) in
-    let less : k ≡ suc m = omega arith in
-    turns_halted c.in-Err.halt _ _ _ c.args.count k m _ _ _ _ _ _ less i.later c.in-Err.ensures.halt i.turns c.in_ok-break_off-in-Err.ensures
+    let less : c.args.count - c.loop.counter ≡ suc m = omega arith in
+    let last = subst (λ (l : Layout). c.break_off.new.out ≡ c.loop.out ++ flat_map (run_text l c.args.initiator) (told_runs (with_waiting c.loop.waiting [])))
+    (c.layout-in-Err.ensures.layout ∙ c.in-Err.ensures.layout ∙ i.layout) c.in_ok-break_off-in-Err.ensures in
+    turns_halted layout c.args.initiator c.in-Err.halt c.args.count (c.args.count - c.loop.counter) m _ _ _ _ _ _ less (c.in-Err.ensures.halt (i.trusted holds)) (i.turns holds) last
+
+pub returns-clause-text : goal.returns-clause-text
+returns-clause-text g c holds =
+    let i = c.loop.invariant in
+    let none : c.args.count - c.loop.counter ≡ 0 = omega arith in
+    let last = subst (λ (l : Layout). c.finish-2.new.out ≡ c.loop.out ++ flat_map (run_text l c.args.initiator) (with_waiting c.loop.waiting []))
+    (c.layout-2.ensures.layout ∙ i.layout) c.in_ok-finish.ensures in
+    (turns_made c.args.desk.now.store.layout c.args.initiator c.args.count (c.args.count - c.loop.counter) _ _ _ _ _ _ none (i.turns holds) last).text
 
 pub returns-in_err-waiting-in-Ok-clause-goes : goal.returns-in_err-waiting-in-Ok-clause-goes
 returns-in_err-waiting-in-Ok-clause-goes g c holds =
+    let d = g.D.Disk in
     let i = c.loop.invariant in
-    goes_by g.D.Disk.told g.D.Disk.content g.D.Disk.may_leave g.D.Disk.moment g.D.Disk.left_since g.D.Disk.size g.D.Disk.faults c.from_residual.result c.args.desk.now c.one_turn.new.desk (goes_then g.D.Disk.told g.D.Disk.content g.D.Disk.may_leave g.D.Disk.moment g.D.Disk.left_since g.D.Disk.size g.D.Disk.faults c.args.desk.now c.loop.desk c.one_turn.new.desk (i.goes holds) (c.in-Ok.ensures.goes (i.trusted holds)))
+    goes_by d.content d.moment d.left_since d.size c.from_residual.result c.args.desk.now c.one_turn.new.desk
+    (goes_then d.content d.moment d.left_since d.size c.args.desk.now c.loop.desk c.one_turn.new.desk (i.goes holds) (c.in-Ok.ensures.goes (i.trusted holds)))
 
 pub returns-in_err-finish-in-Ok-clause-goes : goal.returns-in_err-finish-in-Ok-clause-goes
 returns-in_err-finish-in-Ok-clause-goes g c holds =
+    let d = g.D.Disk in
     let i = c.loop.invariant in
-    goes_by g.D.Disk.told g.D.Disk.content g.D.Disk.may_leave g.D.Disk.moment g.D.Disk.left_since g.D.Disk.size g.D.Disk.faults c.from_residual-in_err-finish-in-Ok.result c.args.desk.now c.one_turn.new.desk (goes_then g.D.Disk.told g.D.Disk.content g.D.Disk.may_leave g.D.Disk.moment g.D.Disk.left_since g.D.Disk.size g.D.Disk.faults c.args.desk.now c.loop.desk c.one_turn.new.desk (i.goes holds) (c.in-Ok.ensures.goes (i.trusted holds)))
+    goes_by d.content d.moment d.left_since d.size c.from_residual-in_err-finish-in-Ok.result c.args.desk.now c.one_turn.new.desk
+    (goes_then d.content d.moment d.left_since d.size c.args.desk.now c.loop.desk c.one_turn.new.desk (i.goes holds) (c.in-Ok.ensures.goes (i.trusted holds)))
 
 pub returns-then-idle-clause-goes : goal.returns-then-idle-clause-goes
 returns-then-idle-clause-goes g c holds =
+    let d = g.D.Disk in
     let i = c.loop.invariant in
-    goes_then g.D.Disk.told g.D.Disk.content g.D.Disk.may_leave g.D.Disk.moment g.D.Disk.left_since g.D.Disk.size g.D.Disk.faults c.args.desk.now c.loop.desk c.one_turn.new.desk (i.goes holds) (c.in-Ok.ensures.goes (i.trusted holds))
+    goes_then d.content d.moment d.left_since d.size c.args.desk.now c.loop.desk c.one_turn.new.desk (i.goes holds) (c.in-Ok.ensures.goes (i.trusted holds))
 
 pub returns-in_err-break_off-in-Err-clause-goes : goal.returns-in_err-break_off-in-Err-clause-goes
 returns-in_err-break_off-in-Err-clause-goes g c holds =
+    let d = g.D.Disk in
     let i = c.loop.invariant in
-    handed_within g.D.Disk.told g.D.Disk.content g.D.Disk.may_leave g.D.Disk.moment g.D.Disk.left_since g.D.Disk.size g.D.Disk.faults c.from_residual-in_err-break_off-in-Err.result _ c.args.desk.now c.one_turn.new.desk c.from_residual-in_err-break_off-in-Err.ensures.1
-    (within_then g.D.Disk.told g.D.Disk.content g.D.Disk.may_leave g.D.Disk.moment g.D.Disk.left_since g.D.Disk.size g.D.Disk.faults c.args.desk.now c.loop.desk c.one_turn.new.desk (i.goes holds) (c.in-Err.ensures.goes (i.trusted holds)))
+    handed_within d.content d.moment d.left_since d.size c.from_residual-in_err-break_off-in-Err.result _ c.args.desk.now c.one_turn.new.desk c.from_residual-in_err-break_off-in-Err.ensures.1
+    (within_then d.content d.moment d.left_since d.size c.args.desk.now c.loop.desk c.one_turn.new.desk (i.goes holds) (c.in-Err.ensures.goes (i.trusted holds)))
 
 pub returns-in-Err-clause-goes : goal.returns-in-Err-clause-goes
 returns-in-Err-clause-goes g c holds =
+    let d = g.D.Disk in
     let i = c.loop.invariant in
-    within_then g.D.Disk.told g.D.Disk.content g.D.Disk.may_leave g.D.Disk.moment g.D.Disk.left_since g.D.Disk.size g.D.Disk.faults c.args.desk.now c.loop.desk c.one_turn.new.desk (i.goes holds) (c.in-Err.ensures.goes (i.trusted holds))
-
-pub returns-clause-text : goal.returns-clause-text
-returns-clause-text g c =
-    let none : c.args.count - c.loop.counter ≡ 0 = omega arith in
-    (turns_made c.args.count (c.args.count - c.loop.counter) _ _ _ _ _ _ none c.loop.invariant.turns c.in_ok-finish.ensures).text
+    within_then d.content d.moment d.left_since d.size c.args.desk.now c.loop.desk c.one_turn.new.desk (i.goes holds) (c.in-Err.ensures.goes (i.trusted holds))

@@ -12,8 +12,8 @@ pub returns-clause-served : goal.returns-clause-served
 returns-clause-served g c =
     let o = c.in_ok-feed_all.ensures in
     let e = c.end.ensures in
-    serving_on _ (seen c.args.flow.now.session.office) c.feed_all.new.flow c.end.result _ _ _ _ _ _ _ _ _ _ _ _ _ c.requires.begun.refused o.ok
-    (λ holds. e.ok (o.trusted holds)) (λ holds. e.err (o.trusted holds)) c.feed_all.ensures.sink_later c.feed_all.ensures.disk_later e.cause
+    serving_on g.D.Disk.content _ _ (seen g.D.Disk.content c.args.flow.now.session.office) c.feed_all.new.flow c.end.result _ _ _ _ _ _ _ _ _ _ _ _ _ c.requires.begun.refused o.ok
+    (λ holds. e.ok (o.trusted holds)) (λ holds. e.err (o.trusted holds)) c.feed_all.ensures.sink_later c.feed_all.ensures.disk_later o.trusted e.cause
 
 pub returns-clause-within : goal.returns-clause-within
 returns-clause-within g c holds =
@@ -21,4 +21,4 @@ returns-clause-within g c holds =
     let o = c.in_ok-feed_all.ensures in
     let between = c.feed_all.new.flow.session.office.desk in
     let now = c.end.new.self.session.office.desk in
-    within_then d.told d.content d.may_leave d.moment d.left_since d.size d.faults c.args.flow.now.session.office.desk between now (o.goes holds) (within_either d.told d.content d.may_leave d.moment d.left_since d.size c.end.result between now (c.end.ensures.goes (o.trusted holds)))
+    within_then d.content d.moment d.left_since d.size c.args.flow.now.session.office.desk between now (o.goes holds) (within_either d.told d.content d.may_leave d.moment d.left_since d.size c.end.result between now (c.end.ensures.goes (o.trusted holds)))

@@ -1,5 +1,10 @@
-use Rattle.std.proofs.Common.{◌∙◌, arith}
+use Rattle.std.proofs.Common.{◌∙◌, ap, arith, subst, sym}
 use Rattle.ckr_outside.specs.Faults.{Rose}
+use Rattle.ckr_standing.specs.Again.{last_event}
+use Rattle.ckr_store.specs.Opens.{event_records}
+use Rattle.ckr_tables.specs.Seen.{RoomyTables}
+use Rattle.ckr_desk.specs.Replaying.{IsFound}
+use Rattle.ckr_desk.specs.Sound.{events_in, last_on}
 use Rattle.ckr_desk.proofs.Opened.{found_behind, book_cause_behind, rose_before}
 use Rattle.ckr_desk.proofs.Replays.{handed_on}
 use Rattle.ckr_desk.proofs.opening.read_disk.Goals as goal
@@ -7,15 +12,21 @@ use Rattle.ckr_desk.proofs.opening.read_disk.Goals as goal
 pub returns-clause-found : goal.returns-clause-found
 returns-clause-found g c = λ told.
     let d = g.D.Disk in
-    found_behind (d.content c.sync.new.self) (d.content c.layout_of.new.disk) (d.content c.replay.new.disk) (d.size c.sync.new.self) (d.size c.replay.new.disk)
-    c.in_ok-layout.layout c.in_ok-course.field-0.course c.in_ok-course.field-0.place (c.in_ok-layout.ensures.exact told)
-    c.in_ok-layout.ensures.only_reads.same c.in_ok-course.ensures.only_reads.same (c.in_ok-course.ensures.size ∙ c.in_ok-layout.ensures.size) (c.in_ok-course.ensures.replayed told)
+    subst (λ (t : RoomyTables). IsFound (d.content c.replay.new.disk) (d.size c.replay.new.disk) c.in_ok-layout.layout t.desk c.in_ok-jobs.field-0.place) (sym c.open.ensures.tables)
+    (found_behind (d.content c.sync.new.self) (d.content c.layout_of.new.disk) (d.content c.replay.new.disk) (d.size c.sync.new.self) (d.size c.replay.new.disk)
+    c.in_ok-layout.layout c.in_ok-jobs.field-0.jobs.tables.desk c.in_ok-jobs.field-0.place (c.in_ok-layout.ensures.exact told)
+    c.in_ok-layout.ensures.only_reads.same c.in_ok-jobs.ensures.only_reads.same (c.in_ok-jobs.ensures.size ∙ c.in_ok-layout.ensures.size) (c.in_ok-jobs.ensures.replayed told))
 
-pub returns-in_err-course-clause-cause : goal.returns-in_err-course-clause-cause
-returns-in_err-course-clause-cause g c =
+pub returns-in_err-jobs-clause-cause : goal.returns-in_err-jobs-clause-cause
+returns-in_err-jobs-clause-cause g c =
     let d = g.D.Disk in
-    handed_on c.from_residual-in_err-course.result c.in_err-course.field-0.0 _ c.from_residual-in_err-course.ensures.1
+    handed_on c.from_residual-in_err-jobs.result c.in_err-jobs.field-0.0 _ c.from_residual-in_err-jobs.ensures.1
     (book_cause_behind (Rose (d.faults c.args.disk.now) (d.faults c.replay.new.disk)) (Rose (d.faults c.layout_of.new.disk) (d.faults c.replay.new.disk)) d.told
-    (d.content c.args.disk.now) (d.content c.sync.new.self) (d.content c.layout_of.new.disk) (d.size c.args.disk.now) c.in_ok-layout.layout c.in_err-course.field-0.0
+    (d.content c.args.disk.now) (d.content c.sync.new.self) (d.content c.layout_of.new.disk) (d.size c.args.disk.now) c.in_ok-layout.layout c.in_err-jobs.field-0.0
     (rose_before (d.faults c.args.disk.now) (d.faults c.layout_of.new.disk) (d.faults c.replay.new.disk) (omega (arith, c.in_ok-sync.ensures.cause.never_falls, c.in_ok-layout.ensures.faults)))
-    (λ told. rw c.in_ok-sync.ensures.size at (c.in_ok-layout.ensures.exact told)) c.in_ok-sync.ensures.only_reads.same c.in_ok-layout.ensures.only_reads.same c.in_err-course.ensures.cause)
+    (λ told. rw c.in_ok-sync.ensures.size at (c.in_ok-layout.ensures.exact told)) c.in_ok-sync.ensures.only_reads.same c.in_ok-layout.ensures.only_reads.same c.in_err-jobs.ensures.cause)
+
+pub returns-clause-last : goal.returns-clause-last
+unfolding last_on
+returns-clause-last g c = λ told.
+    ap (λ image. last_event (events_in (event_records c.in_ok-layout.layout image))) c.in_ok-jobs.ensures.only_reads.same ∙ c.in_ok-jobs.ensures.last told

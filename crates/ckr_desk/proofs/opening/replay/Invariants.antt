@@ -1,16 +1,18 @@
-use Rattle.std.proofs.Common.{◌≡◌, ◌≤◌, ◌-◌}
+use Rattle.std.proofs.Common.{◌≡◌, ◌≤◌, ◌-◌, []}
 use Rattle.ckr_outside.specs.Disk.{OnlyReads, part}
-use Rattle.ckr_course.specs.Course.{AnyRunStands}
-use Rattle.ckr_desk.specs.Replaying.{IsReplayed}
+use Rattle.ckr_jobs.specs.Holding.{AreJobs}
+use Rattle.ckr_desk.specs.Replaying.{IsLastTo, IsReplayed}
 use Rattle.ckr_desk.proofs.opening.replay.Given as goal
 
 abbrev pub invariant-loop-found : goal.invariant-loop-found
 invariant-loop-found g l =
     let d = g.D.Disk in
     record {
-      replayed : d.told → IsReplayed l.layout (part 512 l.layout.book (d.content l.fn.disk)) l.found.course l.found.place;
+      replayed : d.told → IsReplayed l.layout (part 512 l.layout.book (d.content l.fn.disk)) l.found.jobs.tables.desk l.found.place;
+      last : d.told → IsLastTo (part 512 l.layout.book (d.content l.fn.disk)) l.found.place l.found.last;
       place : l.found.place ≤ l.layout.book;
-      stands : AnyRunStands l.layout l.found.course;
+      jobs : AreJobs l.layout l.found.jobs;
+      running : l.found.jobs.running ≡ [];
       only_reads : OnlyReads d.content d.may_leave d.moment d.left_since l.fn.disk l.disk;
       size : d.size l.disk ≡ d.size l.fn.disk;
       faults : d.faults l.fn.disk ≤ d.faults l.disk;

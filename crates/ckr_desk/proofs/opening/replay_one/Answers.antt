@@ -9,19 +9,19 @@ pub returns-in_err-event_at-clause-cause : goal.returns-in_err-event_at-clause-c
 returns-in_err-event_at-clause-cause g c =
     handed_on c.from_residual.result c.in_err-event_at.field-0.0 _ c.from_residual.ensures.1
     (replay_cause (Rose (g.D.Disk.faults c.args.disk.now) (g.D.Disk.faults c.event_at.new.disk)) g.D.Disk.told c.args.layout.now
-    (part 512 c.args.layout.now.book (g.D.Disk.content c.args.disk.now)) c.args.found.now.course c.args.found.now.place c.in_err-event_at.field-0.0 c.in_err-event_at.ensures.cause)
+    (part 512 c.args.layout.now.book (g.D.Disk.content c.args.disk.now)) c.args.found.now.jobs.tables.desk c.args.found.now.place c.in_err-event_at.field-0.0 c.in_err-event_at.ensures.cause)
 
 pub returns-then-not-branch-clause-cause : goal.returns-then-not-branch-clause-cause
 returns-then-not-branch-clause-cause g c = λ both.
-    not_followed c.args.layout.now (part 512 c.args.layout.now.book (g.D.Disk.content c.args.disk.now)) c.args.found.now.course c.args.found.now.place c.in-Event.event both.1
-    (event_read _ _ _ _ c.in-Event.is (c.in_ok-event_at.ensures.read both.0)) c.in_ok-follow-in-Event.field-0 c.in_ok-follow-in-Event.ensures.follows c.if-not-branch.true
+    not_followed c.args.layout.now (part 512 c.args.layout.now.book (g.D.Disk.content c.args.disk.now)) c.args.found.now.jobs.tables.desk c.args.found.now.place c.in-Event.event both.1
+    (event_read _ _ _ _ c.in-Event.is (c.in_ok-event_at.ensures.read both.0)) c.in_ok-replay-in-Event.field-0 c.in_ok-replay-in-Event.ensures.answer c.if-not-branch.true
 
 pub returns-else-not-branch-clause-goes : goal.returns-else-not-branch-clause-goes
 returns-else-not-branch-clause-goes g c =
-    gone_on g.D.Disk.told c.args.layout.now (part 512 c.args.layout.now.book (g.D.Disk.content c.args.disk.now)) c.args.found.now.course c.follow.new.self c.args.found.now.place
+    gone_on g.D.Disk.told c.args.layout.now (part 512 c.args.layout.now.book (g.D.Disk.content c.args.disk.now)) c.args.found.now.jobs.tables.desk c.replay.new.self.tables.desk c.args.found.now.place
     c.in-Event.next c.in-Event.event (subst (GoesOn c.args.found.now.place c.args.layout.now.book) c.in-Event.is c.in_ok-event_at.ensures.next)
     (λ told. event_read _ _ _ _ c.in-Event.is (c.in_ok-event_at.ensures.read told))
-    c.in_ok-follow-in-Event.field-0 c.in_ok-follow-in-Event.ensures.follows c.if-not-branch.false c.in_ok-follow-in-Event.ensures.run
+    c.in_ok-replay-in-Event.field-0 c.in_ok-replay-in-Event.ensures.answer c.if-not-branch.false c.in_ok-replay-in-Event.ensures.ok
 
 pub event_at-requires-clause-inside : goal.event_at-requires-clause-inside
 event_at-requires-clause-inside g c _ _ = book_inside c.args.layout.now (g.D.Disk.size c.args.disk.now) c.requires.header

@@ -11,7 +11,7 @@ invariant-loop-byte g l = record {
   goes : IsTrusted g.D.Disk.told g.D.Disk.content g.D.Disk.may_leave l.fn.self.session.office.desk
       → Goes g.D.Disk.content g.D.Disk.moment g.D.Disk.left_since g.D.Disk.size l.fn.self.session.office.desk l.self.session.office.desk;
   carries : IsTrusted g.D.Disk.told g.D.Disk.content g.D.Disk.may_leave l.fn.self.session.office.desk
-      → Carries l.fn.self l.self (take l.byte-index l.piece) (g.K.Sink.written l.fn.sink) (g.K.Sink.written l.sink);
+      → Carries g.D.Disk.content l.fn.self l.self (take l.byte-index l.piece) (g.K.Sink.written l.fn.sink) (g.K.Sink.written l.sink);
   is_open : l.self.session.office.desk.store.fault ≡ None;
   few : l.self.session.number + length l.self.partial.items ≤ l.fn.self.session.number + length l.fn.self.partial.items + l.byte-index;
   whole : HasWholeCards l.self.session;

@@ -1,43 +1,49 @@
-use Rattle.std.proofs.Common.{◌∙◌, Some, Ok, ap, sym, subst}
-use Rattle.ckr_course.specs.Turning.{placed}
-use Rattle.ckr_desk.specs.Calls.{Done}
-use Rattle.ckr_desk.proofs.Entered.{Entering, desk_behind, done_behind, not_done, never_full}
+use Rattle.std.proofs.Common.{ap, subst, ◌∙◌}
+use Rattle.ckr_following.proofs.Counted.{counted-may}
+use Rattle.ckr_following.specs.Counting.{may_count}
+use Rattle.ckr_outside.specs.Disk.{SameOutside}
+use Rattle.ckr_points.specs.Following.{follows}
+use Rattle.ckr_tables.proofs.Items.{both_second}
+use Rattle.ckr_volumes.specs.declared.layout.Layout.{Layout}
+use Rattle.ckr_volumes.specs.Records.{records_on}
+use Rattle.ckr_desk.proofs.Behind.{records-stay}
+use Rattle.ckr_desk.proofs.Left.{appended-store}
+use Rattle.ckr_desk.specs.Calls.{may_keep}
 use Rattle.ckr_desk.proofs.desk.Desk.enter.Goals as goal
 
-pub invariant_of-self : goal.invariant_of-self
-invariant_of-self g c =
+pub returns-clause-records : goal.returns-clause-records
+returns-clause-records g c =
     let d = g.D.Disk in
-    let e = c.in-Ok.ensures in
-    let run = c.go_on.ensures ∙ ap (λ o. placed o.run c.args.stage) c.self.view_is in
-    let is_open = ap (λ o. o.store.fault) c.self.view_is ∙ c.requires.commits.is_open in
-    desk_behind d.told d.content d.may_leave d.moment d.left_since d.size d.faults c.self.inside.store c.append.new.self c.self.inside.course c.go_on.new.self c.args.self.now c.args.event.now
-    c.layout-layout.ensures.sound.laid c.requires.event c.self.invariant
-    (record { kept = e.kept; appended = e.appended; changes = e.changes; room = e.room; fits = λ less. never_full _ _ _ (e.full is_open less) })
-    c.self.view_is
-    (subst (λ r. Entering d.told d.content d.may_leave d.moment d.left_since d.size d.faults c.args.event.now r c.args.self.now) (sym run)
-    (record { stands = c.requires.stands; follows = c.requires.follows; commits = c.requires.commits }))
+    let layout = c.self.inside.store.layout in
+    rw (← c.self.view_is)
+    (λ told set n stands within.
+    records-stay layout c.layout-layout.ensures.sound.laid (d.content c.sync.new.self.disk) (d.content c.append.new.self.disk)
+    (subst (λ (l : Layout). SameOutside 512 l.book (d.content c.sync.new.self.disk) (d.content c.append.new.self.disk)) (ap (λ s. s.layout) c.in_ok-sync.ensures.kept) (c.append.ensures.changes.reads told))
+    set n stands within
+    ∙ ap (λ bytes. records_on bytes layout set n) c.sync.ensures.only_reads.same)
 
-pub returns-in-Ok : goal.returns-in-Ok
-returns-in-Ok g c =
-    let d = g.D.Disk in
-    let laws = g.met.D.Disk g.world.𝓛 g.world.𝓜 g.world.𝓡 ((λ s x. x), (λ x. x), (λ x. x), λ x. x) in
-    let e = c.in-Ok.ensures in
-    let run = c.go_on.ensures ∙ ap (λ o. placed o.run c.args.stage) c.self.view_is in
-    let is_open = ap (λ o. o.store.fault) c.self.view_is ∙ c.requires.commits.is_open in
-    subst (λ r. Done d.told d.content d.may_leave d.moment d.left_since d.size d.faults (Some c.args.event.now) r c.args.self.now (record { store = c.append.new.self; run = c.go_on.new.self }) (Ok (tt {0}))) run
-    (done_behind d.told d.content d.may_leave d.moment d.left_since d.size d.faults c.self.inside.store c.append.new.self c.self.inside.course c.go_on.new.self c.args.self.now c.args.event.now
-    c.layout-layout.ensures.sound.laid c.self.invariant
-    (record { kept = e.kept; appended = e.appended; changes = e.changes; room = e.room; fits = λ less. never_full _ _ _ (e.full is_open less) })
-    (record { any_moment = e.any_moment; changes = e.changes; same_size = e.size; faults_on = e.faults; counts = laws.counts_now c.append.new.self.disk })
-    c.self.view_is
-    (subst (λ r. Entering d.told d.content d.may_leave d.moment d.left_since d.size d.faults c.args.event.now r c.args.self.now) (sym run)
-    (record { stands = c.requires.stands; follows = c.requires.follows; commits = c.requires.commits })))
+pub keep-requires-clause-count : goal.keep-requires-clause-count
+keep-requires-clause-count g c =
+    let tables = c.self.inside.jobs.tables.desk in
+    let may = ap (may_keep c.args.event.now c.args.deck) c.self.view_is ∙ c.requires.may in
+    counted-may c.args.event.now tables.sets (both_second (follows c.self.inside.store.layout tables c.args.event.now c.args.deck) (may_count c.args.event.now tables.sets) may)
 
-pub returns-in-Err : goal.returns-in-Err
-returns-in-Err g c =
+pub returns-in_err-append-clause-left : goal.returns-in_err-append-clause-left
+returns-in_err-append-clause-left g c =
     let d = g.D.Disk in
-    let laws = g.met.D.Disk g.world.𝓛 g.world.𝓜 g.world.𝓡 ((λ s x. x), (λ x. x), (λ x. x), λ x. x) in
-    let e = c.in-Err.ensures in
-    not_done d.told d.content d.may_leave d.moment d.left_since d.size d.faults c.self.inside.store c.append.new.self c.self.inside.course (placed c.args.self.now.run c.args.stage) c.args.self.now c.args.event.now c.in-Err.error
-    c.layout-layout.ensures.sound.laid c.self.invariant (record { any_moment = e.any_moment; changes = e.changes; same_size = e.size; faults_on = e.faults; counts = laws.counts_now c.append.new.self.disk }) e.cause c.self.view_is
-    (record { stands = c.requires.stands; follows = c.requires.follows; commits = c.requires.commits })
+    let is_open = ap (λ s. s.store.fault) c.self.view_is ∙ c.requires.is_open in
+    rw (← c.self.view_is)
+    (appended-store d.told d.content d.may_leave d.moment d.left_since d.size c.args.event.now c.args.deck (record { store = c.self.inside.store; jobs = c.self.inside.jobs }) c.sync.new.self c.append.new.self
+    c.in_ok-sync.ensures.kept (ap (may_keep c.args.event.now c.args.deck) c.self.view_is ∙ c.requires.may) c.layout-layout.ensures.sound.laid
+    (c.sync.ensures.any_moment is_open) c.sync.ensures.only_reads c.sync.ensures.size c.in_ok-sync.ensures.settled
+    (c.append.ensures.any_moment (ap (λ s. s.fault) c.in_ok-sync.ensures.kept ∙ is_open)) c.append.ensures.changes)
+
+pub returns-clause-left : goal.returns-clause-left
+returns-clause-left g c =
+    let d = g.D.Disk in
+    let is_open = ap (λ s. s.store.fault) c.self.view_is ∙ c.requires.is_open in
+    rw (← c.self.view_is)
+    (appended-store d.told d.content d.may_leave d.moment d.left_since d.size c.args.event.now c.args.deck (record { store = c.self.inside.store; jobs = c.self.inside.jobs }) c.sync.new.self c.append.new.self
+    c.in_ok-sync.ensures.kept (ap (may_keep c.args.event.now c.args.deck) c.self.view_is ∙ c.requires.may) c.layout-layout.ensures.sound.laid
+    (c.sync.ensures.any_moment is_open) c.sync.ensures.only_reads c.sync.ensures.size c.in_ok-sync.ensures.settled
+    (c.append.ensures.any_moment (ap (λ s. s.fault) c.in_ok-sync.ensures.kept ∙ is_open)) c.append.ensures.changes)

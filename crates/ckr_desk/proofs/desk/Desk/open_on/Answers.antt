@@ -1,8 +1,142 @@
-use Rattle.ckr_desk.proofs.Reopened.{opened_desk}
+use Rattle.std.proofs.Common.{subst, sym}
+use Rattle.ckr_outside.specs.Disk.{EachSince}
+use Rattle.ckr_outside.specs.Faults.{Rose}
+use Rattle.ckr_store.specs.State.{IsSound}
+use Rattle.ckr_desk.proofs.OpenTrusted.{IsOpened, IsRead, WritesAgain, desk-cause, kept-opening, opened-by, opens-again, opens-desk, trusted-opened}
+use Rattle.ckr_desk.proofs.Replays.{handed_on}
+use Rattle.ckr_desk.specs.Sound.{IsSafe}
+use Rattle.ckr_desk.specs.State.{DeskState}
 use Rattle.ckr_desk.proofs.desk.Desk.open_on.Goals as goal
 
-pub invariant_of-result : goal.invariant_of-result
-invariant_of-result g c =
+pub returns-in_err-desk-clause-cause : goal.returns-in_err-desk-clause-cause
+returns-in_err-desk-clause-cause g c =
     let d = g.D.Disk in
-    opened_desk d.told d.content d.may_leave c.in-Ok-open.store c.read_disk.new.disk c.in-Ok.field-0.layout c.in-Ok.field-0.end (d.size c.read_disk.new.disk) c.in-Ok.field-0.course
-    c.in-Ok-open.ensures.opened c.in-Ok.ensures.stands c.in-Ok.ensures.found
+    handed_on c.from_residual.result c.in_err-desk.field-0.0 _ c.from_residual.ensures.1
+    (desk-cause (Rose (d.faults c.args.disk) (d.faults c.in_err-desk.field-0.0.disk)) d.told (d.content c.args.disk) (d.size c.args.disk) c.in_err-desk.field-0.0.error c.in_err-desk.ensures.cause)
+
+pub returns-in-Ok-clause-opened : goal.returns-in-Ok-clause-opened
+returns-in-Ok-clause-opened g c all =
+    let d = g.D.Disk in
+    let laws = g.met.D.Disk g.world.𝓛 g.world.𝓜 g.world.𝓡 ((λ s x. x), (λ x. x), (λ x. x), λ x. x) in
+    let there = c.in_ok-desk.field-0 in
+    let e = c.in_ok-desk.ensures in
+    let read : IsRead d.told d.content d.may_leave d.size c.args.disk there.desk there.last =
+    record {
+      reads = record { opens = e.opened all.tells; last_is = e.last all.tells; same = e.only_reads.same; same_size = e.size };
+      failed = e.failed;
+      running = e.running;
+      is_open = e.is_open;
+    }
+    in
+    let wrote : WritesAgain d.told d.content d.may_leave d.size there.desk c.write_again.new.self there.last =
+    record {
+      jobs = c.write_again.ensures.jobs;
+      kept = c.in-Ok.ensures.kept;
+      settled = c.in-Ok.ensures.settled;
+      events = c.write_again.ensures.events all.tells;
+      written = c.in-Ok.ensures.written all.tells;
+      same_size = c.write_again.ensures.size;
+    }
+    in
+    let is : IsOpened d.told d.content d.may_leave d.size c.args.disk c.write_again.new.self there.last =
+    opened-by d.told d.content d.may_leave d.size c.args.disk there.desk c.write_again.new.self there.last read wrote (subst (λ (s : DeskState _). IsSound d.content d.may_leave d.size s.store) c.desk.view_is c.layout-layout.ensures.sound)
+    in
+    opens-desk d.told d.content d.may_leave d.size c.args.disk c.write_again.new.self there.last all.tells
+    (all.sound (d.content c.args.disk) (laws.reads_an_image c.args.disk all.tells)) is (laws.reads_an_image c.write_again.new.self.store.disk all.tells)
+
+pub returns-in-Ok-clause-trusted : goal.returns-in-Ok-clause-trusted
+returns-in-Ok-clause-trusted g c all =
+    let d = g.D.Disk in
+    let laws = g.met.D.Disk g.world.𝓛 g.world.𝓜 g.world.𝓡 ((λ s x. x), (λ x. x), (λ x. x), λ x. x) in
+    let there = c.in_ok-desk.field-0 in
+    let e = c.in_ok-desk.ensures in
+    let read : IsRead d.told d.content d.may_leave d.size c.args.disk there.desk there.last =
+    record {
+      reads = record { opens = e.opened all.tells; last_is = e.last all.tells; same = e.only_reads.same; same_size = e.size };
+      failed = e.failed;
+      running = e.running;
+      is_open = e.is_open;
+    }
+    in
+    let wrote : WritesAgain d.told d.content d.may_leave d.size there.desk c.write_again.new.self there.last =
+    record {
+      jobs = c.write_again.ensures.jobs;
+      kept = c.in-Ok.ensures.kept;
+      settled = c.in-Ok.ensures.settled;
+      events = c.write_again.ensures.events all.tells;
+      written = c.in-Ok.ensures.written all.tells;
+      same_size = c.write_again.ensures.size;
+    }
+    in
+    let is : IsOpened d.told d.content d.may_leave d.size c.args.disk c.write_again.new.self there.last =
+    opened-by d.told d.content d.may_leave d.size c.args.disk there.desk c.write_again.new.self there.last read wrote (subst (λ (s : DeskState _). IsSound d.content d.may_leave d.size s.store) c.desk.view_is c.layout-layout.ensures.sound)
+    in
+    trusted-opened d.told d.content d.may_leave d.size c.args.disk c.write_again.new.self there.last all.tells
+    (all.sound (d.content c.args.disk) (laws.reads_an_image c.args.disk all.tells)) is (laws.reads_an_image c.write_again.new.self.store.disk all.tells)
+
+pub returns-in-Ok-clause-events : goal.returns-in-Ok-clause-events
+returns-in-Ok-clause-events g c all =
+    let d = g.D.Disk in
+    let laws = g.met.D.Disk g.world.𝓛 g.world.𝓜 g.world.𝓡 ((λ s x. x), (λ x. x), (λ x. x), λ x. x) in
+    let there = c.in_ok-desk.field-0 in
+    let e = c.in_ok-desk.ensures in
+    let read : IsRead d.told d.content d.may_leave d.size c.args.disk there.desk there.last =
+    record {
+      reads = record { opens = e.opened all.tells; last_is = e.last all.tells; same = e.only_reads.same; same_size = e.size };
+      failed = e.failed;
+      running = e.running;
+      is_open = e.is_open;
+    }
+    in
+    let wrote : WritesAgain d.told d.content d.may_leave d.size there.desk c.write_again.new.self there.last =
+    record {
+      jobs = c.write_again.ensures.jobs;
+      kept = c.in-Ok.ensures.kept;
+      settled = c.in-Ok.ensures.settled;
+      events = c.write_again.ensures.events all.tells;
+      written = c.in-Ok.ensures.written all.tells;
+      same_size = c.write_again.ensures.size;
+    }
+    in
+    let is : IsOpened d.told d.content d.may_leave d.size c.args.disk c.write_again.new.self there.last =
+    opened-by d.told d.content d.may_leave d.size c.args.disk there.desk c.write_again.new.self there.last read wrote (subst (λ (s : DeskState _). IsSound d.content d.may_leave d.size s.store) c.desk.view_is c.layout-layout.ensures.sound)
+    in
+    opens-again d.told d.content d.may_leave d.size c.args.disk c.write_again.new.self there.last all.tells
+    (all.sound (d.content c.args.disk) (laws.reads_an_image c.args.disk all.tells)) is (laws.reads_an_image c.write_again.new.self.store.disk all.tells)
+
+pub returns-in-Ok-clause-kept : goal.returns-in-Ok-clause-kept
+returns-in-Ok-clause-kept g c all =
+    let d = g.D.Disk in
+    let laws = g.met.D.Disk g.world.𝓛 g.world.𝓜 g.world.𝓡 ((λ s x. x), (λ x. x), (λ x. x), λ x. x) in
+    let there = c.in_ok-desk.field-0 in
+    let e = c.in_ok-desk.ensures in
+    let read : IsRead d.told d.content d.may_leave d.size c.args.disk there.desk there.last =
+    record {
+      reads = record { opens = e.opened all.tells; last_is = e.last all.tells; same = e.only_reads.same; same_size = e.size };
+      failed = e.failed;
+      running = e.running;
+      is_open = e.is_open;
+    }
+    in
+    kept-opening d.told d.content d.may_leave d.size c.args.disk there.desk there.last
+    (all.sound (d.content c.args.disk) (laws.reads_an_image c.args.disk all.tells)) read.reads d.moment d.left_since c.write_again.new.self.store.disk all
+    e.only_reads c.write_again.ensures.left
+
+pub returns-clause-kept_left : goal.returns-clause-kept_left
+returns-clause-kept_left g c all =
+    let d = g.D.Disk in
+    let laws = g.met.D.Disk g.world.𝓛 g.world.𝓜 g.world.𝓡 ((λ s x. x), (λ x. x), (λ x. x), λ x. x) in
+    let there = c.in_ok-desk.field-0 in
+    let e = c.in_ok-desk.ensures in
+    let read : IsRead d.told d.content d.may_leave d.size c.args.disk there.desk there.last =
+    record {
+      reads = record { opens = e.opened all.tells; last_is = e.last all.tells; same = e.only_reads.same; same_size = e.size };
+      failed = e.failed;
+      running = e.running;
+      is_open = e.is_open;
+    }
+    in
+    subst (λ n. EachSince d.moment d.left_since c.args.disk n (IsSafe (d.may_leave c.args.disk) (d.content c.args.disk) (d.size c.args.disk))) (sym c.close.ensures)
+    (kept-opening d.told d.content d.may_leave d.size c.args.disk there.desk there.last
+    (all.sound (d.content c.args.disk) (laws.reads_an_image c.args.disk all.tells)) read.reads d.moment d.left_since c.write_again.new.self.store.disk all
+    e.only_reads c.write_again.ensures.left)

@@ -1,46 +1,80 @@
-use Rattle.std.proofs.Common.{◌∙◌, [], ap, sym}
-use Rattle.ckr_desk.proofs.Listed.{free_stands, done_reading, not_read, records_read, none_found_out}
-use Rattle.ckr_desk.proofs.Kept.{reading_keeps, nothing_keeps}
+use Rattle.std.proofs.Common.{Some, ap, subst, sym, ◌∙◌}
+use Rattle.std.specs.Option.{option_copied, option_map}
+use Rattle.ckr_library.specs.declared.sets.DataSet.{DataSet}
+use Rattle.ckr_outside.specs.Disk.{EachSince}
+use Rattle.ckr_store.specs.State.{IsSound}
+use Rattle.ckr_volumes.specs.Records.{records_on}
+use Rattle.ckr_desk.proofs.AskCalled.{none-kept, reading-kept}
+use Rattle.ckr_desk.proofs.AskRecords.{free-stands, of-desk, reading-fails-by, reading-may-fail, state-read, trusted-read}
+use Rattle.ckr_desk.proofs.Replays.{handed_on}
+use Rattle.ckr_desk.specs.Errors.{of_store}
 use Rattle.ckr_desk.proofs.desk.Desk.records.Goals as goal
-use Rattle.ckr_desk.proofs.desk.Desk.records.Goals.{in-Ok, in-Err}
 
 pub read_all-requires-clause-stands : goal.read_all-requires-clause-stands
-read_all-requires-clause-stands g c _ _ =
-    free_stands c.self.inside.store.layout c.self.inside.course c.args.name.now c.in-Some-free_set.set c.self.invariant.stands (sym c.free_set.ensures ∙ c.in-Some-free_set.is)
+read_all-requires-clause-stands g c κs within =
+    free-stands c.self.inside.store.layout c.self.inside.jobs.tables.desk c.args.name.now c.in-Some-free_set.set.now c.self.invariant.laid.stand
+    (sym c.free_set.ensures.set ∙ ap option_copied c.in-Some-free_set.is)
 
-pub returns-after-read_all-clause-records : goal.returns-after-read_all-clause-records
-returns-after-read_all-clause-records g c = λ trusted.
+pub returns-in_ok-read_all-in-Some-free_set-clause-records : goal.returns-in_ok-read_all-in-Some-free_set-clause-records
+returns-in_ok-read_all-in-Some-free_set-clause-records g c trusted =
     let d = g.D.Disk in
-    let laws = g.met.D.Disk g.world.𝓛 g.world.𝓜 g.world.𝓡 ((λ s x. x), (λ x. x), (λ x. x), λ x. x) in
-    elim c.match-read_all.branch [
-      | in-Ok w ↦
-          records_read d.told d.content d.may_leave c.self.inside.store c.self.inside.course c.args.self.now c.args.name.now c.in-Some-free_set.set w.in-Ok.records c.self.view_is
-          (laws.reads_an_image c.self.inside.store.disk) (sym c.free_set.ensures ∙ c.in-Some-free_set.is) w.in-Ok.ensures.read trusted c.match-read_all.result w.result-is
-      | in-Err w ↦ none_found_out _ w.in-Err.error c.match-read_all.result w.result-is
-    ]
+    let now = c.args.self.now in
+    ap Some (c.in_ok-read_all-in-Some-free_set.ensures.read trusted.tells)
+    ∙ ap (option_map (λ (its : DataSet). records_on (d.content c.self.inside.store.disk) c.self.inside.store.layout its its.length)) (sym (ap option_copied c.in-Some-free_set.is))
+    ∙ of-desk d.told d.content d.may_leave d.moment d.left_since c.self.inside.jobs c.self.inside.store now c.args.name.now _ c.self.view_is c.free_set.ensures.records trusted
 
-pub returns-after-read_all-clause-done : goal.returns-after-read_all-clause-done
-returns-after-read_all-clause-done g c =
+pub returns-in_ok-read_all-in-Some-free_set-clause-after : goal.returns-in_ok-read_all-in-Some-free_set-clause-after
+returns-in_ok-read_all-in-Some-free_set-clause-after g c trusted =
     let d = g.D.Disk in
-    let is_open = ap (λ o. o.store.fault) (sym c.self.view_is) ∙ (sym c.fault.ensures ∙ c.in_default.is) in
-    let e = c.read_all.ensures in
-    elim c.match-read_all.branch [
-      | in-Ok w ↦
-          done_reading d.told d.content d.may_leave d.moment d.left_since d.size d.faults c.self.inside.store c.read_all.new.store c.self.inside.course c.args.self.now _ c.self.view_is
-          c.layout-layout.ensures.sound is_open w.in-Ok.ensures.kept (record { reads = e.only_reads; same_size = e.size; faults_on = e.faults }) c.match-read_all.result w.result-is
-      | in-Err w ↦
-          not_read d.told d.content d.may_leave d.moment d.left_since d.size d.faults c.self.inside.store c.read_all.new.store c.self.inside.course c.args.self.now w.in-Err.error c.self.view_is
-          c.layout-layout.ensures.sound is_open (record { reads = e.only_reads; same_size = e.size; faults_on = e.faults }) w.in-Err.ensures.cause c.match-read_all.result w.result-is
-    ]
+    let now = c.args.self.now in
+    state-read d.told d.content d.may_leave d.moment d.left_since c.self.inside.jobs c.self.inside.store c.read_all.new.store now c.self.view_is c.in_ok-read_all-in-Some-free_set.ensures.kept c.read_all.ensures.only_reads
 
-pub returns-after-read_all-clause-kept : goal.returns-after-read_all-clause-kept
-returns-after-read_all-clause-kept g c =
+pub returns-in_ok-read_all-in-Some-free_set-clause-trusted : goal.returns-in_ok-read_all-in-Some-free_set-clause-trusted
+returns-in_ok-read_all-in-Some-free_set-clause-trusted g c trusted =
     let d = g.D.Disk in
-    reading_keeps d.told d.content d.may_leave d.moment d.left_since d.size d.faults c.self.inside.store c.self.inside.course c.args.self.now (record { store = c.read_all.new.store; run = c.self.inside.course }) c.match-read_all.result
-    c.self.view_is c.self.invariant (returns-after-read_all-clause-done g c)
+    let now = c.args.self.now in
+    trusted-read d.told d.content d.may_leave d.moment d.left_since c.self.inside.jobs c.self.inside.store c.read_all.new.store now c.self.view_is c.in_ok-read_all-in-Some-free_set.ensures.kept c.read_all.ensures.only_reads trusted
+
+pub returns-in_ok-read_all-in-Some-free_set-clause-kept : goal.returns-in_ok-read_all-in-Some-free_set-clause-kept
+returns-in_ok-read_all-in-Some-free_set-clause-kept g c is_open trusted =
+    let d = g.D.Disk in
+    let now = c.args.self.now in
+    reading-kept d.told d.content d.may_leave d.size now trusted d.moment d.left_since
+    (subst (λ s. IsSound d.content d.may_leave d.size s.store) c.self.view_is c.layout-layout.ensures.sound) is_open (record { store = c.read_all.new.store; jobs = c.self.inside.jobs }) (subst (λ s. EachSince d.moment d.left_since s.store.disk c.read_all.new.store.disk (d.may_leave s.store.disk)) c.self.view_is c.read_all.ensures.only_reads.since)
+
+pub returns-in_err-read_all-in-Some-free_set-clause-kept : goal.returns-in_err-read_all-in-Some-free_set-clause-kept
+returns-in_err-read_all-in-Some-free_set-clause-kept g c is_open trusted =
+    let d = g.D.Disk in
+    let now = c.args.self.now in
+    reading-kept d.told d.content d.may_leave d.size now trusted d.moment d.left_since
+    (subst (λ s. IsSound d.content d.may_leave d.size s.store) c.self.view_is c.layout-layout.ensures.sound) is_open (record { store = c.read_all.new.store; jobs = c.self.inside.jobs }) (subst (λ s. EachSince d.moment d.left_since s.store.disk c.read_all.new.store.disk (d.may_leave s.store.disk)) c.self.view_is c.read_all.ensures.only_reads.since)
+
+pub returns-in_err-read_all-in-Some-free_set-clause-may_fail : goal.returns-in_err-read_all-in-Some-free_set-clause-may_fail
+returns-in_err-read_all-in-Some-free_set-clause-may_fail g c =
+    let d = g.D.Disk in
+    let now = c.args.self.now in
+    rw (← c.self.view_is)
+    (handed_on c.from_residual.result (of_store c.in_err-read_all-in-Some-free_set.field-0.0) _ c.from_residual.ensures.1
+    (reading-may-fail d.faults c.self.inside.store c.read_all.new.store c.in_err-read_all-in-Some-free_set.field-0.0 c.in_err-read_all-in-Some-free_set.ensures.cause))
+
+pub returns-in_err-read_all-in-Some-free_set-clause-cause : goal.returns-in_err-read_all-in-Some-free_set-clause-cause
+returns-in_err-read_all-in-Some-free_set-clause-cause g c trusted =
+    let d = g.D.Disk in
+    let now = c.args.self.now in
+    handed_on c.from_residual.result (of_store c.in_err-read_all-in-Some-free_set.field-0.0) _ c.from_residual.ensures.1
+    (reading-fails-by d.faults c.self.inside.store c.read_all.new.store c.in_err-read_all-in-Some-free_set.field-0.0 c.in_err-read_all-in-Some-free_set.ensures.cause)
+
+pub returns-in-None-clause-records : goal.returns-in-None-clause-records
+returns-in-None-clause-records g c trusted =
+    let d = g.D.Disk in
+    let now = c.args.self.now in
+    ap (option_map (λ (its : DataSet). records_on (d.content c.self.inside.store.disk) c.self.inside.store.layout its its.length)) (sym (ap option_copied c.in-None.is))
+    ∙ of-desk d.told d.content d.may_leave d.moment d.left_since c.self.inside.jobs c.self.inside.store now c.args.name.now _ c.self.view_is c.free_set.ensures.records trusted
 
 pub returns-in-None-clause-kept : goal.returns-in-None-clause-kept
-returns-in-None-clause-kept g c is_open =
+returns-in-None-clause-kept g c is_open trusted =
     let d = g.D.Disk in
+    let now = c.args.self.now in
     let laws = g.met.D.Disk g.world.𝓛 g.world.𝓜 g.world.𝓡 ((λ s x. x), (λ x. x), (λ x. x), λ x. x) in
-    nothing_keeps d.told d.content d.may_leave d.moment d.left_since d.size d.faults c.self.inside.store c.self.inside.course c.args.self.now [] c.self.view_is c.layout-layout.ensures.sound c.self.invariant is_open (laws.only_now c.self.inside.store.disk)
+    none-kept d.told d.content d.may_leave d.size now trusted d.moment d.left_since
+    (subst (λ s. IsSound d.content d.may_leave d.size s.store) c.self.view_is c.layout-layout.ensures.sound) is_open (laws.only_now now.store.disk)

@@ -1,25 +1,60 @@
-use Rattle.std.proofs.Common.{◌∙◌, ap, sym}
-use Rattle.ckr_course.specs.declared.reply.Submitted.{Submitted}
-use Rattle.ckr_desk.proofs.Admitted.{no_memory}
-use Rattle.ckr_desk.proofs.Kept.{submit_keeps, nothing_keeps}
+use Rattle.std.proofs.Common.{subst}
+use Rattle.ckr_store.specs.State.{IsSound}
+use Rattle.ckr_desk.proofs.AskCalled.{call-cause, call-fits, call-kept, call-may-fail, call-open, call-state, call-trusted, if-err, on-ok, on-ok-all, on-ok-both, submit-called}
+use Rattle.ckr_desk.specs.Submitting.{submit_call}
 use Rattle.ckr_desk.proofs.desk.Desk.submit.Goals as goal
 
-pub returns-in-Err-clause-done : goal.returns-in-Err-clause-done
-returns-in-Err-clause-done g c =
+pub returns-clause-fits : goal.returns-clause-fits
+returns-clause-fits g c trusted =
     let d = g.D.Disk in
-    let laws = g.met.D.Disk g.world.𝓛 g.world.𝓜 g.world.𝓡 ((λ s x. x), (λ x. x), (λ x. x), λ x. x) in
-    no_memory d.told d.content d.may_leave d.moment d.left_since d.size d.faults {T = Submitted} c.self.inside.store c.self.inside.course _ _ c.args.self.now c.self.view_is
-    c.layout-layout.ensures.sound (ap (λ o. o.store.fault) (sym c.self.view_is) ∙ (sym c.fault.ensures ∙ c.in_default.is)) (laws.only_now c.self.inside.store.disk)
+    let now = c.args.self.now in
+    let call = submit_call now.jobs.tables.desk c.args.cards.now in
+    let its = submit-called d.told d.content d.may_leave d.size now trusted c.args.cards.now c.requires.some in
+    on-ok (call-fits d.told d.content d.may_leave d.size now trusted c.hand_in.new.self c.hand_in.ensures.layout call its) c.hand_in.result c.hand_in.ensures.done
 
-pub returns-in-Ok-clause-kept : goal.returns-in-Ok-clause-kept
-returns-in-Ok-clause-kept g c =
+pub returns-clause-after : goal.returns-clause-after
+returns-clause-after g c trusted =
     let d = g.D.Disk in
-    let o = c.in-Ok.ensures in
-    submit_keeps d.told d.content d.may_leave d.moment d.left_since d.size d.faults c.self.inside.store c.self.inside.course c.args.self.now c.answer_deck.new.self c.args.cards.now c.in-Ok.submission c.answer_deck.result
-    c.self.view_is c.self.invariant c.requires.few o.answer o.run o.accepted c.answer_deck.ensures.done
+    let now = c.args.self.now in
+    let call = submit_call now.jobs.tables.desk c.args.cards.now in
+    let its = submit-called d.told d.content d.may_leave d.size now trusted c.args.cards.now c.requires.some in
+    on-ok-all (call-state d.told d.content d.may_leave d.size now trusted c.hand_in.new.self c.hand_in.ensures.layout call its) c.hand_in.result c.hand_in.ensures.done (c.hand_in.ensures.told trusted.tells) (c.hand_in.ensures.records trusted.tells) c.hand_in.ensures.settled
 
-pub returns-in-Err-clause-kept : goal.returns-in-Err-clause-kept
-returns-in-Err-clause-kept g c is_open =
+pub returns-clause-trusted : goal.returns-clause-trusted
+returns-clause-trusted g c trusted =
     let d = g.D.Disk in
-    let laws = g.met.D.Disk g.world.𝓛 g.world.𝓜 g.world.𝓡 ((λ s x. x), (λ x. x), (λ x. x), λ x. x) in
-    nothing_keeps d.told d.content d.may_leave d.moment d.left_since d.size d.faults c.self.inside.store c.self.inside.course c.args.self.now _ c.self.view_is c.layout-layout.ensures.sound c.self.invariant is_open (laws.only_now c.self.inside.store.disk)
+    let now = c.args.self.now in
+    let call = submit_call now.jobs.tables.desk c.args.cards.now in
+    let its = submit-called d.told d.content d.may_leave d.size now trusted c.args.cards.now c.requires.some in
+    on-ok-all (call-trusted d.told d.content d.may_leave d.size now trusted c.hand_in.new.self c.hand_in.ensures.layout call its) c.hand_in.result c.hand_in.ensures.done (c.hand_in.ensures.told trusted.tells) (c.hand_in.ensures.records trusted.tells) c.hand_in.ensures.settled
+
+pub returns-clause-is_open : goal.returns-clause-is_open
+returns-clause-is_open g c =
+    let d = g.D.Disk in
+    let now = c.args.self.now in
+    let call = submit_call now.jobs.tables.desk c.args.cards.now in
+    on-ok-both (call-open d.faults now c.hand_in.new.self call) c.hand_in.result c.hand_in.ensures.done c.hand_in.ensures.is_open
+
+pub returns-clause-may_fail : goal.returns-clause-may_fail
+returns-clause-may_fail g c =
+    let d = g.D.Disk in
+    let now = c.args.self.now in
+    let call = submit_call now.jobs.tables.desk c.args.cards.now in
+    if-err (call-may-fail d.faults now c.hand_in.new.self call) c.hand_in.result c.hand_in.ensures.cause
+
+pub returns-clause-cause : goal.returns-clause-cause
+returns-clause-cause g c trusted =
+    let d = g.D.Disk in
+    let now = c.args.self.now in
+    let call = submit_call now.jobs.tables.desk c.args.cards.now in
+    let its = submit-called d.told d.content d.may_leave d.size now trusted c.args.cards.now c.requires.some in
+    if-err (call-cause d.told d.content d.may_leave d.size now trusted d.faults c.hand_in.new.self call its) c.hand_in.result c.hand_in.ensures.cause
+
+pub returns-clause-kept : goal.returns-clause-kept
+returns-clause-kept g c is_open trusted =
+    let d = g.D.Disk in
+    let now = c.args.self.now in
+    let call = submit_call now.jobs.tables.desk c.args.cards.now in
+    let its = submit-called d.told d.content d.may_leave d.size now trusted c.args.cards.now c.requires.some in
+    call-kept d.told d.content d.may_leave d.size now trusted d.moment d.left_since
+    (subst (λ s. IsSound d.content d.may_leave d.size s.store) c.self.view_is c.layout-layout.ensures.sound) is_open c.hand_in.new.self call its (c.hand_in.ensures.left is_open)

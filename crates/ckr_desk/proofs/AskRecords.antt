@@ -1,0 +1,93 @@
+-- The records of a data set that no run holds, and a call that reads them.
+use Rattle.std.proofs.Common.{◌≡◌, ℕ, List, Bool, true, false, cond, Option, Some, None, refl, ap, sym, ◌∙◌, subst}
+use Rattle.std.proofs.lemmas.Option.{none-some, same_Some}
+use Rattle.std.specs.Option.{option_map, option_map_or}
+use Rattle.ckr_book.specs.Book.{room_of}
+use Rattle.ckr_jobs.specs.Seen.{JobsSeen}
+use Rattle.ckr_library.specs.declared.sets.Content.{Content}
+use Rattle.ckr_library.specs.declared.sets.Content.TheVariants.{Plain, Checkpoints}
+use Rattle.ckr_library.specs.declared.sets.DataSet.{DataSet}
+use Rattle.ckr_library.specs.Named.{EachEntry, Name, entry_at}
+use Rattle.ckr_library.proofs.Laws.{each-at}
+use Rattle.ckr_listing.specs.Listed.{free_set, is_held, records_of, set_by}
+use Rattle.ckr_outside.specs.Disk.{OnlyReads}
+use Rattle.ckr_points.specs.Rows.{TableSet, Tables}
+use Rattle.ckr_standing.specs.Standing.{Stands}
+use Rattle.ckr_store.specs.State.{StoreState}
+use Rattle.ckr_store.specs.declared.error.StoreError.{StoreError}
+use Rattle.ckr_store.specs.declared.error.StoreError.TheVariants.{NoMemory, DiskFault, BookFull, Stopped}
+use Rattle.ckr_volumes.specs.declared.layout.Layout.{Layout}
+use Rattle.ckr_turns.specs.Desk.{Desk}
+use Rattle.ckr_volumes.specs.Records.{records_on}
+use Rattle.ckr_volumes.specs.Stands.{StandsIn}
+use Rattle.ckr_desk.proofs.Same.{IsAsBefore, state-same, trusted-same}
+use Rattle.ckr_desk.specs.Calling.{FailsBy, MayFail}
+use Rattle.ckr_desk.specs.Errors.{of_store}
+use Rattle.ckr_desk.specs.Reading.{ReadingCause}
+use Rattle.ckr_desk.specs.Sound.{IsTrusted, state_of}
+use Rattle.ckr_desk.specs.State.{DeskState}
+
+-- a data set that no run holds is one of the tables
+set-is : (content : Content) (tables : Tables) (name : Name) (its set : DataSet) → set_by content tables name its ≡ Some set → its ≡ set
+set-is Plain tables name its set is = by (is_held tables name) is
+  where
+    by : (held : Bool) → cond held None (Some its) ≡ Some set → its ≡ set
+    by true is = absurd (none-some set is)
+    by false is = same_Some its set is
+set-is Checkpoints tables name its set is = absurd (none-some set is)
+
+pub free-stands : (layout : Layout) (tables : Tables) (name : Name) (set : DataSet) → EachEntry (λ (table : TableSet). StandsIn layout table.set) tables.sets → free_set tables name ≡ Some set → StandsIn layout set
+free-stands layout tables name set stand is = by (entry_at tables.sets name) refl is
+  where
+    by : (entry : Option TableSet) → entry_at tables.sets name ≡ entry → option_map_or (λ (table : TableSet). set_by table.set.content tables name table.set) entry None ≡ Some set → StandsIn layout set
+    by None at is = absurd (none-some set is)
+    by (Some table) at is = subst (StandsIn layout) (set-is table.set.content tables name table.set set is) (each-at (λ (table : TableSet). StandsIn layout table.set) tables.sets stand name table at)
+
+module _ {D : Type 0} (told : Type 0) (content : D → List ℕ) (may_leave : D → List ℕ → Type 0) (moment : D → ℕ) (left_since : D → ℕ → List ℕ → Type 0) where
+  pub read-before : (jobs : JobsSeen) (old new : StoreState D) → new ≡ record old { disk = new.disk } → OnlyReads content may_leave moment left_since old.disk new.disk
+      → IsAsBefore told content may_leave (record { store = old; jobs = jobs }) (record { store = new; jobs = jobs })
+  read-before jobs old new kept reads = record {
+    jobs = record { tables = refl; running = refl; failed = refl };
+    layout = ap (λ (s : StoreState D). s.layout) kept;
+    room = ap (λ (s : StoreState D). room_of s.book) kept;
+    reads = reads.same;
+    none_new = reads.none_new;
+  }
+
+  module _ (jobs : JobsSeen) (old new : StoreState D) (now : DeskState D) (view : record { store = old; jobs = jobs } ≡ now)
+      (kept : new ≡ record old { disk = new.disk }) (reads : OnlyReads content may_leave moment left_since old.disk new.disk) where
+    pub state-read : state_of content (record { store = new; jobs = jobs }) ≡ state_of content now
+    state-read = state-same told content may_leave (record { store = old; jobs = jobs }) (record { store = new; jobs = jobs }) (read-before jobs old new kept reads) ∙ ap (state_of content) view
+
+    pub trusted-read : IsTrusted told content may_leave now → IsTrusted told content may_leave (record { store = new; jobs = jobs })
+    trusted-read trusted =
+        trusted-same told content may_leave (record { store = old; jobs = jobs }) (record { store = new; jobs = jobs }) (read-before jobs old new kept reads)
+        (subst (IsTrusted told content may_leave) (sym view) trusted)
+
+  -- what is told of the records of a data set holds of the desk of the events, where it is trusted
+  pub of-desk : (jobs : JobsSeen) (store : StoreState D) (now : DeskState D) (name : Name) (set : Option DataSet) → record { store = store; jobs = jobs } ≡ now
+      → ((desk : Desk) (image : List ℕ) (layout : Layout) → Stands layout jobs image desk → option_map (λ (its : DataSet). records_on image layout its its.length) set ≡ records_of desk name)
+      → IsTrusted told content may_leave now → option_map (λ (its : DataSet). records_on (content store.disk) store.layout its its.length) set ≡ records_of (state_of content now).desk name
+  of-desk jobs store now name set view so trusted =
+      let its = subst (IsTrusted told content may_leave) (sym view) trusted in
+      so (state_of content (record { store = store; jobs = jobs })).desk (content store.disk) store.layout its.stands
+      ∙ ap (λ (s : DeskState D). records_of (state_of content s).desk name) view
+
+module _ {D : Type 0} (faults : D → ℕ) (old new : StoreState D) where
+  pub reading-may-fail : (error : StoreError) → ReadingCause faults old new error → MayFail (faults old.disk) (faults new.disk) old.fault (of_store error)
+  reading-may-fail NoMemory cause = tt
+  reading-may-fail DiskFault cause = cause.0
+  reading-may-fail (BookFull need room) cause = tt
+  reading-may-fail (Stopped fault) cause = absurd cause
+
+  pub reading-fails-by : (error : StoreError) → ReadingCause faults old new error → FailsBy true (of_store error)
+  reading-fails-by NoMemory cause = tt
+  reading-fails-by DiskFault cause = tt
+  reading-fails-by (BookFull need room) cause = absurd cause
+  reading-fails-by (Stopped fault) cause = absurd cause
+
+  pub same-layout : (error : StoreError) → ReadingCause faults old new error → new.layout ≡ old.layout
+  same-layout NoMemory cause = ap (λ (s : StoreState D). s.layout) cause
+  same-layout DiskFault cause = ap (λ (s : StoreState D). s.layout) cause.1
+  same-layout (BookFull need room) cause = absurd cause
+  same-layout (Stopped fault) cause = absurd cause

@@ -1,0 +1,26 @@
+use Rattle.std.proofs.Common.{sym, subst, arith, Some}
+use Rattle.ckr_jobs.specs.Holding.{IsAnyAccepted}
+use Rattle.ckr_events.specs.declared.event.Event.TheVariants.{Submitted}
+use Rattle.ckr_store.specs.State.{IsSound}
+use Rattle.ckr_submitting.specs.Cards.{kept_of_stored}
+use Rattle.ckr_desk.proofs.Few.{accepted-row, few-accepted}
+use Rattle.ckr_desk.proofs.Left.{nothing-left}
+use Rattle.ckr_desk.proofs.desk.Desk.enter_deck.Goals as goal
+
+pub tell-requires-clause-small : goal.tell-requires-clause-small
+tell-requires-clause-small g c κs within =
+    let few = few-accepted c.args.cards.now c.args.job c.requires.accepted in
+    let size = c.in_ok-event.ensures.spelled.size in
+    omega (arith, few, size)
+
+pub tell-requires-clause-accepted : goal.tell-requires-clause-accepted
+tell-requires-clause-accepted g c κs within =
+    subst (λ event. IsAnyAccepted event (Some c.args.job)) (sym c.in_ok-event.ensures.event) (accepted-row c.args.cards.now c.args.number c.args.job c.requires.accepted)
+
+pub returns-in_err-event-clause-left : goal.returns-in_err-event-clause-left
+returns-in_err-event-clause-left g c is_open =
+    let d = g.D.Disk in
+    let now = c.args.self.now in
+    let laws = g.met.D.Disk g.world.𝓛 g.world.𝓜 g.world.𝓡 ((λ s x. x), (λ x. x), (λ x. x), λ x. x) in
+    nothing-left d.told d.content d.may_leave d.moment d.left_since d.size (Submitted c.args.number (kept_of_stored c.args.cards.now)) (Some c.args.job) now
+    (subst (λ s. IsSound d.content d.may_leave d.size s.store) c.self.view_is c.layout-layout.ensures.sound) is_open (laws.only_now now.store.disk)

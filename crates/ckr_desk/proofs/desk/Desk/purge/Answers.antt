@@ -1,0 +1,60 @@
+use Rattle.std.proofs.Common.{subst}
+use Rattle.ckr_store.specs.State.{IsSound}
+use Rattle.ckr_desk.proofs.AskCalled.{call-cause, call-fits, call-kept, call-may-fail, call-open, call-state, call-trusted, if-err, on-ok, on-ok-all, on-ok-both, purge-called}
+use Rattle.ckr_desk.specs.Submitting.{purge_call}
+use Rattle.ckr_desk.proofs.desk.Desk.purge.Goals as goal
+
+pub returns-clause-fits : goal.returns-clause-fits
+returns-clause-fits g c trusted =
+    let d = g.D.Disk in
+    let now = c.args.self.now in
+    let call = purge_call now.jobs.tables.desk c.args.job in
+    let its = purge-called d.told d.content d.may_leave d.size now trusted c.args.job c.ranges.job.fits in
+    on-ok (call-fits d.told d.content d.may_leave d.size now trusted c.take_out.new.self c.take_out.ensures.layout call its) c.take_out.result c.take_out.ensures.done
+
+pub returns-clause-after : goal.returns-clause-after
+returns-clause-after g c trusted =
+    let d = g.D.Disk in
+    let now = c.args.self.now in
+    let call = purge_call now.jobs.tables.desk c.args.job in
+    let its = purge-called d.told d.content d.may_leave d.size now trusted c.args.job c.ranges.job.fits in
+    on-ok-all (call-state d.told d.content d.may_leave d.size now trusted c.take_out.new.self c.take_out.ensures.layout call its) c.take_out.result c.take_out.ensures.done (c.take_out.ensures.told trusted.tells) (c.take_out.ensures.records trusted.tells) c.take_out.ensures.settled
+
+pub returns-clause-trusted : goal.returns-clause-trusted
+returns-clause-trusted g c trusted =
+    let d = g.D.Disk in
+    let now = c.args.self.now in
+    let call = purge_call now.jobs.tables.desk c.args.job in
+    let its = purge-called d.told d.content d.may_leave d.size now trusted c.args.job c.ranges.job.fits in
+    on-ok-all (call-trusted d.told d.content d.may_leave d.size now trusted c.take_out.new.self c.take_out.ensures.layout call its) c.take_out.result c.take_out.ensures.done (c.take_out.ensures.told trusted.tells) (c.take_out.ensures.records trusted.tells) c.take_out.ensures.settled
+
+pub returns-clause-is_open : goal.returns-clause-is_open
+returns-clause-is_open g c =
+    let d = g.D.Disk in
+    let now = c.args.self.now in
+    let call = purge_call now.jobs.tables.desk c.args.job in
+    on-ok-both (call-open d.faults now c.take_out.new.self call) c.take_out.result c.take_out.ensures.done c.take_out.ensures.is_open
+
+pub returns-clause-may_fail : goal.returns-clause-may_fail
+returns-clause-may_fail g c =
+    let d = g.D.Disk in
+    let now = c.args.self.now in
+    let call = purge_call now.jobs.tables.desk c.args.job in
+    if-err (call-may-fail d.faults now c.take_out.new.self call) c.take_out.result c.take_out.ensures.cause
+
+pub returns-clause-cause : goal.returns-clause-cause
+returns-clause-cause g c trusted =
+    let d = g.D.Disk in
+    let now = c.args.self.now in
+    let call = purge_call now.jobs.tables.desk c.args.job in
+    let its = purge-called d.told d.content d.may_leave d.size now trusted c.args.job c.ranges.job.fits in
+    if-err (call-cause d.told d.content d.may_leave d.size now trusted d.faults c.take_out.new.self call its) c.take_out.result c.take_out.ensures.cause
+
+pub returns-clause-kept : goal.returns-clause-kept
+returns-clause-kept g c is_open trusted =
+    let d = g.D.Disk in
+    let now = c.args.self.now in
+    let call = purge_call now.jobs.tables.desk c.args.job in
+    let its = purge-called d.told d.content d.may_leave d.size now trusted c.args.job c.ranges.job.fits in
+    call-kept d.told d.content d.may_leave d.size now trusted d.moment d.left_since
+    (subst (λ s. IsSound d.content d.may_leave d.size s.store) c.self.view_is c.layout-layout.ensures.sound) is_open c.take_out.new.self call its (c.take_out.ensures.left is_open)

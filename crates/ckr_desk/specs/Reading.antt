@@ -1,0 +1,13 @@
+-- Why the records of a data set weren't read.
+use Rattle.std.specs.Prelude.{◌≡◌, ℕ}
+use Rattle.ckr_store.specs.Answers.{HasFailed}
+use Rattle.ckr_store.specs.State.{StoreState}
+use Rattle.ckr_store.specs.declared.error.StoreError.{StoreError}
+use Rattle.ckr_store.specs.declared.error.StoreError.TheVariants.{NoMemory, DiskFault, BookFull, Stopped}
+
+-- no memory, and the disk only was read, or the disk's faults, and the store has stopped
+abbrev pub ReadingCause : {D : Type 0} → (D → ℕ) → StoreState D → StoreState D → StoreError → Type 0
+ReadingCause faults old new NoMemory = new ≡ record old { disk = new.disk }
+ReadingCause faults old new DiskFault = HasFailed faults old new
+ReadingCause faults old new (BookFull need room) = ⊥
+ReadingCause faults old new (Stopped fault) = ⊥

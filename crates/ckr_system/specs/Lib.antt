@@ -1,6 +1,0 @@
-pub mod State
-pub mod Errors
-pub mod Calls
-pub mod Submitting
-pub mod Opening
-pub mod Replaying
