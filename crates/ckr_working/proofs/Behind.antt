@@ -24,9 +24,9 @@ use Rattle.ckr_turns.specs.declared.reply.Turn.{Turn}
 use Rattle.ckr_turns.specs.Working.{Progress, UnitEnd, unit_end, went}
 use Rattle.ckr_volumes.specs.declared.layout.Layout.{Layout}
 use Rattle.ckr_working.specs.Unit.{IsPutBack, UnitDone}
-use Rattle.ckr_working.proofs.Due.{IsDue, is-due}
 use Rattle.ckr_working.proofs.Ends.{end-went, open_at}
-use Rattle.ckr_working.proofs.Lists.{IsPair, differ-put, others-stay, pair-of}
+use Rattle.ckr_working.proofs.Found.{number-found, pair-found, progress-found, row-found, shows-found, stands-found, unclosed-found, work-found}
+use Rattle.ckr_working.proofs.Lists.{IsPair, differ-put, others-stay}
 use Rattle.ckr_working.proofs.Others.{other-stays}
 use Rattle.ckr_working.proofs.Own.{own-stands}
 
@@ -35,14 +35,11 @@ module _ (layout : Layout) (old : JobsSeen) (before after : List ℕ) (desk : De
   its-desk = unit.stands.is_desk
 
   -- the running step of the desk
-  pub pair : IsPair desk.layout desk.office before run on desk.running
-  pair = pair-of desk.layout desk.office before run on old.running desk.running unit.stands.running its-desk.going unit.found
-
-  due : IsDue desk run
-  due = is-due desk turn run its-desk unit.planned
+  abbrev pub pair : IsPair desk.layout desk.office before run on desk.running
+  pair = pair-found layout old before desk turn run on unit.stands unit.planned unit.found
 
   pub unclosed : pair.step.progress.closed ≡ false
-  unclosed = ap (λ (step : StepOn). step.progress.closed) (same_item pair.step due.step (sym pair.at ∙ due.at)) ∙ due.unclosed
+  unclosed = unclosed-found layout old before desk turn run on unit.stands unit.planned unit.found
 
   abbrev pub start : StepStart
   start = pair.stands.start
@@ -59,10 +56,10 @@ module _ (layout : Layout) (old : JobsSeen) (before after : List ℕ) (desk : De
   did-so = subst (λ (l : Layout). HasWorked (Unit {0}) before after l on.step moved.step on.sets moved.sets worked) (sym unit.stands.layout_is) unit.did
 
   pub stands-at : StandsAt start taken_before false on.step on.sets
-  stands-at = subst (λ b. StandsAt pair.stands.start pair.step.progress.taken b on.step on.sets) unclosed pair.stands.stands
+  stands-at = stands-found layout old before desk turn run on unit.stands unit.planned unit.found
 
   pub shows-at : ShowsWithin (Unit {0}) before desk.layout start on.step.writes on.sets
-  shows-at = subst (λ n. ShowsWithin (Unit {0}) before desk.layout pair.stands.start n on.sets) (sym pair.stands.writes) pair.stands.shows
+  shows-at = shows-found layout old before desk turn run on unit.stands unit.planned unit.found
 
   pub goes-so : GoesOn (Unit {0}) after desk.layout start taken_before on.step moved.step moved.sets worked
   goes-so =
@@ -73,26 +70,16 @@ module _ (layout : Layout) (old : JobsSeen) (before after : List ℕ) (desk : De
   -- ---- the turn of the desk
 
   pub row-at : run_of desk.office.tables run ≡ Some pair.stands.row
-  row-at = ap (run_of desk.office.tables) (sym pair.same) ∙ pair.stands.row_at
+  row-at = row-found layout old before desk turn run on unit.stands unit.planned unit.found
 
   pub numbered : pair.stands.row.number ≡ run
-  numbered = its-desk.kept.events.numbered run pair.stands.row row-at
+  numbered = number-found layout old before desk turn run on unit.stands unit.planned unit.found
 
   pub progress-at : progress_of desk run ≡ Some pair.step.progress
-  progress-at = ap (λ (o : Option StepOn). option_map_or (λ (step : StepOn). Some step.progress) o None) pair.at
-
-  progress-is : pair.step.progress ≡ open_at taken_before on.step.writes
-  progress-is =
-      ap (λ (n : ℕ). let progress : Progress = record { taken = pair.step.progress.taken; writes = n; closed = pair.step.progress.closed } in progress) (sym pair.stands.writes)
-      ∙ ap (λ (b : Bool). let progress : Progress = record { taken = pair.step.progress.taken; writes = on.step.writes; closed = b } in progress) unclosed
+  progress-at = progress-found layout old before desk turn run on unit.stands unit.planned unit.found
 
   pub work-is : (end : UnitEnd) → unit_end start (open_at taken_before on.step.writes) ≡ end → work_of run desk ≡ unit_done pair.stands.row end desk
-  work-is end is =
-      ap (λ (o : Option RunRow). option_map_or (λ row. option_map_or (λ start. option_map_or (λ progress. unit_done row (unit_end start progress) desk) (progress_of desk run) (done_by (Rest Idle) desk)) (start_of desk.office row) (done_by (Rest Idle) desk)) o (done_by (Rest Idle) desk)) row-at
-      ∙ ap (λ (o : Option StepStart). option_map_or (λ start. option_map_or (λ progress. unit_done pair.stands.row (unit_end start progress) desk) (progress_of desk run) (done_by (Rest Idle) desk)) o (done_by (Rest Idle) desk)) pair.stands.start_at
-      ∙ ap (λ (o : Option Progress). option_map_or (λ progress. unit_done pair.stands.row (unit_end pair.stands.start progress) desk) o (done_by (Rest Idle) desk)) progress-at
-      ∙ ap (λ (progress : Progress). unit_done pair.stands.row (unit_end pair.stands.start progress) desk) progress-is
-      ∙ ap (λ (end : UnitEnd). unit_done pair.stands.row end desk) is
+  work-is = work-found layout old before desk turn run on unit.stands unit.planned unit.found
 
   pub work-kept : IsDesk (work_of run desk).desk
   work-kept = (work-keeps desk its-desk run pair.step.progress progress-at unclosed).kept

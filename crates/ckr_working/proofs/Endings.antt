@@ -6,6 +6,7 @@ use Rattle.ckr_base.specs.declared.code.Code.{Code}
 use Rattle.ckr_base.specs.declared.code.Code.TheVariants.{System}
 use Rattle.ckr_base.specs.declared.programs.Finish.{Finish}
 use Rattle.ckr_base.specs.declared.programs.Finish.TheVariants as Finishes
+use Rattle.ckr_base.specs.declared.programs.Heads.{Heads}
 use Rattle.ckr_keeping.proofs.Closing.{IsDone, all-done}
 use Rattle.ckr_keeping.proofs.Rewrites.{IsPart, unit-part}
 use Rattle.ckr_keeping.specs.Going.{IsOpen, next_writes}
@@ -18,6 +19,7 @@ use Rattle.ckr_meaning.specs.Program.{ProgramCase, Room, fitting, match_case, pl
 use Rattle.ckr_match.specs.State.{has_two_inputs}
 use Rattle.ckr_meaning.specs.StepRun.{StepStart, case_at, work_at}
 use Rattle.ckr_programs.specs.Work as plain
+use Rattle.ckr_steps.proofs.Taking.{within_records}
 use Rattle.ckr_steps.proofs.Written.{all_fit, some_fit}
 use Rattle.ckr_steps.specs.declared.stepping.StepRun.{StepRun}
 use Rattle.ckr_steps.specs.declared.stepping.Worked.{Worked}
@@ -28,7 +30,7 @@ use Rattle.ckr_steps.specs.Units.{state_of, taken_of}
 use Rattle.ckr_steps.specs.Writing.{rewrite_of, room_of, worked_by}
 use Rattle.ckr_turns.specs.Working.{UnitEnd, abended, finished_by, no_more_space, unit_end}
 use Rattle.ckr_volumes.specs.declared.layout.Layout.{Layout}
-use Rattle.ckr_working.proofs.Ends.{answer-is, end-fits, end-spills, finish-is, open_at, within, writes-are}
+use Rattle.ckr_working.proofs.Ends.{answer-is, end-fits, end-spills, finish-is, open_at, writes-are}
 
 -- ---- the unit by which a program gives up writes nothing
 
@@ -78,7 +80,7 @@ code_in (Went taken) = System 0
 code_in (Rewrite place image taken) = System 0
 code_in (Abend code) = code
 
-by-abend : {A : Type 0} (taken : ℕ) (rewrite : Option (ℕ × List ℕ)) (fits : Bool) (finish : Option Finish) (code : Code) → worked_by taken rewrite fits finish ≡ Abend code
+pub by-abend : {A : Type 0} (taken : ℕ) (rewrite : Option (ℕ × List ℕ)) (fits : Bool) (finish : Option Finish) (code : Code) → worked_by taken rewrite fits finish ≡ Abend code
     → (fits ≡ false → System 2871 ≡ code → A) → (fits ≡ true → finish ≡ Some (Finishes.Abend code) → A) → A
 by-abend taken (Some rewrite) fits finish code e spills ends = absurd (false≢true (ap abends e))
 by-abend taken None false finish code e spills ends = spills refl (ap code_in e)
@@ -86,11 +88,11 @@ by-abend taken None true (Some (Finishes.Abend own)) code e spills ends = ends r
 by-abend taken None true (Some (Finishes.Returned rc)) code e spills ends = absurd (false≢true (ap abends e))
 by-abend taken None true None code e spills ends = absurd (false≢true (ap abends e))
 
-no-room : (room : Option Room) → is_some room ≡ false → room ≡ None
+pub no-room : (room : Option Room) → is_some room ≡ false → room ≡ None
 no-room None e = refl
 no-room (Some room) e = absurd (false≢true (sym e))
 
-some-room : (room : Option Room) → is_some room ≡ true → (left : Room) × (room ≡ Some left)
+pub some-room : (room : Option Room) → is_some room ≡ true → (left : Room) × (room ≡ Some left)
 some-room None e = absurd (false≢true e)
 some-room (Some left) e = (left, refl)
 
@@ -103,51 +105,60 @@ pub data Ended (start : StepStart) (taken before now : ℕ) : Type 0 where
   spilled : length (work_at start).writes < next_writes start (open_at taken before) → Ended start taken before now
   gave_up : now ≡ before → Ended start taken before now
 
-module _ (before after : List ℕ) (layout : Layout) (start : StepStart) (taken : ℕ) (old new : StepRun) (library library' : Catalog) (worked : Worked)
-    (stands : StandsAt start taken false old library) (shows : ShowsWithin (Unit {0}) before layout start old.writes library)
-    (did : HasWorked (Unit {0}) before after layout old new library library' worked)
-    (code : Code) (is : worked ≡ Abend code) (ends : EndsSo (Unit {0}) after layout start code new library') where
-  opened : IsOpen start (open_at taken old.writes)
-  opened = record { taken = within before after layout start taken old new library library' worked stands shows did; writes = stands.writes }
+-- the space for the writes of a unit, by the space for those of the step
+module _ (start : StepStart) (taken : ℕ) (old : StepRun) (library : Catalog) (heads : Heads) (stands : StandsAt start taken false old library)
+    (their_writes : writes_for old heads ≡ (program_unit (case_at start) taken).writes.items) where
+  pub opened-so : IsOpen start (open_at taken old.writes)
+  opened-so = record { taken = within_records old.state (case_at start) taken stands.state; writes = stands.writes }
 
   part : IsPart (case_at start) taken
-  part = unit-part (case_at start) taken opened.taken
+  part = unit-part (case_at start) taken opened-so.taken
 
-  their_writes : writes_for old did.heads ≡ (program_unit (case_at start) taken).writes.items
-  their_writes = writes-are before after layout start taken old new library library' worked stands shows did
-
-  all-so : (work (case_at start)).writes ≡ upto (case_at start) taken ++ (writes_for old did.heads ++ part.more)
+  all-so : (work (case_at start)).writes ≡ upto (case_at start) taken ++ (writes_for old heads ++ part.more)
   all-so = part.whole ∙ ap (λ items. upto (case_at start) taken ++ (items ++ part.more)) (sym their_writes)
 
   abbrev count : ℕ
   count = length (program_unit (case_at start) taken).writes.items
 
   -- a write has no space
-  full-so : room_after (writes_for old did.heads) (room_of library old.files) ≡ None → length (work_at start).writes < next_writes start (open_at taken old.writes)
+  pub full-so : room_after (writes_for old heads) (room_of library old.files) ≡ None → length (work_at start).writes < next_writes start (open_at taken old.writes)
   full-so none =
-      let all : length (work_at start).writes ≡ length (upto (case_at start) taken) + length (fitting (writes_for old did.heads) (room_of library old.files)) =
-      ap length (some_fit start (upto (case_at start) taken) (writes_for old did.heads) part.more (room_of library old.files) all-so stands.room none)
-      ∙ length-append (upto (case_at start) taken) (fitting (writes_for old did.heads) (room_of library old.files)) in
-      let fewer : length (fitting (writes_for old did.heads) (room_of library old.files)) < length (writes_for old did.heads) = fitting-some (writes_for old did.heads) (room_of library old.files) none in
-      let same : length (writes_for old did.heads) ≡ count = ap length their_writes in
+      let all : length (work_at start).writes ≡ length (upto (case_at start) taken) + length (fitting (writes_for old heads) (room_of library old.files)) =
+      ap length (some_fit start (upto (case_at start) taken) (writes_for old heads) part.more (room_of library old.files) all-so stands.room none)
+      ∙ length-append (upto (case_at start) taken) (fitting (writes_for old heads) (room_of library old.files)) in
+      let fewer : length (fitting (writes_for old heads) (room_of library old.files)) < length (writes_for old heads) = fitting-some (writes_for old heads) (room_of library old.files) none in
+      let same : length (writes_for old heads) ≡ count = ap length their_writes in
       let made : old.writes ≡ length (upto (case_at start) taken) = stands.writes in
       omega (arith, all, fewer, same, made)
 
   -- all writes have space
-  fit-so : (left : Room) → room_after (writes_for old did.heads) (room_of library old.files) ≡ Some left → next_writes start (open_at taken old.writes) ≤ length (work_at start).writes
+  pub fit-so : (left : Room) → room_after (writes_for old heads) (room_of library old.files) ≡ Some left → next_writes start (open_at taken old.writes) ≤ length (work_at start).writes
   fit-so left fits =
-      let all : length (work_at start).writes ≡ (length (upto (case_at start) taken) + length (writes_for old did.heads)) + length (fitting part.more left) =
-      ap length (all_fit start (upto (case_at start) taken) (writes_for old did.heads) part.more (room_of library old.files) all-so stands.room left fits)
-      ∙ length-append (upto (case_at start) taken ++ writes_for old did.heads) (fitting part.more left)
-      ∙ ap (λ n. n + length (fitting part.more left)) (length-append (upto (case_at start) taken) (writes_for old did.heads)) in
-      let same : length (writes_for old did.heads) ≡ count = ap length their_writes in
+      let all : length (work_at start).writes ≡ (length (upto (case_at start) taken) + length (writes_for old heads)) + length (fitting part.more left) =
+      ap length (all_fit start (upto (case_at start) taken) (writes_for old heads) part.more (room_of library old.files) all-so stands.room left fits)
+      ∙ length-append (upto (case_at start) taken ++ writes_for old heads) (fitting part.more left)
+      ∙ ap (λ n. n + length (fitting part.more left)) (length-append (upto (case_at start) taken) (writes_for old heads)) in
+      let same : length (writes_for old heads) ≡ count = ap length their_writes in
       let made : old.writes ≡ length (upto (case_at start) taken) = stands.writes in
       omega (arith, all, same, made)
+
+module _ (before after : List ℕ) (layout : Layout) (start : StepStart) (taken : ℕ) (old new : StepRun) (library library' : Catalog) (worked : Worked)
+    (stands : StandsAt start taken false old library) (shows : ShowsWithin (Unit {0}) before layout start old.writes library)
+    (did : HasWorked (Unit {0}) before after layout old new library library' worked)
+    (code : Code) (is : worked ≡ Abend code) (ends : EndsSo (Unit {0}) after layout start code new library') where
+  their_writes : writes_for old did.heads ≡ (program_unit (case_at start) taken).writes.items
+  their_writes = writes-are before after layout start taken old new library library' worked stands shows did
+
+  opened : IsOpen start (open_at taken old.writes)
+  opened = opened-so start taken old library did.heads stands their_writes
+
+  abbrev count_so : ℕ
+  count_so = length (program_unit (case_at start) taken).writes.items
 
   by-space : is_some (room_after (writes_for old did.heads) (room_of library old.files)) ≡ false → System 2871 ≡ code
       → (unit_end start (open_at taken old.writes) ≡ end_coded code taken new.writes) × Ended start taken old.writes new.writes
   by-space none same =
-      let full : length (work_at start).writes < next_writes start (open_at taken old.writes) = full-so (no-room (room_after (writes_for old did.heads) (room_of library old.files)) none) in (
+      let full : length (work_at start).writes < next_writes start (open_at taken old.writes) = full-so start taken old library did.heads stands their_writes (no-room (room_after (writes_for old did.heads) (room_of library old.files)) none) in (
         end-spills start (open_at taken old.writes) full
             ∙ ap (λ n. end_coded no_more_space taken n) (sym ends.writes)
             ∙ ap (λ c. end_coded c taken new.writes) same,
@@ -158,12 +169,12 @@ module _ (before after : List ℕ) (layout : Layout) (start : StepStart) (taken 
       → (unit_end start (open_at taken old.writes) ≡ end_coded code taken new.writes) × Ended start taken old.writes new.writes
   by-finish some finish =
       let left = some-room (room_after (writes_for old did.heads) (room_of library old.files)) some in
-      let fit : next_writes start (open_at taken old.writes) ≤ length (work_at start).writes = fit-so left.0 left.1 in
+      let fit : next_writes start (open_at taken old.writes) ≤ length (work_at start).writes = fit-so start taken old library did.heads stands their_writes left.0 left.1 in
       let ended : (program_unit (case_at start) taken).finish ≡ Some (Finishes.Abend code) = finish-is before after layout start taken old new library library' worked stands shows did ∙ finish in
       let done : IsDone start (open_at taken old.writes) (Finishes.Abend code) = all-done start (open_at taken old.writes) (Finishes.Abend code) opened fit ended in
       let front : length (work (case_at start)).writes ≡ length (upto (case_at start) taken) =
       ap length (gives-up (case_at start) code (its_finish done.last ended)) ∙ ap (λ n. length (upto (case_at start) n)) (sym done.last) in
-      let whole : length (work (case_at start)).writes ≡ length (upto (case_at start) taken) + count = ap length done.all ∙ length-append (upto (case_at start) taken) (program_unit (case_at start) taken).writes.items in
+      let whole : length (work (case_at start)).writes ≡ length (upto (case_at start) taken) + count_so = ap length done.all ∙ length-append (upto (case_at start) taken) (program_unit (case_at start) taken).writes.items in
       let made : old.writes ≡ length (upto (case_at start) taken) = stands.writes in
       let most : next_writes start (open_at taken old.writes) ≡ length (work_at start).writes = done.most in
       let now : new.writes ≡ length (work_at start).writes = ends.writes in

@@ -8,9 +8,11 @@ pub mod Planned
 pub mod Due
 pub mod Ends
 pub mod Endings
+pub mod Found
 pub mod Behind
 pub mod Turns
 pub mod Told
 pub mod Coded
 pub mod Rewritten
 pub mod Telling
+pub mod Foretold

@@ -81,7 +81,7 @@ taken_in (Went taken) = taken
 taken_in (Rewrite place image taken) = taken
 taken_in (Abend code) = 0
 
-by-rewrite : {A : Type 0} (taken now place : ℕ) (bytes : List ℕ) (rewrite : Option (ℕ × List ℕ)) (fits : Bool) (finish : Option Finish) → worked_by taken rewrite fits finish ≡ Rewrite place bytes now
+pub by-rewrite : {A : Type 0} (taken now place : ℕ) (bytes : List ℕ) (rewrite : Option (ℕ × List ℕ)) (fits : Bool) (finish : Option Finish) → worked_by taken rewrite fits finish ≡ Rewrite place bytes now
     → ((at : ℕ × List ℕ) → rewrite ≡ Some at → taken ≡ now → A) → A
 by-rewrite taken now place bytes (Some at) fits finish e use_it = use_it at refl (ap taken_in e)
 by-rewrite taken now place bytes None false finish e use_it = absurd (false≢true (ap rewriting e))

@@ -14,6 +14,8 @@ ghost use Rattle.ckr_standing.specs.Moving.{event_in, reply_in};
 ghost use Rattle.ckr_standing.specs.Standing.{Stands, StandsBut};
 ghost use Rattle.ckr_steps.specs.declared.stepping.Worked.{Worked};
 ghost use Rattle.ckr_steps.specs.declared.stepping.Worked.TheVariants.{Abend, Went};
+ghost use Rattle.ckr_steps.specs.Reading.{AreThere};
+ghost use Rattle.ckr_steps.specs.Stepping.{HasLooked};
 ghost use Rattle.ckr_steps.specs.Units.{due_of};
 ghost use Rattle.ckr_steps.specs.Writing.{Keeps};
 ghost use Rattle.ckr_turns.specs.Desk.{Desk, behind, jobs_of, work_of};
@@ -21,6 +23,7 @@ ghost use Rattle.ckr_turns.specs.Planned.{plan_of};
 ghost use Rattle.ckr_turns.specs.declared.plan.Plan.TheVariants.{Work};
 ghost use Rattle.ckr_turns.specs.declared.reply.Turn.{Turn};
 ghost use Rattle.ckr_volumes.specs.declared.layout.Layout.{Layout};
+ghost use Rattle.ckr_working.specs.Foretold.{IsTold};
 ghost use Rattle.ckr_working.specs.Unit.{IsPutBack, UnitDone};
 
 /// A turn that works is that of a run within a step of its deck. The step is running in memory, and a unit of it is due.
@@ -39,6 +42,14 @@ pub fn turns_that_work_tell_what_the_unit_came_to()
     ensures { (layout : Layout) (old : JobsSeen) (before after : List ℕ) (desk : Desk) (turn : Turn) (run : ℕ) (on moved : StepSeen) (worked : Worked) → UnitDone layout old before after desk turn run on moved worked
         → (row : RunRow) → run_of desk.office.tables run ≡ Some row
         → (reply_in (told_by layout row (running_of desk.office.tables moved) worked) ≡ (work_of run desk).reply) × (event_in (told_by layout row (running_of desk.office.tables moved) worked) ≡ (work_of run desk).event) }
+{}
+
+/// What the answer to a unit foretells before the unit is done, the turn tells behind it: an event of the same kind and run, with as many bytes.
+pub fn turns_that_work_tell_what_was_foretold()
+    ensures { (layout : Layout) (jobs : JobsSeen) (image : List ℕ) (desk : Desk) (turn : Turn) (run : ℕ) (on : StepSeen) (worked : Worked)
+        → Stands layout jobs image desk → plan_of desk.layout (jobs_of desk) turn ≡ Work run → find (is_of_run run) jobs.running ≡ Some on → AreThere on.step.files on.sets
+        → HasLooked (Unit {0}) image layout on.step on.sets worked → (row : RunRow) → run_of desk.office.tables run ≡ Some row
+        → (foretold : Event) → event_in (told_by layout row (running_of desk.office.tables on) worked) ≡ Some foretold → IsTold foretold (work_of run desk).event }
 {}
 
 /// Where the step goes on and is put back, the jobs in memory stand for the desk behind the unit. Where it ends with a code, they stand for

@@ -5,5 +5,5 @@ mod laws;
 
 pub use laws::{
     desks_behind_units_stand, running_steps_have_a_unit_due,
-    turns_that_work_tell_what_the_unit_came_to,
+    turns_that_work_tell_what_the_unit_came_to, turns_that_work_tell_what_was_foretold,
 };
