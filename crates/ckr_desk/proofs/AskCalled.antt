@@ -17,7 +17,7 @@ use Rattle.ckr_points.specs.Rows.{Tables}
 use Rattle.ckr_soundness.proofs.Holders.{queued-is}
 use Rattle.ckr_standing.specs.Moving.{HasSameRecords}
 use Rattle.ckr_store.specs.Opens.{event_records}
-use Rattle.ckr_store.specs.State.{IsSound}
+use Rattle.ckr_store.specs.State.{IsSound, StoreState}
 use Rattle.ckr_submitting.proofs.Kept.{kept_long, submitted_spelled}
 use Rattle.ckr_submitting.specs.Cards.{kept_of_stored}
 use Rattle.ckr_submitting.specs.Form.{submission_of}
@@ -25,6 +25,7 @@ use Rattle.ckr_submitting.specs.declared.submission.Submission.{Submission}
 use Rattle.ckr_submitting.specs.declared.submission.Submission.TheVariants.{Accepted, Refused}
 use Rattle.ckr_tables.specs.Keeping.{is_submittable}
 use Rattle.ckr_volumes.specs.declared.layout.Layout.{Layout}
+use Rattle.ckr_desk.proofs.Before.{same-unchanged}
 use Rattle.ckr_desk.proofs.Called.{IsCalled, called-deck, called-kept, called-purged, called-state, called-trusted}
 use Rattle.ckr_desk.proofs.Few.{accepted-deck, few-accepted}
 use Rattle.ckr_desk.proofs.Images.{kept-before}
@@ -35,6 +36,7 @@ use Rattle.ckr_desk.specs.Calling.{FailsBy, MayFail, behind_call, call_fits, eve
 use Rattle.ckr_desk.specs.Calls.{HasDone, IsLeftByCall, IsSettledBehind, NotDone, may_follow, with_event}
 use Rattle.ckr_desk.specs.Sound.{HasKept, IsTrusted, KeepsWithin, state_of}
 use Rattle.ckr_desk.specs.State.{DeskState, need_of}
+use Rattle.ckr_desk.specs.Staying.{StaysBy}
 use Rattle.ckr_desk.specs.Submitting.{call_by, entered, is_queued, number_for, purge_call, submit_call}
 
 -- ---- of each answer
@@ -42,6 +44,10 @@ use Rattle.ckr_desk.specs.Submitting.{call_by, entered, is_queued, number_for, p
 pub if-err : {T E : Type 0} {P Q : E → Type 0} → ((error : E) → P error → Q error) → (result : Result T E) → IfErr result P → IfErr result Q
 if-err of (Ok x) is = tt
 if-err of (Err error) is = of error is
+
+pub if-err-both : {T E : Type 0} {A B C : E → Type 0} → ((error : E) → A error → B error → C error) → (result : Result T E) → IfErr result A → IfErr result B → IfErr result C
+if-err-both of (Ok x) is also = tt
+if-err-both of (Err error) is also = of error is also
 
 pub on-ok : {T E : Type 0} {P Q : Type 0} → (P → Q) → (result : Result T E) → OnOk result P → OnOk result Q
 on-ok of (Ok x) is = of is
@@ -72,6 +78,18 @@ module _ {D : Type 0} (faults : D → ℕ) (old new : DeskState D) where
   call-may-fail (Some call) (BookFull need room) not = tt
   call-may-fail (Some call) (Stopped fault) not = not.0
   call-may-fail (Some call) Misread not = tt
+
+  pub call-stays : (content : D → List ℕ) (may_leave : D → List ℕ → Type 0) (call : Option Decked) (error : DeskError) → NotDone faults call old new error → StaysBy content may_leave faults old new error
+  call-stays content may_leave None NoMemory not = same-unchanged content may_leave old new not.jobs not.store
+  call-stays content may_leave None DiskFault not = absurd not
+  call-stays content may_leave None (BookFull need room) not = absurd not
+  call-stays content may_leave None (Stopped fault) not = same-unchanged content may_leave old new not.1.jobs not.1.store
+  call-stays content may_leave None Misread not = tt
+  call-stays content may_leave (Some call) NoMemory not = same-unchanged content may_leave old new not.jobs not.store
+  call-stays content may_leave (Some call) DiskFault not = ap (λ (s : StoreState D). s.fault) not.0.1
+  call-stays content may_leave (Some call) (BookFull need room) not = same-unchanged content may_leave old new not.3.jobs not.3.store
+  call-stays content may_leave (Some call) (Stopped fault) not = same-unchanged content may_leave old new not.1.jobs not.1.store
+  call-stays content may_leave (Some call) Misread not = tt
 
   pub call-open : (call : Option Decked) → HasDone call old new → old.store.fault ≡ None → new.store.fault ≡ None
   call-open None done is_open = ap (λ (s : DeskState D). s.store.fault) done ∙ is_open

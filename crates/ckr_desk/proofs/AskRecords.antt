@@ -14,18 +14,19 @@ use Rattle.ckr_outside.specs.Disk.{OnlyReads}
 use Rattle.ckr_points.specs.Rows.{TableSet, Tables}
 use Rattle.ckr_standing.specs.Standing.{Stands}
 use Rattle.ckr_store.specs.State.{StoreState}
-use Rattle.ckr_store.specs.declared.error.StoreError.{StoreError}
-use Rattle.ckr_store.specs.declared.error.StoreError.TheVariants.{NoMemory, DiskFault, BookFull, Stopped}
 use Rattle.ckr_volumes.specs.declared.layout.Layout.{Layout}
 use Rattle.ckr_turns.specs.Desk.{Desk}
 use Rattle.ckr_volumes.specs.Records.{records_on}
 use Rattle.ckr_volumes.specs.Stands.{StandsIn}
+use Rattle.ckr_desk.proofs.Before.{read-unchanged}
 use Rattle.ckr_desk.proofs.Same.{IsAsBefore, state-same, trusted-same}
 use Rattle.ckr_desk.specs.Calling.{FailsBy, MayFail}
-use Rattle.ckr_desk.specs.Errors.{of_store}
+use Rattle.ckr_desk.specs.declared.error.DeskError.{DeskError}
+use Rattle.ckr_desk.specs.declared.error.DeskError.TheVariants.{NoMemory, DiskFault, BookFull, Stopped, Misread}
 use Rattle.ckr_desk.specs.Reading.{ReadingCause}
 use Rattle.ckr_desk.specs.Sound.{IsTrusted, state_of}
 use Rattle.ckr_desk.specs.State.{DeskState}
+use Rattle.ckr_desk.specs.Staying.{StaysBy}
 
 -- a data set that no run holds is one of the tables
 set-is : (content : Content) (tables : Tables) (name : Name) (its set : DataSet) → set_by content tables name its ≡ Some set → its ≡ set
@@ -74,20 +75,32 @@ module _ {D : Type 0} (told : Type 0) (content : D → List ℕ) (may_leave : D 
       ∙ ap (λ (s : DeskState D). records_of (state_of content s).desk name) view
 
 module _ {D : Type 0} (faults : D → ℕ) (old new : StoreState D) where
-  pub reading-may-fail : (error : StoreError) → ReadingCause faults old new error → MayFail (faults old.disk) (faults new.disk) old.fault (of_store error)
+  pub reading-may-fail : (error : DeskError) → ReadingCause faults old new error → MayFail (faults old.disk) (faults new.disk) old.fault error
   reading-may-fail NoMemory cause = tt
   reading-may-fail DiskFault cause = cause.0
   reading-may-fail (BookFull need room) cause = tt
   reading-may-fail (Stopped fault) cause = absurd cause
+  reading-may-fail Misread cause = tt
 
-  pub reading-fails-by : (error : StoreError) → ReadingCause faults old new error → FailsBy true (of_store error)
+  pub reading-fails-by : (error : DeskError) → ReadingCause faults old new error → FailsBy true error
   reading-fails-by NoMemory cause = tt
   reading-fails-by DiskFault cause = tt
   reading-fails-by (BookFull need room) cause = absurd cause
   reading-fails-by (Stopped fault) cause = absurd cause
+  reading-fails-by Misread cause = absurd cause
 
-  pub same-layout : (error : StoreError) → ReadingCause faults old new error → new.layout ≡ old.layout
+  pub same-layout : (error : DeskError) → ReadingCause faults old new error → new.layout ≡ old.layout
   same-layout NoMemory cause = ap (λ (s : StoreState D). s.layout) cause
   same-layout DiskFault cause = ap (λ (s : StoreState D). s.layout) cause.1
   same-layout (BookFull need room) cause = absurd cause
   same-layout (Stopped fault) cause = absurd cause
+  same-layout Misread cause = absurd cause
+
+  pub reading-stays : (content : D → List ℕ) (may_leave : D → List ℕ → Type 0) (moment : D → ℕ) (left_since : D → ℕ → List ℕ → Type 0) (jobs : JobsSeen) → OnlyReads content may_leave moment left_since old.disk new.disk
+      → (error : DeskError) → ReadingCause faults old new error → StaysBy content may_leave faults (record { store = old; jobs = jobs }) (record { store = new; jobs = jobs }) error
+  reading-stays content may_leave moment left_since jobs reads NoMemory cause =
+      read-unchanged content may_leave (record { store = old; jobs = jobs }) (record { store = new; jobs = jobs }) moment left_since (record { tables = refl; running = refl; failed = refl }) cause reads
+  reading-stays content may_leave moment left_since jobs reads DiskFault cause = ap (λ (s : StoreState D). s.fault) cause.1
+  reading-stays content may_leave moment left_since jobs reads (BookFull need room) cause = absurd cause
+  reading-stays content may_leave moment left_since jobs reads (Stopped fault) cause = absurd cause
+  reading-stays content may_leave moment left_since jobs reads Misread cause = tt

@@ -22,11 +22,12 @@ use Rattle.ckr_turns.specs.Jobs.{Running}
 use Rattle.ckr_turns.specs.Planned.{plan_of}
 use Rattle.ckr_volumes.specs.declared.layout.Layout.{Layout}
 use Rattle.ckr_desk.proofs.Going.{is_work}
-use Rattle.ckr_desk.proofs.Worked.{behind-kept, event-so, plan-so, reply-so, rest-state, rest-trusted, row-within, step-is-there, unit-fits, unit-follows, unit-is-due, unit-kept, unit-plain, unit-state, unit-trusted, unit-unfit, unit-written}
+use Rattle.ckr_desk.proofs.Worked.{behind-kept, event-so, plan-so, reply-so, rest-state, rest-trusted, row-within, step-is-there, unit-fits, unit-follows, unit-is-due, unit-kept, unit-plain, unit-state, unit-trusted, unit-written}
 use Rattle.ckr_desk.specs.Calling.{FailsBy, has_room, spelled}
 use Rattle.ckr_desk.specs.Calls.{IsSettledBehind}
 use Rattle.ckr_desk.specs.declared.error.DeskError.{DeskError}
 use Rattle.ckr_desk.specs.declared.error.DeskError.TheVariants.{NoMemory, DiskFault, BookFull, Stopped, Misread}
+use Rattle.ckr_desk.specs.declared.ready.Ready.{Ready}
 use Rattle.ckr_desk.specs.Sound.{HasKept, IsTrusted, KeepsWithin, office_on, state_of}
 use Rattle.ckr_desk.specs.State.{State, DeskState}
 use Rattle.ckr_desk.specs.Turning.{behind_turn, event_of_turn, reply_of, turn_fits}
@@ -125,31 +126,35 @@ module _ {D : Type 0} (told : Type 0) (content : D → List ℕ) (may_leave : D 
 
     -- ---- why its event wasn't kept
 
-    tell-cause : (reply : Reply) (event : Event) → plan ≡ Tell reply event → (faults : D → ℕ) (new : DeskState D) (error : DeskError) → NotBehind faults (Tell reply event) mid new error → FailsBy (turn_fits state turn) error
-    tell-cause reply event is faults new NoMemory not = tt
-    tell-cause reply event is faults new DiskFault not = tt
-    tell-cause reply event is faults new (BookFull need room) not =
-        unit-unfit told content may_leave moment left_since size old trusted turn run planned mid plan done events shape stems event (ap event_in is)
-        (subst (λ n. room_of mid.store.book < n) not.0 (subst (λ n. n < need) not.1 not.2))
-    tell-cause reply event is faults new (Stopped fault) not = tt
-    tell-cause reply event is faults new Misread not = ⊎_elim
+    tell-cause : (reply : Reply) (event : Event) → plan ≡ Tell reply event → (faults : D → ℕ) (ready : Option Ready) → (ready ≡ None → ⊥) → (new : DeskState D) (error : DeskError) → NotBehind faults (Tell reply event) ready mid new error
+        → FailsBy (turn_fits state turn) error
+    tell-cause reply event is faults ready some new NoMemory not = absurd not
+    tell-cause reply event is faults ready some new DiskFault not = tt
+    tell-cause reply event is faults ready some new (BookFull need room) not = absurd not
+    tell-cause reply event is faults ready some new (Stopped fault) not = absurd not
+    tell-cause reply event is faults ready some new Misread not = ⊎_elim
+        (λ none. some none)
+        (λ made. ⊎_elim
         (λ unplain. false≢true (sym unplain ∙ unit-plain told content may_leave moment left_since size old trusted turn run planned mid plan done events shape stems event (ap event_in is)))
         (λ more. ⊎_elim
         (λ unfollowed. false≢true (sym unfollowed ∙ unit-follows told content may_leave moment left_since size old trusted turn run planned mid plan done events shape stems event (ap event_in is)))
         (λ cannot. unit-written told content may_leave moment left_since size old trusted turn run planned mid plan done events shape stems event (ap event_in is) cannot)
         more)
+        made)
         not
 
     tells-rests : is_work plan ≡ false
     tells-rests =
         ap is_work (plan-so told content may_leave moment left_since size old trusted turn run planned mid plan done events shape stems)
-        ∙ told-rests old.store.layout (row-within told content may_leave moment left_since size old trusted turn run planned mid plan done events shape stems).0
+        ∙ told-rests old.store.layout (row-within told content may_leave moment left_since size old trusted turn run planned).0
         (running_of (office_on old.store.layout (content old.store.disk)).tables done.moved) done.worked
 
-    cause-by : (by : Plan) → plan ≡ by → (faults : D → ℕ) (new : DeskState D) (error : DeskError) → NotBehind faults by mid new error → FailsBy (turn_fits state turn) error
-    cause-by (Rest reply) is faults new error not = absurd not
-    cause-by (Tell reply event) is faults new error not = tell-cause reply event is faults new error not
-    cause-by (Work job) is faults new error not = absurd (false≢true (sym tells-rests ∙ ap is_work is))
+    cause-by : (by : Plan) → plan ≡ by → (faults : D → ℕ) (ready : Option Ready) → ((event : Event) → event_in plan ≡ Some event → ready ≡ None → ⊥) → (new : DeskState D) (error : DeskError) → NotBehind faults by ready mid new error
+        → FailsBy (turn_fits state turn) error
+    cause-by (Rest reply) is faults ready some new error not = absurd not
+    cause-by (Tell reply event) is faults ready some new error not = tell-cause reply event is faults ready (some event (ap event_in is)) new error not
+    cause-by (Work job) is faults ready some new error not = absurd (false≢true (sym tells-rests ∙ ap is_work is))
 
-    pub done-cause : (faults : D → ℕ) (new : DeskState D) (error : DeskError) → NotBehind faults plan mid new error → FailsBy (turn_fits state turn) error
-    done-cause faults new error not = cause-by plan refl faults new error not
+    pub done-cause : (faults : D → ℕ) (ready : Option Ready) → ((event : Event) → event_in plan ≡ Some event → ready ≡ None → ⊥) → (new : DeskState D) (error : DeskError) → NotBehind faults plan ready mid new error
+        → FailsBy (turn_fits state turn) error
+    done-cause faults ready some new error not = cause-by plan refl faults ready some new error not

@@ -16,6 +16,7 @@ use Rattle.ckr_turns.specs.declared.reply.Reply.{Reply}
 use Rattle.ckr_turns.specs.declared.reply.Turn.{Turn}
 use Rattle.ckr_turns.specs.Desk.{TurnDone}
 use Rattle.ckr_turns.specs.Planned.{plan_of}
+use Rattle.ckr_desk.proofs.Before.{same-unchanged}
 use Rattle.ckr_desk.proofs.Images.{kept-before}
 use Rattle.ckr_desk.proofs.Plain.{quiet-plain}
 use Rattle.ckr_desk.proofs.Trusted.{trusted-behind}
@@ -24,7 +25,10 @@ use Rattle.ckr_desk.specs.declared.error.DeskError.{DeskError}
 use Rattle.ckr_desk.specs.declared.error.DeskError.TheVariants.{NoMemory, DiskFault, BookFull, Stopped, Misread}
 use Rattle.ckr_desk.specs.Calling.{FailsBy, MayFail, has_room, room_behind, spelled}
 use Rattle.ckr_desk.specs.Calls.{IsSettledBehind}
+use Rattle.ckr_desk.specs.declared.ready.Ready.{Ready}
+use Rattle.ckr_desk.specs.Ready.{IsReadyFor, IsReadyIf, NotReadyFor}
 use Rattle.ckr_desk.specs.Rewriting.{OpensSame}
+use Rattle.ckr_desk.specs.Staying.{HasHalted, IsOfDisk, StaysBy}
 use Rattle.ckr_desk.specs.Turning.{behind_turn, event_of_turn, reply_of, turn_fits}
 use Rattle.ckr_desk.specs.Working.{HasGoneBehind, IsLeftBehind, NotBehind}
 use Rattle.ckr_desk.specs.Sound.{HasKept, IsTrusted, KeepsWithin, state_of}
@@ -47,15 +51,48 @@ if-ok of (Ok x) is = of x is
 if-ok of (Err error) is = tt
 
 -- why it wasn't done, on any disk
-pub go-may-fail : {D : Type 0} (faults : D → ℕ) (old new : DeskState D) (plan : Plan) (error : DeskError) → NotBehind faults plan old new error
+pub go-may-fail : {D : Type 0} (faults : D → ℕ) (old new : DeskState D) (plan : Plan) (ready : Option Ready) (error : DeskError) → NotBehind faults plan ready old new error
     → MayFail (faults old.store.disk) (faults new.store.disk) old.store.fault error
-go-may-fail faults old new (Rest reply) error not = absurd not
-go-may-fail faults old new (Tell reply event) NoMemory not = tt
-go-may-fail faults old new (Tell reply event) DiskFault not = not
-go-may-fail faults old new (Tell reply event) (BookFull need room) not = tt
-go-may-fail faults old new (Tell reply event) (Stopped fault) not = not
-go-may-fail faults old new (Tell reply event) Misread not = tt
-go-may-fail faults old new (Work job) error not = subst (MayFail (faults old.store.disk) (faults new.store.disk) old.store.fault) (sym not) tt
+go-may-fail faults old new (Rest reply) ready error not = absurd not
+go-may-fail faults old new (Tell reply event) ready NoMemory not = absurd not
+go-may-fail faults old new (Tell reply event) ready DiskFault not = not
+go-may-fail faults old new (Tell reply event) ready (BookFull need room) not = absurd not
+go-may-fail faults old new (Tell reply event) ready (Stopped fault) not = absurd not
+go-may-fail faults old new (Tell reply event) ready Misread not = tt
+go-may-fail faults old new (Work job) ready error not = subst (MayFail (faults old.store.disk) (faults new.store.disk) old.store.fault) (sym not) tt
+
+-- only the disk fails then
+pub go-of-disk : {D : Type 0} (faults : D → ℕ) (old new : DeskState D) (plan : Plan) (ready : Option Ready) (error : DeskError) → NotBehind faults plan ready old new error → IsOfDisk error
+go-of-disk faults old new (Rest reply) ready error not = absurd not
+go-of-disk faults old new (Tell reply event) ready NoMemory not = absurd not
+go-of-disk faults old new (Tell reply event) ready DiskFault not = tt
+go-of-disk faults old new (Tell reply event) ready (BookFull need room) not = absurd not
+go-of-disk faults old new (Tell reply event) ready (Stopped fault) not = absurd not
+go-of-disk faults old new (Tell reply event) ready Misread not = tt
+go-of-disk faults old new (Work job) ready error not = subst IsOfDisk (sym not) tt
+
+pub of-disk-stays : {D : Type 0} (content : D → List ℕ) (may_leave : D → List ℕ → Type 0) (faults : D → ℕ) (old new : DeskState D) (error : DeskError) → IsOfDisk error → HasHalted faults new.store error → StaysBy content may_leave faults old new error
+of-disk-stays content may_leave faults old new NoMemory is halted = absurd is
+of-disk-stays content may_leave faults old new DiskFault is halted = halted
+of-disk-stays content may_leave faults old new (BookFull need room) is halted = absurd is
+of-disk-stays content may_leave faults old new (Stopped fault) is halted = absurd is
+of-disk-stays content may_leave faults old new Misread is halted = tt
+
+-- what isn't ready leaves all as it was
+pub unready-stays : {D : Type 0} (content : D → List ℕ) (may_leave : D → List ℕ → Type 0) (faults : D → ℕ) (old new : DeskState D) (event : Option Event) (error : DeskError) → NotReadyFor event old new error
+    → StaysBy content may_leave faults old new error × MayFail (faults old.store.disk) (faults new.store.disk) old.store.fault error
+unready-stays content may_leave faults old new None error not = absurd not
+unready-stays content may_leave faults old new (Some event) NoMemory not = (same-unchanged content may_leave old new not.jobs not.store, tt)
+unready-stays content may_leave faults old new (Some event) DiskFault not = absurd not
+unready-stays content may_leave faults old new (Some event) (BookFull need room) not = (same-unchanged content may_leave old new not.3.jobs not.3.store, tt)
+unready-stays content may_leave faults old new (Some event) (Stopped fault) not = absurd not
+unready-stays content may_leave faults old new (Some event) Misread not = absurd not
+
+-- what is ready is ready if it is told
+pub ready-if : {D : Type 0} (event : Option Event) (desk : DeskState D) (ready : Option Ready) → IsReadyFor event desk ready → IsReadyIf event desk ready
+ready-if None desk ready is = tt
+ready-if (Some event) desk None is = absurd is
+ready-if (Some event) desk (Some ready) is = is
 
 true_is_not_false : true ≡ false → ⊥
 true_is_not_false same = subst (λ (b : Bool). elim b as (λ _. Type 0) [ true ↦ Unit {0} | false ↦ ⊥ ]) same tt
@@ -137,20 +174,34 @@ module _ {D : Type 0} (told : Type 0) (content : D → List ℕ) (may_leave : D 
       by false is = is
       by true is = absurd (omega (arith, leb-true (need_of event) (room_of old.store.book) is, needed, there, less))
 
-  pub go-cause : (plan : Plan) (new : DeskState D) (error : DeskError) → plan_of old.store.layout (jobs_of old.jobs) turn ≡ plan → IsSpelledPlan plan → is_work plan ≡ false
-      → NotBehind faults plan old new error → FailsBy (turn_fits state turn) error
+  -- its event isn't ready
+  pub go-unready : (plan : Plan) (new : DeskState D) (error : DeskError) → plan_of old.store.layout (jobs_of old.jobs) turn ≡ plan → IsSpelledPlan plan → is_work plan ≡ false
+      → NotReadyFor (event_in plan) old new error → FailsBy (turn_fits state turn) error
   unfolding turn_fits
-  go-cause (Rest reply) new error is shape rests not = absurd not
-  go-cause (Tell reply event) new NoMemory is shape rests not = tt
-  go-cause (Tell reply event) new DiskFault is shape rests not = tt
-  go-cause (Tell reply event) new (BookFull need room) is shape rests not =
+  go-unready (Rest reply) new error is shape rests not = absurd not
+  go-unready (Tell reply event) new NoMemory is shape rests not = tt
+  go-unready (Tell reply event) new DiskFault is shape rests not = absurd not
+  go-unready (Tell reply event) new (BookFull need room) is shape rests not =
       ap (state_with state) (event-so told content may_leave size old trusted turn its reply event is shape.0) ∙ rests-room event need room not.0 not.1 not.2
-  go-cause (Tell reply event) new (Stopped fault) is shape rests not = tt
-  go-cause (Tell reply event) new Misread is shape rests not = ⊎_elim
+  go-unready (Tell reply event) new (Stopped fault) is shape rests not = absurd not
+  go-unready (Tell reply event) new Misread is shape rests not = absurd not
+  go-unready (Work job) new error is shape rests not = absurd (true_is_not_false rests)
+
+  pub go-cause : (plan : Plan) (ready : Option Ready) (new : DeskState D) (error : DeskError) → plan_of old.store.layout (jobs_of old.jobs) turn ≡ plan → IsSpelledPlan plan → is_work plan ≡ false
+      → IsReadyFor (event_in plan) old ready → NotBehind faults plan ready old new error → FailsBy (turn_fits state turn) error
+  go-cause (Rest reply) ready new error is shape rests made not = absurd not
+  go-cause (Tell reply event) ready new NoMemory is shape rests made not = absurd not
+  go-cause (Tell reply event) ready new DiskFault is shape rests made not = tt
+  go-cause (Tell reply event) ready new (BookFull need room) is shape rests made not = absurd not
+  go-cause (Tell reply event) ready new (Stopped fault) is shape rests made not = absurd not
+  go-cause (Tell reply event) ready new Misread is shape rests made not = ⊎_elim
+      (λ (none : ready ≡ None). let never : ⊥ = subst (IsReadyFor (Some event) old) none made in never)
+      (λ some. ⊎_elim
       (λ plain. true_is_not_false (sym (quiet-plain event (quiet-so told content may_leave size old trusted turn its reply event is shape.0)) ∙ plain))
       (λ more. ⊎_elim
       (λ unfollowed. true_is_not_false (sym (follows-so told content may_leave size old trusted turn its reply event is shape.0) ∙ unfollowed))
       (λ cannot. quiet-cannot event (quiet-so told content may_leave size old trusted turn its reply event is shape.0) _ cannot)
       more)
+      some)
       not
-  go-cause (Work job) new error is shape rests not = absurd (true_is_not_false rests)
+  go-cause (Work job) ready new error is shape rests made not = absurd (true_is_not_false rests)

@@ -9,7 +9,7 @@ use Rattle.ckr_points.specs.Sound.{AreLaidOut}
 use Rattle.ckr_store.specs.Answers.{AppendCause, DiskCause}
 use Rattle.ckr_store.specs.State.{StoreState}
 use Rattle.ckr_store.specs.declared.error.StoreError.{StoreError}
-use Rattle.ckr_store.specs.declared.error.StoreError.TheVariants.{NoMemory, DiskFault, BookFull, Stopped}
+use Rattle.ckr_store.specs.declared.error.StoreError.TheVariants.{DiskFault, BookFull, Stopped}
 use Rattle.ckr_volumes.specs.declared.layout.Layout.{Layout}
 
 pub jobs-stay : (layout later : Layout) (one two : JobsSeen) → later ≡ layout → two.tables.desk ≡ one.tables.desk → two.running ≡ one.running → AreJobs layout one → AreJobs later two
@@ -31,13 +31,11 @@ no-jobs layout jobs tables running = record {
 
 module _ {D : Type 0} (faults : D → ℕ) (old new : StoreState D) where
   pub failed-layout : (error : StoreError) → DiskCause faults old new error → new.layout ≡ old.layout
-  failed-layout NoMemory cause = absurd cause
   failed-layout DiskFault cause = ap (λ (s : StoreState D). s.layout) cause.1
   failed-layout (BookFull need room) cause = absurd cause
   failed-layout (Stopped fault) cause = ap (λ (s : StoreState D). s.layout) cause.1
 
   pub append-layout : (need : ℕ) (error : StoreError) → AppendCause faults need old new error → new.layout ≡ old.layout
-  append-layout need NoMemory cause = ap (λ (s : StoreState D). s.layout) cause
   append-layout need DiskFault cause = ap (λ (s : StoreState D). s.layout) cause.1
   append-layout need (BookFull its room) cause = ap (λ (s : StoreState D). s.layout) cause.3
   append-layout need (Stopped fault) cause = ap (λ (s : StoreState D). s.layout) cause.1

@@ -1,5 +1,5 @@
 -- What a stop leaves within a call that keeps an event.
-use Rattle.std.proofs.Common.{◌≡◌, ◌&&◌, ℕ, List, IsTrue, Option, None, true, false, ⊎_elim, inl, inr, ap, subst, ◌∙◌}
+use Rattle.std.proofs.Common.{◌≡◌, ◌&&◌, ℕ, List, IsTrue, Option, None, true, false, ⊎_elim, inl, inr, ap, subst, sym, ◌∙◌}
 use Rattle.ckr_book.specs.Book.{IsBeforeOrAfter}
 use Rattle.ckr_events.specs.declared.event.Event.{Event}
 use Rattle.ckr_events.specs.Event.{spelling}
@@ -23,7 +23,8 @@ use Rattle.ckr_volumes.specs.Stands.{is_laid_out}
 use Rattle.ckr_desk.proofs.Behind.{records-stay}
 use Rattle.ckr_desk.specs.declared.error.DeskError.{DeskError}
 use Rattle.ckr_desk.specs.declared.error.DeskError.TheVariants.{NoMemory, DiskFault, BookFull, Stopped, Misread}
-use Rattle.ckr_desk.specs.Calls.{HasGoneOn, HasSameJobs, IsLeftBy, IsSame, NotKept, may_keep}
+use Rattle.ckr_desk.specs.Calls.{HasGoneOn, HasSameJobs, IsLeftBy, IsSame, NotEntered, NotKept, may_keep}
+use Rattle.ckr_desk.specs.Ready.{NotReady}
 use Rattle.ckr_desk.specs.Rewriting.{OpensSame}
 use Rattle.ckr_desk.specs.State.{DeskState}
 
@@ -128,13 +129,25 @@ module _ {D : Type 0} (event : Event) (deck : Option Job) (store : StoreState D)
     same-as-before : (new : DeskState D) → HasSameJobs (record { store = store; jobs = two }) new → HasSameJobs (record { store = store; jobs = one }) new
     same-as-before new same = record { tables = same.tables ∙ desk; running = same.running ∙ running; failed = same.failed ∙ failed }
 
-    all-as-before : (new : DeskState D) → IsSame (record { store = store; jobs = two }) new → IsSame (record { store = store; jobs = one }) new
-    all-as-before new same = record { jobs = same-as-before new same.jobs; store = same.store }
+    same-store : (new : DeskState D) → IsSame (record { store = store; jobs = two }) new → IsSame (record { store = store; jobs = one }) new
+    same-store new same = record { jobs = same-as-before new same.jobs; store = same.store }
 
-    pub prepared-cause : (faults : D → ℕ) (new : DeskState D) (error : DeskError) → NotKept faults event deck (record { store = store; jobs = two }) new error
+    pub prepared-cause : (faults : D → ℕ) (new : DeskState D) (error : DeskError) → NotEntered faults event deck (record { store = store; jobs = two }) new error
         → NotKept faults event deck (record { store = store; jobs = one }) new error
-    prepared-cause faults new NoMemory cause = all-as-before new cause
+    prepared-cause faults new NoMemory cause = absurd cause
     prepared-cause faults new DiskFault cause = (cause.0, same-as-before new cause.1)
-    prepared-cause faults new (BookFull need room) cause = (cause.0, cause.1, cause.2, all-as-before new cause.3)
-    prepared-cause faults new (Stopped fault) cause = (cause.0, all-as-before new cause.1)
-    prepared-cause faults new Misread cause = (subst (λ (t : Tables). follows store.layout t event deck ≡ false) desk cause.0, all-as-before new cause.1)
+    prepared-cause faults new (BookFull need room) cause = absurd cause
+    prepared-cause faults new (Stopped fault) cause = absurd cause
+    prepared-cause faults new Misread cause = (subst (λ (t : Tables). follows store.layout t event deck ≡ false) desk cause.0, same-store new cause.1)
+
+-- an event that isn't ready isn't kept
+pub unready-cause : {D : Type 0} (event : Event) (deck : Option Job) (faults : D → ℕ) (old new : DeskState D) (error : DeskError) → NotReady event old new error → NotKept faults event deck old new error
+unready-cause event deck faults old new NoMemory cause = cause
+unready-cause event deck faults old new DiskFault cause = absurd cause
+unready-cause event deck faults old new (BookFull need room) cause = cause
+unready-cause event deck faults old new (Stopped fault) cause = absurd cause
+unready-cause event deck faults old new Misread cause = absurd cause
+
+-- where the disk is the same, so is what a stop leaves
+pub same-left : {D : Type 0} (moment : D → ℕ) (left_since : D → ℕ → List ℕ → Type 0) (old new : StoreState D) (P : List ℕ → Type 0) → new ≡ old → EachSince moment left_since old.disk old.disk P → EachSince moment left_since old.disk new.disk P
+same-left {D} moment left_since old new P same left = subst (λ (s : StoreState D). EachSince moment left_since old.disk s.disk P) (sym same) left

@@ -18,7 +18,9 @@ pub mod Called
 pub mod Going
 pub mod Worked
 pub mod Done
-pub mod Planned
+pub mod Before
+pub mod Readied
+pub mod Ahead
 pub mod Ensuing
 pub mod OpenLengths
 pub mod OpenAgain
@@ -27,3 +29,4 @@ pub mod OpenTrusted
 pub mod AskLeft
 pub mod AskCalled
 pub mod AskRecords
+pub mod Looked

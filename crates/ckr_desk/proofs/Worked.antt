@@ -1,6 +1,6 @@
 -- A turn that works: the unit of its running step, the desk behind it, and what a stop leaves.
 use Rattle.std.proofs.Common.{◌≡◌, ◌≤◌, ◌<◌, ◌+◌, ◌-◌, ◌++◌, ◌&&◌, ℕ, List, [], ◌∷◌, true, false, find, length, take, refl, ap, sym, ◌∙◌, subst, ⊎_elim, arith, Option, Some, None, Ok}
-use Rattle.std.proofs.lemmas.Bool.{le-leb, lt-leb}
+use Rattle.std.proofs.lemmas.Bool.{le-leb}
 use Rattle.arrayvec.specs.ArrayVec.{ArrayVec}
 use Rattle.ckr_book.specs.Book.{IsBeforeOrAfter, ends_closed, room_of}
 use Rattle.ckr_dispositions.proofs.Colliding.{both, both-first}
@@ -95,12 +95,19 @@ module _ {D : Type 0} (told : Type 0) (content : D → List ℕ) (may_leave : D 
   plans-desk : plan_of layout (jobs_of old.jobs) turn ≡ plan_of desk.layout (jobs_of_desk desk) turn
   plans-desk = plans-so layout old.jobs image desk turn trusted.stands
 
-  at-desk : plan_of desk.layout (jobs_of_desk desk) turn ≡ Work run
+  pub at-desk : plan_of desk.layout (jobs_of_desk desk) turn ≡ Work run
   at-desk = sym plans-desk ∙ planned
 
-  turned : turn_of desk turn ≡ work_of run desk
+  pub turned : turn_of desk turn ≡ work_of run desk
   unfolding turn_of
   turned = ap (λ p. carried_out p desk) at-desk
+
+  -- the run is within a step of its deck
+  pub row-within : (row : RunRow) × (own : OwnedStep) × (run_of office.tables run ≡ Some row) × (step_of_run row (step_in (place_of row)) ≡ Some own) × (row.number ≡ run)
+  row-within = within-so layout old.jobs image desk turn run trusted.stands at-desk
+
+  abbrev row : RunRow
+  row = row-within.0
 
   -- ---- the unit
 
@@ -162,12 +169,6 @@ module _ {D : Type 0} (told : Type 0) (content : D → List ℕ) (may_leave : D 
     room-same = ap (λ (store : StoreState D). room_of store.book) done.store
 
     -- ---- what the turn tells of it
-
-    pub row-within : (row : RunRow) × (own : OwnedStep) × (run_of office.tables run ≡ Some row) × (step_of_run row (step_in (place_of row)) ≡ Some own) × (row.number ≡ run)
-    row-within = within-so layout old.jobs image desk turn run trusted.stands at-desk
-
-    abbrev row : RunRow
-    row = row-within.0
 
     run-same : moved.run ≡ run
     run-same = run-moved layout old.jobs image after desk turn run on moved done.worked unit-done
@@ -311,12 +312,6 @@ module _ {D : Type 0} (told : Type 0) (content : D → List ℕ) (may_leave : D 
       unit-fits new gone =
           ap (has_room (room_of old.store.book)) event-is
           ∙ le-leb (need_of event) (room_of old.store.book) (subst (λ room. need_of event ≤ room) room-same gone.fits)
-
-      pub unit-unfit : room_of mid.store.book < need_of event → turn_fits (state_of content old) turn ≡ false
-      unfolding turn_fits
-      unit-unfit less =
-          ap (has_room (room_of old.store.book)) event-is
-          ∙ lt-leb (need_of event) (room_of old.store.book) (subst (λ room. room < need_of event) room-same less)
 
       -- ---- the desk behind it
 

@@ -38,10 +38,10 @@ pub record HasSameJobs {D : Type 0} (old new : DeskState D) : Type 0 where
   pub running : new.jobs.running ≡ old.jobs.running
   pub failed : new.jobs.failed ≡ old.jobs.failed
 
--- what the jobs are and where the disk stands is the same
+-- what the jobs are is the same, and so is the disk
 pub record IsSame {D : Type 0} (old new : DeskState D) : Type 0 where
   pub jobs : HasSameJobs old new
-  pub store : new.store ≡ record old.store { disk = new.store.disk }
+  pub store : new.store ≡ old.store
 
 -- a call without an event leaves all as it was
 abbrev pub HasDone : {D : Type 0} → Option Decked → DeskState D → DeskState D → Type 0
@@ -62,7 +62,13 @@ NotAsked old new (Stopped fault) = (old.store.fault ≡ Some fault) × IsSame ol
 NotAsked old new Misread = ⊥
 
 module _ {D : Type 0} (faults : D → ℕ) where
-  -- why an event isn't kept; it follows where the disk reads what was written
+  -- why an event that is ready isn't kept; it follows where the disk reads what was written
+  abbrev pub NotEntered : Event → Option Job → DeskState D → DeskState D → DeskError → Type 0
+  NotEntered event deck old new DiskFault = HasFailed faults old.store new.store × HasSameJobs old new
+  NotEntered event deck old new Misread = (may_follow event deck old ≡ false) × IsSame old new
+  NotEntered event deck old new _ = ⊥
+
+  -- why an event isn't kept
   abbrev pub NotKept : Event → Option Job → DeskState D → DeskState D → DeskError → Type 0
   NotKept event deck old new NoMemory = IsSame old new
   NotKept event deck old new DiskFault = HasFailed faults old.store new.store × HasSameJobs old new

@@ -10,3 +10,5 @@ pub mod Submitting
 pub mod Rewriting
 pub mod Working
 pub mod Reading
+pub mod Staying
+pub mod Ready

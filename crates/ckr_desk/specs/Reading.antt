@@ -2,12 +2,13 @@
 use Rattle.std.specs.Prelude.{◌≡◌, ℕ}
 use Rattle.ckr_store.specs.Answers.{HasFailed}
 use Rattle.ckr_store.specs.State.{StoreState}
-use Rattle.ckr_store.specs.declared.error.StoreError.{StoreError}
-use Rattle.ckr_store.specs.declared.error.StoreError.TheVariants.{NoMemory, DiskFault, BookFull, Stopped}
+use Rattle.ckr_desk.specs.declared.error.DeskError.{DeskError}
+use Rattle.ckr_desk.specs.declared.error.DeskError.TheVariants.{NoMemory, DiskFault, BookFull, Stopped, Misread}
 
 -- no memory, and the disk only was read, or the disk's faults, and the store has stopped
-abbrev pub ReadingCause : {D : Type 0} → (D → ℕ) → StoreState D → StoreState D → StoreError → Type 0
+abbrev pub ReadingCause : {D : Type 0} → (D → ℕ) → StoreState D → StoreState D → DeskError → Type 0
 ReadingCause faults old new NoMemory = new ≡ record old { disk = new.disk }
 ReadingCause faults old new DiskFault = HasFailed faults old new
 ReadingCause faults old new (BookFull need room) = ⊥
 ReadingCause faults old new (Stopped fault) = ⊥
+ReadingCause faults old new Misread = ⊥

@@ -1,8 +1,7 @@
 -- A unit of a running step, and what goes on behind what a turn comes to, on any disk.
-use Rattle.std.specs.Prelude.{◌≡◌, ◌<◌, ◌⊎◌, ◌++◌, ◌∷◌, [], ℕ, Bool, true, false, List, find, Option, Some, None}
+use Rattle.std.specs.Prelude.{◌≡◌, ◌⊎◌, ◌++◌, ◌∷◌, [], ℕ, Bool, true, false, List, find, IfErr, IfOk, OnOk, Option, Some, None, Result}
 use Rattle.ckr_base.specs.declared.programs.NextDue.{NextDue}
 use Rattle.ckr_base.specs.declared.programs.NextDue.TheVariants as Dues
-use Rattle.ckr_book.specs.Book.{room_of}
 use Rattle.ckr_events.specs.declared.event.Event.{Event}
 use Rattle.ckr_events.specs.Event.{spelling}
 use Rattle.ckr_jobs.specs.Behind.{is_of_run, without_first}
@@ -24,15 +23,19 @@ use Rattle.ckr_tables.specs.Keeping.{is_plain_event}
 use Rattle.ckr_keeping.specs.Going.{IsTurnOf}
 use Rattle.ckr_turns.specs.declared.plan.Plan.{Plan}
 use Rattle.ckr_turns.specs.declared.plan.Plan.TheVariants.{Rest, Tell, Work}
+use Rattle.ckr_turns.specs.declared.reply.Reply.{Reply}
 use Rattle.ckr_turns.specs.declared.reply.Turn.{Turn}
 use Rattle.ckr_turns.specs.Planned.{plan_of}
 use Rattle.ckr_volumes.specs.declared.layout.Layout.{Layout}
 use Rattle.ckr_desk.specs.declared.error.DeskError.{DeskError}
 use Rattle.ckr_desk.specs.declared.error.DeskError.TheVariants.{NoMemory, DiskFault, BookFull, Stopped, Misread}
 use Rattle.ckr_desk.specs.Calls.{HasGoneOn, IsLeftBy, may_follow, may_keep}
-use Rattle.ckr_desk.specs.Sound.{IsTrusted}
-use Rattle.ckr_desk.specs.State.{DeskState, need_of}
+use Rattle.ckr_desk.specs.Sound.{IsTrusted, KeepsWithin, state_of}
+use Rattle.ckr_desk.specs.State.{DeskState}
 use Rattle.ckr_desk.specs.Rewriting.{CannotWrite, IsWrittenBy, LacksAtMost, OpensSame}
+use Rattle.ckr_desk.specs.Calling.{FailsBy, spelled}
+use Rattle.ckr_desk.specs.Turning.{behind_turn, event_of_turn, reply_of, turn_fits}
+use Rattle.ckr_desk.specs.declared.ready.Ready.{Ready}
 
 abbrev pub is_unit : NextDue → Bool
 is_unit Dues.Unit = true
@@ -119,19 +122,17 @@ abbrev pub HasGoneBehind : {D : Type 0} → Type 0 → (D → List ℕ) → Opti
 HasGoneBehind told content None old new = new ≡ old
 HasGoneBehind told content (Some event) old new = HasGoneOn event None old new × (told → HasWrittenBehind content event old new)
 
--- why what a turn comes to wasn't done
-abbrev pub NotTold : {D : Type 0} → (D → ℕ) → Event → DeskState D → DeskState D → DeskError → Type 0
-NotTold faults event old new NoMemory = Unit {0}
-NotTold faults event old new DiskFault = Rose (faults old.store.disk) (faults new.store.disk)
-NotTold faults event old new (BookFull need room) = (need ≡ need_of event) × (room ≡ room_of old.store.book) × (room < need)
-NotTold faults event old new (Stopped fault) = old.store.fault ≡ Some fault
-NotTold faults event old new Misread =
-    (is_plain_event event ≡ false) ⊎ ((may_follow event None old ≡ false) ⊎ CannotWrite event (after_event event None old.jobs.tables.desk))
+-- why what a turn comes to wasn't done, where its event was ready, or wasn't
+abbrev pub NotTold : {D : Type 0} → (D → ℕ) → Event → Option Ready → DeskState D → DeskState D → DeskError → Type 0
+NotTold faults event ready old new DiskFault = Rose (faults old.store.disk) (faults new.store.disk)
+NotTold faults event ready old new Misread =
+    (ready ≡ None) ⊎ ((is_plain_event event ≡ false) ⊎ ((may_follow event None old ≡ false) ⊎ CannotWrite event (after_event event None old.jobs.tables.desk)))
+NotTold faults event ready old new _ = ⊥
 
-abbrev pub NotBehind : {D : Type 0} → (D → ℕ) → Plan → DeskState D → DeskState D → DeskError → Type 0
-NotBehind faults (Rest reply) old new error = ⊥
-NotBehind faults (Tell reply event) old new error = NotTold faults event old new error
-NotBehind faults (Work job) old new error = error ≡ Misread
+abbrev pub NotBehind : {D : Type 0} → (D → ℕ) → Plan → Option Ready → DeskState D → DeskState D → DeskError → Type 0
+NotBehind faults (Rest reply) ready old new error = ⊥
+NotBehind faults (Tell reply event) ready old new error = NotTold faults event ready old new error
+NotBehind faults (Work job) ready old new error = error ≡ Misread
 
 -- ---- a turn
 
@@ -140,3 +141,13 @@ pub record IsPlanned {D : Type 0} (told : Type 0) (content : D → List ℕ) (ma
   pub trusted : IsTrusted told content may_leave desk
   pub its : IsTurnOf desk.store.layout turn
   pub planned : plan_of desk.store.layout (jobs_of desk.jobs) turn ≡ plan
+
+-- What a turn has come to on a trusted disk: the reply, the desk behind it, why it wasn't done, and what a stop within it leaves.
+pub record HasTurned {D : Type 0} (told : Type 0) (content : D → List ℕ) (may_leave : D → List ℕ → Type 0) (moment : D → ℕ) (left_since : D → ℕ → List ℕ → Type 0) (size : D → ℕ)
+    (turn : Turn) (old new : DeskState D) (result : Result Reply DeskError) : Type 0 where
+  pub reply : IfOk result (λ reply. reply ≡ reply_of (state_of content old) turn)
+  pub fits : OnOk result (turn_fits (state_of content old) turn ≡ true)
+  pub after : OnOk result (state_of content new ≡ behind_turn (state_of content old) turn)
+  pub trusted : OnOk result (IsTrusted told content may_leave new)
+  pub cause : IfErr result (FailsBy (turn_fits (state_of content old) turn))
+  pub kept : KeepsWithin content moment left_since size old new (spelled (event_of_turn (state_of content old) turn))

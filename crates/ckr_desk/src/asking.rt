@@ -5,6 +5,7 @@ ghost use Rattle.std.specs.Option.{option_map};
 ghost use Rattle.ckr_listing.specs.Listed.{listed, records_of};
 ghost use Rattle.ckr_desk.specs.Calling.{FailsBy, MayFail, behind_call, call_fits, event_in, spelled};
 ghost use Rattle.ckr_desk.specs.Sound.{IsTrusted, KeepsWithin, state_of};
+ghost use Rattle.ckr_desk.specs.Staying.{StaysBy};
 ghost use Rattle.ckr_desk.specs.Submitting.{is_queued, purge_call, submit_answer, submit_call};
 
 use crate::reading::read_all;
@@ -31,9 +32,9 @@ impl<D: Disk> Desk<D> {
     /// `Refused`: exactly where the deck is refused by the rules J01 to J24; and with number 0 at card 1 exactly where the
     /// deck is accepted, and the desk doesn't run its form, or its job would be the 10,000,000th. Nothing changes then.
     ///
-    /// `NoMemory`. `BookFull`: only where the event of the deck needs more than the room of the book, both in bytes. `DiskFault`: only
-    /// where the disk's faults rose in this call; then the desk has stopped. `Stopped`: exactly where it had stopped before. `Misread`:
-    /// never on a disk that reads what was written (this project's profile).
+    /// `NoMemory`. `BookFull`: exactly where the event of the deck needs more than the room of the book, both in bytes, and there was memory.
+    /// Nothing has changed after these two. `DiskFault`: only where the disk's faults rose in this call; then the desk has stopped. `Stopped`:
+    /// exactly where it had stopped before. `Misread`: never on a disk that reads what was written (this project's profile).
     pub fn submit(&mut self, cards: &[u8]) -> Result<Submitted, DeskError>
         requires whole { length cards.now % 81 ≡ 0 }
         requires some { 81 ≤ length cards.now }
@@ -48,6 +49,7 @@ impl<D: Disk> Desk<D> {
         ensures faults { D.faults self.old.store.disk ≤ D.faults self.new.store.disk }
         ensures may_fail { IfErr result (MayFail (D.faults self.old.store.disk) (D.faults self.new.store.disk) self.old.store.fault) }
         ensures cause { IsTrusted D.told D.content D.may_leave self.old → IfErr result (FailsBy (call_fits (state_of D.content self.old) (submit_call self.old.jobs.tables.desk cards.now))) }
+        ensures stays { IfErr result (StaysBy D.content D.may_leave D.faults self.old self.new) }
 
         // A stop at any moment leaves a sound image with the events before the call, or with its one event too.
         ensures kept { self.old.store.fault ≡ None → IsTrusted D.told D.content D.may_leave self.old
@@ -59,9 +61,9 @@ impl<D: Disk> Desk<D> {
 
     /// Takes a run from the queue. False exactly where there is no such run, or it doesn't wait in the queue; nothing changes then.
     ///
-    /// `NoMemory`. `BookFull`: only where the event needs more than the room of the book, both in bytes. `DiskFault`: only where the disk's
-    /// faults rose in this call; then the desk has stopped. `Stopped`: exactly where it had stopped before. `Misread`: never on a disk
-    /// that reads what was written (this project's profile).
+    /// `NoMemory`. `BookFull`: exactly where the event needs more than the room of the book, both in bytes, and there was memory. Nothing has
+    /// changed after these two. `DiskFault`: only where the disk's faults rose in this call; then the desk has stopped. `Stopped`: exactly
+    /// where it had stopped before. `Misread`: never on a disk that reads what was written (this project's profile).
     pub fn purge(&mut self, job: u32) -> Result<bool, DeskError>
         ensures answer { IfOk result (λ gone. gone ≡ is_queued self.old.jobs.tables.desk job) }
         ensures fits { IsTrusted D.told D.content D.may_leave self.old → OnOk result (call_fits (state_of D.content self.old) (purge_call self.old.jobs.tables.desk job) ≡ true) }
@@ -73,6 +75,7 @@ impl<D: Disk> Desk<D> {
         ensures faults { D.faults self.old.store.disk ≤ D.faults self.new.store.disk }
         ensures may_fail { IfErr result (MayFail (D.faults self.old.store.disk) (D.faults self.new.store.disk) self.old.store.fault) }
         ensures cause { IsTrusted D.told D.content D.may_leave self.old → IfErr result (FailsBy (call_fits (state_of D.content self.old) (purge_call self.old.jobs.tables.desk job))) }
+        ensures stays { IfErr result (StaysBy D.content D.may_leave D.faults self.old self.new) }
 
         // A stop at any moment leaves a sound image with the events before the call, or with its one event too.
         ensures kept { self.old.store.fault ≡ None → IsTrusted D.told D.content D.may_leave self.old
@@ -105,6 +108,7 @@ impl<D: Disk> Desk<D> {
         ensures faults { D.faults self.old.store.disk ≤ D.faults self.new.store.disk }
         ensures may_fail { IfErr result (MayFail (D.faults self.old.store.disk) (D.faults self.new.store.disk) self.old.store.fault) }
         ensures cause { IsTrusted D.told D.content D.may_leave self.old → IfErr result (FailsBy true) }
+        ensures stays { IfErr result (StaysBy D.content D.may_leave D.faults self.old self.new) }
 
         // A stop at any moment leaves a sound image with the same events.
         ensures kept { self.old.store.fault ≡ None → IsTrusted D.told D.content D.may_leave self.old → KeepsWithin D.content D.moment D.left_since D.size self.old self.new [] }

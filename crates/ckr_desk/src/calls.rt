@@ -5,6 +5,7 @@ ghost use Rattle.ckr_keeping.specs.Going.{IsTurnOf};
 ghost use Rattle.ckr_desk.specs.Calling.{FailsBy, MayFail, spelled};
 ghost use Rattle.ckr_desk.specs.Turning.{behind_turn, event_of_turn, reply_of, turn_fits};
 ghost use Rattle.ckr_desk.specs.Sound.{IsTrusted, KeepsWithin, state_of};
+ghost use Rattle.ckr_desk.specs.Staying.{StaysBy};
 
 use crate::{Desk, DeskError};
 use ckr_outside::Disk;
@@ -14,10 +15,9 @@ impl<D: Disk> Desk<D> {
     /// One turn of an initiator, from 1 to the layout's number of them: one event of the desk, or one unit of a running step (the order of
     /// what comes first is this project's profile).
     ///
-    /// `NoMemory`. `BookFull`: only where the event of the turn needs more than the room of the book. `DiskFault`: only where the disk's
-    /// faults rose in this call; then the desk has stopped. `Stopped`: exactly where it had stopped before. `Misread`: never on a disk
-    /// that reads what was written. Where a unit of work was done and its event then finds no memory or no room, its step goes no
-    /// further before the disk is opened again.
+    /// `NoMemory`. `BookFull`: exactly where the event of the turn needs more than the room of the book, and there was memory. Nothing has
+    /// changed after these two: a unit is looked at before it is done. `DiskFault`: only where the disk's faults rose in this call; then the
+    /// desk has stopped. `Stopped`: exactly where it had stopped before. `Misread`: never on a disk that reads what was written.
     pub fn turn(&mut self, turn: Turn) -> Result<Reply, DeskError>
         requires initiator { IsTurnOf self.old.store.layout turn }
         requires code { IsAnyCode turn.fail }
@@ -32,6 +32,7 @@ impl<D: Disk> Desk<D> {
         ensures faults { D.faults self.old.store.disk ≤ D.faults self.new.store.disk }
         ensures may_fail { IfErr result (MayFail (D.faults self.old.store.disk) (D.faults self.new.store.disk) self.old.store.fault) }
         ensures cause { IsTrusted D.told D.content D.may_leave self.old → IfErr result (FailsBy (turn_fits (state_of D.content self.old) turn)) }
+        ensures stays { IfErr result (StaysBy D.content D.may_leave D.faults self.old self.new) }
 
         // A stop at any moment leaves a sound image with the events before the call, or with its one event too.
         ensures kept { self.old.store.fault ≡ None → IsTrusted D.told D.content D.may_leave self.old

@@ -3,20 +3,21 @@ ghost use Rattle.std.specs.Prelude.{◌≡◌, ◌≤◌, ◌++◌, ◌∷◌, [
 ghost use Rattle.std.specs.Option.{option_copied};
 ghost use Rattle.ckr_events.specs.Event.{IsCounted, spelling};
 ghost use Rattle.ckr_jobs.specs.Holding.{IsAnyAccepted};
-ghost use Rattle.ckr_jobs.specs.Preparing.{IsPrepared};
 ghost use Rattle.ckr_outside.specs.Disk.{EachSince, Only};
 ghost use Rattle.ckr_points.specs.Rows.{holding_of};
 ghost use Rattle.ckr_standing.specs.Moving.{HasSameRecords};
 ghost use Rattle.ckr_store.specs.Opens.{event_records};
 ghost use Rattle.ckr_tables.specs.Keeping.{is_plain_event, MaySubmit};
 ghost use Rattle.ckr_tables.specs.Seen.{line_of, seen_by};
-ghost use Rattle.ckr_desk.specs.Calls.{HasGoneOn, IsLeftBy, NotKept, may_follow, may_keep};
+ghost use Rattle.ckr_desk.specs.Calls.{HasGoneOn, IsLeftBy, NotEntered, NotKept, may_follow};
+ghost use Rattle.ckr_desk.specs.Ready.{IsReady};
 
 use crate::DeskError;
+use crate::ready::Ready;
 use ckr_events::Event;
-use ckr_following::{follows, may_count};
+use ckr_following::follows;
 use ckr_jcl::Job;
-use ckr_jobs::{Jobs, Prepared};
+use ckr_jobs::Jobs;
 use ckr_library::Library;
 use ckr_outside::Disk;
 use ckr_points::Run;
@@ -74,21 +75,13 @@ impl<D: Disk> Desk<D> {
         follows(self.jobs.tables(), self.store.layout(), event, deck)
     }
 
-    /// Puts an event on the disk that may be kept, behind all that was written before, and the jobs go on by it with the memory
-    /// that was taken for it.
-    fn enter(
-        &mut self,
-        event: &Event,
-        deck: Option<Job>,
-        prepared: Prepared,
-    ) -> Result<(), DeskError>
+    /// Puts an event on the disk that is ready, behind all that was written before, and the jobs go on by it. It takes no memory.
+    fn enter(&mut self, event: &Event, deck: Option<Job>, ready: Ready) -> Result<(), DeskError>
         requires plain { IsTrue (is_plain_event event.now) }
-        requires counted { IsCounted event.now }
-        requires small { length (spelling event.now) ≤ 4294967289 }
         requires deck { MaySubmit event.now deck }
         requires accepted { IsAnyAccepted event.now deck }
-        requires may { may_keep event.now deck self.old ≡ true }
-        requires prepared { IsPrepared self.old.jobs event.now deck prepared }
+        requires follows { may_follow event.now deck self.old ≡ true }
+        requires ready { IsReady event.now deck self.old ready }
         requires is_open { self.old.store.fault ≡ None }
         ensures ok { OnOk result (HasGoneOn event.now deck self.old self.new) }
         ensures told { D.told → OnOk result (event_records self.old.store.layout (D.content self.new.store.disk)
@@ -99,20 +92,55 @@ impl<D: Disk> Desk<D> {
         ensures size { D.size self.new.store.disk ≡ D.size self.old.store.disk }
         ensures faults { D.faults self.old.store.disk ≤ D.faults self.new.store.disk }
         ensures layout { self.new.store.layout ≡ self.old.store.layout }
-        ensures cause { IfErr result (NotKept D.faults event.now deck self.old self.new) }
+        ensures cause { IfErr result (NotEntered D.faults event.now deck self.old self.new) }
     {
         let _layout = self.store.layout();
+        let Ready { bytes, prepared } = ready;
         self.store.sync()?;
-        self.store.append(event)?;
+        self.store.append(&bytes)?;
         self.jobs.keep(event, deck, prepared);
         Ok(())
     }
 
-    /// Keeps a plain event: what was written before is synced, the event is put on the disk, and the jobs go on by it. A deck is given
-    /// exactly where the event is Submitted and its cards are a deck, and it is that deck, accepted and of a form that the desk runs.
+    /// Keeps a plain event that is ready: what was written before is synced, the event is put on the disk, and the jobs go on by it. It takes
+    /// no memory.
+    ///
+    /// `DiskFault`: only where the disk's faults rose in this call; then the desk has stopped. `Misread`: exactly where the event doesn't
+    /// follow; nothing has changed then.
+    pub(crate) fn tell_ready(
+        &mut self,
+        event: &Event,
+        deck: Option<Job>,
+        ready: Ready,
+    ) -> Result<(), DeskError>
+        requires plain { IsTrue (is_plain_event event.now) }
+        requires deck { MaySubmit event.now deck }
+        requires accepted { IsAnyAccepted event.now deck }
+        requires ready { IsReady event.now deck self.old ready }
+        requires is_open { self.old.store.fault ≡ None }
+        ensures ok { OnOk result (HasGoneOn event.now deck self.old self.new) }
+        ensures told { D.told → OnOk result (event_records self.old.store.layout (D.content self.new.store.disk)
+            ≡ event_records self.old.store.layout (D.content self.old.store.disk) ++ spelling event.now ∷ []) }
+        ensures records { D.told → OnOk result (HasSameRecords self.old.store.layout (D.content self.old.store.disk) (D.content self.new.store.disk)) }
+        ensures settled { OnOk result (Only (D.content self.new.store.disk) (D.may_leave self.new.store.disk)) }
+        ensures left { EachSince D.moment D.left_since self.old.store.disk self.new.store.disk (IsLeftBy D.content D.may_leave D.size event.now deck self.old) }
+        ensures size { D.size self.new.store.disk ≡ D.size self.old.store.disk }
+        ensures faults { D.faults self.old.store.disk ≤ D.faults self.new.store.disk }
+        ensures layout { self.new.store.layout ≡ self.old.store.layout }
+        ensures cause { IfErr result (NotEntered D.faults event.now deck self.old self.new) }
+    {
+        let _layout = self.store.layout();
+        if !self.may_follow(event, deck.as_ref()) {
+            return Err(DeskError::Misread);
+        }
+        self.enter(event, deck, ready)
+    }
+
+    /// Keeps a plain event, with the memory that it needs. A deck is given exactly where the event is Submitted and its cards are a deck, and
+    /// it is that deck, accepted and of a form that the desk runs.
     ///
     /// `NoMemory`, also where a count of rewrites is at its end; `BookFull` where the event needs more than the room of the book; `Misread`
-    /// exactly where it doesn't follow: what the jobs are and where the disk stands is the same then. `DiskFault`: only where the disk's faults rose in
+    /// exactly where it doesn't follow and is ready: the jobs and the disk are the same then. `DiskFault`: only where the disk's faults rose in
     /// this call; then the desk has stopped. `Stopped`: exactly where it had stopped before (this project's profile).
     pub fn tell(&mut self, event: &Event, deck: Option<Job>) -> Result<(), DeskError>
         requires plain { IsTrue (is_plain_event event.now) }
@@ -136,13 +164,7 @@ impl<D: Disk> Desk<D> {
         if let Some(fault) = self.store.fault() {
             return Err(DeskError::Stopped { fault });
         }
-        if !self.may_follow(event, deck.as_ref()) {
-            return Err(DeskError::Misread);
-        }
-        if !may_count(self.jobs.tables(), event) {
-            return Err(DeskError::NoMemory);
-        }
-        let prepared = self.jobs.prepare(event, deck.as_ref())?;
-        self.enter(event, deck, prepared)
+        let ready = self.make_ready(event, deck.as_ref())?;
+        self.tell_ready(event, deck, ready)
     }
 }

@@ -12,13 +12,13 @@ use thiserror::Error;
 /// Why a call of the desk did nothing, or not all that was asked.
 #[derive(Clone, Copy, Debug, Drop, Error, PartialEq, Eq)]
 pub enum DeskError {
-    /// There was no memory. Nothing has changed, but where a turn had done a unit of work whose event found none.
+    /// There was no memory. Nothing has changed.
     #[error("there is no memory")]
     NoMemory,
     /// The disk failed, and its count of faults rose. The desk has stopped.
     #[error("the disk failed")]
     DiskFault,
-    /// The event needs more bytes of the book than are left. Nothing has changed, but where a turn had done the unit of work that it tells of.
+    /// The event needs more bytes of the book than are left. Nothing has changed.
     #[error("the event needs {need} bytes of the book, and {room} are left")]
     BookFull { need: u32, room: u32 },
     /// The desk has stopped since an earlier call, whose fault was the disk's one of this number. Nothing has changed.
@@ -42,7 +42,6 @@ impl From<StoreError> for DeskError {
 
     fn from(error: StoreError) -> Self {
         match error {
-            StoreError::NoMemory => DeskError::NoMemory,
             StoreError::DiskFault => DeskError::DiskFault,
             StoreError::BookFull { need, room } => DeskError::BookFull { need, room },
             StoreError::Stopped { fault } => DeskError::Stopped { fault },

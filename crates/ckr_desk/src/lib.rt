@@ -7,6 +7,7 @@ mod desk;
 mod error;
 mod opening;
 mod reading;
+mod ready;
 mod rewriting;
 mod submitting;
 mod turning;

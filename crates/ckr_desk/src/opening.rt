@@ -26,7 +26,7 @@ use ckr_jobs::Jobs;
 use ckr_journal::{LayoutError, Next, NextEventError, next_event, read_layout};
 use ckr_library::DataSet;
 use ckr_outside::Disk;
-use ckr_store::{Store, Unopened};
+use ckr_store::Store;
 use ckr_volumes::Layout;
 use std::alloc::Global;
 
@@ -216,16 +216,13 @@ impl<D: Disk> Desk<D> {
                     end,
                     last,
                 },
-            ) => match Store::open(alloc, disk, layout, end) {
-                Ok(store) => Ok(Read {
+            ) => {
+                let store = Store::open(disk, layout, end);
+                Ok(Read {
                     desk: Desk { alloc, store, jobs },
                     last,
-                }),
-                Err(Unopened { disk }) => Err(Opening {
-                    error: OpenError::NoMemory,
-                    disk,
-                }),
-            },
+                })
+            }
             Err(error) => Err(Opening { error, disk }),
         }
     }

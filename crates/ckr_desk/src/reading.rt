@@ -5,10 +5,11 @@ ghost use Rattle.ckr_volumes.specs.Records.{record_at, records_on};
 ghost use Rattle.ckr_volumes.specs.Stands.{StandsIn};
 ghost use Rattle.ckr_desk.specs.Reading.{ReadingCause};
 
+use crate::DeskError;
 use ckr_base::Records;
 use ckr_library::DataSet;
 use ckr_outside::Disk;
-use ckr_store::{Store, StoreError};
+use ckr_store::Store;
 use std::alloc::Global;
 
 /// Reads the record at a place, and puts it behind those that were read.
@@ -17,7 +18,7 @@ fn read_next<D: Disk>(
     set: &DataSet,
     place: u32,
     found: &mut Records,
-) -> Result<(), StoreError>
+) -> Result<(), DeskError>
     requires is_open { store.old.fault ≡ None }
     requires stands { StandsIn store.old.layout set.now }
     requires place { place < set.now.space }
@@ -38,7 +39,7 @@ pub(crate) fn read_all<D: Disk>(
     alloc: Global,
     store: &mut Store<D>,
     set: &DataSet,
-) -> Result<Records, StoreError>
+) -> Result<Records, DeskError>
     requires is_open { store.old.fault ≡ None }
     requires stands { StandsIn store.old.layout set.now }
     ensures read { D.told → IfOk result (λ found. found ≡ records_on (D.content store.old.disk) store.old.layout set.now set.now.length) }

@@ -4,6 +4,7 @@ ghost use Rattle.ckr_outside.specs.Disk.{EachSince, Only};
 ghost use Rattle.ckr_store.specs.Opens.{event_records};
 ghost use Rattle.ckr_desk.specs.Calls.{HasSameJobs};
 ghost use Rattle.ckr_desk.specs.Rewriting.{IsLackingBy, IsWrittenBy, NotWritten};
+ghost use Rattle.ckr_desk.specs.Staying.{HasHalted};
 
 use crate::{Desk, DeskError};
 use ckr_events::Event;
@@ -24,6 +25,7 @@ impl<D: Disk> Desk<D> {
         ensures size { D.size self.new.store.disk ≡ D.size self.old.store.disk }
         ensures faults { D.faults self.old.store.disk ≤ D.faults self.new.store.disk }
         ensures cause { IfErr result (NotWritten (D.faults self.old.store.disk) (D.faults self.new.store.disk) event.now self.old.jobs.tables.desk) }
+        ensures halted { IfErr result (HasHalted D.faults self.new.store) }
     {
         let _layout = self.store.layout();
         let Event::Rewritten {

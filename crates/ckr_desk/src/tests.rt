@@ -87,9 +87,9 @@ fn cards_of(alloc: Global, lines: &[&[u8]]) -> Result<Vec<u8>, Fail> {
     Ok(cards)
 }
 
-/// Submits a copy of the record `ALPHA` to `OUT.A`.
-fn submit_copy(alloc: Global, desk: &mut Desk<MemDisk>) -> Result<Submitted, Fail> {
-    let cards = cards_of(
+/// The cards of a copy of the record `ALPHA` to `OUT.A`.
+fn copy_cards(alloc: Global) -> Result<Vec<u8>, Fail> {
+    cards_of(
         alloc,
         &[
             b"//COPY1 JOB",
@@ -99,7 +99,12 @@ fn submit_copy(alloc: Global, desk: &mut Desk<MemDisk>) -> Result<Submitted, Fai
             b"/*",
             b"//SYSUT2 DD DSN=OUT.A,DISP=(NEW,CATLG),SPACE=(80,10)",
         ],
-    )?;
+    )
+}
+
+/// Submits that copy.
+fn submit_copy(alloc: Global, desk: &mut Desk<MemDisk>) -> Result<Submitted, Fail> {
+    let cards = copy_cards(alloc)?;
     if cards.len() % 81 != 0 || cards.len() < 81 || 8_100 < cards.len() {
         return Err("the cards have 81 bytes each".into());
     }
@@ -188,5 +193,85 @@ fn run_to_its_end(rt: HostRuntime) -> Result<(), Fail> {
     let kept = has_copied(&mut again)?;
     again.close();
     assert!(rt; ran && kept);
+    Ok(())
+}
+
+/// Submits a copy of two records to a data set with space for one, and does the first unit of it; whether one record is written.
+fn begin_long_copy(alloc: Global, desk: &mut Desk<MemDisk>) -> Result<bool, Fail> {
+    let cards = cards_of(
+        alloc,
+        &[
+            b"//COPY2 JOB",
+            b"//S1 EXEC PGM=COPY",
+            b"//SYSUT1 DD *",
+            b"ALPHA",
+            b"BETA",
+            b"/*",
+            b"//SYSUT2 DD DSN=OUT.A,DISP=(NEW,CATLG),SPACE=(80,1)",
+        ],
+    )?;
+    if cards.len() % 81 != 0 || cards.len() < 81 || 8_100 < cards.len() {
+        return Err("the cards have 81 bytes each".into());
+    }
+    desk.submit(&cards)?;
+    for _ in 0..3 {
+        turn(desk)?;
+    }
+    Ok(desk.set_at(0).is_some_and(|it| it.set.length == 1))
+}
+
+/// Fills the book with decks, and then by purging their jobs, until fewer than 11 bytes of it are left.
+fn fill_book(alloc: Global, desk: &mut Desk<MemDisk>) -> Result<(), Fail> {
+    let cards = copy_cards(alloc)?;
+    if cards.len() % 81 != 0 || cards.len() < 81 || 8_100 < cards.len() {
+        return Err("the cards have 81 bytes each".into());
+    }
+    for _ in 0..1_000 {
+        if desk.submit(&cards).is_err() {
+            break;
+        }
+    }
+    for job in 2..1_000 {
+        match desk.purge(job) {
+            Ok(_) => {}
+            Err(DeskError::BookFull { .. }) => return Ok(()),
+            Err(error) => return Err(error.into()),
+        }
+    }
+    Err("the book is never full".into())
+}
+
+/// Why a turn of the first initiator isn't done.
+fn failed_turn(desk: &mut Desk<MemDisk>) -> Option<DeskError> {
+    if desk.layout().initiators < 1 {
+        return None;
+    }
+    let turn = Turn {
+        initiator: 1,
+        fail: None,
+    };
+    desk.turn(turn).err()
+}
+
+/// Whether a turn has no room for its event, of 19 bytes, and the next one neither.
+fn has_no_room_twice(desk: &mut Desk<MemDisk>) -> bool {
+    let first = failed_turn(desk);
+    let second = failed_turn(desk);
+    let is_full = match first {
+        Some(DeskError::BookFull { need, room }) => need == 25 && room < 11,
+        _ => false,
+    };
+    is_full && first == second && desk.set_at(0).is_some_and(|it| it.set.length == 1)
+}
+
+#[test]
+fn no_room_for_the_event_of_a_unit(rt: HostRuntime) -> Result<(), Fail> {
+    let alloc = rt.alloc();
+    let mut desk = open(alloc, formatted(alloc)?)?;
+    let begun = begin_long_copy(alloc, &mut desk)?;
+    fill_book(alloc, &mut desk)?;
+    let full = has_no_room_twice(&mut desk);
+    desk.close();
+    assert!(rt; begun && full);
     Ok(())
 }

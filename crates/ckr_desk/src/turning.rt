@@ -1,16 +1,17 @@
 //! What goes on behind what a turn comes to.
-ghost use Rattle.std.specs.Prelude.{◌≡◌, ◌≤◌, IfErr, IfOk, OnOk, None, true};
+ghost use Rattle.std.specs.Prelude.{◌≡◌, ◌≤◌, IfErr, IfOk, OnOk, None};
 ghost use Rattle.ckr_jobs.specs.Planning.{IsSpelledPlan, IsToldReply};
 ghost use Rattle.ckr_outside.specs.Disk.{EachSince};
 ghost use Rattle.ckr_standing.specs.Moving.{event_in, reply_in};
 ghost use Rattle.ckr_tables.specs.Keeping.{is_plain_event};
 ghost use Rattle.ckr_desk.specs.Calls.{IsSettledBehind};
-ghost use Rattle.ckr_desk.specs.Calling.{FailsBy, MayFail, spelled};
-ghost use Rattle.ckr_desk.specs.Sound.{IsTrusted, KeepsWithin, state_of};
-ghost use Rattle.ckr_desk.specs.Turning.{behind_turn, event_of_turn, reply_of, turn_fits};
-ghost use Rattle.ckr_desk.specs.Working.{HasGoneBehind, IsLeftBehind, IsPlanned, NotBehind};
+ghost use Rattle.ckr_desk.specs.Calling.{MayFail};
+ghost use Rattle.ckr_desk.specs.Ready.{IsReadyIf};
+ghost use Rattle.ckr_desk.specs.Staying.{HasHalted, StaysBy};
+ghost use Rattle.ckr_desk.specs.Working.{HasGoneBehind, HasTurned, IsLeftBehind, IsPlanned, NotBehind};
 ghost use Rattle.ckr_turns.specs.declared.reply.Turn.{Turn as TurnOf};
 
+use crate::ready::Ready;
 use crate::{Desk, DeskError};
 use ckr_events::Event;
 use ckr_outside::Disk;
@@ -38,10 +39,12 @@ fn is_plain(event: &Event) -> bool
 }
 
 impl<D: Disk> Desk<D> {
-    /// Goes on behind what a turn comes to: its event is kept, and the record that it tells of is written.
-    pub(crate) fn go_on(&mut self, plan: Plan) -> Result<Reply, DeskError>
+    /// Goes on behind what a turn comes to: its event, if it tells one, is kept with what is ready for it, and the record that it tells of is
+    /// written. It takes no memory.
+    pub(crate) fn go_on(&mut self, plan: Plan, ready: Option<Ready>) -> Result<Reply, DeskError>
         requires is_open { self.old.store.fault ≡ None }
         requires spelled { IsSpelledPlan plan }
+        requires ready { IsReadyIf (event_in plan) self.old ready }
         ensures reply { IfOk result (λ reply. reply ≡ reply_in plan) }
         ensures spelled { IfOk result IsToldReply }
         ensures gone { OnOk result (HasGoneBehind D.told D.content (event_in plan) self.old self.new) }
@@ -51,16 +54,20 @@ impl<D: Disk> Desk<D> {
         ensures layout { self.new.store.layout ≡ self.old.store.layout }
         ensures size { D.size self.new.store.disk ≡ D.size self.old.store.disk }
         ensures faults { D.faults self.old.store.disk ≤ D.faults self.new.store.disk }
-        ensures cause { IfErr result (NotBehind D.faults plan self.old self.new) }
+        ensures cause { IfErr result (NotBehind D.faults plan ready self.old self.new) }
+        ensures halted { IfErr result (HasHalted D.faults self.new.store) }
     {
         let _layout = self.store.layout();
         match plan {
             Plan::Rest(reply) => Ok(reply),
             Plan::Tell { reply, event } => {
+                let Some(ready) = ready else {
+                    return Err(DeskError::Misread);
+                };
                 if !is_plain(&event) {
                     return Err(DeskError::Misread);
                 }
-                self.tell(&event, None)?;
+                self.tell_ready(&event, None, ready)?;
                 self.rewrite(&event)?;
                 Ok(reply)
             }
@@ -68,33 +75,26 @@ impl<D: Disk> Desk<D> {
         }
     }
 
-    /// Carries out what a turn comes to.
+    /// Carries out what a turn comes to. What it tells is made ready before anything is written.
     pub(crate) fn carry_out(&mut self, plan: Plan) -> Result<Reply, DeskError>
         requires is_open { self.old.store.fault ≡ None }
         requires spelled { IsSpelledPlan plan }
-        ensures reply { (turn : TurnOf) → IsPlanned D.told D.content D.may_leave self.old turn plan
-            → IfOk result (λ reply. reply ≡ reply_of (state_of D.content self.old) turn) }
+        ensures turned { (turn : TurnOf) → IsPlanned D.told D.content D.may_leave self.old turn plan → HasTurned D.told D.content D.may_leave D.moment D.left_since D.size turn self.old self.new result }
         ensures spelled { IfOk result IsToldReply }
-        ensures fits { (turn : TurnOf) → IsPlanned D.told D.content D.may_leave self.old turn plan
-            → OnOk result (turn_fits (state_of D.content self.old) turn ≡ true) }
-        ensures after { (turn : TurnOf) → IsPlanned D.told D.content D.may_leave self.old turn plan
-            → OnOk result (state_of D.content self.new ≡ behind_turn (state_of D.content self.old) turn) }
-        ensures trusted { (turn : TurnOf) → IsPlanned D.told D.content D.may_leave self.old turn plan
-            → OnOk result (IsTrusted D.told D.content D.may_leave self.new) }
         ensures is_open { OnOk result (self.new.store.fault ≡ None) }
         ensures layout { self.new.store.layout ≡ self.old.store.layout }
         ensures size { D.size self.new.store.disk ≡ D.size self.old.store.disk }
         ensures faults { D.faults self.old.store.disk ≤ D.faults self.new.store.disk }
         ensures may_fail { IfErr result (MayFail (D.faults self.old.store.disk) (D.faults self.new.store.disk) self.old.store.fault) }
-        ensures cause { (turn : TurnOf) → IsPlanned D.told D.content D.may_leave self.old turn plan
-            → IfErr result (FailsBy (turn_fits (state_of D.content self.old) turn)) }
-        ensures kept { (turn : TurnOf) → IsPlanned D.told D.content D.may_leave self.old turn plan
-            → KeepsWithin D.content D.moment D.left_since D.size self.old self.new (spelled (event_of_turn (state_of D.content self.old) turn)) }
+        ensures stays { IfErr result (StaysBy D.content D.may_leave D.faults self.old self.new) }
     {
         let _layout = self.store.layout();
         match plan {
             Plan::Work { job } => self.work(job),
-            plan => self.go_on(plan),
+            plan => {
+                let ready = self.ready_for(&plan)?;
+                self.go_on(plan, ready)
+            }
         }
     }
 }

@@ -4,7 +4,7 @@ use Rattle.ckr_outside.specs.Faults.{Rose}
 use Rattle.ckr_book.specs.Book.{room_of}
 use Rattle.ckr_store.specs.State.{StoreState}
 use Rattle.ckr_store.specs.declared.error.StoreError.{StoreError}
-use Rattle.ckr_store.specs.declared.error.StoreError.TheVariants.{NoMemory, DiskFault, BookFull, Stopped}
+use Rattle.ckr_store.specs.declared.error.StoreError.TheVariants.{DiskFault, BookFull, Stopped}
 
 module _ {D : Type 0} (faults : D → ℕ) where
   -- the disk's faults rose, and the store has stopped; its layout and its book are as before
@@ -13,14 +13,12 @@ module _ {D : Type 0} (faults : D → ℕ) where
 
   -- of a call that reads or writes records, or syncs
   abbrev pub DiskCause : StoreState D → StoreState D → StoreError → Type 0
-  DiskCause old new NoMemory = ⊥
   DiskCause old new DiskFault = HasFailed old new
   DiskCause old new (BookFull need room) = ⊥
   DiskCause old new (Stopped fault) = (old.fault ≡ Some fault) × (new ≡ old)
 
   -- of an append that needs so many bytes of the book
   abbrev pub AppendCause : ℕ → StoreState D → StoreState D → StoreError → Type 0
-  AppendCause needed old new NoMemory = new ≡ old
   AppendCause needed old new DiskFault = HasFailed old new
   AppendCause needed old new (BookFull need room) = (need ≡ needed) × (room ≡ room_of old.book) × (room < need) × (new ≡ old)
   AppendCause needed old new (Stopped fault) = (old.fault ≡ Some fault) × (new ≡ old)

@@ -5,5 +5,5 @@ mod error;
 mod stepping;
 mod store;
 
-pub use error::{StoreError, Unopened};
+pub use error::StoreError;
 pub use store::Store;

@@ -1,9 +1,8 @@
 //! The store: a disk whose layout and book were read.
-ghost use Rattle.std.specs.Prelude.{◌≡◌, ◌≤◌, ◌<◌, ◌+◌, ◌⊎◌, ℕ, ◌∷◌, [], ◌++◌, length, take, IsTrue, OnOk, IfOk, IfErr, IfSome, MatchOption, Some, None, Ok, Err, slice_get, slice_set};
+ghost use Rattle.std.specs.Prelude.{◌≡◌, ◌≤◌, ◌<◌, ◌+◌, ℕ, ◌∷◌, [], ◌++◌, length, take, IsTrue, OnOk, IfOk, IfErr, IfSome, Some, None, Ok, Err, slice_get, slice_set};
 ghost use Rattle.ckr_outside.specs.Disk.{Only, OnlyReads, EachSince, ChangesWithin};
 ghost use Rattle.ckr_library.specs.declared.sets.DataSet.{DataSet};
 ghost use Rattle.ckr_book.specs.Book.{IsOpenOn, SamePlace, IsBeforeOrAfter, room_of};
-ghost use Rattle.ckr_events.specs.Event.{IsCounted, spelling};
 ghost use Rattle.ckr_volumes.specs.Header.{header_of, IsHeader};
 ghost use Rattle.ckr_volumes.specs.Places.{address_of};
 ghost use Rattle.ckr_volumes.specs.Records.{record_at, records_on};
@@ -12,19 +11,14 @@ ghost use Rattle.ckr_store.specs.Answers.{DiskCause, AppendCause};
 ghost use Rattle.ckr_store.specs.Opens.{event_records, Opens};
 ghost use Rattle.ckr_store.specs.State.{IsSound};
 
-use crate::error::{StoreError, Unopened};
-use ckr_base::{NoMemory, Rec};
+use crate::StoreError;
+use ckr_base::Rec;
 use ckr_book::{Book, BookError};
-use ckr_events::{Event, encode, encode_small};
 use ckr_journal::BOOK_AT;
 use ckr_library::DataSet;
 use ckr_outside::Disk;
 use ckr_volumes::{Layout, read_record, write_record};
-use std::alloc::Global;
 use std::marker::Model;
-
-/// Room for each event but `Submitted`.
-const SMALL: usize = 4096;
 
 /// The disk of an open desk. It is seen as the disk, its layout, its open book, and the disk's count of faults at the
 /// one that stopped the store. After a fault each call answers `Stopped`, and the disk has to be opened again.
@@ -33,8 +27,6 @@ pub struct Store<D: Disk> {
     pub(crate) disk: D,
     pub(crate) layout: Layout,
     book: Book,
-    /// Where an event other than `Submitted` is spelled.
-    buffer: Vec<u8>,
     pub(crate) fault: Option<u64>,
 }
 
@@ -50,36 +42,28 @@ impl<D: Disk> Model for Store<D> {
 
 impl<D: Disk> Store<D> {
     /// The store of a disk that was just synced, and whose layout and book were read. The book's first closed gate stands
-    /// at the place `end`, counted from its first byte. It makes no call of the disk.
-    ///
-    /// `Unopened`: there is no memory for the store. The disk is handed back as it was.
-    pub fn open(alloc: Global, disk: D, layout: Layout, end: u32) -> Result<Store<D>, Unopened<D>>
+    /// at the place `end`, counted from its first byte. It makes no call of the disk, and takes no memory, as no call of the store does.
+    pub fn open(disk: D, layout: Layout, end: u32) -> Store<D>
         requires header { IsHeader layout (D.size disk) }
         requires laid { IsTrue (is_laid_out layout) }
         requires end { end ≤ layout.book }
         requires settled { Only (D.content disk) (D.may_leave disk) }
         requires says { D.told → header_of (take 512 (D.content disk)) (D.size disk) ≡ Ok layout }
         requires events { D.told → IsOpenOn (record { start = 512; size = layout.book; end = end }) (D.content disk) }
-        ensures opened { IfOk result (λ store. store ≡ record {
+        ensures { result ≡ record {
           disk = disk;
           layout = layout;
           book = record { start = 512; size = layout.book; end = end };
           fault = None;
-        }) }
-        ensures unopened { IfErr result (λ unopened. unopened.disk ≡ disk) }
+        } }
     {
-        let buffer = match Vec::with_capacity(alloc, SMALL) {
-            Ok(buffer) => buffer,
-            Err(_) => return Err(Unopened { disk }),
-        };
         let book = Book::ending_at(BOOK_AT, layout.book, end);
-        Ok(Store {
+        Store {
             disk,
             layout,
             book,
-            buffer,
             fault: None,
-        })
+        }
     }
 
     /// The layout of the disk.
@@ -112,57 +96,38 @@ impl<D: Disk> Store<D> {
         disk
     }
 
-    /// How many bytes of the book an event needs. Nothing changes.
+    /// Adds an event behind the others by its bytes, for good.
     ///
-    /// `NoMemory`: there is none for its bytes.
-    pub fn need(&mut self, event: &Event) -> Result<u32, NoMemory>
-        requires counted { IsCounted event.now }
-        requires small { length (spelling event.now) ≤ 4294967289 }
-        ensures need { IfOk result (λ need. need ≡ length (spelling event.now) + 6) }
-        ensures same { self.new ≡ self.old }
-    {
-        let large = spelled(&mut self.buffer, event)?;
-        let bytes = either(&large, &self.buffer);
-        Ok(bytes.len() as u32 + 6)
-    }
-
-    /// Adds an event behind the others, for good.
-    ///
-    /// `NoMemory`: there is none for its bytes. `BookFull`: its bytes and 6 more exceed the room of the book. After
-    /// either nothing has changed. `DiskFault`: only where the disk's faults rose in this call; then the store has
-    /// stopped. `Stopped`: exactly where it had stopped before.
-    pub fn append(&mut self, event: &Event) -> Result<(), StoreError>
-        requires counted { IsCounted event.now }
-        requires small { length (spelling event.now) ≤ 4294967289 }
+    /// `BookFull`: exactly where its bytes and 6 more exceed the room of the book. Nothing has changed then. `DiskFault`: only where the
+    /// disk's faults rose in this call; then the store has stopped. `Stopped`: exactly where it had stopped before.
+    pub fn append(&mut self, event: &[u8]) -> Result<(), StoreError>
+        requires small { length event.now ≤ 4294967289 }
 
         ensures appended { D.told → OnOk result (event_records self.old.layout (D.content self.new.disk)
-            ≡ event_records self.old.layout (D.content self.old.disk) ++ spelling event.now ∷ []) }
+            ≡ event_records self.old.layout (D.content self.old.disk) ++ event.now ∷ []) }
         ensures settled { OnOk result (Only (D.content self.new.disk) (D.may_leave self.new.disk)) }
         ensures kept { OnOk result (self.new ≡ record self.old { disk = self.new.disk; book = self.new.book }) }
         ensures place { SamePlace self.old.book self.new.book }
-        ensures room { OnOk result (room_of self.new.book + (length (spelling event.now) + 5) ≡ room_of self.old.book) }
+        ensures room { OnOk result (room_of self.new.book + (length event.now + 5) ≡ room_of self.old.book) }
 
         // A stop at any moment leaves a disk that opens, with the event or without it, and changes nothing else.
         ensures any_moment { self.old.fault ≡ None → EachSince D.moment D.left_since self.old.disk self.new.disk
             (Opens self.old.layout (D.size self.old.disk)
-            (IsBeforeOrAfter (event_records self.old.layout (D.content self.old.disk)) (spelling event.now))) }
+            (IsBeforeOrAfter (event_records self.old.layout (D.content self.old.disk)) event.now)) }
         ensures changes { ChangesWithin D.told D.content D.may_leave D.moment D.left_since
             512 self.old.layout.book self.old.disk self.new.disk }
         ensures size { D.size self.new.disk ≡ D.size self.old.disk }
         ensures faults { D.faults self.old.disk ≤ D.faults self.new.disk }
 
         ensures stopped { IfSome self.old.fault (λ fault. (result ≡ Err (StoreError.Stopped fault)) × (self.new ≡ self.old)) }
-        ensures full { self.old.fault ≡ None → room_of self.old.book < length (spelling event.now) + 6
-            → (result ≡ Err (StoreError.BookFull (length (spelling event.now) + 6) (room_of self.old.book)))
-            ⊎ (result ≡ Err StoreError.NoMemory) }
-        ensures cause { IfErr result (AppendCause D.faults (length (spelling event.now) + 6) self.old self.new) }
+        ensures full { self.old.fault ≡ None → room_of self.old.book < length event.now + 6
+            → result ≡ Err (StoreError.BookFull (length event.now + 6) (room_of self.old.book)) }
+        ensures cause { IfErr result (AppendCause D.faults (length event.now + 6) self.old self.new) }
     {
         if let Some(fault) = self.fault {
             return Err(StoreError::Stopped { fault });
         }
-        let large = spelled(&mut self.buffer, event)?;
-        let bytes = either(&large, &self.buffer);
-        match self.book.append(&mut self.disk, bytes) {
+        match self.book.append(&mut self.disk, event) {
             Ok(()) => Ok(()),
             Err(BookError::Full { need, room }) => Err(StoreError::BookFull { need, room }),
             Err(BookError::Fault) => {
@@ -287,36 +252,5 @@ impl<D: Disk> Store<D> {
                 Err(StoreError::DiskFault)
             }
         }
-    }
-}
-
-/// The bytes of a `Submitted` event; those of another are put in the buffer.
-fn spelled(buffer: &mut Vec<u8>, event: &Event) -> Result<Option<Vec<u8>>, NoMemory>
-    requires { IsCounted event.now }
-    ensures { IfOk result (λ large. MatchOption large (buffer.new.items ≡ spelling event.now)
-        (λ bytes. bytes.items ≡ spelling event.now)) }
-{
-    let alloc = *buffer.allocator();
-    match event {
-        Event::Submitted { .. } => {
-            let large = encode(alloc, event)?;
-            Ok(Some(large))
-        }
-        _ => {
-            buffer.clear();
-            buffer.reserve(SMALL)?;
-            encode_small(event, buffer);
-            Ok(None)
-        }
-    }
-}
-
-/// The large bytes where there are some, or those of the buffer.
-fn either<'a>(large: &'a Option<Vec<u8>>, buffer: &'a [u8]) -> &'a [u8]
-    ensures { MatchOption large.now (result.now ≡ buffer.now) (λ bytes. result.now ≡ bytes.items) }
-{
-    match large {
-        Some(bytes) => bytes,
-        None => buffer,
     }
 }

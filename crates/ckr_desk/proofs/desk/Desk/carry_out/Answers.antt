@@ -1,32 +1,94 @@
-use Rattle.std.proofs.Common.{◌∙◌, subst}
-use Rattle.ckr_store.specs.State.{IsSound}
-use Rattle.ckr_desk.proofs.AskCalled.{if-err, on-ok, on-ok-both}
-use Rattle.ckr_desk.proofs.Going.{go-after, go-cause, go-fits, go-kept, go-may-fail, go-reply, go-trusted, if-ok, rests-so}
-use Rattle.ckr_desk.proofs.Left.{opens-so}
+use Rattle.std.proofs.Common.{◌≡◌, ◌≤◌, ◌∙◌, arith, ap, subst, sym, None, IfErr, IfOk, OnOk}
+use Rattle.ckr_jobs.specs.Planning.{IsToldReply}
+use Rattle.ckr_outside.specs.Disk.{EachSince}
+use Rattle.ckr_standing.specs.Moving.{event_in}
+use Rattle.ckr_store.specs.State.{IsSound, StoreState}
+use Rattle.ckr_desk.proofs.AskCalled.{if-err, if-err-both, on-ok, on-ok-both}
+use Rattle.ckr_desk.proofs.Before.{as-before, planned-before, same-unchanged, turned-before, turned-not}
+use Rattle.ckr_desk.proofs.Going.{go-after, go-cause, go-fits, go-kept, go-may-fail, go-of-disk, go-reply, go-trusted, go-unready, if-ok, of-disk-stays, ready-if, rests-so, unready-stays}
+use Rattle.ckr_desk.proofs.Left.{now-left, opens-so, same-left}
+use Rattle.ckr_desk.proofs.Looked.{err-is}
+use Rattle.ckr_desk.specs.Calling.{MayFail}
+use Rattle.ckr_desk.specs.Rewriting.{OpensSame}
 use Rattle.ckr_desk.specs.State.{DeskState}
+use Rattle.ckr_desk.specs.Staying.{StaysBy}
+use Rattle.ckr_desk.specs.Working.{HasTurned}
 use Rattle.ckr_desk.proofs.desk.Desk.carry_out.Goals as goal
 
-pub returns-in_default : goal.returns-in_default
-returns-in_default g c =
+pub go_on-requires-clause-ready : goal.go_on-requires-clause-ready
+go_on-requires-clause-ready g c κs within = ready-if (event_in c.args.plan) c.ready_for.new.self c.in_ok-ready-in_default.ready c.in_ok-ready-in_default.ensures.ready
+
+pub returns-in_err-ready-in_default : goal.returns-in_err-ready-in_default
+returns-in_err-ready-in_default g c =
     let d = g.D.Disk in
     let now = c.args.self.now in
-    let new = c.go_on.new.self in
+    let mid = c.ready_for.new.self in
     let plan = c.args.plan in
     let shape = c.requires.spelled in
     let rests = rests-so plan c.in_default.not-Work in
+    let store = c.ready_for.ensures.store in
+    let before = as-before d.content d.may_leave now mid d.told (same-unchanged d.content d.may_leave now mid c.ready_for.ensures.jobs store) in
+    let sized = ap (λ (s : StoreState g.row.D.Denot). d.size s.disk) store in
+    let laws = g.met.D.Disk g.world.𝓛 g.world.𝓜 g.world.𝓡 ((λ s x. x), (λ x. x), (λ x. x), λ x. x) in
     let sound = subst (λ (s : DeskState g.row.D.Denot). IsSound d.content d.may_leave d.size s.store) c.self.view_is c.layout-layout.ensures.sound in
-    let opens = opens-so d.told d.content d.may_leave d.moment d.left_since d.size now sound c.requires.is_open in
+    let since = same-left d.moment d.left_since now.store mid.store (λ image. OpensSame d.content d.size now image × d.may_leave now.store.disk image) store
+    (now-left d.told d.content d.may_leave d.moment d.left_since d.size now sound c.requires.is_open (laws.only_now now.store.disk)) in
+    let error = c.in_err-ready-in_default.field-0.0 in
+    let cause = c.in_err-ready-in_default.ensures.cause in
+    let is = err-is c.from_residual.result error c.from_residual.ensures.1 in
+    let stays = unready-stays d.content d.may_leave d.faults now mid (event_in plan) error cause in
     record {
-      reply = λ turn p. if-ok (λ reply is. is ∙ go-reply d.told d.content d.may_leave d.moment d.left_since d.size d.faults now p.trusted turn p.its plan p.planned rests) c.go_on.result c.go_on.ensures.reply;
+      turned = λ turn p.
+          subst (HasTurned d.told d.content d.may_leave d.moment d.left_since d.size turn now mid) (sym is)
+          (turned-not d.told d.content d.may_leave d.moment d.left_since d.size now mid before sized since turn p.trusted error
+          (go-unready d.told d.content d.may_leave d.moment d.left_since d.size d.faults now p.trusted turn p.its plan mid error p.planned shape rests cause));
+      spelled = subst (λ r. IfOk r IsToldReply) (sym is) tt;
+      is_open = subst (λ r. OnOk r (mid.store.fault ≡ None)) (sym is) tt;
+      layout = ap (λ (s : StoreState g.row.D.Denot). s.layout) store;
+      size = sized;
+      faults = subst (λ (s : StoreState g.row.D.Denot). d.faults now.store.disk ≤ d.faults s.disk) (sym store) (omega arith);
+      may_fail = subst (λ r. IfErr r (MayFail (d.faults now.store.disk) (d.faults mid.store.disk) now.store.fault)) (sym is) stays.1;
+      stays = subst (λ r. IfErr r (StaysBy d.content d.may_leave d.faults now mid)) (sym is) stays.0;
+    }
+
+pub returns-in_ok-ready-in_default : goal.returns-in_ok-ready-in_default
+returns-in_ok-ready-in_default g c =
+    let d = g.D.Disk in
+    let now = c.args.self.now in
+    let mid = c.ready_for.new.self in
+    let plan = c.args.plan in
+    let shape = c.requires.spelled in
+    let rests = rests-so plan c.in_default.not-Work in
+    let store = c.ready_for.ensures.store in
+    let before = as-before d.content d.may_leave now mid d.told (same-unchanged d.content d.may_leave now mid c.ready_for.ensures.jobs store) in
+    let sized = ap (λ (s : StoreState g.row.D.Denot). d.size s.disk) store in
+    let laws = g.met.D.Disk g.world.𝓛 g.world.𝓜 g.world.𝓡 ((λ s x. x), (λ x. x), (λ x. x), λ x. x) in
+    let sound = subst (λ (s : DeskState g.row.D.Denot). IsSound d.content d.may_leave d.size s.store) c.self.view_is c.layout-layout.ensures.sound in
+    let since = same-left d.moment d.left_since now.store mid.store (λ image. OpensSame d.content d.size now image × d.may_leave now.store.disk image) store
+    (now-left d.told d.content d.may_leave d.moment d.left_since d.size now sound c.requires.is_open (laws.only_now now.store.disk)) in
+    let new = c.go_on.new.self in
+    let ready = c.in_ok-ready-in_default.ready in
+    let made = c.in_ok-ready-in_default.ensures.ready in
+    let sound_then = subst (λ (s : StoreState g.row.D.Denot). IsSound d.content d.may_leave d.size s) (sym store) sound in
+    let opens = opens-so d.told d.content d.may_leave d.moment d.left_since d.size mid sound_then (ap (λ (s : StoreState g.row.D.Denot). s.fault) store ∙ c.requires.is_open) in
+    record {
+      turned = λ turn p.
+          let q = planned-before d.told d.content d.may_leave d.moment d.left_since d.size now mid before sized since turn plan p in
+          turned-before d.told d.content d.may_leave d.moment d.left_since d.size now mid before sized since turn p.trusted new c.go_on.result
+          (record {
+            reply = if-ok (λ reply is. is ∙ go-reply d.told d.content d.may_leave d.moment d.left_since d.size d.faults mid q.trusted turn q.its plan q.planned rests) c.go_on.result c.go_on.ensures.reply;
+            fits = on-ok (go-fits d.told d.content d.may_leave d.moment d.left_since d.size d.faults mid q.trusted turn q.its plan new q.planned shape rests) c.go_on.result c.go_on.ensures.gone;
+            after = on-ok-both (go-after d.told d.content d.may_leave d.moment d.left_since d.size d.faults mid q.trusted turn q.its plan new q.planned shape rests c.go_on.ensures.layout) c.go_on.result c.go_on.ensures.gone c.go_on.ensures.settled;
+            trusted = on-ok-both (go-trusted d.told d.content d.may_leave d.moment d.left_since d.size d.faults mid q.trusted turn q.its plan new q.planned shape rests c.go_on.ensures.layout) c.go_on.result c.go_on.ensures.gone c.go_on.ensures.settled;
+            cause = if-err (λ error not. go-cause d.told d.content d.may_leave d.moment d.left_since d.size d.faults mid q.trusted turn q.its plan ready new error q.planned shape rests made not) c.go_on.result c.go_on.ensures.cause;
+            kept = go-kept d.told d.content d.may_leave d.moment d.left_since d.size d.faults mid q.trusted turn q.its plan new q.planned shape rests opens (c.go_on.ensures.left p.trusted.tells);
+          });
       spelled = c.go_on.ensures.spelled;
-      fits = λ turn p. on-ok (go-fits d.told d.content d.may_leave d.moment d.left_since d.size d.faults now p.trusted turn p.its plan new p.planned shape rests) c.go_on.result c.go_on.ensures.gone;
-      after = λ turn p. on-ok-both (go-after d.told d.content d.may_leave d.moment d.left_since d.size d.faults now p.trusted turn p.its plan new p.planned shape rests c.go_on.ensures.layout) c.go_on.result c.go_on.ensures.gone c.go_on.ensures.settled;
-      trusted = λ turn p. on-ok-both (go-trusted d.told d.content d.may_leave d.moment d.left_since d.size d.faults now p.trusted turn p.its plan new p.planned shape rests c.go_on.ensures.layout) c.go_on.result c.go_on.ensures.gone c.go_on.ensures.settled;
       is_open = c.go_on.ensures.is_open;
-      layout = c.go_on.ensures.layout;
-      size = c.go_on.ensures.size;
-      faults = c.go_on.ensures.faults;
-      may_fail = if-err (go-may-fail d.faults now new plan) c.go_on.result c.go_on.ensures.cause;
-      cause = λ turn p. if-err (λ error not. go-cause d.told d.content d.may_leave d.moment d.left_since d.size d.faults now p.trusted turn p.its plan new error p.planned shape rests not) c.go_on.result c.go_on.ensures.cause;
-      kept = λ turn p. go-kept d.told d.content d.may_leave d.moment d.left_since d.size d.faults now p.trusted turn p.its plan new p.planned shape rests opens (c.go_on.ensures.left p.trusted.tells);
+      layout = c.go_on.ensures.layout ∙ ap (λ (s : StoreState g.row.D.Denot). s.layout) store;
+      size = c.go_on.ensures.size ∙ sized;
+      faults = subst (λ (s : StoreState g.row.D.Denot). d.faults s.disk ≤ d.faults new.store.disk) store c.go_on.ensures.faults;
+      may_fail = subst (λ (s : StoreState g.row.D.Denot). IfErr c.go_on.result (MayFail (d.faults s.disk) (d.faults new.store.disk) s.fault)) store
+          (if-err (go-may-fail d.faults mid new plan ready) c.go_on.result c.go_on.ensures.cause);
+      stays = if-err-both (λ error not halted. of-disk-stays d.content d.may_leave d.faults now new error (go-of-disk d.faults mid new plan ready error not) halted) c.go_on.result c.go_on.ensures.cause c.go_on.ensures.halted;
     }

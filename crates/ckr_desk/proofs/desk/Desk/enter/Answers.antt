@@ -1,14 +1,16 @@
-use Rattle.std.proofs.Common.{ap, subst, ◌∙◌}
+use Rattle.std.proofs.Common.{ap, refl, subst, ◌∙◌}
+use Rattle.ckr_book.specs.Book.{IsBeforeOrAfter}
+use Rattle.ckr_dispositions.proofs.Colliding.{both}
 use Rattle.ckr_following.proofs.Counted.{counted-may}
 use Rattle.ckr_following.specs.Counting.{may_count}
-use Rattle.ckr_outside.specs.Disk.{SameOutside}
-use Rattle.ckr_points.specs.Following.{follows}
-use Rattle.ckr_tables.proofs.Items.{both_second}
+use Rattle.ckr_outside.specs.Disk.{EachSince, SameOutside}
+use Rattle.ckr_store.specs.Opens.{Opens, event_records}
 use Rattle.ckr_volumes.specs.declared.layout.Layout.{Layout}
 use Rattle.ckr_volumes.specs.Records.{records_on}
 use Rattle.ckr_desk.proofs.Behind.{records-stay}
+use Rattle.ckr_desk.proofs.Kept.{append-layout, failed-layout, jobs-stay}
 use Rattle.ckr_desk.proofs.Left.{appended-store}
-use Rattle.ckr_desk.specs.Calls.{may_keep}
+use Rattle.ckr_desk.specs.Calls.{may_follow}
 use Rattle.ckr_desk.proofs.desk.Desk.enter.Goals as goal
 
 pub returns-clause-records : goal.returns-clause-records
@@ -24,26 +26,44 @@ returns-clause-records g c =
 
 pub keep-requires-clause-count : goal.keep-requires-clause-count
 keep-requires-clause-count g c =
-    let tables = c.self.inside.jobs.tables.desk in
-    let may = ap (may_keep c.args.event.now c.args.deck) c.self.view_is ∙ c.requires.may in
-    counted-may c.args.event.now tables.sets (both_second (follows c.self.inside.store.layout tables c.args.event.now c.args.deck) (may_count c.args.event.now tables.sets) may)
+    counted-may c.args.event.now c.self.inside.jobs.tables.desk.sets (ap (λ s. may_count c.args.event.now s.jobs.tables.desk.sets) c.self.view_is ∙ c.requires.ready.counts)
 
 pub returns-in_err-append-clause-left : goal.returns-in_err-append-clause-left
 returns-in_err-append-clause-left g c =
     let d = g.D.Disk in
+    let old = c.self.inside in
     let is_open = ap (λ s. s.store.fault) c.self.view_is ∙ c.requires.is_open in
+    let follows = ap (may_follow c.args.event.now c.args.deck) c.self.view_is ∙ c.requires.follows in
+    let counts = ap (λ s. may_count c.args.event.now s.jobs.tables.desk.sets) c.self.view_is ∙ c.requires.ready.counts in
+    let mid = c.sync.new.self in
     rw (← c.self.view_is)
-    (appended-store d.told d.content d.may_leave d.moment d.left_since d.size c.args.event.now c.args.deck (record { store = c.self.inside.store; jobs = c.self.inside.jobs }) c.sync.new.self c.append.new.self
-    c.in_ok-sync.ensures.kept (ap (may_keep c.args.event.now c.args.deck) c.self.view_is ∙ c.requires.may) c.layout-layout.ensures.sound.laid
+    (appended-store d.told d.content d.may_leave d.moment d.left_since d.size c.args.event.now c.args.deck (record { store = old.store; jobs = old.jobs }) mid c.append.new.self
+    c.in_ok-sync.ensures.kept (both _ _ follows counts) c.layout-layout.ensures.sound.laid
     (c.sync.ensures.any_moment is_open) c.sync.ensures.only_reads c.sync.ensures.size c.in_ok-sync.ensures.settled
-    (c.append.ensures.any_moment (ap (λ s. s.fault) c.in_ok-sync.ensures.kept ∙ is_open)) c.append.ensures.changes)
+    (subst (λ bytes. EachSince d.moment d.left_since mid.disk c.append.new.self.disk (Opens mid.layout (d.size mid.disk) (IsBeforeOrAfter (event_records mid.layout (d.content mid.disk)) bytes))) (c.deref.ensures.value ∙ c.requires.ready.spelled)
+    (c.append.ensures.any_moment (ap (λ s. s.fault) c.in_ok-sync.ensures.kept ∙ is_open))) c.append.ensures.changes)
 
 pub returns-clause-left : goal.returns-clause-left
 returns-clause-left g c =
     let d = g.D.Disk in
+    let old = c.self.inside in
     let is_open = ap (λ s. s.store.fault) c.self.view_is ∙ c.requires.is_open in
+    let follows = ap (may_follow c.args.event.now c.args.deck) c.self.view_is ∙ c.requires.follows in
+    let counts = ap (λ s. may_count c.args.event.now s.jobs.tables.desk.sets) c.self.view_is ∙ c.requires.ready.counts in
+    let mid = c.sync.new.self in
     rw (← c.self.view_is)
-    (appended-store d.told d.content d.may_leave d.moment d.left_since d.size c.args.event.now c.args.deck (record { store = c.self.inside.store; jobs = c.self.inside.jobs }) c.sync.new.self c.append.new.self
-    c.in_ok-sync.ensures.kept (ap (may_keep c.args.event.now c.args.deck) c.self.view_is ∙ c.requires.may) c.layout-layout.ensures.sound.laid
+    (appended-store d.told d.content d.may_leave d.moment d.left_since d.size c.args.event.now c.args.deck (record { store = old.store; jobs = old.jobs }) mid c.append.new.self
+    c.in_ok-sync.ensures.kept (both _ _ follows counts) c.layout-layout.ensures.sound.laid
     (c.sync.ensures.any_moment is_open) c.sync.ensures.only_reads c.sync.ensures.size c.in_ok-sync.ensures.settled
-    (c.append.ensures.any_moment (ap (λ s. s.fault) c.in_ok-sync.ensures.kept ∙ is_open)) c.append.ensures.changes)
+    (subst (λ bytes. EachSince d.moment d.left_since mid.disk c.append.new.self.disk (Opens mid.layout (d.size mid.disk) (IsBeforeOrAfter (event_records mid.layout (d.content mid.disk)) bytes))) (c.deref.ensures.value ∙ c.requires.ready.spelled)
+    (c.append.ensures.any_moment (ap (λ s. s.fault) c.in_ok-sync.ensures.kept ∙ is_open))) c.append.ensures.changes)
+
+pub invariant_of-self : goal.invariant_of-self
+invariant_of-self g c =
+    jobs-stay c.self.inside.store.layout c.sync.new.self.layout c.self.inside.jobs c.self.inside.jobs
+    (failed-layout g.D.Disk.faults c.self.inside.store c.sync.new.self c.in_err-sync.field-0.0 c.in_err-sync.ensures.cause) refl refl c.self.invariant
+
+pub invariant_of-self-in_err-append : goal.invariant_of-self-in_err-append
+invariant_of-self-in_err-append g c =
+    jobs-stay c.self.inside.store.layout c.append.new.self.layout c.self.inside.jobs c.self.inside.jobs
+    (append-layout g.D.Disk.faults c.sync.new.self c.append.new.self _ c.in_err-append.field-0.0 c.in_err-append.ensures.cause ∙ ap (λ s. s.layout) c.in_ok-sync.ensures.kept) refl refl c.self.invariant

@@ -1,28 +1,28 @@
 use Rattle.ckr_desk.proofs.LeftBehind.{rewritten-left, told-left}
 use Rattle.ckr_desk.proofs.desk.Desk.go_on.Goals as goal
 
-pub returns-in_err-tell-in-Tell-clause-left : goal.returns-in_err-tell-in-Tell-clause-left
-returns-in_err-tell-in-Tell-clause-left g c =
+pub returns-in_err-tell_ready-in-Tell-clause-left : goal.returns-in_err-tell_ready-in-Tell-clause-left
+returns-in_err-tell_ready-in-Tell-clause-left g c =
     let d = g.D.Disk in
     rw c.in-Tell.is
     (λ told.
-    told-left d.told d.content d.may_leave d.moment d.left_since d.size c.in-Tell.event c.args.self.now c.tell.new.self.store.disk
-    (c.tell.ensures.left c.requires.is_open))
+    told-left d.told d.content d.may_leave d.moment d.left_since d.size c.in-Tell.event c.args.self.now c.tell_ready.new.self.store.disk
+    c.tell_ready.ensures.left)
 
 pub returns-in_err-rewrite-in-Tell-clause-left : goal.returns-in_err-rewrite-in-Tell-clause-left
 returns-in_err-rewrite-in-Tell-clause-left g c =
     let d = g.D.Disk in
     rw c.in-Tell.is
     (λ told.
-    rewritten-left d.told d.content d.may_leave d.moment d.left_since d.size c.in-Tell.event c.args.self.now c.tell.new.self c.rewrite.new.self.store.disk
-    c.in_ok-tell-in-Tell.ensures.ok c.tell.ensures.size (c.in_ok-tell-in-Tell.ensures.told told) (c.in_ok-tell-in-Tell.ensures.records told) (c.tell.ensures.left c.requires.is_open)
-    (c.rewrite.ensures.left c.in_ok-tell-in-Tell.ensures.settled))
+    rewritten-left d.told d.content d.may_leave d.moment d.left_since d.size c.in-Tell.event c.args.self.now c.tell_ready.new.self c.rewrite.new.self.store.disk
+    c.in_ok-tell_ready-in-Tell.ensures.ok c.tell_ready.ensures.size (c.in_ok-tell_ready-in-Tell.ensures.told told) (c.in_ok-tell_ready-in-Tell.ensures.records told) c.tell_ready.ensures.left
+    (c.rewrite.ensures.left c.in_ok-tell_ready-in-Tell.ensures.settled))
 
 pub returns-in_ok-rewrite-in-Tell-clause-left : goal.returns-in_ok-rewrite-in-Tell-clause-left
 returns-in_ok-rewrite-in-Tell-clause-left g c =
     let d = g.D.Disk in
     rw c.in-Tell.is
     (λ told.
-    rewritten-left d.told d.content d.may_leave d.moment d.left_since d.size c.in-Tell.event c.args.self.now c.tell.new.self c.rewrite.new.self.store.disk
-    c.in_ok-tell-in-Tell.ensures.ok c.tell.ensures.size (c.in_ok-tell-in-Tell.ensures.told told) (c.in_ok-tell-in-Tell.ensures.records told) (c.tell.ensures.left c.requires.is_open)
-    (c.rewrite.ensures.left c.in_ok-tell-in-Tell.ensures.settled))
+    rewritten-left d.told d.content d.may_leave d.moment d.left_since d.size c.in-Tell.event c.args.self.now c.tell_ready.new.self c.rewrite.new.self.store.disk
+    c.in_ok-tell_ready-in-Tell.ensures.ok c.tell_ready.ensures.size (c.in_ok-tell_ready-in-Tell.ensures.told told) (c.in_ok-tell_ready-in-Tell.ensures.records told) c.tell_ready.ensures.left
+    (c.rewrite.ensures.left c.in_ok-tell_ready-in-Tell.ensures.settled))

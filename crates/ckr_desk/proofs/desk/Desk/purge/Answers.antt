@@ -1,6 +1,6 @@
 use Rattle.std.proofs.Common.{subst}
 use Rattle.ckr_store.specs.State.{IsSound}
-use Rattle.ckr_desk.proofs.AskCalled.{call-cause, call-fits, call-kept, call-may-fail, call-open, call-state, call-trusted, if-err, on-ok, on-ok-all, on-ok-both, purge-called}
+use Rattle.ckr_desk.proofs.AskCalled.{call-cause, call-fits, call-kept, call-may-fail, call-open, call-state, call-stays, call-trusted, if-err, on-ok, on-ok-all, on-ok-both, purge-called}
 use Rattle.ckr_desk.specs.Submitting.{purge_call}
 use Rattle.ckr_desk.proofs.desk.Desk.purge.Goals as goal
 
@@ -41,6 +41,12 @@ returns-clause-may_fail g c =
     let now = c.args.self.now in
     let call = purge_call now.jobs.tables.desk c.args.job in
     if-err (call-may-fail d.faults now c.take_out.new.self call) c.take_out.result c.take_out.ensures.cause
+
+pub returns-clause-stays : goal.returns-clause-stays
+returns-clause-stays g c =
+    let d = g.D.Disk in
+    let now = c.args.self.now in
+    if-err (call-stays d.faults now c.take_out.new.self d.content d.may_leave (purge_call now.jobs.tables.desk c.args.job)) c.take_out.result c.take_out.ensures.cause
 
 pub returns-clause-cause : goal.returns-clause-cause
 returns-clause-cause g c trusted =

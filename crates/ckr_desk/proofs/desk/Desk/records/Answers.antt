@@ -5,9 +5,8 @@ use Rattle.ckr_outside.specs.Disk.{EachSince}
 use Rattle.ckr_store.specs.State.{IsSound}
 use Rattle.ckr_volumes.specs.Records.{records_on}
 use Rattle.ckr_desk.proofs.AskCalled.{none-kept, reading-kept}
-use Rattle.ckr_desk.proofs.AskRecords.{free-stands, of-desk, reading-fails-by, reading-may-fail, state-read, trusted-read}
+use Rattle.ckr_desk.proofs.AskRecords.{free-stands, of-desk, reading-fails-by, reading-may-fail, reading-stays, state-read, trusted-read}
 use Rattle.ckr_desk.proofs.Replays.{handed_on}
-use Rattle.ckr_desk.specs.Errors.{of_store}
 use Rattle.ckr_desk.proofs.desk.Desk.records.Goals as goal
 
 pub read_all-requires-clause-stands : goal.read_all-requires-clause-stands
@@ -54,14 +53,14 @@ returns-in_err-read_all-in-Some-free_set-clause-may_fail g c =
     let d = g.D.Disk in
     let now = c.args.self.now in
     rw (← c.self.view_is)
-    (handed_on c.from_residual.result (of_store c.in_err-read_all-in-Some-free_set.field-0.0) _ c.from_residual.ensures.1
+    (handed_on c.from_residual.result c.in_err-read_all-in-Some-free_set.field-0.0 _ c.from_residual.ensures.1
     (reading-may-fail d.faults c.self.inside.store c.read_all.new.store c.in_err-read_all-in-Some-free_set.field-0.0 c.in_err-read_all-in-Some-free_set.ensures.cause))
 
 pub returns-in_err-read_all-in-Some-free_set-clause-cause : goal.returns-in_err-read_all-in-Some-free_set-clause-cause
 returns-in_err-read_all-in-Some-free_set-clause-cause g c trusted =
     let d = g.D.Disk in
     let now = c.args.self.now in
-    handed_on c.from_residual.result (of_store c.in_err-read_all-in-Some-free_set.field-0.0) _ c.from_residual.ensures.1
+    handed_on c.from_residual.result c.in_err-read_all-in-Some-free_set.field-0.0 _ c.from_residual.ensures.1
     (reading-fails-by d.faults c.self.inside.store c.read_all.new.store c.in_err-read_all-in-Some-free_set.field-0.0 c.in_err-read_all-in-Some-free_set.ensures.cause)
 
 pub returns-in-None-clause-records : goal.returns-in-None-clause-records
@@ -78,3 +77,11 @@ returns-in-None-clause-kept g c is_open trusted =
     let laws = g.met.D.Disk g.world.𝓛 g.world.𝓜 g.world.𝓡 ((λ s x. x), (λ x. x), (λ x. x), λ x. x) in
     none-kept d.told d.content d.may_leave d.size now trusted d.moment d.left_since
     (subst (λ s. IsSound d.content d.may_leave d.size s.store) c.self.view_is c.layout-layout.ensures.sound) is_open (laws.only_now now.store.disk)
+
+pub returns-in_err-read_all-in-Some-free_set-clause-stays : goal.returns-in_err-read_all-in-Some-free_set-clause-stays
+returns-in_err-read_all-in-Some-free_set-clause-stays g c =
+    let d = g.D.Disk in
+    rw (← c.self.view_is)
+    (handed_on c.from_residual.result c.in_err-read_all-in-Some-free_set.field-0.0 _ c.from_residual.ensures.1
+    (reading-stays d.faults c.self.inside.store c.read_all.new.store d.content d.may_leave d.moment d.left_since c.self.inside.jobs c.read_all.ensures.only_reads
+    c.in_err-read_all-in-Some-free_set.field-0.0 c.in_err-read_all-in-Some-free_set.ensures.cause))

@@ -1,60 +1,84 @@
-use Rattle.std.proofs.lemmas.Result.{IfErr-weaker, on_ok_weaker}
-use Rattle.ckr_desk.proofs.Left.{nothing-left, prepared-cause, prepared-gone, prepared-left}
+use Rattle.std.proofs.Common.{◌≡◌, ◌++◌, ◌∷◌, [], ap, subst, OnOk}
+use Rattle.ckr_events.specs.Event.{spelling}
+use Rattle.ckr_outside.specs.Disk.{EachSince}
+use Rattle.ckr_standing.specs.Moving.{HasSameRecords}
+use Rattle.ckr_store.specs.Opens.{event_records}
+use Rattle.ckr_store.specs.State.{IsSound, StoreState}
+use Rattle.ckr_desk.proofs.AskCalled.{if-err, on-ok}
+use Rattle.ckr_desk.proofs.Left.{nothing-left, prepared-cause, prepared-gone, prepared-left, same-left, unready-cause}
+use Rattle.ckr_desk.proofs.Replays.{handed_on}
+use Rattle.ckr_desk.specs.Calls.{HasGoneOn, IsLeftBy, NotEntered}
+use Rattle.ckr_desk.specs.State.{DeskState}
 use Rattle.ckr_desk.proofs.desk.Desk.tell.Goals as goal
 
 pub returns-in-Some-clause-left : goal.returns-in-Some-clause-left
-returns-in-Some-clause-left g c =
+returns-in-Some-clause-left g c is_open =
     let d = g.D.Disk in
+    let now = c.args.self.now in
     let laws = g.met.D.Disk g.world.𝓛 g.world.𝓜 g.world.𝓡 ((λ s x. x), (λ x. x), (λ x. x), λ x. x) in
-    rw (← c.self.view_is)
-    (λ is_open.
-    nothing-left d.told d.content d.may_leave d.moment d.left_since d.size c.args.event.now c.args.deck (record { store = c.self.inside.store; jobs = c.self.inside.jobs })
-    c.layout-layout.ensures.sound is_open (laws.only_now c.self.inside.store.disk))
+    nothing-left d.told d.content d.may_leave d.moment d.left_since d.size c.args.event.now c.args.deck now
+    (subst (λ s. IsSound d.content d.may_leave d.size s.store) c.self.view_is c.layout-layout.ensures.sound) is_open (laws.only_now now.store.disk)
 
-pub returns-then-not-may_follow-clause-left : goal.returns-then-not-may_follow-clause-left
-returns-then-not-may_follow-clause-left g c =
+pub returns-in_err-ready-clause-left : goal.returns-in_err-ready-clause-left
+returns-in_err-ready-clause-left g c is_open =
     let d = g.D.Disk in
+    let now = c.args.self.now in
     let laws = g.met.D.Disk g.world.𝓛 g.world.𝓜 g.world.𝓡 ((λ s x. x), (λ x. x), (λ x. x), λ x. x) in
-    rw (← c.self.view_is)
-    (λ is_open.
-    nothing-left d.told d.content d.may_leave d.moment d.left_since d.size c.args.event.now c.args.deck (record { store = c.self.inside.store; jobs = c.self.inside.jobs })
-    c.layout-layout.ensures.sound is_open (laws.only_now c.self.inside.store.disk))
+    same-left d.moment d.left_since now.store c.make_ready.new.self.store (IsLeftBy d.content d.may_leave d.size c.args.event.now c.args.deck now) c.make_ready.ensures.store
+    (nothing-left d.told d.content d.may_leave d.moment d.left_since d.size c.args.event.now c.args.deck now
+    (subst (λ s. IsSound d.content d.may_leave d.size s.store) c.self.view_is c.layout-layout.ensures.sound) is_open (laws.only_now now.store.disk))
 
-pub returns-then-not-may_count-clause-left : goal.returns-then-not-may_count-clause-left
-returns-then-not-may_count-clause-left g c =
+pub returns-in_err-ready-clause-cause : goal.returns-in_err-ready-clause-cause
+returns-in_err-ready-clause-cause g c =
     let d = g.D.Disk in
-    let laws = g.met.D.Disk g.world.𝓛 g.world.𝓜 g.world.𝓡 ((λ s x. x), (λ x. x), (λ x. x), λ x. x) in
-    rw (← c.self.view_is)
-    (λ is_open.
-    nothing-left d.told d.content d.may_leave d.moment d.left_since d.size c.args.event.now c.args.deck (record { store = c.self.inside.store; jobs = c.self.inside.jobs })
-    c.layout-layout.ensures.sound is_open (laws.only_now c.self.inside.store.disk))
-
-pub returns-in_err-prepared-clause-left : goal.returns-in_err-prepared-clause-left
-returns-in_err-prepared-clause-left g c =
-    let d = g.D.Disk in
-    let laws = g.met.D.Disk g.world.𝓛 g.world.𝓜 g.world.𝓡 ((λ s x. x), (λ x. x), (λ x. x), λ x. x) in
-    rw (← c.self.view_is)
-    (λ is_open.
-    nothing-left d.told d.content d.may_leave d.moment d.left_since d.size c.args.event.now c.args.deck (record { store = c.self.inside.store; jobs = c.self.inside.jobs })
-    c.layout-layout.ensures.sound is_open (laws.only_now c.self.inside.store.disk))
+    handed_on c.from_residual.result c.in_err-ready.field-0.0 _ c.from_residual.ensures.1
+    (unready-cause c.args.event.now c.args.deck d.faults c.args.self.now c.make_ready.new.self c.in_err-ready.field-0.0 c.in_err-ready.ensures.cause)
 
 pub returns-clause-ok : goal.returns-clause-ok
 returns-clause-ok g c =
-    let jobs = c.prepare.ensures in
-    rw (← c.self.view_is)
-    (on_ok_weaker c.enter.result (prepared-gone c.args.event.now c.args.deck c.self.inside.store c.self.inside.jobs c.prepare.new.self jobs.desk jobs.running jobs.failed c.enter.new.self) c.enter.ensures.ok)
+    let now = c.args.self.now in
+    let mid = c.make_ready.new.self in
+    let new = c.tell_ready.new.self in
+    let same = c.make_ready.ensures.jobs in
+    on-ok
+    (λ gone.
+    prepared-gone c.args.event.now c.args.deck now.store now.jobs mid.jobs same.tables same.running same.failed new
+    (subst (λ (s : StoreState g.row.D.Denot). HasGoneOn c.args.event.now c.args.deck (record { store = s; jobs = mid.jobs }) new) c.make_ready.ensures.store gone))
+    c.tell_ready.result c.tell_ready.ensures.ok
+
+pub returns-clause-told : goal.returns-clause-told
+returns-clause-told g c told =
+    let d = g.D.Disk in
+    let new = c.tell_ready.new.self in
+    subst (λ (s : StoreState g.row.D.Denot). OnOk c.tell_ready.result (event_records s.layout (d.content new.store.disk) ≡ event_records s.layout (d.content s.disk) ++ spelling c.args.event.now ∷ [])) c.make_ready.ensures.store
+    (c.tell_ready.ensures.told told)
+
+pub returns-clause-records : goal.returns-clause-records
+returns-clause-records g c told =
+    let d = g.D.Disk in
+    let new = c.tell_ready.new.self in
+    subst (λ (s : StoreState g.row.D.Denot). OnOk c.tell_ready.result (HasSameRecords s.layout (d.content s.disk) (d.content new.store.disk))) c.make_ready.ensures.store
+    (c.tell_ready.ensures.records told)
 
 pub returns-clause-left : goal.returns-clause-left
-returns-clause-left g c =
+returns-clause-left g c is_open =
     let d = g.D.Disk in
-    rw (← c.self.view_is)
-    (λ is_open.
-    prepared-left c.args.event.now c.args.deck c.self.inside.store c.self.inside.jobs c.prepare.new.self c.prepare.ensures.desk d.content d.may_leave d.moment d.left_since d.size c.enter.new.self.store.disk
-    c.enter.ensures.left)
+    let now = c.args.self.now in
+    let mid = c.make_ready.new.self in
+    let new = c.tell_ready.new.self in
+    prepared-left c.args.event.now c.args.deck now.store now.jobs mid.jobs c.make_ready.ensures.jobs.tables d.content d.may_leave d.moment d.left_since d.size new.store.disk
+    (subst (λ (s : StoreState g.row.D.Denot). EachSince d.moment d.left_since s.disk new.store.disk (IsLeftBy d.content d.may_leave d.size c.args.event.now c.args.deck (record { store = s; jobs = mid.jobs }))) c.make_ready.ensures.store
+    c.tell_ready.ensures.left)
 
 pub returns-clause-cause : goal.returns-clause-cause
 returns-clause-cause g c =
     let d = g.D.Disk in
-    let jobs = c.prepare.ensures in
-    rw (← c.self.view_is)
-    (IfErr-weaker c.enter.result _ _ (prepared-cause c.args.event.now c.args.deck c.self.inside.store c.self.inside.jobs c.prepare.new.self jobs.desk jobs.running jobs.failed d.faults c.enter.new.self) c.enter.ensures.cause)
+    let now = c.args.self.now in
+    let mid = c.make_ready.new.self in
+    let new = c.tell_ready.new.self in
+    let same = c.make_ready.ensures.jobs in
+    if-err
+    (λ error not.
+    prepared-cause c.args.event.now c.args.deck now.store now.jobs mid.jobs same.tables same.running same.failed d.faults new error
+    (subst (λ (s : StoreState g.row.D.Denot). NotEntered d.faults c.args.event.now c.args.deck (record { store = s; jobs = mid.jobs }) new error) c.make_ready.ensures.store not))
+    c.tell_ready.result c.tell_ready.ensures.cause

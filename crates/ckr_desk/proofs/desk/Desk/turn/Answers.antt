@@ -1,18 +1,20 @@
-use Rattle.std.proofs.Common.{◌≡◌, ◌∙◌, ap, subst, sym, true, IfErr, IfOk, OnOk}
+use Rattle.std.proofs.Common.{◌≡◌, ◌∙◌, ap, refl, subst, sym}
 use Rattle.ckr_jobs.specs.Seen.{jobs_of}
 use Rattle.ckr_keeping.specs.Going.{IsTurnOf}
 use Rattle.ckr_outside.specs.Moments.{started}
 use Rattle.ckr_store.specs.Opens.{event_records}
 use Rattle.ckr_turns.specs.Planned.{plan_of}
 use Rattle.ckr_volumes.specs.declared.layout.Layout.{Layout}
+use Rattle.ckr_desk.proofs.Before.{planned-before, turned-before}
 use Rattle.ckr_desk.proofs.Images.{kept-before}
-use Rattle.ckr_desk.proofs.Left.{opens-so}
-use Rattle.ckr_desk.proofs.Planned.{planned-so, state-so}
-use Rattle.ckr_desk.proofs.Same.{AreSame}
-use Rattle.ckr_desk.specs.Calling.{FailsBy, spelled}
-use Rattle.ckr_desk.specs.Sound.{HasKept, KeepsWithin, state_of}
-use Rattle.ckr_desk.specs.State.{DeskState, State}
-use Rattle.ckr_desk.specs.Turning.{behind_turn, event_of_turn, reply_of, turn_fits}
+use Rattle.ckr_desk.proofs.Left.{now-left, opens-so}
+use Rattle.ckr_desk.proofs.Same.{IsAsBefore}
+use Rattle.ckr_desk.specs.Calling.{spelled}
+use Rattle.ckr_desk.specs.Sound.{HasKept, IsTrusted, state_of}
+use Rattle.ckr_desk.specs.State.{DeskState}
+use Rattle.ckr_desk.specs.Turning.{event_of_turn}
+use Rattle.ckr_desk.specs.Working.{HasTurned, IsPlanned}
+use Rattle.ckr_desk.proofs.desk.Desk.turn.Given.{Over}
 use Rattle.ckr_desk.proofs.desk.Desk.turn.Goals as goal
 
 pub returns-in_err-plan-clause-kept : goal.returns-in_err-plan-clause-kept
@@ -29,84 +31,49 @@ returns-in_err-plan-clause-kept g c =
     (opens-so d.told d.content d.may_leave d.moment d.left_since d.size old c.layout-layout.ensures.sound is_open image (laws.only_now old.store.disk image left))
     (trusted.committed image (laws.only_now old.store.disk image left))))
 
-pub returns-clause-reply : goal.returns-clause-reply
-returns-clause-reply g c =
+abbrev desk_before : (g : Over) (c : goal.After-carry_out g) → DeskState g.row.D.Denot
+desk_before g c = record { store = c.self.inside.store; jobs = c.self.inside.jobs }
+
+-- what the turn has come to, from where the desk stood
+turned-so : (g : Over) (c : goal.After-carry_out g) → IsTrusted g.D.Disk.told g.D.Disk.content g.D.Disk.may_leave (desk_before g c)
+    → HasTurned g.D.Disk.told g.D.Disk.content g.D.Disk.may_leave g.D.Disk.moment g.D.Disk.left_since g.D.Disk.size c.args.turn (desk_before g c) c.carry_out.new.self c.carry_out.result
+turned-so g c trusted =
     let d = g.D.Disk in
-    let store = c.self.inside.store in
-    let same : AreSame c.self.inside.jobs c.plan.new.self = record { tables = c.plan.ensures.tables; running = c.plan.ensures.running; failed = c.plan.ensures.failed } in
-    let its = subst (λ (s : DeskState g.row.D.Denot). IsTurnOf s.store.layout c.args.turn) (sym c.self.view_is) c.requires.initiator in
-    let is = ap (λ (l : Layout). plan_of l (jobs_of c.self.inside.jobs) c.args.turn) (sym c.layout.ensures.layout) ∙ sym c.in_ok-plan.ensures.plan in
-    rw (← c.self.view_is)
-    (λ trusted.
-    subst (λ (s : State). IfOk c.carry_out.result (λ reply. reply ≡ reply_of s c.args.turn))
-    (state-so d.told d.content d.may_leave store c.self.inside.jobs c.plan.new.self same)
-    (c.carry_out.ensures.reply c.args.turn
-    (planned-so d.told d.content d.may_leave store c.self.inside.jobs c.plan.new.self same c.args.turn c.in_ok-plan.plan its is trusted)))
+    let old : DeskState g.row.D.Denot = record { store = c.self.inside.store; jobs = c.self.inside.jobs } in
+    let mid : DeskState g.row.D.Denot = record { store = c.self.inside.store; jobs = c.plan.new.self } in
+    let is : IsAsBefore d.told d.content d.may_leave old mid = record {
+      jobs = record { tables = c.plan.ensures.tables; running = c.plan.ensures.running; failed = c.plan.ensures.failed };
+      layout = refl;
+      room = refl;
+      reads = refl;
+      none_new = λ image may. may;
+    }
+    in
+    let laws = g.met.D.Disk g.world.𝓛 g.world.𝓜 g.world.𝓡 ((λ s x. x), (λ x. x), (λ x. x), λ x. x) in
+    let since = now-left d.told d.content d.may_leave d.moment d.left_since d.size old c.layout-layout.ensures.sound (sym c.fault.ensures ∙ c.in_default.is) (laws.only_now old.store.disk) in
+    let p : IsPlanned d.told d.content d.may_leave old c.args.turn c.in_ok-plan.plan = record {
+      trusted = trusted;
+      its = subst (λ (s : DeskState g.row.D.Denot). IsTurnOf s.store.layout c.args.turn) (sym c.self.view_is) c.requires.initiator;
+      planned = ap (λ (l : Layout). plan_of l (jobs_of c.self.inside.jobs) c.args.turn) (sym c.layout.ensures.layout) ∙ sym c.in_ok-plan.ensures.plan;
+    }
+    in
+    turned-before d.told d.content d.may_leave d.moment d.left_since d.size old mid is refl since c.args.turn trusted c.carry_out.new.self c.carry_out.result
+    (c.carry_out.ensures.turned c.args.turn (planned-before d.told d.content d.may_leave d.moment d.left_since d.size old mid is refl since c.args.turn c.in_ok-plan.plan p))
+
+pub returns-clause-reply : goal.returns-clause-reply
+returns-clause-reply g c = rw (← c.self.view_is) (λ trusted. (turned-so g c trusted).reply)
 
 pub returns-clause-fits : goal.returns-clause-fits
-returns-clause-fits g c =
-    let d = g.D.Disk in
-    let store = c.self.inside.store in
-    let same : AreSame c.self.inside.jobs c.plan.new.self = record { tables = c.plan.ensures.tables; running = c.plan.ensures.running; failed = c.plan.ensures.failed } in
-    let its = subst (λ (s : DeskState g.row.D.Denot). IsTurnOf s.store.layout c.args.turn) (sym c.self.view_is) c.requires.initiator in
-    let is = ap (λ (l : Layout). plan_of l (jobs_of c.self.inside.jobs) c.args.turn) (sym c.layout.ensures.layout) ∙ sym c.in_ok-plan.ensures.plan in
-    rw (← c.self.view_is)
-    (λ trusted.
-    subst (λ (s : State). OnOk c.carry_out.result (turn_fits s c.args.turn ≡ true))
-    (state-so d.told d.content d.may_leave store c.self.inside.jobs c.plan.new.self same)
-    (c.carry_out.ensures.fits c.args.turn
-    (planned-so d.told d.content d.may_leave store c.self.inside.jobs c.plan.new.self same c.args.turn c.in_ok-plan.plan its is trusted)))
+returns-clause-fits g c = rw (← c.self.view_is) (λ trusted. (turned-so g c trusted).fits)
 
 pub returns-clause-after : goal.returns-clause-after
-returns-clause-after g c =
-    let d = g.D.Disk in
-    let store = c.self.inside.store in
-    let same : AreSame c.self.inside.jobs c.plan.new.self = record { tables = c.plan.ensures.tables; running = c.plan.ensures.running; failed = c.plan.ensures.failed } in
-    let its = subst (λ (s : DeskState g.row.D.Denot). IsTurnOf s.store.layout c.args.turn) (sym c.self.view_is) c.requires.initiator in
-    let is = ap (λ (l : Layout). plan_of l (jobs_of c.self.inside.jobs) c.args.turn) (sym c.layout.ensures.layout) ∙ sym c.in_ok-plan.ensures.plan in
-    rw (← c.self.view_is)
-    (λ trusted.
-    subst (λ (s : State). OnOk c.carry_out.result (state_of d.content c.carry_out.new.self ≡ behind_turn s c.args.turn))
-    (state-so d.told d.content d.may_leave store c.self.inside.jobs c.plan.new.self same)
-    (c.carry_out.ensures.after c.args.turn
-    (planned-so d.told d.content d.may_leave store c.self.inside.jobs c.plan.new.self same c.args.turn c.in_ok-plan.plan its is trusted)))
+returns-clause-after g c = rw (← c.self.view_is) (λ trusted. (turned-so g c trusted).after)
 
 pub returns-clause-trusted : goal.returns-clause-trusted
-returns-clause-trusted g c =
-    let d = g.D.Disk in
-    let store = c.self.inside.store in
-    let same : AreSame c.self.inside.jobs c.plan.new.self = record { tables = c.plan.ensures.tables; running = c.plan.ensures.running; failed = c.plan.ensures.failed } in
-    let its = subst (λ (s : DeskState g.row.D.Denot). IsTurnOf s.store.layout c.args.turn) (sym c.self.view_is) c.requires.initiator in
-    let is = ap (λ (l : Layout). plan_of l (jobs_of c.self.inside.jobs) c.args.turn) (sym c.layout.ensures.layout) ∙ sym c.in_ok-plan.ensures.plan in
-    rw (← c.self.view_is)
-    (λ trusted.
-    c.carry_out.ensures.trusted c.args.turn
-    (planned-so d.told d.content d.may_leave store c.self.inside.jobs c.plan.new.self same c.args.turn c.in_ok-plan.plan its is trusted))
+returns-clause-trusted g c = rw (← c.self.view_is) (λ trusted. (turned-so g c trusted).trusted)
 
 pub returns-clause-cause : goal.returns-clause-cause
-returns-clause-cause g c =
-    let d = g.D.Disk in
-    let store = c.self.inside.store in
-    let same : AreSame c.self.inside.jobs c.plan.new.self = record { tables = c.plan.ensures.tables; running = c.plan.ensures.running; failed = c.plan.ensures.failed } in
-    let its = subst (λ (s : DeskState g.row.D.Denot). IsTurnOf s.store.layout c.args.turn) (sym c.self.view_is) c.requires.initiator in
-    let is = ap (λ (l : Layout). plan_of l (jobs_of c.self.inside.jobs) c.args.turn) (sym c.layout.ensures.layout) ∙ sym c.in_ok-plan.ensures.plan in
-    rw (← c.self.view_is)
-    (λ trusted.
-    subst (λ (s : State). IfErr c.carry_out.result (FailsBy (turn_fits s c.args.turn)))
-    (state-so d.told d.content d.may_leave store c.self.inside.jobs c.plan.new.self same)
-    (c.carry_out.ensures.cause c.args.turn
-    (planned-so d.told d.content d.may_leave store c.self.inside.jobs c.plan.new.self same c.args.turn c.in_ok-plan.plan its is trusted)))
+returns-clause-cause g c = rw (← c.self.view_is) (λ trusted. (turned-so g c trusted).cause)
 
 pub returns-clause-kept : goal.returns-clause-kept
-returns-clause-kept g c =
-    let d = g.D.Disk in
-    let store = c.self.inside.store in
-    let same : AreSame c.self.inside.jobs c.plan.new.self = record { tables = c.plan.ensures.tables; running = c.plan.ensures.running; failed = c.plan.ensures.failed } in
-    let its = subst (λ (s : DeskState g.row.D.Denot). IsTurnOf s.store.layout c.args.turn) (sym c.self.view_is) c.requires.initiator in
-    let is = ap (λ (l : Layout). plan_of l (jobs_of c.self.inside.jobs) c.args.turn) (sym c.layout.ensures.layout) ∙ sym c.in_ok-plan.ensures.plan in
-    rw (← c.self.view_is)
-    (λ is_open trusted.
-    subst (λ (s : State). KeepsWithin d.content d.moment d.left_since d.size (record { store = store; jobs = c.self.inside.jobs }) c.carry_out.new.self (spelled (event_of_turn s c.args.turn)))
-    (state-so d.told d.content d.may_leave store c.self.inside.jobs c.plan.new.self same)
-    (c.carry_out.ensures.kept c.args.turn
-    (planned-so d.told d.content d.may_leave store c.self.inside.jobs c.plan.new.self same c.args.turn c.in_ok-plan.plan its is trusted)))
+returns-clause-kept g c = rw (← c.self.view_is) (λ is_open trusted. (turned-so g c trusted).kept)
