@@ -1,6 +1,6 @@
 //! What is asked of an open desk beside its turns: the layout, a deck that is submitted, a run that is purged, and what is listed of
 //! the data sets.
-ghost use Rattle.std.specs.Prelude.{◌≡◌, ◌≤◌, ◌<◌, ◌*◌, ◌%◌, [], IfErr, IfOk, OnOk, None, length, slice_get, true};
+ghost use Rattle.std.specs.Prelude.{◌≡◌, ◌≤◌, ◌<◌, ◌*◌, ◌%◌, [], Err, IfErr, IfOk, IfSome, OnOk, None, length, slice_get, true};
 ghost use Rattle.std.specs.Option.{option_map};
 ghost use Rattle.ckr_listing.specs.Listed.{listed, records_of};
 ghost use Rattle.ckr_desk.specs.Calling.{FailsBy, MayFail, behind_call, call_fits, event_in, spelled};
@@ -47,6 +47,7 @@ impl<D: Disk> Desk<D> {
         ensures layout { self.new.store.layout ≡ self.old.store.layout }
         ensures size { D.size self.new.store.disk ≡ D.size self.old.store.disk }
         ensures faults { D.faults self.old.store.disk ≤ D.faults self.new.store.disk }
+        ensures stopped { IfSome self.old.store.fault (λ fault. result ≡ Err (DeskError.Stopped fault)) }
         ensures may_fail { IfErr result (MayFail (D.faults self.old.store.disk) (D.faults self.new.store.disk) self.old.store.fault) }
         ensures cause { IsTrusted D.told D.content D.may_leave self.old → IfErr result (FailsBy (call_fits (state_of D.content self.old) (submit_call self.old.jobs.tables.desk cards.now))) }
         ensures stays { IfErr result (StaysBy D.content D.may_leave D.faults self.old self.new) }
@@ -73,6 +74,7 @@ impl<D: Disk> Desk<D> {
         ensures layout { self.new.store.layout ≡ self.old.store.layout }
         ensures size { D.size self.new.store.disk ≡ D.size self.old.store.disk }
         ensures faults { D.faults self.old.store.disk ≤ D.faults self.new.store.disk }
+        ensures stopped { IfSome self.old.store.fault (λ fault. result ≡ Err (DeskError.Stopped fault)) }
         ensures may_fail { IfErr result (MayFail (D.faults self.old.store.disk) (D.faults self.new.store.disk) self.old.store.fault) }
         ensures cause { IsTrusted D.told D.content D.may_leave self.old → IfErr result (FailsBy (call_fits (state_of D.content self.old) (purge_call self.old.jobs.tables.desk job))) }
         ensures stays { IfErr result (StaysBy D.content D.may_leave D.faults self.old self.new) }
@@ -106,6 +108,7 @@ impl<D: Disk> Desk<D> {
         ensures layout { self.new.store.layout ≡ self.old.store.layout }
         ensures size { D.size self.new.store.disk ≡ D.size self.old.store.disk }
         ensures faults { D.faults self.old.store.disk ≤ D.faults self.new.store.disk }
+        ensures stopped { IfSome self.old.store.fault (λ fault. result ≡ Err (DeskError.Stopped fault)) }
         ensures may_fail { IfErr result (MayFail (D.faults self.old.store.disk) (D.faults self.new.store.disk) self.old.store.fault) }
         ensures cause { IsTrusted D.told D.content D.may_leave self.old → IfErr result (FailsBy true) }
         ensures stays { IfErr result (StaysBy D.content D.may_leave D.faults self.old self.new) }

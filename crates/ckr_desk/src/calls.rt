@@ -1,5 +1,5 @@
 //! Turns, from where the desk stands.
-ghost use Rattle.std.specs.Prelude.{◌≡◌, ◌≤◌, IfErr, IfOk, OnOk, None, true};
+ghost use Rattle.std.specs.Prelude.{◌≡◌, ◌≤◌, Err, IfErr, IfOk, IfSome, OnOk, None, true};
 ghost use Rattle.ckr_jobs.specs.Planning.{IsAnyCode, IsToldReply};
 ghost use Rattle.ckr_keeping.specs.Going.{IsTurnOf};
 ghost use Rattle.ckr_desk.specs.Calling.{FailsBy, MayFail, spelled};
@@ -30,6 +30,7 @@ impl<D: Disk> Desk<D> {
         ensures layout { self.new.store.layout ≡ self.old.store.layout }
         ensures size { D.size self.new.store.disk ≡ D.size self.old.store.disk }
         ensures faults { D.faults self.old.store.disk ≤ D.faults self.new.store.disk }
+        ensures stopped { IfSome self.old.store.fault (λ fault. result ≡ Err (DeskError.Stopped fault)) }
         ensures may_fail { IfErr result (MayFail (D.faults self.old.store.disk) (D.faults self.new.store.disk) self.old.store.fault) }
         ensures cause { IsTrusted D.told D.content D.may_leave self.old → IfErr result (FailsBy (turn_fits (state_of D.content self.old) turn)) }
         ensures stays { IfErr result (StaysBy D.content D.may_leave D.faults self.old self.new) }

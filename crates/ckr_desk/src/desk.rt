@@ -140,7 +140,7 @@ impl<D: Disk> Desk<D> {
     /// it is that deck, accepted and of a form that the desk runs.
     ///
     /// `NoMemory`, also where a count of rewrites is at its end; `BookFull` where the event needs more than the room of the book; `Misread`
-    /// exactly where it doesn't follow and is ready: the jobs and the disk are the same then. `DiskFault`: only where the disk's faults rose in
+    /// where it is ready and doesn't follow: the jobs and the disk are the same then. `DiskFault`: only where the disk's faults rose in
     /// this call; then the desk has stopped. `Stopped`: exactly where it had stopped before (this project's profile).
     pub fn tell(&mut self, event: &Event, deck: Option<Job>) -> Result<(), DeskError>
         requires plain { IsTrue (is_plain_event event.now) }

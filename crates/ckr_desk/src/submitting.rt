@@ -1,5 +1,5 @@
 //! Decks that are submitted, and runs that are purged.
-ghost use Rattle.std.specs.Prelude.{◌≡◌, ◌≤◌, ◌<◌, ◌*◌, ◌%◌, ◌++◌, ◌∷◌, [], IfErr, IfOk, MatchOption, None, OnOk, Some, length};
+ghost use Rattle.std.specs.Prelude.{◌≡◌, ◌≤◌, ◌<◌, ◌*◌, ◌%◌, ◌++◌, ◌∷◌, [], Err, IfErr, IfOk, IfSome, MatchOption, None, OnOk, Some, length};
 ghost use Rattle.ckr_events.specs.declared.event.Event.TheVariants as Events;
 ghost use Rattle.ckr_events.specs.Event.{spelling};
 ghost use Rattle.ckr_outside.specs.Disk.{EachSince, Only};
@@ -104,6 +104,7 @@ impl<D: Disk> Desk<D> {
         ensures size { D.size self.new.store.disk ≡ D.size self.old.store.disk }
         ensures faults { D.faults self.old.store.disk ≤ D.faults self.new.store.disk }
         ensures is_open { OnOk result (self.old.store.fault ≡ None) }
+        ensures stopped { IfSome self.old.store.fault (λ fault. result ≡ Err (DeskError.Stopped fault)) }
         ensures cause { IfErr result (NotDone D.faults (submit_call self.old.jobs.tables.desk cards.now) self.old self.new) }
     {
         let _layout = self.store.layout();
@@ -131,6 +132,7 @@ impl<D: Disk> Desk<D> {
         ensures size { D.size self.new.store.disk ≡ D.size self.old.store.disk }
         ensures faults { D.faults self.old.store.disk ≤ D.faults self.new.store.disk }
         ensures is_open { OnOk result (self.old.store.fault ≡ None) }
+        ensures stopped { IfSome self.old.store.fault (λ fault. result ≡ Err (DeskError.Stopped fault)) }
         ensures cause { IfErr result (NotDone D.faults (purge_call self.old.jobs.tables.desk job) self.old self.new) }
     {
         if let Some(fault) = self.store.fault() {
