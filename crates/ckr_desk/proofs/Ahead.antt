@@ -1,14 +1,13 @@
 -- What is foretold of a unit, on a trusted disk: the turn tells it, or the book has no room for it.
-use Rattle.std.proofs.Common.{◌≡◌, ◌<◌, ◌+◌, ℕ, List, [], false, find, length, ap, sym, ◌∙◌, subst, arith, Option, Some, None}
+use Rattle.std.proofs.Common.{◌≡◌, ◌<◌, ℕ, List, [], false, length, ap, sym, ◌∙◌, subst, arith, Option, Some, None}
 use Rattle.std.specs.Option.{option_map_or}
 use Rattle.std.proofs.lemmas.Bool.{lt-leb}
 use Rattle.ckr_book.specs.Book.{room_of}
 use Rattle.ckr_events.specs.declared.event.Event.{Event}
 use Rattle.ckr_events.specs.Event.{spelling}
-use Rattle.ckr_jobs.specs.Behind.{is_of_run}
 use Rattle.ckr_jobs.specs.Planning.{IsSpelledPlan, told_by}
 use Rattle.ckr_jobs.specs.Seen.{StepSeen, jobs_of, lengths_of_row, running_of}
-use Rattle.ckr_library.proofs.Ordered.{not_None, same_item}
+use Rattle.ckr_library.proofs.Ordered.{same_item}
 use Rattle.ckr_meaning.specs.Effective.{OwnedStep}
 use Rattle.ckr_points.specs.Office.{Office}
 use Rattle.ckr_points.specs.Restarting.{place_of, step_in}

@@ -1,7 +1,6 @@
 -- What a turn that works has done, with an event or without one.
-use Rattle.std.proofs.Common.{◌≡◌, ◌<◌, ℕ, List, Bool, true, false, find, refl, ap, sym, ◌∙◌, subst, ⊎_elim, Option, Some, None}
+use Rattle.std.proofs.Common.{◌≡◌, ℕ, List, Bool, true, false, find, refl, ap, sym, ◌∙◌, subst, ⊎_elim, Option, Some, None}
 use Rattle.std.proofs.lemmas.Bool.{false≢true}
-use Rattle.ckr_book.specs.Book.{room_of}
 use Rattle.ckr_events.specs.declared.event.Event.{Event}
 use Rattle.ckr_jobs.specs.Behind.{is_of_run}
 use Rattle.ckr_jobs.specs.Planning.{IsSpelledPlan, told_by}

@@ -1,14 +1,12 @@
 -- A turn that works, once its unit was looked at: what is ready for it, and why it wasn't done.
-use Rattle.std.proofs.Common.{◌≡◌, ◌≤◌, ◌<◌, ◌+◌, ℕ, List, find, refl, ap, sym, ◌∙◌, subst, arith, Option, Some, None, Result, Ok, Err, IfSome, IsErrAnd}
+use Rattle.std.proofs.Common.{◌≡◌, ◌<◌, ℕ, List, find, refl, ap, sym, ◌∙◌, subst, arith, Option, Some, None, Result, Ok, Err, IfSome, IsErrAnd}
 use Rattle.ckr_book.specs.Book.{room_of}
 use Rattle.ckr_events.specs.declared.event.Event.{Event}
 use Rattle.ckr_jobs.specs.Behind.{is_of_run}
-use Rattle.ckr_jobs.specs.Seen.{StepSeen, jobs_of, running_of}
+use Rattle.ckr_jobs.specs.Seen.{StepSeen, running_of}
 use Rattle.ckr_jobs.specs.Planning.{told_by}
-use Rattle.ckr_meaning.specs.Effective.{OwnedStep}
 use Rattle.ckr_outside.specs.Disk.{OnlyReads}
-use Rattle.ckr_points.specs.Restarting.{place_of, step_in}
-use Rattle.ckr_points.specs.Rows.{RunRow, Tables, run_of, step_of_run}
+use Rattle.ckr_points.specs.Rows.{Tables, run_of}
 use Rattle.ckr_standing.specs.Moving.{event_in}
 use Rattle.ckr_steps.specs.declared.stepping.Worked.{Worked}
 use Rattle.ckr_steps.specs.Reading.{AreThere}
@@ -17,13 +15,12 @@ use Rattle.ckr_store.specs.State.{StoreState}
 use Rattle.ckr_turns.specs.declared.plan.Plan.{Plan}
 use Rattle.ckr_turns.specs.declared.plan.Plan.TheVariants.{Work}
 use Rattle.ckr_turns.specs.declared.reply.Turn.{Turn}
-use Rattle.ckr_turns.specs.Planned.{plan_of}
 use Rattle.ckr_volumes.specs.declared.layout.Layout.{Layout}
 use Rattle.ckr_desk.proofs.Ahead.{full-ahead}
 use Rattle.ckr_desk.proofs.Before.{read-unchanged}
 use Rattle.ckr_desk.proofs.Done.{unit-cause}
 use Rattle.ckr_desk.proofs.Readied.{made-ready, ready-none}
-use Rattle.ckr_desk.proofs.Same.{IsAsBefore, state-same, trusted-same}
+use Rattle.ckr_desk.proofs.Same.{IsAsBefore, state-same}
 use Rattle.ckr_desk.specs.Calling.{FailsBy}
 use Rattle.ckr_desk.specs.Calls.{HasSameJobs}
 use Rattle.ckr_desk.specs.declared.error.DeskError.{DeskError}
@@ -31,11 +28,11 @@ use Rattle.ckr_desk.specs.declared.error.DeskError.TheVariants.{NoMemory, DiskFa
 use Rattle.ckr_desk.specs.declared.ready.Foretold.{Foretold}
 use Rattle.ckr_desk.specs.declared.ready.Ready.{Ready}
 use Rattle.ckr_desk.specs.Ready.{AreForetold, HasForetold, IsLookedAhead, IsMadeReady, IsReadyIf, NotLooked, NotReadyFor}
-use Rattle.ckr_desk.specs.Sound.{IsTrusted, state_of}
+use Rattle.ckr_desk.specs.Sound.{state_of}
 use Rattle.ckr_desk.specs.State.{DeskState, State, need_of}
-use Rattle.ckr_desk.specs.Staying.{IsOfDisk, StaysBy}
+use Rattle.ckr_desk.specs.Staying.{StaysBy}
 use Rattle.ckr_desk.specs.Turning.{turn_fits}
-use Rattle.ckr_desk.specs.Working.{IsPlanned, IsToldOf, NoUnit}
+use Rattle.ckr_desk.specs.Working.{IsPlanned, IsToldOf}
 
 -- an error that is handed on is the answer
 pub err-is : {T E : Type 0} (r : Result T E) (error : E) → IsErrAnd r (λ e. e ≡ error) → r ≡ Err error

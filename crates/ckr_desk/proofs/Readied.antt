@@ -1,9 +1,9 @@
 -- What is ready for an event that was foretold is ready for the one that is told.
-use Rattle.std.proofs.Common.{◌≡◌, ◌≤◌, ◌+◌, ℕ, Bool, true, false, List, length, ap, sym, ◌∙◌, subst, arith, Option, Some, None}
+use Rattle.std.proofs.Common.{◌≡◌, ◌≤◌, ℕ, true, false, List, length, ap, sym, ◌∙◌, subst, arith, Option, Some, None}
 use Rattle.std.proofs.lemmas.Bool.{false≢true}
 use Rattle.ckr_book.specs.Book.{room_of}
 use Rattle.ckr_events.specs.declared.event.Event.{Event}
-use Rattle.ckr_events.specs.declared.event.Event.TheVariants.{Submitted, Selected, Denied, Started, Rewritten, Checkpointed, Cancelled, StepEnded, Restarted, Held, Released, Ended, Purged}
+use Rattle.ckr_events.specs.declared.event.Event.TheVariants.{Rewritten, Ended}
 use Rattle.ckr_events.specs.Event.{spelling}
 use Rattle.ckr_following.specs.Counting.{may_count}
 use Rattle.ckr_jobs.specs.declared.making.Prepared.{Prepared}
@@ -12,13 +12,12 @@ use Rattle.ckr_jobs.specs.Seen.{JobsSeen}
 use Rattle.ckr_library.specs.Named.{Named}
 use Rattle.ckr_points.specs.Rows.{TableSet, run_of}
 use Rattle.ckr_soundness.proofs.Entries.{equal_to}
-use Rattle.ckr_store.specs.State.{StoreState}
 use Rattle.ckr_tables.specs.Keeping.{room_at}
 use Rattle.ckr_tables.specs.Seen.{RoomyTables}
 use Rattle.ckr_working.specs.Foretold.{IsAsForetold, is_like}
 use Rattle.ckr_desk.specs.declared.ready.Foretold.{Foretold}
 use Rattle.ckr_desk.specs.declared.ready.Ready.{Ready}
-use Rattle.ckr_desk.specs.Ready.{AreForetold, HasSpace, IsForetold, IsMadeReady, IsReady, IsReadyIf}
+use Rattle.ckr_desk.specs.Ready.{AreForetold, HasSpace, IsMadeReady, IsReady, IsReadyIf}
 use Rattle.ckr_desk.specs.State.{DeskState, need_of}
 
 -- what events need beside their bytes

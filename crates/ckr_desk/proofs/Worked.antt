@@ -1,5 +1,5 @@
 -- A turn that works: the unit of its running step, the desk behind it, and what a stop leaves.
-use Rattle.std.proofs.Common.{◌≡◌, ◌≤◌, ◌<◌, ◌+◌, ◌-◌, ◌++◌, ◌&&◌, ℕ, List, [], ◌∷◌, true, false, find, length, take, refl, ap, sym, ◌∙◌, subst, ⊎_elim, arith, Option, Some, None, Ok}
+use Rattle.std.proofs.Common.{◌≡◌, ◌≤◌, ◌+◌, ◌-◌, ◌++◌, ◌&&◌, ℕ, List, [], ◌∷◌, true, find, length, take, refl, ap, sym, ◌∙◌, subst, ⊎_elim, arith, Option, Some, None, Ok}
 use Rattle.std.proofs.lemmas.Bool.{le-leb}
 use Rattle.arrayvec.specs.ArrayVec.{ArrayVec}
 use Rattle.ckr_book.specs.Book.{IsBeforeOrAfter, ends_closed, room_of}

@@ -28,7 +28,7 @@ use Rattle.ckr_turns.specs.declared.reply.Turn.{Turn}
 use Rattle.ckr_turns.specs.Planned.{plan_of}
 use Rattle.ckr_volumes.specs.declared.layout.Layout.{Layout}
 use Rattle.ckr_desk.specs.declared.error.DeskError.{DeskError}
-use Rattle.ckr_desk.specs.declared.error.DeskError.TheVariants.{NoMemory, DiskFault, BookFull, Stopped, Misread}
+use Rattle.ckr_desk.specs.declared.error.DeskError.TheVariants.{DiskFault, Misread}
 use Rattle.ckr_desk.specs.Calls.{HasGoneOn, IsLeftBy, may_follow, may_keep}
 use Rattle.ckr_desk.specs.Sound.{IsTrusted, KeepsWithin, state_of}
 use Rattle.ckr_desk.specs.State.{DeskState}

@@ -1,5 +1,5 @@
 -- Why the disk of an open desk didn't do what was asked, and how it stands then.
-use Rattle.std.specs.Prelude.{◌≡◌, ◌<◌, ℕ, Option, Some}
+use Rattle.std.specs.Prelude.{◌≡◌, ◌<◌, ℕ, Some}
 use Rattle.ckr_outside.specs.Faults.{Rose}
 use Rattle.ckr_book.specs.Book.{room_of}
 use Rattle.ckr_store.specs.State.{StoreState}

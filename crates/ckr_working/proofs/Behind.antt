@@ -1,25 +1,21 @@
 -- The jobs in memory behind a unit stand for the desk behind it.
-use Rattle.std.proofs.Common.{◌≡◌, ◌≢◌, ℕ, Bool, false, List, ◌∷◌, refl, ap, sym, ◌∙◌, subst, Option, Some, None}
-use Rattle.std.specs.Option.{option_map_or}
+use Rattle.std.proofs.Common.{◌≡◌, ◌≢◌, ℕ, false, List, ◌∷◌, refl, ap, sym, ◌∙◌, subst, Some, None}
 use Rattle.ckr_jobs.specs.Behind.{without_first}
 use Rattle.ckr_jobs.specs.Seen.{JobsSeen, StepSeen}
 use Rattle.ckr_keeping.proofs.Working.{work-keeps}
 use Rattle.ckr_keeping.specs.Going.{IsDesk, IsGoing}
 use Rattle.ckr_leaving.proofs.Units.{committed-kept}
 use Rattle.ckr_leaving.specs.Committed.{HasCommitted}
-use Rattle.ckr_library.proofs.Ordered.{same_item}
 use Rattle.ckr_meaning.specs.Effective.{names_of}
 use Rattle.ckr_meaning.specs.StepRun.{StepStart}
-use Rattle.ckr_points.specs.Rows.{RunRow, run_of}
+use Rattle.ckr_points.specs.Rows.{run_of}
 use Rattle.ckr_standing.specs.Standing.{AllStand, StepStands, Stands}
 use Rattle.ckr_steps.specs.declared.stepping.Worked.{Worked}
 use Rattle.ckr_steps.specs.declared.stepping.Worked.TheVariants.{Went}
 use Rattle.ckr_steps.specs.Standing.{GoesOn, GoesTo, ShowsWithin, StandsAt}
 use Rattle.ckr_steps.specs.Stepping.{HasWorked}
 use Rattle.ckr_steps.specs.Writing.{Keeps}
-use Rattle.ckr_turns.specs.Desk.{Desk, StepOn, TurnDone, done_by, progress_of, start_of, unit_done, with_progress, without_run, work_of}
-use Rattle.ckr_turns.specs.declared.plan.Plan.TheVariants.{Rest}
-use Rattle.ckr_turns.specs.declared.reply.Reply.TheVariants.{Idle}
+use Rattle.ckr_turns.specs.Desk.{Desk, StepOn, TurnDone, progress_of, unit_done, with_progress, without_run, work_of}
 use Rattle.ckr_turns.specs.declared.reply.Turn.{Turn}
 use Rattle.ckr_turns.specs.Working.{Progress, UnitEnd, unit_end, went}
 use Rattle.ckr_volumes.specs.declared.layout.Layout.{Layout}

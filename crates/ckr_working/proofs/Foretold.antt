@@ -3,10 +3,8 @@ use Rattle.std.proofs.Common.{◌≡◌, ◌≤◌, ℕ, ◌+◌, ◌*◌, ◌++
 use Rattle.std.proofs.lemmas.List.{length-map}
 use Rattle.std.specs.Int.{w16, w32, to_be_bytes}
 use Rattle.std.specs.Option.{is_some, option_map_or}
-use Rattle.arrayvec.specs.ArrayVec.{ArrayVec}
 use Rattle.ckr_base.specs.declared.code.Code.{Code}
 use Rattle.ckr_base.specs.declared.code.Code.TheVariants.{System, User}
-use Rattle.ckr_base.specs.declared.programs.Finish.{Finish}
 use Rattle.ckr_base.specs.declared.programs.Finish.TheVariants as Finishes
 use Rattle.ckr_base.specs.declared.programs.Heads.{Heads}
 use Rattle.ckr_base.specs.declared.programs.UnitDone.{UnitDone as UnitOfProgram}
@@ -43,16 +41,16 @@ use Rattle.ckr_steps.specs.declared.stepping.Worked.{Worked}
 use Rattle.ckr_steps.specs.declared.stepping.Worked.TheVariants.{Went, Rewrite, Abend}
 use Rattle.ckr_steps.specs.Reading.{AreThere}
 use Rattle.ckr_steps.specs.Standing.{AreNext, ShowsWithin, StandsAt}
-use Rattle.ckr_steps.specs.Stepping.{HasDone, HasLooked, HasWorked, HasWritten, behind_unit, done_for, heads_on, unit_for, worked_for, writes_for}
+use Rattle.ckr_steps.specs.Stepping.{HasDone, HasLooked, HasWritten, behind_unit, done_for, heads_on, unit_for, worked_for, writes_for}
 use Rattle.ckr_steps.specs.Units.{state_of, taken_of}
 use Rattle.ckr_steps.specs.Writing.{Shows, answer_of, done_of, done_unless, grown, put_all, rewrite_of, room_of, worked_by}
 use Rattle.ckr_turns.specs.Coded.{rule_for}
 use Rattle.ckr_turns.specs.declared.plan.Plan.TheVariants.{Work}
 use Rattle.ckr_turns.specs.declared.reply.Turn.{Turn}
-use Rattle.ckr_turns.specs.Desk.{Desk, TurnDone, jobs_of, seen, seen_from, unit_done, work_of}
+use Rattle.ckr_turns.specs.Desk.{Desk, TurnDone, jobs_of, seen, seen_from, work_of}
 use Rattle.ckr_turns.specs.Jobs.{Running}
 use Rattle.ckr_turns.specs.Planned.{plan_of}
-use Rattle.ckr_turns.specs.Working.{Progress, finished_by, no_more_space, unit_end}
+use Rattle.ckr_turns.specs.Working.{Progress, finished_by, unit_end}
 use Rattle.ckr_volumes.specs.declared.layout.Layout.{Layout}
 use Rattle.ckr_working.specs.Foretold.{IsAsForetold, IsTold}
 use Rattle.ckr_working.specs.Unit.{UnitDone}

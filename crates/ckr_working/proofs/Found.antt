@@ -6,7 +6,7 @@ use Rattle.ckr_jobs.specs.Seen.{JobsSeen, StepSeen}
 use Rattle.ckr_library.proofs.Ordered.{same_item}
 use Rattle.ckr_meaning.specs.StepRun.{StepStart}
 use Rattle.ckr_points.specs.Rows.{RunRow, run_of}
-use Rattle.ckr_standing.specs.Standing.{StepStands, Stands}
+use Rattle.ckr_standing.specs.Standing.{Stands}
 use Rattle.ckr_steps.specs.Standing.{ShowsWithin, StandsAt}
 use Rattle.ckr_turns.specs.Desk.{Desk, StepOn, done_by, jobs_of, progress_of, start_of, unit_done, work_of}
 use Rattle.ckr_turns.specs.declared.plan.Plan.TheVariants.{Rest, Work}

@@ -1,6 +1,5 @@
 use Rattle.std.proofs.Common.{◌≡◌, ◌≤◌, ◌∙◌, arith, ap, subst, sym, None, IfErr, IfOk, OnOk}
 use Rattle.ckr_jobs.specs.Planning.{IsToldReply}
-use Rattle.ckr_outside.specs.Disk.{EachSince}
 use Rattle.ckr_standing.specs.Moving.{event_in}
 use Rattle.ckr_store.specs.State.{IsSound, StoreState}
 use Rattle.ckr_desk.proofs.AskCalled.{if-err, if-err-both, on-ok, on-ok-both}

@@ -1,4 +1,4 @@
-use Rattle.std.proofs.Common.{◌≡◌, ◌++◌, ◌∷◌, [], ap, subst, OnOk}
+use Rattle.std.proofs.Common.{◌≡◌, ◌++◌, ◌∷◌, [], subst, OnOk}
 use Rattle.ckr_events.specs.Event.{spelling}
 use Rattle.ckr_outside.specs.Disk.{EachSince}
 use Rattle.ckr_standing.specs.Moving.{HasSameRecords}
@@ -8,7 +8,6 @@ use Rattle.ckr_desk.proofs.AskCalled.{if-err, on-ok}
 use Rattle.ckr_desk.proofs.Left.{nothing-left, prepared-cause, prepared-gone, prepared-left, same-left, unready-cause}
 use Rattle.ckr_desk.proofs.Replays.{handed_on}
 use Rattle.ckr_desk.specs.Calls.{HasGoneOn, IsLeftBy, NotEntered}
-use Rattle.ckr_desk.specs.State.{DeskState}
 use Rattle.ckr_desk.proofs.desk.Desk.tell.Goals as goal
 
 pub returns-in-Some-clause-left : goal.returns-in-Some-clause-left

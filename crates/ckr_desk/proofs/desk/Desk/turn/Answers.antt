@@ -1,4 +1,4 @@
-use Rattle.std.proofs.Common.{◌≡◌, ◌∙◌, ap, refl, subst, sym}
+use Rattle.std.proofs.Common.{◌∙◌, ap, refl, subst, sym}
 use Rattle.ckr_jobs.specs.Seen.{jobs_of}
 use Rattle.ckr_keeping.specs.Going.{IsTurnOf}
 use Rattle.ckr_outside.specs.Moments.{started}

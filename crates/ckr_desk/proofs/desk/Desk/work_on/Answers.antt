@@ -1,4 +1,4 @@
-use Rattle.std.proofs.Common.{◌≡◌, ◌∙◌, sym, subst, ap, None, IfNone}
+use Rattle.std.proofs.Common.{◌∙◌, sym, subst, ap, IfNone}
 use Rattle.ckr_book.specs.Book.{room_of}
 use Rattle.ckr_outside.specs.Moments.{at_the_end}
 use Rattle.ckr_standing.specs.Moving.{event_in}
