@@ -1,9 +1,9 @@
 -- The cards that a session keeps.
 use Rattle.std.proofs.Common.{◌≡◌, ◌≤◌, ◌+◌, ◌*◌, ◌%◌, ℕ, List, [], ◌++◌, length, ap, ◌∙◌, arith, length-append, Result, Ok, Err, OnOk}
-use Rattle.ckr_statements.specs.declared.cutter.Line.{Line}
-use Rattle.ckr_statements.specs.declared.cutter.Line.TheVariants.{Starts, Card, Ends, Command, Stray, Ignored}
-use Rattle.ckr_statements.specs.Card.{stored_line}
-use Rattle.ckr_statements.proofs.Stored.{length-stored_line}
+use Rattle.ckr_cards.specs.declared.cutter.Line.{Line}
+use Rattle.ckr_cards.specs.declared.cutter.Line.TheVariants.{Starts, Card, Ends, Command, Stray, Ignored}
+use Rattle.ckr_cards.specs.Card.{stored_line}
+use Rattle.ckr_cards.proofs.StoredCards.{length-stored_line}
 use Rattle.batch_desk.specs.Sessions.{cards_left, cards_with}
 
 -- whole cards, and no more of them than lines

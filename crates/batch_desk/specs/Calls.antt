@@ -1,23 +1,23 @@
 -- The calls of the desk that a stream makes, and what is answered, up to the one that the book has no room for.
 use Rattle.std.specs.Prelude.{ℕ, zero, suc, ◌==◌, ◌&&◌, Bool, true, false, if◌then◌else◌, List, [], ◌∷◌, map, Option, None, Some}
-use Rattle.ckr_library.specs.Named.{Name}
+use Rattle.ckr_library.specs.NameMaps.{Name}
 use Rattle.ckr_library.specs.declared.sets.DataSet.{DataSet}
-use Rattle.ckr_listing.specs.Listed.{listed, records_of}
-use Rattle.ckr_points.specs.Rows.{Tables}
-use Rattle.ckr_points.specs.declared.run.Run.{Run}
-use Rattle.ckr_statements.specs.Session.{Handed}
-use Rattle.ckr_statements.specs.Session.Handed.{Deck, Order as Command, Refusal}
-use Rattle.ckr_desk.specs.Calling.{behind_call, call_fits}
-use Rattle.ckr_desk.specs.Turning.{behind_turn, reply_of, turn_fits}
-use Rattle.ckr_desk.specs.State.{State}
-use Rattle.ckr_desk.specs.Submitting.{submit_answer, submit_call, is_queued, purge_call}
-use Rattle.ckr_tables.specs.Seen.{line_of}
-use Rattle.ckr_turns.specs.declared.reply.Reply.{Reply}
-use Rattle.ckr_turns.specs.declared.reply.Reply.TheVariants.{Idle}
-use Rattle.ckr_turns.specs.declared.reply.Turn.{Turn}
-use Rattle.ckr_turns.specs.declared.reply.Submitted.{Submitted}
-use Rattle.ckr_turns.specs.declared.reply.Submitted.TheVariants.{Job, Refused}
-use Rattle.ckr_volumes.specs.declared.layout.Layout.{Layout}
+use Rattle.ckr_desk.specs.Model.Listing.{listed, records_of}
+use Rattle.ckr_desk.specs.Model.Rows.{TablesModel}
+use Rattle.ckr_desk.specs.Model.Run.{Run}
+use Rattle.ckr_cards.specs.Session.{Handed}
+use Rattle.ckr_cards.specs.Session.Handed.{Deck, Order as Command, Refusal}
+use Rattle.ckr_desk.specs.Requests.{behind_call, call_fits}
+use Rattle.ckr_desk.specs.Turn.{behind_turn, reply_of, turn_fits}
+use Rattle.ckr_desk.specs.State.{RoomyDesk}
+use Rattle.ckr_desk.specs.Submit.{submit_answer, submit_call, is_queued, purge_call}
+use Rattle.ckr_desk.specs.Model.View.{line_of}
+use Rattle.ckr_desk.specs.Model.Reply.{Reply}
+use Rattle.ckr_desk.specs.Model.Reply.TheVariants.{Idle}
+use Rattle.ckr_desk.specs.Model.Turn.{Turn}
+use Rattle.ckr_desk.specs.Model.Submitted.{Submitted}
+use Rattle.ckr_desk.specs.Model.Submitted.TheVariants.{Job, Refused}
+use Rattle.ckr_desk.specs.Model.Layout.{Layout}
 use Rattle.batch_desk.specs.declared.orders.Order.{Order}
 use Rattle.batch_desk.specs.declared.orders.Order.TheVariants.{Turns, ListOf, Sets, Jobs, Purge, Unknown}
 use Rattle.batch_desk.specs.Orders.{order_of}
@@ -36,10 +36,10 @@ pub data Answer : Type 0 where
   BrokenOff : (layout : Layout) (initiator : ℕ) (replies : List Reply) → Answer
 
 -- the tables behind the events
-abbrev pub tables_of : State → Tables
+abbrev pub tables_of : RoomyDesk → TablesModel
 tables_of state = state.desk.office.tables
 
-abbrev pub lines_of : Tables → List Run
+abbrev pub lines_of : TablesModel → List Run
 lines_of tables = map line_of tables.runs
 
 -- ---- turns
@@ -53,7 +53,7 @@ is_idle Idle = true
 is_idle _ = false
 
 -- the replies to at most so many turns of an initiator, up to the first Idle, or to the first turn that the book has no room for
-abbrev pub turns : ℕ → ℕ → State → List Reply
+abbrev pub turns : ℕ → ℕ → RoomyDesk → List Reply
 turns initiator zero state = []
 turns initiator (suc n) state =
     if turn_fits state (plain_turn initiator) then
@@ -61,7 +61,7 @@ turns initiator (suc n) state =
     ∷ (if is_idle (reply_of state (plain_turn initiator)) then [] else turns initiator n (behind_turn state (plain_turn initiator)))
     else []
 
-abbrev pub after_turns : ℕ → ℕ → State → State
+abbrev pub after_turns : ℕ → ℕ → RoomyDesk → RoomyDesk
 after_turns initiator zero state = state
 after_turns initiator (suc n) state =
     if turn_fits state (plain_turn initiator) then
@@ -70,7 +70,7 @@ after_turns initiator (suc n) state =
     else state
 
 -- the book has room for all of them
-abbrev pub turns_fit : ℕ → ℕ → State → Bool
+abbrev pub turns_fit : ℕ → ℕ → RoomyDesk → Bool
 turns_fit initiator zero state = true
 turns_fit initiator (suc n) state =
     if turn_fits state (plain_turn initiator) then
@@ -88,13 +88,13 @@ abbrev pub answer_to_deck : Submitted → List Run → Answer
 answer_to_deck (Job number) runs = Accepted number (name_in number runs)
 answer_to_deck (Refused number card) runs = DeckRefused number card
 
-abbrev pub behind_deck : State → List ℕ → State
+abbrev pub behind_deck : RoomyDesk → List ℕ → RoomyDesk
 behind_deck state cards = behind_call state (submit_call (tables_of state) cards)
 
-unfoldable pub deck_answer : State → List ℕ → Answer
+unfoldable pub deck_answer : RoomyDesk → List ℕ → Answer
 deck_answer state cards = answer_to_deck (submit_answer (tables_of state) cards) (lines_of (tables_of (behind_deck state cards)))
 
-abbrev pub deck_fits : State → List ℕ → Bool
+abbrev pub deck_fits : RoomyDesk → List ℕ → Bool
 deck_fits state cards = call_fits state (submit_call (tables_of state) cards)
 
 -- ---- commands
@@ -107,7 +107,7 @@ abbrev pub purge_answer : ℕ → ℕ → Bool → Answer
 purge_answer number job true = Purged job
 purge_answer number job false = LineRefused number
 
-abbrev pub order_answer : State → ℕ → Order → Answer
+abbrev pub order_answer : RoomyDesk → ℕ → Order → Answer
 order_answer state number (Turns initiator n) = Turned state.desk.layout initiator (turns initiator n state)
 order_answer state number (ListOf name) = list_answer number (records_of state.desk name)
 order_answer state number Sets = SetsListed state.desk.layout (listed state.desk)
@@ -115,7 +115,7 @@ order_answer state number Jobs = JobsListed (lines_of (tables_of state))
 order_answer state number (Purge job) = purge_answer number job (is_queued (tables_of state) job)
 order_answer state number Unknown = LineRefused number
 
-abbrev pub after_order : State → Order → State
+abbrev pub after_order : RoomyDesk → Order → RoomyDesk
 after_order state (Turns initiator n) = after_turns initiator n state
 after_order state (ListOf name) = state
 after_order state Sets = state
@@ -123,7 +123,7 @@ after_order state Jobs = state
 after_order state (Purge job) = behind_call state (purge_call (tables_of state) job)
 after_order state Unknown = state
 
-abbrev pub order_fits : State → Order → Bool
+abbrev pub order_fits : RoomyDesk → Order → Bool
 order_fits state (Turns initiator n) = turns_fit initiator n state
 order_fits state (ListOf name) = true
 order_fits state Sets = true
@@ -132,80 +132,66 @@ order_fits state (Purge job) = call_fits state (purge_call (tables_of state) job
 order_fits state Unknown = true
 
 -- the replies to a command, up to the first turn that the book has no room for
-abbrev pub replies_to : State → Order → List Reply
+abbrev pub replies_to : RoomyDesk → Order → List Reply
 replies_to state (Turns initiator n) = turns initiator n state
-replies_to state (ListOf name) = []
-replies_to state Sets = []
-replies_to state Jobs = []
-replies_to state (Purge job) = []
-replies_to state Unknown = []
+replies_to state _ = []
 
 -- the initiator whose replies they are
 abbrev pub initiator_of : Order → ℕ
 initiator_of (Turns initiator n) = initiator
-initiator_of (ListOf name) = 0
-initiator_of Sets = 0
-initiator_of Jobs = 0
-initiator_of (Purge job) = 0
-initiator_of Unknown = 0
+initiator_of _ = 0
 
 -- ---- requests
 
 -- what a line asks for, by the initiators that there are
-abbrev pub order_in : State → List ℕ → Order
+abbrev pub order_in : RoomyDesk → List ℕ → Order
 order_in state text = order_of state.desk.layout.initiators text
 
-abbrev pub answer : State → Handed → Answer
+abbrev pub answer : RoomyDesk → Handed → Answer
 answer state (Deck cards) = deck_answer state cards
 answer state (Command number text) = order_answer state number (order_in state text)
 answer state (Refusal number) = LineRefused number
 
-abbrev pub after : State → Handed → State
+abbrev pub after : RoomyDesk → Handed → RoomyDesk
 after state (Deck cards) = behind_deck state cards
 after state (Command number text) = after_order state (order_in state text)
 after state (Refusal number) = state
 
 -- the book has room for the events of a request
-abbrev pub fits : State → Handed → Bool
+abbrev pub fits : RoomyDesk → Handed → Bool
 fits state (Deck cards) = deck_fits state cards
 fits state (Command number text) = order_fits state (order_in state text)
 fits state (Refusal number) = true
 
 -- the replies that a request brings, one after another
-abbrev pub replies_of : State → Handed → List Reply
+abbrev pub replies_of : RoomyDesk → Handed → List Reply
 replies_of state (Deck cards) = []
 replies_of state (Command number text) = replies_to state (order_in state text)
 replies_of state (Refusal number) = []
 
 -- what is answered where a request is broken off behind these replies
-abbrev pub broken_off : State → Handed → List Reply → Answer
+abbrev pub broken_off : RoomyDesk → Handed → List Reply → Answer
 broken_off state (Deck cards) replies = BrokenOff state.desk.layout 0 replies
 broken_off state (Command number text) replies = BrokenOff state.desk.layout (initiator_of (order_in state text)) replies
 broken_off state (Refusal number) replies = BrokenOff state.desk.layout 0 replies
 
 -- what is answered to the requests, one after another, up to the first that the book has no room for
-abbrev pub calls : State → List Handed → List Answer
+abbrev pub calls : RoomyDesk → List Handed → List Answer
 calls state [] = []
 calls state (request ∷ requests) =
     if fits state request then answer state request ∷ calls (after state request) requests
     else broken_off state request (replies_of state request) ∷ []
 
 -- the desk behind requests that the book has room for
-abbrev pub after_all : State → List Handed → State
+abbrev pub after_all : RoomyDesk → List Handed → RoomyDesk
 after_all state [] = state
 after_all state (request ∷ requests) = after_all (after state request) requests
 
-abbrev pub all_fit : State → List Handed → Bool
+abbrev pub all_fit : RoomyDesk → List Handed → Bool
 all_fit state [] = true
 all_fit state (request ∷ requests) = fits state request && all_fit (after state request) requests
 
 abbrev pub is_refusal : Answer → Bool
-is_refusal (Accepted number name) = false
 is_refusal (DeckRefused number card) = true
 is_refusal (LineRefused number) = true
-is_refusal (Turned layout initiator replies) = false
-is_refusal (Listed records) = false
-is_refusal (SetsListed layout sets) = false
-is_refusal (JobsListed runs) = false
-is_refusal (Purged job) = false
-is_refusal (BrokenOff layout initiator replies) = false
+is_refusal _ = false

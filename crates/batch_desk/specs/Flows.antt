@@ -3,11 +3,11 @@ use Rattle.std.specs.Prelude.{◌≡◌, ℕ, Bool, true, false, ◌==◌, if◌
 use Rattle.std.specs.List.{slice_split}
 use Rattle.std.specs.Str.Lines.{strip_carriage_return}
 use Rattle.std.specs.Io.KnownBytes.{Appends}
-use Rattle.ckr_statements.specs.Session.{Handed, first_session, handed_by, session_behind, session_behind_all, handed_with, handed_within}
+use Rattle.ckr_cards.specs.Session.{Handed, first_session, handed_by, session_behind, session_behind_all, handed_with, handed_within}
 use Rattle.batch_desk.specs.declared.flow.Flow.{Flow}
 use Rattle.batch_desk.specs.declared.stop.Stop.{Stop}
 use Rattle.batch_desk.specs.Calls.{all_fit}
-use Rattle.batch_desk.specs.Serves.{View, Serves, StopsWithin, seen}
+use Rattle.batch_desk.specs.Service.{View, Serves, StopsWithin, seen}
 use Rattle.batch_desk.specs.Sessions.{standing_of, HasWholeCards}
 use Rattle.batch_desk.specs.Stream.{is_line_end, requests_of, text_of, has_refusal}
 
@@ -19,7 +19,7 @@ module _ {D : Type 0} where
   -- nothing has come yet
   pub record IsBegun (f : Flow D) : Type 0 where
     pub standing : standing_of f.session ≡ first_session
-    pub refused : f.session.office.refused ≡ false
+    pub refused : f.session.clerk.refused ≡ false
     pub partial : f.partial.items ≡ []
     pub whole : HasWholeCards f.session
 
@@ -41,11 +41,11 @@ module _ {D : Type 0} (content : D → List ℕ) where
   pub record EndsLine (f g : Flow D) (old new : Option (List ℕ)) : Type 0 where
     pub cuts : CutsLine f g
     pub text : List ℕ
-    pub serves : Serves (seen content f.session.office) (seen content g.session.office) (line_requests f) [] text
+    pub serves : Serves (seen content f.session.clerk) (seen content g.session.clerk) (line_requests f) [] text
     pub written : Appends old new text
 
   -- From the first view the bytes taken were served up to the line that waits, and what is written grew from start to now.
-  pub record Progress (first : View) (taken : List ℕ) (f : Flow D) (start now : Option (List ℕ)) : Type 0 where
+  pub record StreamProgress (first : View) (taken : List ℕ) (f : Flow D) (start now : Option (List ℕ)) : Type 0 where
     -- the lines that have ended, each as it stands before its end
     pub parts : List (List ℕ)
     -- however the stream goes on, it has these lines, and then those that begin with the bytes that wait
@@ -53,24 +53,24 @@ module _ {D : Type 0} (content : D → List ℕ) where
     pub waits : All (λ b. is_line_end b ≡ false) f.partial.items
     pub standing : standing_of f.session ≡ session_behind_all first_session (map strip_carriage_return parts)
     pub text : List ℕ
-    pub serves : Serves first (seen content f.session.office) (handed_within first_session (map strip_carriage_return parts)) [] text
+    pub serves : Serves first (seen content f.session.clerk) (handed_within first_session (map strip_carriage_return parts)) [] text
     pub written : Appends start now text
 
   -- the piece is served, whatever was served before
   abbrev pub Carries : Flow D → Flow D → List ℕ → Option (List ℕ) → Option (List ℕ) → Type 0
-  Carries f g piece old new = (first : View) (taken : List ℕ) (start : Option (List ℕ)) → Progress first taken f start old → Progress first (taken ++ piece) g start new
+  Carries f g piece old new = (first : View) (taken : List ℕ) (start : Option (List ℕ)) → StreamProgress first taken f start old → StreamProgress first (taken ++ piece) g start new
 
   -- the serving stops within the piece, however the stream goes on behind it
   abbrev pub Breaks : Stop → ℕ → ℕ → Flow D → List ℕ → Option (List ℕ) → Option (List ℕ) → Type 0
-  Breaks stop before now f piece old new = (first : View) (taken : List ℕ) (start : Option (List ℕ)) → Progress first taken f start old
+  Breaks stop before now f piece old new = (first : View) (taken : List ℕ) (start : Option (List ℕ)) → StreamProgress first taken f start old
       → (rest : List ℕ) → StopsWithin stop before now first.state (requests_of (taken ++ piece ++ rest)) start new
 
   -- the stream ends here: all of its text is written, and it is known whether a line or a deck was refused
   abbrev pub Finishes : Flow D → Bool → Option (List ℕ) → Option (List ℕ) → Type 0
-  Finishes f refused old new = (first : View) (all : List ℕ) (start : Option (List ℕ)) → first.refused ≡ false → Progress first all f start old
+  Finishes f refused old new = (first : View) (all : List ℕ) (start : Option (List ℕ)) → first.refused ≡ false → StreamProgress first all f start old
       → (all_fit first.state (requests_of all) ≡ true) × Appends start new (text_of first.state all) × (refused ≡ has_refusal first.state all)
 
   -- the stream ends here, and the serving stops within its last requests
   abbrev pub FinishBreaks : Stop → ℕ → ℕ → Flow D → Option (List ℕ) → Option (List ℕ) → Type 0
-  FinishBreaks stop before now f old new = (first : View) (all : List ℕ) (start : Option (List ℕ)) → Progress first all f start old
+  FinishBreaks stop before now f old new = (first : View) (all : List ℕ) (start : Option (List ℕ)) → StreamProgress first all f start old
       → StopsWithin stop before now first.state (requests_of all) start new

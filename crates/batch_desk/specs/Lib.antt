@@ -2,12 +2,12 @@ pub mod Orders
 pub mod Calls
 pub mod Listings
 pub mod Texts
-pub mod Turning
-pub mod Serves
-pub mod Keeping
+pub mod Turns
+pub mod Service
+pub mod Stops
 pub mod Sessions
 pub mod Stream
 pub mod Flows
-pub mod Served
+pub mod Feeds
 pub mod Words
-pub mod Closing
+pub mod CallEnds

@@ -3,15 +3,15 @@ use Rattle.std.specs.Prelude.{ℕ, ◌-◌, Bool, true, false, List, [], ◌∷�
 use Rattle.std.specs.List.{flat_map}
 use Rattle.std.specs.Option.{option_map_or}
 use Rattle.std.specs.Fmt.{decimal}
-use Rattle.ckr_library.specs.Named.{Name}
+use Rattle.ckr_library.specs.NameMaps.{Name}
 use Rattle.ckr_library.specs.declared.sets.DataSet.{DataSet}
 use Rattle.ckr_library.specs.declared.sets.Part.{Part}
 use Rattle.ckr_library.specs.declared.sets.Stamp.{Stamp}
-use Rattle.ckr_points.specs.declared.run.Run.{Run}
-use Rattle.ckr_points.specs.declared.run.RunState.{RunState}
-use Rattle.ckr_points.specs.declared.run.RunState.TheVariants.{Queued, On, Held, Released, Ended, Denied, Purged}
-use Rattle.ckr_volumes.specs.declared.layout.Layout.{Layout}
-use Rattle.ckr_volumes.specs.declared.layout.Volume.{Volume}
+use Rattle.ckr_desk.specs.Model.Run.{Run}
+use Rattle.ckr_desk.specs.Model.RunState.{RunState}
+use Rattle.ckr_desk.specs.Model.RunState.TheVariants.{Queued, On, Held, Released, Ended, Denied, Purged}
+use Rattle.ckr_desk.specs.Model.Layout.{Layout}
+use Rattle.ckr_desk.specs.Model.Volume.{Volume}
 
 -- `J` and seven digits
 abbrev pub job_text : ℕ → List ℕ

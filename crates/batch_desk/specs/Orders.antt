@@ -1,13 +1,10 @@
 -- The commands.
-use Rattle.std.specs.Prelude.{ℕ, ◌≤◌, ◌==◌, ◌&&◌, Bool, nat_eq, nat_lt, nat_le, if◌then◌else◌, List, drop, codes, bytes_eq, Option, None, Some}
-use Rattle.std.specs.List.{starts_with, before_first, after_first}
+use Rattle.std.specs.Prelude.{ℕ, ◌≤◌, ◌==◌, ◌&&◌, Bool, nat_lt, nat_le, if◌then◌else◌, List, codes, bytes_eq, Option, None, Some}
+use Rattle.std.specs.List.{before_first, after_first}
 use Rattle.ckr_base.specs.Grammar.{is_ds_name}
-use Rattle.ckr_base.specs.Words.{trimmed, plain_number}
+use Rattle.ckr_base.specs.Words.{is_blank, trimmed, plain_number}
 use Rattle.batch_desk.specs.declared.orders.Order.{Order}
 use Rattle.batch_desk.specs.declared.orders.Order.TheVariants.{Turns, ListOf, Sets, Jobs, Purge, Unknown}
-
-abbrev pub is_space : ℕ → Bool
-is_space byte = byte == 32
 
 -- an initiator is one of so many, from 1, and a count of turns is from 1 to 1,000,000
 abbrev pub turns_of : ℕ → Option ℕ → Option ℕ → Order
@@ -17,8 +14,8 @@ turns_of initiators (Some initiator) (Some n) =
     if nat_lt 0 initiator && nat_le initiator initiators && (nat_lt 0 n && nat_le n 1_000_000) then Turns initiator n else Unknown
 
 -- an initiator and a count, parted by a blank
-unfoldable pub turns_in : ℕ → List ℕ → Order
-turns_in initiators text = turns_of initiators (plain_number (before_first is_space text)) (plain_number (after_first is_space text))
+abbrev pub turns_in : ℕ → List ℕ → Order
+turns_in initiators text = turns_of initiators (plain_number (before_first is_blank text)) (plain_number (after_first is_blank text))
 
 abbrev pub list_of : List ℕ → Order
 list_of name = if is_ds_name name then ListOf name else Unknown
@@ -31,12 +28,12 @@ purge_of (Some job) = Purge job
 abbrev pub order_alone : List ℕ → Order
 order_alone text = if bytes_eq text (codes "$O") then Sets else if bytes_eq text (codes "$Q") then Jobs else Unknown
 
--- `$T i n`, `$R name`, `$D n`, `$O`, `$Q`; blanks behind it say nothing
-unfoldable pub order_by_words : ℕ → List ℕ → Order
+-- `$T i n`, `$R name`, `$D n`, `$O`, `$Q`, each word parted from the next by one blank; blanks behind it say nothing
+abbrev pub order_by_words : ℕ → List ℕ → Order
 order_by_words initiators text =
-    if starts_with nat_eq text (codes "$T ") then turns_in initiators (drop 3 text)
-    else if starts_with nat_eq text (codes "$R ") then list_of (drop 3 text)
-    else if starts_with nat_eq text (codes "$D ") then purge_of (plain_number (drop 3 text))
+    if bytes_eq (before_first is_blank text) (codes "$T") then turns_in initiators (after_first is_blank text)
+    else if bytes_eq (before_first is_blank text) (codes "$R") then list_of (after_first is_blank text)
+    else if bytes_eq (before_first is_blank text) (codes "$D") then purge_of (plain_number (after_first is_blank text))
     else order_alone text
 
 abbrev pub order_of : ℕ → List ℕ → Order

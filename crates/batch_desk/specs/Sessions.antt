@@ -1,9 +1,9 @@
 -- What clauses see of a session.
 use Rattle.std.specs.Prelude.{◌≡◌, ◌≤◌, ◌+◌, ◌*◌, ◌%◌, ℕ, List, [], ◌++◌, length}
-use Rattle.ckr_statements.specs.declared.cutter.Line.{Line}
-use Rattle.ckr_statements.specs.declared.cutter.Line.TheVariants.{Starts, Card, Ends, Command, Stray, Ignored}
-use Rattle.ckr_statements.specs.Card.{stored_line}
-use Rattle.ckr_statements.specs.Session.{Session as Standing}
+use Rattle.ckr_cards.specs.declared.cutter.Line.{Line}
+use Rattle.ckr_cards.specs.declared.cutter.Line.TheVariants.{Starts, Card, Ends, Command, Stray, Ignored}
+use Rattle.ckr_cards.specs.Card.{stored_line}
+use Rattle.ckr_cards.specs.Session.{SessionModel as Standing}
 use Rattle.batch_desk.specs.declared.session.Session.{Session}
 
 -- where the cutting stands
@@ -18,11 +18,7 @@ pub record HasWholeCards {D : Type 0} (s : Session D) : Type 0 where
 -- the cards that are left open before a line of a kind
 abbrev pub cards_left : Line → List ℕ → List ℕ
 cards_left Card cards = cards
-cards_left Starts cards = []
-cards_left Ends cards = []
-cards_left Command cards = []
-cards_left Stray cards = []
-cards_left Ignored cards = []
+cards_left _ cards = []
 
 -- and with the line
 abbrev pub cards_with : Line → List ℕ → List ℕ → List ℕ

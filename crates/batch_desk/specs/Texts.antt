@@ -2,21 +2,21 @@
 use Rattle.std.specs.Prelude.{ℕ, ◌+◌, ◌/◌, ◌%◌, ◌==◌, Bool, true, false, ◌&&◌, nat_le, if◌then◌else◌, List, [], ◌∷◌, ◌++◌, map, codes, bytes_eq, Option, None, Some}
 use Rattle.std.specs.List.{flat_map}
 use Rattle.std.specs.Fmt.{decimal}
-use Rattle.ckr_allocation.specs.declared.cause.Cause.{Cause}
-use Rattle.ckr_allocation.specs.declared.cause.Cause.TheVariants.{Missing, Exists, WrongKind, WrongVolume, NoVolume, NoSpace, Units, MountRefused}
+use Rattle.ckr_desk.specs.Model.Cause.{Cause}
+use Rattle.ckr_desk.specs.Model.Cause.TheVariants.{Missing, Exists, WrongKind, WrongVolume, NoVolume, NoSpace, Units, MountRefused}
 use Rattle.ckr_base.specs.Words.{trimmed}
 use Rattle.ckr_base.specs.CodeText.{code_text}
-use Rattle.ckr_points.specs.declared.denial.Denial.{Denial}
-use Rattle.ckr_points.specs.declared.denial.Seen.{Seen}
-use Rattle.ckr_rules.specs.declared.cases.Rule.{Rule}
-use Rattle.ckr_rules.specs.declared.cases.Rule.TheVariants.{A1, A2, A3, A4, A5, A6, D1, D2, D3, D4, D5, D6, D7, D8, D9, D10}
-use Rattle.ckr_turns.specs.declared.reply.Chkpt.{Chkpt}
-use Rattle.ckr_turns.specs.declared.reply.Chkpt.TheVariants.{Done, NotWritten, Suppressed}
-use Rattle.ckr_turns.specs.declared.reply.How.{How}
-use Rattle.ckr_turns.specs.declared.reply.How.TheVariants.{Completed, Abended, Allocation}
-use Rattle.ckr_turns.specs.declared.reply.Reply.{Reply}
-use Rattle.ckr_turns.specs.declared.reply.Reply.TheVariants.{Idle, NothingToFail, AwaitingReply, WaitingUnits, Selected, DeniedRestart, Started, Worked, Checkpointed, Cancelled, StepEnded, Restarted, JobHeld, JobEnded}
-use Rattle.ckr_volumes.specs.declared.layout.Layout.{Layout}
+use Rattle.ckr_desk.specs.Model.Denial.{Denial}
+use Rattle.ckr_desk.specs.Model.Seen.{Seen}
+use Rattle.ckr_desk.specs.Model.Rule.{Rule}
+use Rattle.ckr_desk.specs.Model.Rule.TheVariants.{A1, A2, A3, A4, A5, A6, D1, D2, D3, D4, D5, D6, D7, D8, D9, D10}
+use Rattle.ckr_desk.specs.Model.Chkpt.{Chkpt}
+use Rattle.ckr_desk.specs.Model.Chkpt.TheVariants.{Done, NotWritten, Suppressed}
+use Rattle.ckr_desk.specs.Model.How.{How}
+use Rattle.ckr_desk.specs.Model.How.TheVariants.{Completed, Abended, Allocation}
+use Rattle.ckr_desk.specs.Model.Reply.{Reply}
+use Rattle.ckr_desk.specs.Model.Reply.TheVariants.{Idle, NothingToFail, AwaitingReply, WaitingUnits, Selected, DeniedRestart, Started, Worked, Checkpointed, Cancelled, StepEnded, Restarted, JobHeld, JobEnded}
+use Rattle.ckr_desk.specs.Model.Layout.{Layout}
 use Rattle.batch_desk.specs.Calls.{Answer, Accepted, DeckRefused, LineRefused, Turned, Listed, SetsListed, JobsListed, Purged, BrokenOff}
 use Rattle.batch_desk.specs.Listings.{job_text, initiator_text, serial_of, stamp_text, sets_text, jobs_text}
 

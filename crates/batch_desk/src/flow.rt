@@ -1,33 +1,23 @@
 //! The stream in pieces, and the text that goes to the sink.
 ghost use Rattle.std.specs.Prelude.{◌≡◌, ◌<◌, ◌≤◌, ◌+◌, ◌*◌, ◌^◌, [], ◌∷◌, OnOk, OnErr, IfOk, IfErr, None, false, length};
-ghost use Rattle.std.specs.Str.Lines.{strip_carriage_return};
 ghost use Rattle.std.specs.Io.KnownBytes.{Appends};
 ghost use Rattle.ckr_outside.specs.Front.{AppendsFront};
 ghost use Rattle.ckr_outside.specs.Faults.{Rose};
-ghost use Rattle.ckr_statements.specs.Session.{first_session};
-ghost use Rattle.ckr_desk.specs.Sound.{IsTrusted};
-ghost use Rattle.batch_desk.specs.Keeping.{GoesBy};
-ghost use Rattle.ckr_desk.specs.Sound.{state_of};
-ghost use Rattle.batch_desk.specs.Serves.{Serves, HaltsSo, HaltCause, StopsWithin, RestWritten, Caused, seen};
+ghost use Rattle.ckr_cards.specs.Session.{first_session};
+ghost use Rattle.ckr_desk.specs.Soundness.{IsTrusted};
+ghost use Rattle.batch_desk.specs.Stops.{GoesBy};
+ghost use Rattle.ckr_desk.specs.Soundness.{state_of};
+ghost use Rattle.batch_desk.specs.Service.{Serves, HaltsSo, HaltCause, StopsWithin, RestWritten, Caused, seen};
 ghost use Rattle.batch_desk.specs.Sessions.{HasWholeCards, standing_of};
 ghost use Rattle.batch_desk.specs.Flows.{CutsLine, EndsLine, Carries, Breaks, Finishes, FinishBreaks, IsBegun, end_requests, line_requests};
 
 use crate::session::Session;
 use crate::stop::{Halt, Stop};
 use crate::text::Text;
+use ckr_base::without_return;
 use ckr_desk::Desk;
 use ckr_outside::{Disk, Failed, Sink, put_all};
 use std::alloc::Global;
-
-/// The line without the carriage return at its end.
-fn without_return(line: &[u8]) -> &[u8]
-    ensures { result.now ≡ strip_carriage_return line.now }
-{
-    match line.split_last() {
-        Some((b'\r', front)) => front,
-        _ => line,
-    }
-}
 
 fn write<K: Sink>(sink: &mut K, text: &Text) -> Result<(), Stop>
     ensures ok { OnOk result (Appends (K.written sink.old) (K.written sink.new) text.now) }
@@ -72,7 +62,7 @@ pub struct Flow<D: Disk> {
 
 impl<D: Disk> Flow<D> {
     pub fn new(alloc: Global, desk: Desk<D>) -> Flow<D>
-        ensures desk { result.session.office.desk ≡ desk }
+        ensures desk { result.session.clerk.desk ≡ desk }
         ensures begun { IsBegun result }
     {
         Flow {
@@ -85,19 +75,19 @@ impl<D: Disk> Flow<D> {
     fn end_line<K: Sink>(&mut self, sink: &mut K) -> Result<(), Stop>
         requires few { self.old.session.number < 2 ^ 25 }
         requires whole { HasWholeCards self.old.session }
-        requires is_open { self.old.session.office.desk.store.fault ≡ None }
-        ensures ok { IsTrusted D.told D.content D.may_leave self.old.session.office.desk → OnOk result (EndsLine D.content self.old self.new (K.written sink.old) (K.written sink.new)) }
-        ensures trusted { OnOk result (IsTrusted D.told D.content D.may_leave self.old.session.office.desk → IsTrusted D.told D.content D.may_leave self.new.session.office.desk) }
-        ensures goes { IsTrusted D.told D.content D.may_leave self.old.session.office.desk → GoesBy D.content D.moment D.left_since D.size result self.old.session.office.desk self.new.session.office.desk }
-        ensures is_open { OnOk result (self.new.session.office.desk.store.fault ≡ None) }
-        ensures err { IsTrusted D.told D.content D.may_leave self.old.session.office.desk → IfErr result (λ stop. StopsWithin stop (K.faults sink.old) (K.faults sink.new) (state_of D.content self.old.session.office.desk) (line_requests self.old) (K.written sink.old) (K.written sink.new)) }
+        requires is_open { self.old.session.clerk.desk.store.fault ≡ None }
+        ensures ok { IsTrusted D.told D.content D.may_leave self.old.session.clerk.desk → OnOk result (EndsLine D.content self.old self.new (K.written sink.old) (K.written sink.new)) }
+        ensures trusted { OnOk result (IsTrusted D.told D.content D.may_leave self.old.session.clerk.desk → IsTrusted D.told D.content D.may_leave self.new.session.clerk.desk) }
+        ensures goes { IsTrusted D.told D.content D.may_leave self.old.session.clerk.desk → GoesBy D.content D.moment D.left_since D.size result self.old.session.clerk.desk self.new.session.clerk.desk }
+        ensures is_open { OnOk result (self.new.session.clerk.desk.store.fault ≡ None) }
+        ensures err { IsTrusted D.told D.content D.may_leave self.old.session.clerk.desk → IfErr result (λ stop. StopsWithin stop (K.faults sink.old) (K.faults sink.new) (state_of D.content self.old.session.clerk.desk) (line_requests self.old) (K.written sink.old) (K.written sink.new)) }
         ensures sink_later { K.faults sink.old ≤ K.faults sink.new }
-        ensures disk_later { D.faults self.old.session.office.desk.store.disk ≤ D.faults self.new.session.office.desk.store.disk }
-        ensures cause { IfErr result (λ stop. Caused (IsTrusted D.told D.content D.may_leave self.old.session.office.desk) stop (K.faults sink.old) (K.faults sink.new) (D.faults self.old.session.office.desk.store.disk) (D.faults self.new.session.office.desk.store.disk)) }
+        ensures disk_later { D.faults self.old.session.clerk.desk.store.disk ≤ D.faults self.new.session.clerk.desk.store.disk }
+        ensures cause { IfErr result (λ stop. Caused (IsTrusted D.told D.content D.may_leave self.old.session.clerk.desk) stop (K.faults sink.old) (K.faults sink.new) (D.faults self.old.session.clerk.desk.store.disk) (D.faults self.new.session.clerk.desk.store.disk)) }
         ensures cuts { OnOk result (CutsLine self.old self.new) }
         ensures whole { OnOk result (HasWholeCards self.new.session) }
     {
-        let mut out = Text::new(self.session.office.alloc);
+        let mut out = Text::new(self.session.clerk.alloc);
         match self.session.line(without_return(&self.partial), &mut out) {
             Ok(()) => {
                 write(sink, &out)?;
@@ -112,19 +102,19 @@ impl<D: Disk> Flow<D> {
     fn byte<K: Sink>(&mut self, byte: u8, sink: &mut K) -> Result<(), Stop>
         requires few { self.old.session.number < 2 ^ 25 }
         requires whole { HasWholeCards self.old.session }
-        requires is_open { self.old.session.office.desk.store.fault ≡ None }
-        ensures ok { IsTrusted D.told D.content D.may_leave self.old.session.office.desk → OnOk result (Carries D.content self.old self.new (byte ∷ []) (K.written sink.old) (K.written sink.new)) }
-        ensures trusted { OnOk result (IsTrusted D.told D.content D.may_leave self.old.session.office.desk → IsTrusted D.told D.content D.may_leave self.new.session.office.desk) }
-        ensures goes { IsTrusted D.told D.content D.may_leave self.old.session.office.desk → GoesBy D.content D.moment D.left_since D.size result self.old.session.office.desk self.new.session.office.desk }
-        ensures is_open { OnOk result (self.new.session.office.desk.store.fault ≡ None) }
-        ensures err { IsTrusted D.told D.content D.may_leave self.old.session.office.desk → IfErr result (λ stop. Breaks D.content stop (K.faults sink.old) (K.faults sink.new) self.old (byte ∷ []) (K.written sink.old) (K.written sink.new)) }
+        requires is_open { self.old.session.clerk.desk.store.fault ≡ None }
+        ensures ok { IsTrusted D.told D.content D.may_leave self.old.session.clerk.desk → OnOk result (Carries D.content self.old self.new (byte ∷ []) (K.written sink.old) (K.written sink.new)) }
+        ensures trusted { OnOk result (IsTrusted D.told D.content D.may_leave self.old.session.clerk.desk → IsTrusted D.told D.content D.may_leave self.new.session.clerk.desk) }
+        ensures goes { IsTrusted D.told D.content D.may_leave self.old.session.clerk.desk → GoesBy D.content D.moment D.left_since D.size result self.old.session.clerk.desk self.new.session.clerk.desk }
+        ensures is_open { OnOk result (self.new.session.clerk.desk.store.fault ≡ None) }
+        ensures err { IsTrusted D.told D.content D.may_leave self.old.session.clerk.desk → IfErr result (λ stop. Breaks D.content stop (K.faults sink.old) (K.faults sink.new) self.old (byte ∷ []) (K.written sink.old) (K.written sink.new)) }
         ensures sink_later { K.faults sink.old ≤ K.faults sink.new }
-        ensures disk_later { D.faults self.old.session.office.desk.store.disk ≤ D.faults self.new.session.office.desk.store.disk }
-        ensures cause { IfErr result (λ stop. Caused (IsTrusted D.told D.content D.may_leave self.old.session.office.desk) stop (K.faults sink.old) (K.faults sink.new) (D.faults self.old.session.office.desk.store.disk) (D.faults self.new.session.office.desk.store.disk)) }
+        ensures disk_later { D.faults self.old.session.clerk.desk.store.disk ≤ D.faults self.new.session.clerk.desk.store.disk }
+        ensures cause { IfErr result (λ stop. Caused (IsTrusted D.told D.content D.may_leave self.old.session.clerk.desk) stop (K.faults sink.old) (K.faults sink.new) (D.faults self.old.session.clerk.desk.store.disk) (D.faults self.new.session.clerk.desk.store.disk)) }
         ensures few { OnOk result (self.new.session.number + length self.new.partial.items ≤ self.old.session.number + length self.old.partial.items + 1) }
         ensures whole { OnOk result (HasWholeCards self.new.session) }
     {
-        let _layout = self.session.office.desk.layout();
+        let _layout = self.session.clerk.desk.layout();
         if byte == b'\n' {
             return self.end_line(sink);
         }
@@ -136,19 +126,19 @@ impl<D: Disk> Flow<D> {
     pub fn feed<K: Sink>(&mut self, piece: &[u8], sink: &mut K) -> Result<(), Stop>
         requires few { self.old.session.number + length self.old.partial.items + length piece.now ≤ 2 ^ 24 }
         requires whole { HasWholeCards self.old.session }
-        requires is_open { self.old.session.office.desk.store.fault ≡ None }
-        ensures ok { IsTrusted D.told D.content D.may_leave self.old.session.office.desk → OnOk result (Carries D.content self.old self.new piece.now (K.written sink.old) (K.written sink.new)) }
-        ensures trusted { OnOk result (IsTrusted D.told D.content D.may_leave self.old.session.office.desk → IsTrusted D.told D.content D.may_leave self.new.session.office.desk) }
-        ensures goes { IsTrusted D.told D.content D.may_leave self.old.session.office.desk → GoesBy D.content D.moment D.left_since D.size result self.old.session.office.desk self.new.session.office.desk }
-        ensures is_open { OnOk result (self.new.session.office.desk.store.fault ≡ None) }
-        ensures err { IsTrusted D.told D.content D.may_leave self.old.session.office.desk → IfErr result (λ stop. Breaks D.content stop (K.faults sink.old) (K.faults sink.new) self.old piece.now (K.written sink.old) (K.written sink.new)) }
+        requires is_open { self.old.session.clerk.desk.store.fault ≡ None }
+        ensures ok { IsTrusted D.told D.content D.may_leave self.old.session.clerk.desk → OnOk result (Carries D.content self.old self.new piece.now (K.written sink.old) (K.written sink.new)) }
+        ensures trusted { OnOk result (IsTrusted D.told D.content D.may_leave self.old.session.clerk.desk → IsTrusted D.told D.content D.may_leave self.new.session.clerk.desk) }
+        ensures goes { IsTrusted D.told D.content D.may_leave self.old.session.clerk.desk → GoesBy D.content D.moment D.left_since D.size result self.old.session.clerk.desk self.new.session.clerk.desk }
+        ensures is_open { OnOk result (self.new.session.clerk.desk.store.fault ≡ None) }
+        ensures err { IsTrusted D.told D.content D.may_leave self.old.session.clerk.desk → IfErr result (λ stop. Breaks D.content stop (K.faults sink.old) (K.faults sink.new) self.old piece.now (K.written sink.old) (K.written sink.new)) }
         ensures sink_later { K.faults sink.old ≤ K.faults sink.new }
-        ensures disk_later { D.faults self.old.session.office.desk.store.disk ≤ D.faults self.new.session.office.desk.store.disk }
-        ensures cause { IfErr result (λ stop. Caused (IsTrusted D.told D.content D.may_leave self.old.session.office.desk) stop (K.faults sink.old) (K.faults sink.new) (D.faults self.old.session.office.desk.store.disk) (D.faults self.new.session.office.desk.store.disk)) }
+        ensures disk_later { D.faults self.old.session.clerk.desk.store.disk ≤ D.faults self.new.session.clerk.desk.store.disk }
+        ensures cause { IfErr result (λ stop. Caused (IsTrusted D.told D.content D.may_leave self.old.session.clerk.desk) stop (K.faults sink.old) (K.faults sink.new) (D.faults self.old.session.clerk.desk.store.disk) (D.faults self.new.session.clerk.desk.store.disk)) }
         ensures few { OnOk result (self.new.session.number + length self.new.partial.items ≤ self.old.session.number + length self.old.partial.items + length piece.now) }
         ensures whole { OnOk result (HasWholeCards self.new.session) }
     {
-        let _layout = self.session.office.desk.layout();
+        let _layout = self.session.clerk.desk.layout();
         for byte in piece {
             self.byte(*byte, sink)?;
         }
@@ -159,21 +149,21 @@ impl<D: Disk> Flow<D> {
     pub fn end<K: Sink>(&mut self, sink: &mut K) -> Result<bool, Stop>
         requires few { self.old.session.number < 2 ^ 25 }
         requires whole { HasWholeCards self.old.session }
-        requires is_open { self.old.session.office.desk.store.fault ≡ None }
-        ensures ok { IsTrusted D.told D.content D.may_leave self.old.session.office.desk → IfOk result (λ refused. Finishes D.content self.old refused (K.written sink.old) (K.written sink.new)) }
-        ensures trusted { OnOk result (IsTrusted D.told D.content D.may_leave self.old.session.office.desk → IsTrusted D.told D.content D.may_leave self.new.session.office.desk) }
-        ensures goes { IsTrusted D.told D.content D.may_leave self.old.session.office.desk → GoesBy D.content D.moment D.left_since D.size result self.old.session.office.desk self.new.session.office.desk }
-        ensures is_open { OnOk result (self.new.session.office.desk.store.fault ≡ None) }
-        ensures err { IsTrusted D.told D.content D.may_leave self.old.session.office.desk → IfErr result (λ stop. FinishBreaks D.content stop (K.faults sink.old) (K.faults sink.new) self.old (K.written sink.old) (K.written sink.new)) }
+        requires is_open { self.old.session.clerk.desk.store.fault ≡ None }
+        ensures ok { IsTrusted D.told D.content D.may_leave self.old.session.clerk.desk → IfOk result (λ refused. Finishes D.content self.old refused (K.written sink.old) (K.written sink.new)) }
+        ensures trusted { OnOk result (IsTrusted D.told D.content D.may_leave self.old.session.clerk.desk → IsTrusted D.told D.content D.may_leave self.new.session.clerk.desk) }
+        ensures goes { IsTrusted D.told D.content D.may_leave self.old.session.clerk.desk → GoesBy D.content D.moment D.left_since D.size result self.old.session.clerk.desk self.new.session.clerk.desk }
+        ensures is_open { OnOk result (self.new.session.clerk.desk.store.fault ≡ None) }
+        ensures err { IsTrusted D.told D.content D.may_leave self.old.session.clerk.desk → IfErr result (λ stop. FinishBreaks D.content stop (K.faults sink.old) (K.faults sink.new) self.old (K.written sink.old) (K.written sink.new)) }
         ensures sink_later { K.faults sink.old ≤ K.faults sink.new }
-        ensures disk_later { D.faults self.old.session.office.desk.store.disk ≤ D.faults self.new.session.office.desk.store.disk }
-        ensures cause { IfErr result (λ stop. Caused (IsTrusted D.told D.content D.may_leave self.old.session.office.desk) stop (K.faults sink.old) (K.faults sink.new) (D.faults self.old.session.office.desk.store.disk) (D.faults self.new.session.office.desk.store.disk)) }
+        ensures disk_later { D.faults self.old.session.clerk.desk.store.disk ≤ D.faults self.new.session.clerk.desk.store.disk }
+        ensures cause { IfErr result (λ stop. Caused (IsTrusted D.told D.content D.may_leave self.old.session.clerk.desk) stop (K.faults sink.old) (K.faults sink.new) (D.faults self.old.session.clerk.desk.store.disk) (D.faults self.new.session.clerk.desk.store.disk)) }
     {
-        let mut out = Text::new(self.session.office.alloc);
+        let mut out = Text::new(self.session.clerk.alloc);
         match self.end_requests(&mut out) {
             Ok(()) => {
                 write(sink, &out)?;
-                Ok(self.session.office.refused)
+                Ok(self.session.clerk.refused)
             }
             Err(halt) => Err(write_rest(halt, sink, &out)),
         }
@@ -183,14 +173,14 @@ impl<D: Disk> Flow<D> {
     fn end_requests(&mut self, out: &mut Text) -> Result<(), Halt>
         requires few { self.old.session.number < 2 ^ 25 }
         requires whole { HasWholeCards self.old.session }
-        requires is_open { self.old.session.office.desk.store.fault ≡ None }
-        ensures serves { IsTrusted D.told D.content D.may_leave self.old.session.office.desk → OnOk result (Serves (seen D.content self.old.session.office) (seen D.content self.new.session.office) (end_requests self.old) out.old out.new) }
-        ensures trusted { OnOk result (IsTrusted D.told D.content D.may_leave self.old.session.office.desk → IsTrusted D.told D.content D.may_leave self.new.session.office.desk) }
-        ensures goes { IsTrusted D.told D.content D.may_leave self.old.session.office.desk → GoesBy D.content D.moment D.left_since D.size result self.old.session.office.desk self.new.session.office.desk }
-        ensures is_open { OnOk result (self.new.session.office.desk.store.fault ≡ None) }
-        ensures later { D.faults self.old.session.office.desk.store.disk ≤ D.faults self.new.session.office.desk.store.disk }
-        ensures halt { IsTrusted D.told D.content D.may_leave self.old.session.office.desk → IfErr result (λ halt. HaltsSo halt (state_of D.content self.old.session.office.desk) (end_requests self.old) out.old out.new) }
-        ensures cause { IfErr result (λ halt. HaltCause (IsTrusted D.told D.content D.may_leave self.old.session.office.desk) halt (D.faults self.old.session.office.desk.store.disk) (D.faults self.new.session.office.desk.store.disk)) }
+        requires is_open { self.old.session.clerk.desk.store.fault ≡ None }
+        ensures serves { IsTrusted D.told D.content D.may_leave self.old.session.clerk.desk → OnOk result (Serves (seen D.content self.old.session.clerk) (seen D.content self.new.session.clerk) (end_requests self.old) out.old out.new) }
+        ensures trusted { OnOk result (IsTrusted D.told D.content D.may_leave self.old.session.clerk.desk → IsTrusted D.told D.content D.may_leave self.new.session.clerk.desk) }
+        ensures goes { IsTrusted D.told D.content D.may_leave self.old.session.clerk.desk → GoesBy D.content D.moment D.left_since D.size result self.old.session.clerk.desk self.new.session.clerk.desk }
+        ensures is_open { OnOk result (self.new.session.clerk.desk.store.fault ≡ None) }
+        ensures later { D.faults self.old.session.clerk.desk.store.disk ≤ D.faults self.new.session.clerk.desk.store.disk }
+        ensures halt { IsTrusted D.told D.content D.may_leave self.old.session.clerk.desk → IfErr result (λ halt. HaltsSo halt (state_of D.content self.old.session.clerk.desk) (end_requests self.old) out.old out.new) }
+        ensures cause { IfErr result (λ halt. HaltCause (IsTrusted D.told D.content D.may_leave self.old.session.clerk.desk) halt (D.faults self.old.session.clerk.desk.store.disk) (D.faults self.new.session.clerk.desk.store.disk)) }
     {
         if self.partial.is_empty() {
             return self.session.end(out);

@@ -4,17 +4,14 @@ ghost use Rattle.std.specs.List.{flat_map};
 ghost use Rattle.batch_desk.specs.Calls.{JobsListed, SetsListed};
 ghost use Rattle.batch_desk.specs.Listings.{catalog_mark, head_text, job_line, jobs_text, on_text, serial_of, serial_of_parts, set_text, sets_text, size_text, stamp_text, state_text};
 ghost use Rattle.batch_desk.specs.Texts.{answer_text};
-ghost use Rattle.ckr_listing.specs.Listed.{listed};
-ghost use Rattle.ckr_desk.specs.Sound.{IsTrusted, state_of};
+ghost use Rattle.ckr_desk.specs.Model.Listing.{listed};
+ghost use Rattle.ckr_desk.specs.Soundness.{IsTrusted, state_of};
 
 use crate::text::Text;
 use ckr_base::{DsName, NoMemory};
-use ckr_desk::Desk;
+use ckr_desk::{Desk, Layout, Listed, Run, RunState};
 use ckr_library::{DataSet, Part, Stamp};
-use ckr_listing::Listed;
 use ckr_outside::Disk;
-use ckr_points::{Run, RunState};
-use ckr_volumes::Layout;
 
 /// The serial of a volume by its number, where the layout has it.
 pub fn serial(layout: &Layout, volume: u8) -> &[u8]

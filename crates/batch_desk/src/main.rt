@@ -1,16 +1,15 @@
 //! The batch desk: job decks in, a listing out.
 #![tactic(auto)]
 
+mod clerk;
 mod flow;
 mod listing_lines;
-mod office;
 mod orders;
 #[cfg(test)]
 mod refusal_tests;
 mod report;
 #[cfg(test)]
 mod row_tests;
-mod runs;
 mod session;
 mod stop;
 mod stream;
@@ -18,6 +17,7 @@ mod stream;
 mod tests;
 mod text;
 mod top;
+mod turns;
 mod words;
 
 use crate::top::batch_desk;

@@ -1,9 +1,8 @@
 //! The commands.
-ghost use Rattle.std.specs.Prelude.{◌≡◌, ◌≤◌, ℕ, length};
-ghost use Rattle.std.specs.List.{position, position_or_len};
-ghost use Rattle.batch_desk.specs.Orders.{HasFewTurns, is_space, order_of, order_by_words, order_alone, list_of, purge_of, turns_in, turns_of};
+ghost use Rattle.std.specs.Prelude.{◌≡◌, ℕ};
+ghost use Rattle.batch_desk.specs.Orders.{HasFewTurns, order_of, order_by_words, order_alone, list_of, purge_of, turns_in, turns_of};
 
-use ckr_base::{DsName, plain_number, trimmed};
+use ckr_base::{DsName, behind_word, first_word, plain_number, trimmed};
 
 /// The most turns of one command.
 const MOST_TURNS: u32 = 1_000_000;
@@ -32,21 +31,17 @@ pub fn read_order(initiators: u8, line: &[u8]) -> Order
     order_by_words(initiators, trimmed(line))
 }
 
-#[tactic(auto, unfolding(crate::specs::Orders::order_by_words))]
+/// The command of a word, with what stands behind it.
 fn order_by_words(initiators: u8, text: &[u8]) -> Order
     ensures value { result ≡ order_by_words initiators text.now }
     ensures few { HasFewTurns initiators result }
 {
-    if text.starts_with(b"$T ") {
-        return turns_in(initiators, &text[3..]);
+    match first_word(text) {
+        b"$T" => turns_in(initiators, behind_word(text)),
+        b"$R" => list_of(behind_word(text)),
+        b"$D" => purge_of(plain_number(behind_word(text))),
+        _ => order_alone(text),
     }
-    if text.starts_with(b"$R ") {
-        return list_of(&text[3..]);
-    }
-    if text.starts_with(b"$D ") {
-        return purge_of(plain_number(&text[3..]));
-    }
-    order_alone(text)
 }
 
 /// A command without words behind it.
@@ -63,38 +58,15 @@ fn order_alone(text: &[u8]) -> Order
     Order::Unknown
 }
 
-/// The place of the first blank, or the length where there is none.
-fn word_length(text: &[u8]) -> usize
-    ensures value { result ≡ position_or_len is_space text.now }
-    ensures bound { result ≤ length text.now }
-{
-    match first_space(text) {
-        Some(place) => place,
-        None => text.len(),
-    }
-}
-
-/// The place of the first blank.
-fn first_space(text: &[u8]) -> Option<usize>
-    ensures { result ≡ position is_space text.now }
-{
-    text.iter().position(|byte| *byte == b' ')
-}
-
 /// The turns of an initiator and a count, parted by a blank.
-#[tactic(auto, unfolding(crate::specs::Orders::turns_in))]
 fn turns_in(initiators: u8, text: &[u8]) -> Order
     ensures value { result ≡ turns_in initiators text.now }
     ensures few { HasFewTurns initiators result }
 {
-    let place = word_length(text);
-    if place == text.len() {
-        return Order::Unknown;
-    }
     turns_of(
         initiators,
-        plain_number(&text[..place]),
-        plain_number(&text[place + 1..]),
+        plain_number(first_word(text)),
+        plain_number(behind_word(text)),
     )
 }
 

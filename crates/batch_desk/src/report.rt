@@ -2,7 +2,7 @@
 ghost use Rattle.std.specs.Prelude.{◌≡◌, ◌≤◌, [], ◌∷◌, ◌++◌, OnOk, map, codes};
 ghost use Rattle.std.specs.Fmt.{decimal};
 ghost use Rattle.ckr_base.specs.CodeText.{code_text, number_of};
-ghost use Rattle.ckr_jobs.specs.Planning.{HasCode, IsToldReply};
+ghost use Rattle.ckr_desk.specs.Model.Plans.{HasCode, IsToldReply};
 ghost use Rattle.batch_desk.specs.Calls.{Accepted, DeckRefused, LineRefused, Listed, Purged};
 ghost use Rattle.batch_desk.specs.Listings.{job_text, serial_of};
 ghost use Rattle.batch_desk.specs.Texts.{answer_text, two_digits, reply_part, reply_text, job_part, step_part, end_text, rule_text, cause_text, name_text, seen_text, denial_text, chkpt_code, entry_text, restart_text, record_text, shown};
@@ -10,10 +10,7 @@ ghost use Rattle.batch_desk.specs.Texts.{answer_text, two_digits, reply_part, re
 use crate::listing_lines::{serial, stamp};
 use crate::text::Text;
 use ckr_base::{CheckId, Code, DsName, Name8, NoMemory, Rec, trimmed};
-use ckr_points::{Denial, Seen};
-use ckr_rules::Rule;
-use ckr_turns::{Cause, Chkpt, How, Reply};
-use ckr_volumes::Layout;
+use ckr_desk::{Cause, Chkpt, Denial, How, Layout, Reply, Rule, Seen};
 
 pub fn accepted(number: u32, name: &[u8], out: &mut Text) -> Result<(), NoMemory>
     ensures { OnOk result (out.new ≡ out.old ++ answer_text (Accepted number name.now)) }

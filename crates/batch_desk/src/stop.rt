@@ -4,7 +4,7 @@ use ckr_base::NoMemory;
 use std::alloc::AllocFailed;
 
 /// Why the requests of a stream aren't served any further.
-#[derive(Clone, Copy, Debug, PartialEq, Eq)]
+#[derive(Clone, Copy)]
 pub enum Halt {
     /// There is no memory.
     Memory,
@@ -17,7 +17,7 @@ pub enum Halt {
 }
 
 /// Why a stream isn't served any further.
-#[derive(Clone, Copy, Debug, PartialEq, Eq)]
+#[derive(Clone, Copy)]
 pub enum Stop {
     /// The source failed.
     Source,

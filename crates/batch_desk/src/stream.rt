@@ -2,28 +2,22 @@
 ghost use Rattle.std.specs.Prelude.{◌≡◌, ◌<◌, ◌≤◌, ◌+◌, ◌*◌, ◌^◌, OnOk, OnErr, IfOk, IfErr, None, length, take};
 ghost use Rattle.std.specs.Io.KnownBytes.{Consumes, Keeps, IsAtEnd};
 ghost use Rattle.ckr_outside.specs.Faults.{Rose};
-ghost use Rattle.ckr_desk.specs.Sound.{IsTrusted};
-ghost use Rattle.batch_desk.specs.Keeping.{GoesBy, Within, WithinTo};
-ghost use Rattle.ckr_desk.specs.Sound.{state_of};
+ghost use Rattle.ckr_desk.specs.Soundness.{IsTrusted};
+ghost use Rattle.batch_desk.specs.Stops.{GoesBy, Within, WithinTo};
+ghost use Rattle.ckr_desk.specs.Soundness.{state_of};
 ghost use Rattle.batch_desk.specs.Flows.{IsBegun};
-ghost use Rattle.batch_desk.specs.Serves.{seen};
+ghost use Rattle.batch_desk.specs.Service.{seen};
 ghost use Rattle.batch_desk.specs.Sessions.{HasWholeCards};
-ghost use Rattle.batch_desk.specs.Served.{Serving, FedAll, IsStopped, faults_of};
+ghost use Rattle.batch_desk.specs.Feeds.{Serving, FedAll, IsStopped, faults_of};
 
 use crate::flow::Flow;
 use crate::stop::Stop;
 use ckr_desk::Desk;
-use ckr_outside::{Disk, Failed, Sink, Source};
+use ckr_outside::{Disk, Failed, PIECE_BYTES, STREAM_LIMIT, Sink, Source, take_piece};
 use std::alloc::Global;
 
-/// The most bytes of a stream.
-pub const LIMIT: usize = 16_777_216;
-
-/// The most bytes that are taken at once.
-const PIECE: usize = 4096;
-
 /// Takes the next bytes, one more than the limit at most.
-fn take_piece<S: Source>(source: &mut S, buffer: &mut [u8], count: usize) -> Result<usize, Stop>
+fn next_piece<S: Source>(source: &mut S, buffer: &mut [u8], count: usize) -> Result<usize, Stop>
     requires few { count ≤ 16_777_216 }
     requires room { 0 < length buffer.old }
     ensures given { IfOk result (λ taken. Consumes (S.left source.old) (S.left source.new) (take taken buffer.new)) }
@@ -33,8 +27,7 @@ fn take_piece<S: Source>(source: &mut S, buffer: &mut [u8], count: usize) -> Res
     ensures later { S.faults source.old ≤ S.faults source.new }
     ensures cause { IfErr result (λ stop. (stop ≡ Stop.Source) × Rose (S.faults source.old) (S.faults source.new)) }
 {
-    let most = buffer.len().min(LIMIT + 1 - count);
-    match source.take(&mut buffer[..most]) {
+    match take_piece(source, buffer, count) {
         Ok(taken) => Ok(taken),
         Err(Failed) => Err(Stop::Source),
     }
@@ -47,29 +40,29 @@ fn feed_all<S: Source, K: Sink, D: Disk>(
     sink: &mut K,
 ) -> Result<(), Stop>
     requires begun { IsBegun flow.old }
-    requires is_open { flow.old.session.office.desk.store.fault ≡ None }
-    ensures ok { OnOk result (FedAll D.content (IsTrusted D.told D.content D.may_leave flow.old.session.office.desk) (seen D.content flow.old.session.office) flow.new (S.left source.old) (S.left source.new) (K.written sink.old) (K.written sink.new)) }
-    ensures trusted { OnOk result (IsTrusted D.told D.content D.may_leave flow.old.session.office.desk → IsTrusted D.told D.content D.may_leave flow.new.session.office.desk) }
-    ensures goes { IsTrusted D.told D.content D.may_leave flow.old.session.office.desk → GoesBy D.content D.moment D.left_since D.size result flow.old.session.office.desk flow.new.session.office.desk }
-    ensures is_open { OnOk result (flow.new.session.office.desk.store.fault ≡ None) }
+    requires is_open { flow.old.session.clerk.desk.store.fault ≡ None }
+    ensures ok { OnOk result (FedAll D.content (IsTrusted D.told D.content D.may_leave flow.old.session.clerk.desk) (seen D.content flow.old.session.clerk) flow.new (S.left source.old) (S.left source.new) (K.written sink.old) (K.written sink.new)) }
+    ensures trusted { OnOk result (IsTrusted D.told D.content D.may_leave flow.old.session.clerk.desk → IsTrusted D.told D.content D.may_leave flow.new.session.clerk.desk) }
+    ensures goes { IsTrusted D.told D.content D.may_leave flow.old.session.clerk.desk → GoesBy D.content D.moment D.left_since D.size result flow.old.session.clerk.desk flow.new.session.clerk.desk }
+    ensures is_open { OnOk result (flow.new.session.clerk.desk.store.fault ≡ None) }
     ensures few { OnOk result (flow.new.session.number < 2 ^ 25) }
     ensures whole { OnOk result (HasWholeCards flow.new.session) }
-    ensures stop { IfErr result (λ stop. IsStopped (IsTrusted D.told D.content D.may_leave flow.old.session.office.desk) (state_of D.content flow.old.session.office.desk) stop
-        (faults_of (S.faults source.old) (S.faults source.new) (K.faults sink.old) (K.faults sink.new) (D.faults flow.old.session.office.desk.store.disk) (D.faults flow.new.session.office.desk.store.disk)) (S.left source.old) (S.left source.new) (K.written sink.old) (K.written sink.new)) }
+    ensures stop { IfErr result (λ stop. IsStopped (IsTrusted D.told D.content D.may_leave flow.old.session.clerk.desk) (state_of D.content flow.old.session.clerk.desk) stop
+        (faults_of (S.faults source.old) (S.faults source.new) (K.faults sink.old) (K.faults sink.new) (D.faults flow.old.session.clerk.desk.store.disk) (D.faults flow.new.session.clerk.desk.store.disk)) (S.left source.old) (S.left source.new) (K.written sink.old) (K.written sink.new)) }
     ensures source_later { S.faults source.old ≤ S.faults source.new }
     ensures sink_later { K.faults sink.old ≤ K.faults sink.new }
-    ensures disk_later { D.faults flow.old.session.office.desk.store.disk ≤ D.faults flow.new.session.office.desk.store.disk }
+    ensures disk_later { D.faults flow.old.session.clerk.desk.store.disk ≤ D.faults flow.new.session.clerk.desk.store.disk }
 {
-    let _layout = flow.session.office.desk.layout();
-    let mut buffer = [0u8; PIECE];
+    let _layout = flow.session.clerk.desk.layout();
+    let mut buffer = [0u8; PIECE_BYTES];
     let mut count = 0;
     loop {
-        let taken = take_piece(source, &mut buffer, count)?;
+        let taken = next_piece(source, &mut buffer, count)?;
         if taken == 0 {
             return Ok(());
         }
         count += taken;
-        if count > LIMIT {
+        if count > STREAM_LIMIT {
             flow.feed(&buffer[..taken - 1], sink)?;
             return Err(Stop::Limit);
         }
@@ -114,13 +107,13 @@ fn serve_on<S: Source, K: Sink, D: Disk>(
     sink: &mut K,
 ) -> Result<bool, Stop>
     requires begun { IsBegun flow.old }
-    requires is_open { flow.old.session.office.desk.store.fault ≡ None }
-    ensures served { Serving (IsTrusted D.told D.content D.may_leave flow.old.session.office.desk) (state_of D.content flow.old.session.office.desk) result
-        (faults_of (S.faults source.old) (S.faults source.new) (K.faults sink.old) (K.faults sink.new) (D.faults flow.old.session.office.desk.store.disk) (D.faults flow.new.session.office.desk.store.disk)) (S.left source.old) (S.left source.new) (K.written sink.old) (K.written sink.new) }
-    ensures within { IsTrusted D.told D.content D.may_leave flow.old.session.office.desk → Within D.content D.moment D.left_since D.size flow.old.session.office.desk flow.new.session.office.desk }
+    requires is_open { flow.old.session.clerk.desk.store.fault ≡ None }
+    ensures served { Serving (IsTrusted D.told D.content D.may_leave flow.old.session.clerk.desk) (state_of D.content flow.old.session.clerk.desk) result
+        (faults_of (S.faults source.old) (S.faults source.new) (K.faults sink.old) (K.faults sink.new) (D.faults flow.old.session.clerk.desk.store.disk) (D.faults flow.new.session.clerk.desk.store.disk)) (S.left source.old) (S.left source.new) (K.written sink.old) (K.written sink.new) }
+    ensures within { IsTrusted D.told D.content D.may_leave flow.old.session.clerk.desk → Within D.content D.moment D.left_since D.size flow.old.session.clerk.desk flow.new.session.clerk.desk }
     ensures source_later { S.faults source.old ≤ S.faults source.new }
     ensures sink_later { K.faults sink.old ≤ K.faults sink.new }
-    ensures disk_later { D.faults flow.old.session.office.desk.store.disk ≤ D.faults flow.new.session.office.desk.store.disk }
+    ensures disk_later { D.faults flow.old.session.clerk.desk.store.disk ≤ D.faults flow.new.session.clerk.desk.store.disk }
 {
     feed_all(flow, source, sink)?;
     flow.end(sink)

@@ -287,6 +287,11 @@ fn streams_have_their_texts(rt: HostRuntime) -> Result<(), Fail> {
             b"".as_slice(),
         ),
         (b"$T 1 1\n".as_slice(), 0, b"I1 IDLE\n".as_slice()),
+        (
+            b"$T\t1\t1 \t\n$T \t1 1\n".as_slice(),
+            8,
+            b"I1 IDLE\nLINE 2 REFUSED\n".as_slice(),
+        ),
         (b"$R OUT.A".as_slice(), 8, b"LINE 1 REFUSED\n".as_slice()),
         (
             b"//J JOB\n//S EXEC PGM=COPY\n//SYSUT2 DD DSN=OUT.A,DISP=(NEW,CATLG),\n//              SPACE=(80,10)\n//SYSUT1 DD *\nA\n".as_slice(),

@@ -1,23 +1,23 @@
 //! The top call.
 ghost use Rattle.std.specs.Prelude.{◌≡◌, ◌≤◌, ◌↔◌, Ok, map, string_bytes};
 ghost use Rattle.std.specs.Io.KnownBytes.{Keeps};
-ghost use Rattle.ckr_desk.specs.Sound.{AllSound, IsSafe, desk_opening};
-ghost use Rattle.ckr_formatting.specs.Formats.{IsFormatted};
+ghost use Rattle.ckr_desk.specs.Soundness.{AllSound, IsSafe, desk_opening};
+ghost use Rattle.ckr_desk_format.specs.Formats.{IsFormatted};
 ghost use Rattle.ckr_outside.specs.Disk.{EachSince};
-ghost use Rattle.batch_desk.specs.Served.{faults_of};
+ghost use Rattle.batch_desk.specs.Feeds.{faults_of};
 ghost use Rattle.batch_desk.specs.Words.{command_of};
-ghost use Rattle.batch_desk.specs.Closing.{HasFormatted, HasRun, serving_status, opening_status, formatting_status};
+ghost use Rattle.batch_desk.specs.CallEnds.{HasFormatted, HasRun, serving_status, opening_status, formatting_status};
 
 use crate::stop::Stop;
 use crate::stream::{Served, serve};
 use crate::words::{Command, WordsError, read_words};
 use ckr_desk::{Desk, OpenError, Opening};
-use ckr_formatting::{Outcome, format_disk};
+use ckr_desk_format::{FormatOutcome, format_disk};
 use ckr_outside::{Disk, Sink, Source};
 use std::alloc::Global;
 
 /// How the call ended, and the disk.
-#[derive(Debug, Drop)]
+#[derive(Drop)]
 pub struct Closed<D> {
     pub status: u8,
     pub disk: D,
@@ -84,17 +84,17 @@ fn run<S: Source, K: Sink, D: Disk>(
 }
 
 /// The status of formatting a disk.
-fn formatting_status(outcome: Outcome) -> u8
+fn formatting_status(outcome: FormatOutcome) -> u8
     ensures { result ≡ formatting_status outcome }
 {
     match outcome {
-        Outcome::Formatted => 0,
-        Outcome::SourceFailed => 4,
-        Outcome::SinkFailed => 5,
-        Outcome::DiskFailed => 6,
-        Outcome::NoMemory => 7,
-        Outcome::Refused => 8,
-        Outcome::TooLong => 9,
+        FormatOutcome::Formatted => 0,
+        FormatOutcome::SourceFailed => 4,
+        FormatOutcome::SinkFailed => 5,
+        FormatOutcome::DiskFailed => 6,
+        FormatOutcome::NoMemory => 7,
+        FormatOutcome::Refused => 8,
+        FormatOutcome::TooLong => 9,
     }
 }
 

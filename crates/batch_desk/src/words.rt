@@ -5,7 +5,7 @@ ghost use Rattle.batch_desk.specs.Words.{command_named, command_of, disk_place_o
 use thiserror::Error;
 
 /// What the program is asked to do.
-#[derive(Clone, Copy, PartialEq, Eq, Debug)]
+#[derive(Clone, Copy)]
 pub enum Command {
     /// `format DISK`: to format a disk by installation cards.
     Format,
@@ -14,7 +14,7 @@ pub enum Command {
 }
 
 /// Why words are no command.
-#[derive(Clone, Copy, PartialEq, Eq, Debug, Error)]
+#[derive(Clone, Copy, Debug, Error)]
 pub enum WordsError {
     /// They are in no command's grammar.
     #[error("the words are no command")]

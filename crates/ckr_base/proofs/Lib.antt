@@ -1,3 +1,9 @@
+pub mod Bools
 pub mod Codes
+pub mod KnownBytes
+pub mod Numbers
+pub mod Options
 pub mod Pieces
+pub mod Sequences
 pub mod Trims
+pub mod Blanks

@@ -1,4 +1,6 @@
 pub mod Grammar
 pub mod CodeText
-pub mod Roomy
+pub mod RoomyLists
 pub mod Words
+pub mod Columns
+pub mod Digits

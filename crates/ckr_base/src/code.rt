@@ -2,13 +2,13 @@
 ghost use Rattle.std.specs.Prelude.{◌≡◌, ◌≤◌, ◌<◌, ℕ, List, [], ◌∷◌};
 ghost use Rattle.ckr_base.specs.Grammar.{is_digit};
 ghost use Rattle.ckr_base.specs.declared.code.Code.TheVariants.{System};
-ghost use Rattle.ckr_base.specs.CodeText.{code_of, code_text, number_of, is_hex_digit, digit_value, digit_of};
+ghost use Rattle.ckr_base.specs.CodeText.{code_of, code_text, code_letter, number_of, same_code, is_hex_digit, digit_value, digit_of};
 
 use crate::grammar::is_digit;
 use arrayvec::ArrayVec;
 
 /// A completion code: of the system, as S0C7, or of the user, as U0101 (IBM GC28-6704). Its number is at most 4095.
-#[derive(Clone, Copy, PartialEq, Eq, Debug)]
+#[derive(Clone, Copy, PartialEq, Eq)]
 pub enum Code {
     System(u16),
     User(u16),
@@ -55,6 +55,32 @@ const fn digit_of(value: u16) -> u8
 }
 
 impl Code {
+    /// `S` or `U`.
+    pub fn letter(&self) -> u8
+        ensures { result ≡ code_letter self.now }
+    {
+        match self {
+            Code::System(_) => b'S',
+            Code::User(_) => b'U',
+        }
+    }
+
+    /// Its number, of the system or of the user.
+    pub fn number(&self) -> u16
+        ensures { result ≡ number_of self.now }
+    {
+        match self {
+            Code::System(number) | Code::User(number) => *number,
+        }
+    }
+
+    /// Whether two codes are the same.
+    pub fn is_same(&self, other: &Code) -> bool
+        ensures { result ≡ same_code self.now other.now }
+    {
+        self.letter() == other.letter() && self.number() == other.number()
+    }
+
     /// The code that a text stands for: `S` and three hexadecimal digits in upper case, or `U` and four decimal digits
     /// of at most 4095. `None` exactly where the text is neither.
     pub fn read(text: &[u8]) -> Option<Code>

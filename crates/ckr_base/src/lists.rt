@@ -12,7 +12,7 @@ pub type Records = ItemList<Rec>;
 pub type ByteList = ItemList<u8>;
 
 /// A list, seen as its items.
-#[derive(Clone, Debug, Drop)]
+#[derive(Drop)]
 pub struct ItemList<T> {
     items: Vec<T>,
 }
@@ -57,33 +57,15 @@ impl<T: Drop> ItemList<T> {
     }
 }
 
-impl<T: PartialEq> PartialEq for ItemList<T> {
-    ghost use Rattle.std.specs.Cmp.Lexicographic.{pointwise, lists_per};
-
-    ghost eq = { pointwise T.eq };
-
-    ghost laws = { lists_per T.laws };
-
-    fn eq(&self, other: &Self) -> bool {
-        self.as_slice() == other.as_slice()
-    }
-}
-
-impl<T: Eq> Eq for ItemList<T> {
-    ghost use Rattle.std.specs.Cmp.Lexicographic.{lists_equiv};
-
-    ghost laws = { lists_equiv T.Eq.laws };
-}
-
 /// A list, seen as its items and its spare places.
-#[derive(Clone, Debug, Drop)]
+#[derive(Drop)]
 pub struct RoomyList<T> {
     items: Vec<T>,
 }
 
 impl<T> Model for RoomyList<T> {
     ghost use Rattle.std.specs.Prelude.{◌-◌, vec_len, vec_capacity};
-    ghost use Rattle.ckr_base.specs.Roomy.{Roomy, roomy_code};
+    ghost use Rattle.ckr_base.specs.RoomyLists.{Roomy, roomy_code};
 
     ghost Value = { Roomy T };
 

@@ -2,15 +2,17 @@
 //!
 //! They are ordered by their bytes, a prefix first. None is `Copy`; `copied` gives another one, and takes no memory.
 ghost use Rattle.std.specs.Prelude.{◌≡◌, ◌↔◌, IsTrue, IsSome, IfSome};
+ghost use Rattle.std.specs.Ordering.{nat_cmp, eq_by_cmp};
+ghost use Rattle.std.specs.Cmp.Lexicographic.{slice_cmp};
 ghost use Rattle.ckr_base.specs.Grammar.{is_name8, is_ds_name, is_serial, is_check_id};
 
-use crate::bytes::copy_of;
+use crate::copies::copy_of;
 use crate::grammar;
 use arrayvec::ArrayVec;
 use std::marker::Model;
 
 /// The name of a job, a step or a DD: 1 to 8 of A to Z, 0 to 9, `@`, `#` and `$`, the first no digit (IBM GC28-6704).
-#[derive(Clone, PartialEq, Eq, PartialOrd, Ord, Debug, Drop)]
+#[derive(PartialEq, Eq, PartialOrd, Ord, Drop)]
 pub struct Name8 {
     bytes: ArrayVec<u8, 8>,
 }
@@ -64,7 +66,7 @@ impl Name8 {
 }
 
 /// The name of a data set: names of 1 to 8 bytes joined by periods, in at most 44 bytes (IBM GC28-6704).
-#[derive(Clone, PartialEq, Eq, PartialOrd, Ord, Debug, Drop)]
+#[derive(PartialEq, Eq, PartialOrd, Ord, Drop)]
 pub struct DsName {
     bytes: ArrayVec<u8, 44>,
 }
@@ -107,6 +109,13 @@ impl DsName {
         self.bytes.as_slice()
     }
 
+    /// Whether the names are the same.
+    pub fn is_same(&self, other: &DsName) -> bool
+        ensures { result ≡ eq_by_cmp (slice_cmp nat_cmp) self.now other.now }
+    {
+        self.cmp(other).is_eq()
+    }
+
     /// Another one of the same text, which takes no memory.
     pub fn copied(&self) -> DsName
         ensures { result ≡ self.now }
@@ -118,7 +127,7 @@ impl DsName {
 }
 
 /// The serial of a volume: 1 to 6 of A to Z, 0 to 9, `@`, `#`, `$` and the hyphen (IBM GC28-6704).
-#[derive(Clone, PartialEq, Eq, PartialOrd, Ord, Debug, Drop)]
+#[derive(PartialEq, Eq, PartialOrd, Ord, Drop)]
 pub struct Volser {
     bytes: ArrayVec<u8, 6>,
 }
@@ -170,6 +179,13 @@ impl Volser {
         self.bytes.as_slice()
     }
 
+    /// Whether the serials are the same.
+    pub fn is_same(&self, other: &Volser) -> bool
+        ensures { result ≡ eq_by_cmp (slice_cmp nat_cmp) self.now other.now }
+    {
+        self.cmp(other).is_eq()
+    }
+
     /// Another one of the same text, which takes no memory.
     pub fn copied(&self) -> Volser
         ensures { result ≡ self.now }
@@ -181,7 +197,7 @@ impl Volser {
 }
 
 /// The identifier of a checkpoint: 1 to 16 of A to Z, 0 to 9, `@`, `#` and `$` (IBM GC28-6708).
-#[derive(Clone, PartialEq, Eq, PartialOrd, Ord, Debug, Drop)]
+#[derive(PartialEq, Eq, Drop)]
 pub struct CheckId {
     bytes: ArrayVec<u8, 16>,
 }

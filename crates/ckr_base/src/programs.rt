@@ -4,14 +4,14 @@ use crate::{Code, Rec};
 use arrayvec::ArrayVec;
 
 /// The next record of each input; `None` where that input is at its end, or the program has no such input.
-#[derive(PartialEq, Eq, Debug, Drop)]
+#[derive(Drop)]
 pub struct Heads {
     pub first: Option<Rec>,
     pub second: Option<Rec>,
 }
 
 /// Where a record goes.
-#[derive(Clone, Copy, PartialEq, Eq, Debug, Default)]
+#[derive(Clone, Copy, Default)]
 pub enum Output {
     /// Behind the last record of the program's output.
     #[default]
@@ -23,14 +23,14 @@ pub enum Output {
 }
 
 /// A record that a program writes.
-#[derive(PartialEq, Eq, Debug, Default, Drop)]
+#[derive(Default, Drop)]
 pub struct Write {
     pub output: Output,
     pub image: Rec,
 }
 
 /// How a step ends.
-#[derive(Clone, Copy, PartialEq, Eq, Debug)]
+#[derive(Clone, Copy, PartialEq, Eq)]
 pub enum Finish {
     /// With this return code.
     Returned(u16),
@@ -39,7 +39,7 @@ pub enum Finish {
 }
 
 /// What one unit of work took and wrote.
-#[derive(PartialEq, Eq, Debug, Drop)]
+#[derive(Drop)]
 pub struct UnitDone {
     /// The input of which one record was taken, 1 or 2; 0 for the closing unit, which takes none.
     pub taken: u8,
@@ -48,7 +48,7 @@ pub struct UnitDone {
 }
 
 /// What a step is to do next.
-#[derive(Clone, Copy, PartialEq, Eq, Debug)]
+#[derive(Clone, Copy, PartialEq, Eq)]
 pub enum NextDue {
     /// One more unit of work.
     Unit,

@@ -1,12 +1,12 @@
 //! A record of a data set, or a card of a deck.
 ghost use Rattle.std.specs.Prelude.{◌≡◌, ◌≤◌, [], length};
 
-use crate::bytes::copy_of;
+use crate::copies::copy_of;
 use arrayvec::ArrayVec;
 use std::marker::Model;
 
 /// A record of at most 256 bytes, seen as its bytes. Records are ordered by their bytes, a prefix first.
-#[derive(Clone, PartialEq, Eq, PartialOrd, Ord, Debug, Drop)]
+#[derive(PartialEq, Eq, Drop)]
 pub struct Rec {
     bytes: ArrayVec<u8, 256>,
 }

@@ -4,7 +4,7 @@ use Rattle.ckr_outside.specs.Disk.{Overwrites, SameOutside, StemsFrom, Only, Eac
 use Rattle.ckr_outside.specs.Moments.{started, and_then, in_other_words}
 use Rattle.ckr_book.specs.Records.{end_from, starts_open, written_record}
 use Rattle.ckr_book.specs.Book.{OpenBook, IsInside, IsOpenOn, StandsOn, IsBeforeOrAfter, records_of, ends_closed}
-use Rattle.ckr_book.proofs.Appended.{staged, any_gate, open_gate}
+use Rattle.ckr_book.proofs.Appends.{staged, any_gate, open_gate}
 
 module _ {D : Type 0} (told : Type 0) (content : D → List ℕ) (may_leave : D → List ℕ → Type 0) (size : D → ℕ) (book : OpenBook) (disk : D) (bytes : List ℕ)
     (inside : IsInside book (size disk)) (room : book.end + (length bytes + 6) ≤ book.size) (small : length bytes < 2 ^ 32)

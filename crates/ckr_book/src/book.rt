@@ -17,7 +17,7 @@ const OPEN: u8 = 1;
 const CLOSED: u8 = 0;
 
 /// An open book. It is seen as its place on the disk, its number of bytes, and the place of its first closed gate.
-#[derive(Clone, Copy, Debug, PartialEq, Eq)]
+#[derive(Clone, Copy, PartialEq, Eq)]
 pub struct Book {
     start: u64,
     size: u32,

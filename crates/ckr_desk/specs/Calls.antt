@@ -3,28 +3,28 @@ use Rattle.std.specs.Prelude.{◌≡◌, ◌≤◌, ◌<◌, ◌+◌, ◌++◌, 
 use Rattle.ckr_book.specs.Book.{IsBeforeOrAfter, room_of}
 use Rattle.ckr_events.specs.declared.event.Event.{Event}
 use Rattle.ckr_events.specs.Event.{spelling}
-use Rattle.ckr_following.specs.Counting.{may_count}
+use Rattle.ckr_desk_memory.specs.Model.RewriteCounts.{may_count}
 use Rattle.ckr_jcl.specs.declared.deck.Job.{Job}
 use Rattle.ckr_outside.specs.Disk.{Only}
-use Rattle.ckr_points.specs.Following.{follows}
-use Rattle.ckr_points.specs.Restarting.{Decked}
-use Rattle.ckr_standing.specs.Moving.{HasSameRecords, HaveMoved}
-use Rattle.ckr_store.specs.Answers.{HasFailed}
-use Rattle.ckr_store.specs.Opens.{event_records, Opens}
+use Rattle.ckr_points.specs.Follows.{follows}
+use Rattle.ckr_points.specs.Restart.{Decked}
+use Rattle.ckr_desk_refines.specs.Moves.{HasSameRecords, HaveMoved}
+use Rattle.ckr_desk_store.specs.Answers.{HasFailed}
+use Rattle.ckr_desk_store.specs.OpenImages.{event_records, Opens}
 use Rattle.ckr_desk.specs.declared.error.DeskError.{DeskError}
 use Rattle.ckr_desk.specs.declared.error.DeskError.TheVariants.{NoMemory, DiskFault, BookFull, Stopped, Misread}
-use Rattle.ckr_desk.specs.State.{DeskState, need_of}
+use Rattle.ckr_desk.specs.State.{DeskView, need_of}
 
 -- whether an event follows
-abbrev pub may_follow : {D : Type 0} → Event → Option Job → DeskState D → Bool
+abbrev pub may_follow : {D : Type 0} → Event → Option Job → DeskView D → Bool
 may_follow event deck desk = follows desk.store.layout desk.jobs.tables.desk event deck
 
 -- and no count of rewrites is at its end
-abbrev pub may_keep : {D : Type 0} → Event → Option Job → DeskState D → Bool
+abbrev pub may_keep : {D : Type 0} → Event → Option Job → DeskView D → Bool
 may_keep event deck desk = may_follow event deck desk && may_count event desk.jobs.tables.desk.sets
 
 -- the jobs in memory are behind the event, and the disk is open still
-pub record HasGoneOn {D : Type 0} (event : Event) (deck : Option Job) (old new : DeskState D) : Type 0 where
+pub record HasGoneOn {D : Type 0} (event : Event) (deck : Option Job) (old new : DeskView D) : Type 0 where
   pub might : may_keep event deck old ≡ true
   pub moved : HaveMoved event deck old.jobs new.jobs
   pub layout : new.store.layout ≡ old.store.layout
@@ -33,18 +33,18 @@ pub record HasGoneOn {D : Type 0} (event : Event) (deck : Option Job) (old new :
   pub room : room_of new.store.book + (length (spelling event) + 5) ≡ room_of old.store.book
 
 -- what the jobs are is the same
-pub record HasSameJobs {D : Type 0} (old new : DeskState D) : Type 0 where
+pub record HasSameJobs {D : Type 0} (old new : DeskView D) : Type 0 where
   pub tables : new.jobs.tables.desk ≡ old.jobs.tables.desk
   pub running : new.jobs.running ≡ old.jobs.running
   pub failed : new.jobs.failed ≡ old.jobs.failed
 
 -- what the jobs are is the same, and so is the disk
-pub record IsSame {D : Type 0} (old new : DeskState D) : Type 0 where
+pub record IsSame {D : Type 0} (old new : DeskView D) : Type 0 where
   pub jobs : HasSameJobs old new
   pub store : new.store ≡ old.store
 
 -- a call without an event leaves all as it was
-abbrev pub HasDone : {D : Type 0} → Option Decked → DeskState D → DeskState D → Type 0
+abbrev pub HasDone : {D : Type 0} → Option Decked → DeskView D → DeskView D → Type 0
 HasDone None old new = new ≡ old
 HasDone (Some call) old new = HasGoneOn call.0 call.1 old new
 
@@ -54,7 +54,7 @@ with_event before None = before
 with_event before (Some call) = before ++ spelling call.0 ∷ []
 
 -- a call without an event fails for want of memory alone
-abbrev pub NotAsked : {D : Type 0} → DeskState D → DeskState D → DeskError → Type 0
+abbrev pub NotAsked : {D : Type 0} → DeskView D → DeskView D → DeskError → Type 0
 NotAsked old new NoMemory = IsSame old new
 NotAsked old new DiskFault = ⊥
 NotAsked old new (BookFull need room) = ⊥
@@ -63,13 +63,13 @@ NotAsked old new Misread = ⊥
 
 module _ {D : Type 0} (faults : D → ℕ) where
   -- why an event that is ready isn't kept; it follows where the disk reads what was written
-  abbrev pub NotEntered : Event → Option Job → DeskState D → DeskState D → DeskError → Type 0
+  abbrev pub NotEntered : Event → Option Job → DeskView D → DeskView D → DeskError → Type 0
   NotEntered event deck old new DiskFault = HasFailed faults old.store new.store × HasSameJobs old new
   NotEntered event deck old new Misread = (may_follow event deck old ≡ false) × IsSame old new
   NotEntered event deck old new _ = ⊥
 
   -- why an event isn't kept
-  abbrev pub NotKept : Event → Option Job → DeskState D → DeskState D → DeskError → Type 0
+  abbrev pub NotKept : Event → Option Job → DeskView D → DeskView D → DeskError → Type 0
   NotKept event deck old new NoMemory = IsSame old new
   NotKept event deck old new DiskFault = HasFailed faults old.store new.store × HasSameJobs old new
   NotKept event deck old new (BookFull need room) = (need ≡ need_of event) × (room ≡ room_of old.store.book) × (room < need) × IsSame old new
@@ -77,7 +77,7 @@ module _ {D : Type 0} (faults : D → ℕ) where
   NotKept event deck old new Misread = (may_follow event deck old ≡ false) × IsSame old new
 
   -- why a call isn't done
-  abbrev pub NotDone : Option Decked → DeskState D → DeskState D → DeskError → Type 0
+  abbrev pub NotDone : Option Decked → DeskView D → DeskView D → DeskError → Type 0
   NotDone None old new error = NotAsked old new error
   NotDone (Some call) old new error = NotKept call.0 call.1 old new error
 
@@ -85,7 +85,7 @@ module _ {D : Type 0} (faults : D → ℕ) where
 
 -- An image of a stop within a call that keeps an event: one that the disk might have left before, without the event; or, where the event may
 -- be kept, one that has the events before, or the event too, and the same records.
-abbrev pub IsLeftBy : {D : Type 0} → (D → List ℕ) → (D → List ℕ → Type 0) → (D → ℕ) → Event → Option Job → DeskState D → List ℕ → Type 0
+abbrev pub IsLeftBy : {D : Type 0} → (D → List ℕ) → (D → List ℕ → Type 0) → (D → ℕ) → Event → Option Job → DeskView D → List ℕ → Type 0
 IsLeftBy content may_leave size event deck old image =
     (Opens old.store.layout (size old.store.disk) (λ records. records ≡ event_records old.store.layout (content old.store.disk)) image × may_leave old.store.disk image)
     ⊎ ((may_keep event deck old ≡ true)
@@ -93,11 +93,11 @@ IsLeftBy content may_leave size event deck old image =
     × HasSameRecords old.store.layout (content old.store.disk) image)
 
 -- an image of a stop within a call that is one event with its deck, or none
-abbrev pub IsLeftByCall : {D : Type 0} → (D → List ℕ) → (D → List ℕ → Type 0) → (D → ℕ) → Option Decked → DeskState D → List ℕ → Type 0
+abbrev pub IsLeftByCall : {D : Type 0} → (D → List ℕ) → (D → List ℕ → Type 0) → (D → ℕ) → Option Decked → DeskView D → List ℕ → Type 0
 IsLeftByCall content may_leave size None old image = may_leave old.store.disk image
 IsLeftByCall content may_leave size (Some call) old image = IsLeftBy content may_leave size call.0 call.1 old image
 
 -- behind an event a stop leaves what a read gives
-abbrev pub IsSettledBehind : {D : Type 0} → (D → List ℕ) → (D → List ℕ → Type 0) → Option Event → DeskState D → Type 0
+abbrev pub IsSettledBehind : {D : Type 0} → (D → List ℕ) → (D → List ℕ → Type 0) → Option Event → DeskView D → Type 0
 IsSettledBehind content may_leave None new = Unit {0}
 IsSettledBehind content may_leave (Some event) new = Only (content new.store.disk) (may_leave new.store.disk)

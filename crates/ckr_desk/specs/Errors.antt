@@ -1,6 +1,6 @@
 -- What the store's errors are to the desk.
-use Rattle.ckr_store.specs.declared.error.StoreError.{StoreError}
-use Rattle.ckr_store.specs.declared.error.StoreError.TheVariants as OfStore
+use Rattle.ckr_desk_store.specs.declared.error.StoreError.{StoreError}
+use Rattle.ckr_desk_store.specs.declared.error.StoreError.TheVariants as OfStore
 use Rattle.ckr_desk.specs.declared.error.DeskError.{DeskError}
 use Rattle.ckr_desk.specs.declared.error.DeskError.TheVariants.{DiskFault, BookFull, Stopped}
 

@@ -3,10 +3,10 @@ use Rattle.std.specs.Prelude.{ℕ, ◌+◌, ◌-◌, if◌then◌else◌, List, 
 use Rattle.ckr_book.specs.Records.{records_from, end_from, starts_open}
 use Rattle.ckr_events.specs.declared.event.Event.{Event}
 use Rattle.ckr_events.specs.Event.{event_of}
-use Rattle.ckr_jobs.specs.Behind.{failed_in}
-use Rattle.ckr_jobs.specs.Replaying.{replayed}
+use Rattle.ckr_desk_memory.specs.EventChanges.{failed_in}
+use Rattle.ckr_desk_memory.specs.Replay.{replayed}
 use Rattle.ckr_outside.specs.Disk.{part}
-use Rattle.ckr_points.specs.Rows.{Tables, no_tables}
+use Rattle.ckr_points.specs.Rows.{TablesModel, no_tables}
 use Rattle.ckr_volumes.specs.declared.layout.Layout.{Layout}
 use Rattle.ckr_volumes.specs.declared.header.HeaderError.{HeaderError}
 use Rattle.ckr_volumes.specs.declared.header.HeaderError.TheVariants as HeaderErrors
@@ -15,30 +15,30 @@ use Rattle.ckr_desk.specs.declared.error.OpenError.{OpenError}
 use Rattle.ckr_desk.specs.declared.error.OpenError.TheVariants.{NotFormatted, Version, BadHeader, BadBook}
 use Rattle.ckr_desk.specs.State.{Opened}
 
-abbrev pub behind_read : Layout → Tables → Result Event ℕ → Option Tables
+abbrev pub behind_read : Layout → TablesModel → Result Event ℕ → Option TablesModel
 behind_read layout tables (Ok event) = replayed layout tables event
 behind_read layout tables (Err offset) = None
 
 -- the tables behind a record of the book: none where the record is no event, or one that doesn't follow
-unfoldable pub behind_record : Layout → Tables → List ℕ → Option Tables
+unfoldable pub behind_record : Layout → TablesModel → List ℕ → Option TablesModel
 behind_record layout tables bytes = behind_read layout tables (event_of bytes)
 
-abbrev pub or_bad : ℕ → Option Tables → (Tables → Result Tables ℕ) → Result Tables ℕ
+abbrev pub or_bad : ℕ → Option TablesModel → (TablesModel → Result TablesModel ℕ) → Result TablesModel ℕ
 or_bad place None go_on = Err place
 or_bad place (Some tables) go_on = go_on tables
 
 -- the tables behind the records of a book from a place on; else the place of the first that is no event or doesn't follow
-abbrev pub behind_records : Layout → Tables → ℕ → List (List ℕ) → Result Tables ℕ
+abbrev pub behind_records : Layout → TablesModel → ℕ → List (List ℕ) → Result TablesModel ℕ
 behind_records layout tables place [] = Ok tables
 behind_records layout tables place (bytes ∷ rest) =
     or_bad place (behind_record layout tables bytes) (λ behind. behind_records layout behind (place + (length bytes + 5)) rest)
 
 -- with these tables the runs that are within a step were running
-abbrev pub opened_at : Layout → Tables → ℕ → Opened
+abbrev pub opened_at : Layout → TablesModel → ℕ → Opened
 opened_at layout tables room = record { layout = layout; tables = tables; failed = failed_in tables; room = room }
 
 -- a gate that stands open before no whole record comes behind the records
-abbrev pub by_end : Layout → List ℕ → Result Tables ℕ → Result Opened OpenError
+abbrev pub by_end : Layout → List ℕ → Result TablesModel ℕ → Result Opened OpenError
 by_end layout bytes (Err place) = Err (BadBook place)
 by_end layout bytes (Ok tables) =
     if starts_open (drop (end_from 0 bytes) bytes) then Err (BadBook (end_from 0 bytes))

@@ -3,19 +3,19 @@ use Rattle.std.specs.Prelude.{ℕ, ◌+◌, List, length}
 use Rattle.ckr_book.specs.Book.{room_of}
 use Rattle.ckr_events.specs.declared.event.Event.{Event}
 use Rattle.ckr_events.specs.Event.{spelling}
-use Rattle.ckr_jobs.specs.Holding.{AreJobs}
-use Rattle.ckr_jobs.specs.Seen.{JobsSeen}
-use Rattle.ckr_points.specs.Rows.{Tables}
-use Rattle.ckr_store.specs.State.{StoreState}
-use Rattle.ckr_turns.specs.Desk.{Desk}
+use Rattle.ckr_desk_memory.specs.Invariant.{AreJobs}
+use Rattle.ckr_desk_memory.specs.View.{JobsView}
+use Rattle.ckr_points.specs.Rows.{TablesModel}
+use Rattle.ckr_desk_store.specs.State.{StoreView}
+use Rattle.ckr_desk_turn.specs.Desk.{DeskModel}
 use Rattle.ckr_volumes.specs.declared.layout.Layout.{Layout}
 
-pub record DeskState (D : Type 0) : Type 0 where
-  pub store : StoreState D
-  pub jobs : JobsSeen
+pub record DeskView (D : Type 0) : Type 0 where
+  pub store : StoreView D
+  pub jobs : JobsView
 
 -- the jobs are such as the layout of the disk has them
-abbrev pub IsKept : {D : Type 0} → DeskState D → Type 0
+abbrev pub IsKept : {D : Type 0} → DeskView D → Type 0
 IsKept desk = AreJobs desk.store.layout desk.jobs
 
 -- the room of the book that an event needs: its gate, its length, its bytes and the next gate
@@ -25,11 +25,11 @@ need_of event = length (spelling event) + 6
 -- what a disk was opened to: its layout, the tables behind its events, the runs that were running, and the room of its book
 pub record Opened : Type 0 where
   pub layout : Layout
-  pub tables : Tables
+  pub tables : TablesModel
   pub failed : List ℕ
   pub room : ℕ
 
-abbrev pub opened_of : {D : Type 0} → DeskState D → Opened
+abbrev pub opened_of : {D : Type 0} → DeskView D → Opened
 opened_of desk = record {
   layout = desk.store.layout;
   tables = desk.jobs.tables.desk;
@@ -38,6 +38,6 @@ opened_of desk = record {
 }
 
 -- how a desk stands between two calls: with what its events have brought about, and the room that is left in the book
-pub record State : Type 0 where
-  pub desk : Desk
+pub record RoomyDesk : Type 0 where
+  pub desk : DeskModel
   pub room : ℕ

@@ -2,26 +2,26 @@
 ghost use Rattle.std.specs.Prelude.{◌≡◌, ◌≤◌, ◌++◌, ◌∷◌, [], IfErr, IfSome, IsTrue, OnOk, Err, None, length, map, true};
 ghost use Rattle.std.specs.Option.{option_copied};
 ghost use Rattle.ckr_events.specs.Event.{IsCounted, spelling};
-ghost use Rattle.ckr_jobs.specs.Holding.{IsAnyAccepted};
+ghost use Rattle.ckr_desk_memory.specs.Invariant.{IsAnyAccepted};
 ghost use Rattle.ckr_outside.specs.Disk.{EachSince, Only};
 ghost use Rattle.ckr_points.specs.Rows.{holding_of};
-ghost use Rattle.ckr_standing.specs.Moving.{HasSameRecords};
-ghost use Rattle.ckr_store.specs.Opens.{event_records};
-ghost use Rattle.ckr_tables.specs.Keeping.{is_plain_event, MaySubmit};
-ghost use Rattle.ckr_tables.specs.Seen.{line_of, seen_by};
+ghost use Rattle.ckr_desk_refines.specs.Moves.{HasSameRecords};
+ghost use Rattle.ckr_desk_store.specs.OpenImages.{event_records};
+ghost use Rattle.ckr_points_tables.specs.Invariant.{is_plain_event, MaySubmit};
+ghost use Rattle.ckr_points_tables.specs.View.{line_of, seen_by};
 ghost use Rattle.ckr_desk.specs.Calls.{HasGoneOn, IsLeftBy, NotEntered, NotKept, may_follow};
-ghost use Rattle.ckr_desk.specs.Ready.{IsReady};
+ghost use Rattle.ckr_desk.specs.Preparation.{IsReady};
+ghost use Rattle.ckr_desk.specs.Soundness.{IsTrusted, KeepsWithin};
 
 use crate::DeskError;
-use crate::ready::Ready;
+use crate::preparation::Ready;
+use ckr_desk_memory::{Jobs, follows};
+use ckr_desk_store::Store;
 use ckr_events::Event;
-use ckr_following::follows;
 use ckr_jcl::Job;
-use ckr_jobs::Jobs;
 use ckr_library::Library;
 use ckr_outside::Disk;
 use ckr_points::Run;
-use ckr_store::Store;
 use ckr_volumes::Layout;
 use std::alloc::Global;
 use std::marker::Model;
@@ -35,9 +35,9 @@ pub struct Desk<D: Disk> {
 }
 
 impl<D: Disk> Model for Desk<D> {
-    ghost use Rattle.ckr_desk.specs.State.{DeskState, IsKept};
+    ghost use Rattle.ckr_desk.specs.State.{DeskView, IsKept};
 
-    ghost Value = { DeskState D };
+    ghost Value = { DeskView D };
 
     ghost view = { λ s. record { store = s.store; jobs = s.jobs } };
 
@@ -45,6 +45,15 @@ impl<D: Disk> Model for Desk<D> {
 }
 
 impl<D: Disk> Desk<D> {
+    /// The layout of the disk: where its book and its volumes stand, in bytes, and how many initiators there are. It takes no memory
+    /// (this project's profile).
+    pub fn layout(&self) -> &Layout
+        ensures layout { result.now ≡ self.now.store.layout }
+        ensures kept { self.now.store.fault ≡ None → IsTrusted D.told D.content D.may_leave self.now → KeepsWithin D.content D.moment D.left_since D.size self.now self.now [] }
+    {
+        self.store.layout()
+    }
+
     /// The data sets, with the lengths that are committed.
     pub fn library(&self) -> &Library
         ensures { result.now.sets ≡ seen_by holding_of self.now.jobs.tables.desk.sets }

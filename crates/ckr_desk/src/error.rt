@@ -5,12 +5,12 @@ ghost use Rattle.ckr_desk.specs.declared.error.OpenError.TheVariants as OpenErro
 ghost use Rattle.ckr_desk.specs.declared.error.DeskError.TheVariants.{NoMemory as WithoutMemory};
 
 use ckr_base::NoMemory;
+use ckr_desk_store::StoreError;
 use ckr_outside::Failed;
-use ckr_store::StoreError;
 use thiserror::Error;
 
 /// Why a call of the desk did nothing, or not all that was asked.
-#[derive(Clone, Copy, Debug, Drop, Error, PartialEq, Eq)]
+#[derive(Clone, Copy, Debug, Drop, Error)]
 pub enum DeskError {
     /// There was no memory. Nothing has changed.
     #[error("there is no memory")]
@@ -50,7 +50,7 @@ impl From<StoreError> for DeskError {
 }
 
 /// Why a disk isn't opened. All but the first two come exactly by the bytes that the disk reads, in this order.
-#[derive(Clone, Copy, Debug, Drop, Error, PartialEq, Eq)]
+#[derive(Clone, Copy, Debug, Drop, Error)]
 pub enum OpenError {
     /// There is no memory.
     #[error("there is no memory")]
@@ -73,7 +73,7 @@ pub enum OpenError {
 }
 
 /// A disk that isn't opened, and why.
-#[derive(Debug, Drop)]
+#[derive(Drop)]
 pub struct Opening<D> {
     pub error: OpenError,
     pub disk: D,

@@ -1,20 +1,25 @@
 //! The desk: an event is on the disk before the jobs go on by it.
 #![tactic(auto)]
 
-mod asking;
-mod calls;
+mod data_set;
 mod desk;
 mod error;
 mod opening;
-mod reading;
-mod ready;
-mod rewriting;
-mod submitting;
-mod turning;
-mod working;
+mod plan;
+mod preparation;
+mod purge;
+mod records;
+mod rewrite;
+mod submit;
+mod turn;
+mod unit;
 
 pub use desk::Desk;
 pub use error::{DeskError, OpenError, Opening};
 
-#[cfg(test)]
-mod tests;
+// What the calls of a desk take and answer, of the crates below.
+pub use ckr_desk_refines::Listed;
+pub use ckr_desk_turn::{Cause, Chkpt, How, Reply, Submitted, Turn};
+pub use ckr_points::{Denial, Run, RunState, Seen};
+pub use ckr_rules::Rule;
+pub use ckr_volumes::Layout;

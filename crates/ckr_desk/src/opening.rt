@@ -1,32 +1,32 @@
 //! The disk as it is opened: its layout, and the jobs that its events have brought about.
 ghost use Rattle.std.specs.Prelude.{◌≡◌, ◌≤◌, ◌+◌, ◌<◌, [], IfOk, IfErr, OnOk, IsTrue, Ok, Err, None, take, drop};
-ghost use Rattle.ckr_jobs.specs.Behind.{failed_in};
-ghost use Rattle.ckr_jobs.specs.Holding.{AreJobs};
+ghost use Rattle.ckr_desk_memory.specs.EventChanges.{failed_in};
+ghost use Rattle.ckr_desk_memory.specs.Invariant.{AreJobs};
 ghost use Rattle.ckr_journal.specs.Events.{ReadAt, GoesOn};
 ghost use Rattle.std.specs.Option.{is_some};
 ghost use Rattle.ckr_book.specs.Records.{records_from};
 ghost use Rattle.ckr_outside.specs.Disk.{EachSince, Only, OnlyReads, part};
 ghost use Rattle.ckr_outside.specs.Faults.{Rose};
 ghost use Rattle.ckr_points.specs.Rows.{run_of};
-ghost use Rattle.ckr_standing.specs.Again.{last_event};
-ghost use Rattle.ckr_store.specs.Opens.{event_records};
+ghost use Rattle.ckr_desk_refines.specs.RewriteRecord.{last_event};
+ghost use Rattle.ckr_desk_store.specs.OpenImages.{event_records};
 ghost use Rattle.ckr_volumes.specs.Header.{header_of, IsHeader};
-ghost use Rattle.ckr_volumes.specs.Stands.{is_laid_out};
+ghost use Rattle.ckr_volumes.specs.Layouts.{is_laid_out};
 ghost use Rattle.ckr_desk.specs.Opening.{opening_of};
 ghost use Rattle.ckr_desk.specs.Calls.{HasSameJobs};
-ghost use Rattle.ckr_desk.specs.Replaying.{IsReplayed, IsReplayedTo, GoneOn, LastGone, ReplayCause, EventCause, OpenCause, IsFound};
-ghost use Rattle.ckr_desk.specs.Replaying.{HasFailedAgain, IsLackingAgain, IsWrittenAgain, fits_in, has_record};
-ghost use Rattle.ckr_desk.specs.Sound.{AllSound, IsSafe, IsTrusted, desk_opening, events_in, last_on, state_of};
+ghost use Rattle.ckr_desk.specs.Replay.{IsReplayed, IsReplayedTo, GoneOn, LastGone, ReplayCause, EventCause, OpenCause, IsFound};
+ghost use Rattle.ckr_desk.specs.Replay.{HasFailedAgain, IsLackingAgain, IsWrittenAgain, fits_in, has_record};
+ghost use Rattle.ckr_desk.specs.Soundness.{AllSound, IsSafe, IsTrusted, desk_opening, events_in, last_on, state_of};
 ghost use Rattle.ckr_desk.specs.State.{opened_of};
 
 use crate::{Desk, OpenError, Opening};
 use ckr_base::Rec;
+use ckr_desk_memory::Jobs;
+use ckr_desk_store::Store;
 use ckr_events::Event;
-use ckr_jobs::Jobs;
 use ckr_journal::{LayoutError, Next, NextEventError, next_event, read_layout};
 use ckr_library::DataSet;
 use ckr_outside::Disk;
-use ckr_store::Store;
 use ckr_volumes::Layout;
 use std::alloc::Global;
 
@@ -58,7 +58,7 @@ fn event_at<D: Disk>(alloc: Global, disk: &mut D, book: u32, place: u32) -> Resu
 }
 
 /// Goes on by the next event of the book. Answers whether there was one.
-#[tactic(auto, using(crate::proofs::Replays::book_inside))]
+#[tactic(auto, using(crate::proofs::Openings::Replay::book_inside))]
 fn replay_one<D: Disk>(
     alloc: Global,
     disk: &mut D,

@@ -3,8 +3,6 @@
 
 mod lists;
 mod point;
-#[cfg(test)]
-mod tests;
 
 pub use lists::{Marks, PassedList};
 pub use point::{Mark, Passed, Point, Present, State};

@@ -1,6 +1,6 @@
 //! Lists of the parts of a point.
 ghost use Rattle.std.specs.Prelude.{◌≡◌, ◌+◌, ◌<◌, ◌≤◌, [], ◌∷◌, ◌++◌, not, filter, IsOk, OnOk, OnErr, vec_len, vec_capacity};
-ghost use Rattle.ckr_library.specs.Named.{same_name};
+ghost use Rattle.ckr_library.specs.NameMaps.{same_name};
 
 use crate::{Mark, Passed};
 use ckr_base::{DsName, NoMemory, RoomyList};
@@ -11,14 +11,14 @@ use std::marker::Model;
 pub type Marks = RoomyList<Mark>;
 
 /// The data sets that a run has passed on, in the order in which they were passed: seen as they stand, and with the spare places.
-#[derive(Clone, Debug, Drop)]
+#[derive(Drop)]
 pub struct PassedList {
     items: Vec<Passed>,
 }
 
 impl Model for PassedList {
     ghost use Rattle.std.specs.Prelude.{◌-◌, vec_len, vec_capacity};
-    ghost use Rattle.ckr_base.specs.Roomy.{Roomy};
+    ghost use Rattle.ckr_base.specs.RoomyLists.{Roomy};
     ghost use Rattle.ckr_entry.specs.declared.point.Passed.{Passed as PassedOn};
 
     ghost Value = { Roomy PassedOn };

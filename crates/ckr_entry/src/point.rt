@@ -1,6 +1,6 @@
 //! A point of a run: where its step stands, and what the tables had of its data sets.
 ghost use Rattle.std.specs.Prelude.{◌≡◌};
-ghost use Rattle.ckr_library.specs.Named.{same_name};
+ghost use Rattle.ckr_library.specs.NameMaps.{same_name};
 
 use crate::{Marks, PassedList};
 use ckr_base::{CheckId, DsName, Name8};
@@ -9,7 +9,7 @@ use ckr_match::MatchState;
 use ckr_programs::ProgState;
 
 /// What the tables had of a data set at a point.
-#[derive(Clone, Copy, PartialEq, Eq, Debug)]
+#[derive(Clone, Copy, PartialEq, Eq)]
 pub struct Present {
     /// The number of the volume of its first part, counted from 0.
     pub volume: u8,
@@ -26,7 +26,7 @@ pub struct Present {
 }
 
 /// What a point says of a name.
-#[derive(Clone, PartialEq, Eq, Debug, Drop)]
+#[derive(PartialEq, Eq, Drop)]
 pub struct Mark {
     pub name: DsName,
     /// None where there was no data set of this name.
@@ -34,7 +34,7 @@ pub struct Mark {
 }
 
 /// A data set that a step of a run has passed on to a later one (IBM GC28-6704).
-#[derive(Clone, PartialEq, Eq, Debug, Drop)]
+#[derive(PartialEq, Eq, Drop)]
 pub struct Passed {
     pub name: DsName,
     /// Whether the run made it, or a step of an earlier run that it continues.
@@ -46,12 +46,12 @@ impl Passed {
     pub fn is_of(&self, name: &DsName) -> bool
         ensures { result ≡ same_name name.now self.now.name }
     {
-        name.cmp(&self.name).is_eq()
+        name.is_same(&self.name)
     }
 }
 
 /// Where the program of a step stands.
-#[derive(Clone, PartialEq, Eq, Debug, Drop)]
+#[derive(PartialEq, Eq, Drop)]
 pub enum State {
     /// Of COPY, SELECT, PRINT and IEFBR14.
     Plain(ProgState),
@@ -60,7 +60,7 @@ pub enum State {
 }
 
 /// Where a run stood at the start of a step, or at a checkpoint in it.
-#[derive(Clone, PartialEq, Eq, Debug, Drop)]
+#[derive(PartialEq, Eq, Drop)]
 pub struct Point {
     /// The identifier of the checkpoint; None at the start of a step.
     pub id: Option<CheckId>,

@@ -1,2 +1,5 @@
-pub mod Both
+pub mod Fields
 pub mod Events
+pub mod FieldLaws
+pub mod FieldLoop
+pub mod FieldSteps

@@ -1,6 +1,6 @@
 -- Which events have a spelling, their one spelling, and which event is read from bytes.
 use Rattle.std.specs.Prelude.{◌≡◌, ◌<◌, ◌-◌, ◌/◌, ◌^◌, ◌==◌, ℕ, List, ◌∷◌, length, Result, Ok, Err, min, if◌then◌else◌}
-use Rattle.ckr_fields.specs.Reading.{Reading, ◌>>=◌}
+use Rattle.ckr_fields.specs.Readers.{Reading, ◌>>=◌}
 use Rattle.ckr_fields.specs.Fields.{byte_at, seen_at}
 use Rattle.ckr_events.specs.Format.{job, submitted, selected, denied, started, rewritten, checkpointed, step_ended, restarted, held, ended}
 use Rattle.ckr_fields.specs.declared.error.ReadError.{ReadError}

@@ -3,7 +3,7 @@ use Rattle.std.specs.Prelude.{◌==◌, ◌||◌, ◌^◌, ℕ, Bool, IsTrue, Li
 use Rattle.arrayvec.specs.ArrayVec.{ArrayVec}
 use Rattle.ckr_base.specs.Grammar.{is_ds_name, is_check_id}
 use Rattle.ckr_base.specs.declared.code.Code.{Code}
-use Rattle.ckr_fields.specs.Reading.{Reading, ◌>>=◌}
+use Rattle.ckr_fields.specs.Readers.{Reading, ◌>>=◌}
 use Rattle.ckr_fields.specs.Fields.{Field, byte_at, byte, two_bytes, four_bytes, judged, between, depending, ◌&◌, check_id, record_bytes, optional, flag, code, items, blocks, seen_at}
 use Rattle.ckr_events.specs.declared.event.Piece.{Piece}
 use Rattle.ckr_events.specs.declared.event.Made.{Made}

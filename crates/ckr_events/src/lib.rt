@@ -1,20 +1,17 @@
 //! The events of the desk, and their bytes both ways.
 #![tactic(auto)]
 
-mod decoding;
-mod encoding;
+mod decoder;
+mod encoder;
 mod error;
 mod event;
+mod field_reader;
+mod field_writer;
 mod jobs;
 mod laws;
-mod reading;
-mod writing;
 
-pub use decoding::decode;
-pub use encoding::{encode, encode_small};
+pub use decoder::decode;
+pub use encoder::{encode, encode_small};
 pub use error::EventError;
 pub use event::{Ending, Event, Made, Piece};
 pub use laws::{what_is_read_is_spelled, what_is_spelled_is_read};
-
-#[cfg(test)]
-mod tests;

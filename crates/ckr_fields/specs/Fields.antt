@@ -5,7 +5,7 @@ use Rattle.ckr_base.specs.Grammar.{is_name8, is_ds_name, is_check_id}
 use Rattle.ckr_base.specs.CodeText.{number_of}
 use Rattle.ckr_base.specs.declared.code.Code.{Code}
 use Rattle.ckr_base.specs.declared.code.Code.TheVariants.{System, User}
-use Rattle.ckr_fields.specs.Reading.{Reading, ◌>>=◌}
+use Rattle.ckr_fields.specs.Readers.{Reading, ◌>>=◌}
 
 pub record Field (A : Type 0) : Type 1 where
   pub fits : A → Type 0

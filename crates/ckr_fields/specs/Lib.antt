@@ -1,3 +1,3 @@
 pub mod Bytes
 pub mod Fields
-pub mod Reading
+pub mod Readers

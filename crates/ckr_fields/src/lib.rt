@@ -2,15 +2,12 @@
 #![tactic(auto)]
 
 mod error;
-mod reading;
-mod writing;
+mod reader;
+mod writer;
 
 pub use error::ReadError;
-pub use reading::Fields;
-pub use writing::{
+pub use reader::Fields;
+pub use writer::{
     put_byte, put_bytes, put_code, put_flag, put_four_bytes, put_record_bytes, put_short_text,
     put_two_bytes,
 };
-
-#[cfg(test)]
-mod tests;

@@ -2,8 +2,8 @@
 use Rattle.std.proofs.Common.{◌≡◌, ℕ, ◌+◌, ◌<◌, List, length, refl, Some, None, Ok, Err}
 use Rattle.ckr_jcl.specs.declared.deck.Kind.{Kind}
 use Rattle.ckr_jcl.specs.declared.deck.Parm.{Parm}
-use Rattle.ckr_statements.specs.Field.{is_comma}
-use Rattle.ckr_statements.specs.Tables.{pieces_between}
+use Rattle.ckr_cards.specs.Field.{is_comma}
+use Rattle.ckr_cards.specs.Tables.{pieces_between}
 use Rattle.ckr_jcl.specs.Text.{before, behind}
 use Rattle.ckr_jcl.specs.ParmGrammar.{with_item, items_read}
 use Rattle.ckr_jcl.proofs.Pieces.{first_piece, one_piece, more_pieces}

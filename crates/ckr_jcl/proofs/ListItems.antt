@@ -1,10 +1,10 @@
 -- The items of a list: the first one, and those behind the comma.
 use Rattle.std.proofs.Common.{◌≡◌, ℕ, suc, ◌+◌, ◌<◌, ◌∙◌, Bool, true, false, List, [], ◌∷◌, length, take, drop, refl, sym, ap, arith}
-use Rattle.ckr_statements.specs.declared.parts.Reading.TheVariants.{Free}
-use Rattle.ckr_statements.specs.Field.{parts_of, parts_from, part_on, is_parting, reading_after, depth_after}
-use Rattle.ckr_statements.specs.Parts.{part_length}
-use Rattle.ckr_statements.specs.Statement.{first_part}
-use Rattle.ckr_statements.proofs.Parting.{parts_from-one, parts_from-cons, first_part_of_parts}
+use Rattle.ckr_cards.specs.declared.parts.Reading.TheVariants.{Free}
+use Rattle.ckr_cards.specs.Field.{parts_of, parts_from, part_on, is_parting, reading_after, depth_after}
+use Rattle.ckr_cards.specs.Parts.{part_length}
+use Rattle.ckr_cards.specs.Statement.{first_part}
+use Rattle.ckr_cards.proofs.FieldParts.{parts_from-one, parts_from-cons, first_part_of_parts}
 use Rattle.ckr_jcl.specs.Text.{item_at}
 
 abbrev pub tail_of : List (List ℕ) → List (List ℕ)

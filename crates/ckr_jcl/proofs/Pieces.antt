@@ -1,7 +1,7 @@
 -- The pieces of a text between marks: the one before the first mark, and those behind it.
 use Rattle.std.proofs.Common.{◌≡◌, ℕ, ◌<◌, List, [], ◌∷◌, length, refl, arith, if◌then◌else◌, ◌==◌}
 use Rattle.std.proofs.lemmas.Grind.{common_steps}
-use Rattle.ckr_statements.specs.Tables.{pieces_between}
+use Rattle.ckr_cards.specs.Tables.{pieces_between}
 use Rattle.ckr_jcl.specs.Text.{before, behind}
 
 abbrev pub pieces : ℕ → List ℕ → List (List ℕ)

@@ -1,6 +1,6 @@
 -- Whether a key is among the words of a table, one word after the other.
 use Rattle.std.proofs.Common.{◌≡◌, ℕ, ◌<◌, ◌||◌, List, length, refl, true, false, bytes_eq}
-use Rattle.ckr_statements.specs.Tables.{is_among, words}
+use Rattle.ckr_cards.specs.Tables.{is_among, words}
 use Rattle.ckr_jcl.specs.Text.{before, behind}
 use Rattle.ckr_jcl.proofs.Pieces.{first_piece, one_piece, more_pieces}
 

@@ -1,14 +1,3 @@
 pub mod Text
 pub mod ParmGrammar
 pub mod Programs
-pub mod JobValues
-pub mod DdValues
-pub mod DcbValue
-pub mod Keywords
-pub mod Faults
-pub mod DeckText
-pub mod DeckFaults
-pub mod Deck
-pub mod Met
-pub mod Reading
-pub mod Least

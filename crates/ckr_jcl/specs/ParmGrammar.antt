@@ -2,15 +2,16 @@
 use Rattle.std.specs.Prelude.{ℕ, ◌+◌, ◌==◌, ◌&&◌, ◌||◌, not, Bool, true, false, if◌then◌else◌, nat_le, List, [], ◌∷◌, length, Option, Some, None, Result, Ok, Err, codes}
 use Rattle.std.specs.Option.{option_map, option_or}
 use Rattle.ckr_base.specs.Grammar.{is_digit, is_name_byte, is_text_of}
+use Rattle.ckr_base.specs.Words.{number_in_digits}
 use Rattle.ckr_jcl.specs.declared.deck.Kind.{Kind}
 use Rattle.ckr_jcl.specs.declared.deck.Kind.TheVariants.{Select, Merge, Master, Update, Print, Br14}
 use Rattle.ckr_jcl.specs.declared.deck.Parm.{Parm}
 use Rattle.ckr_jcl.specs.declared.refusal.ParmError.{ParmError}
 use Rattle.ckr_jcl.specs.declared.parm.ParmKey.{ParmKey}
 use Rattle.ckr_jcl.specs.declared.parm.ParmKey.TheVariants.{Chk, Ids, Cancel, Key, Col, Val, Title, Sum}
-use Rattle.ckr_statements.specs.Field.{is_comma}
-use Rattle.ckr_statements.specs.Tables.{look_up, pieces_between}
-use Rattle.ckr_jcl.specs.Text.{if_holds, number_in_digits, before, behind}
+use Rattle.ckr_cards.specs.Field.{is_comma}
+use Rattle.ckr_cards.specs.Tables.{look_up, pieces_between}
+use Rattle.ckr_jcl.specs.Text.{if_holds, before, behind}
 
 -- ---- an item `K=V`
 

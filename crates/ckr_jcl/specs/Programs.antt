@@ -5,7 +5,7 @@ use Rattle.ckr_jcl.specs.declared.deck.Kind.{Kind}
 use Rattle.ckr_jcl.specs.declared.deck.Kind.TheVariants.{Copy, Select, Merge, Master, Update, Print, Br14}
 use Rattle.ckr_jcl.specs.declared.deck.Role.{Role}
 use Rattle.ckr_jcl.specs.declared.deck.Role.TheVariants.{Reads, Writes, Updates, Checkpoints, Unused}
-use Rattle.ckr_statements.specs.Tables.{look_up, is_among, words}
+use Rattle.ckr_cards.specs.Tables.{look_up, is_among, words}
 
 abbrev pub one_input_programs : List (List ℕ × Kind)
 one_input_programs = (codes "COPY", Copy) ∷ (codes "SELECT", Select) ∷ (codes "PRINT", Print) ∷ (codes "IEFBR14", Br14) ∷ []

@@ -1,9 +1,10 @@
 -- Small readers of a text: numbers, lists in parentheses, texts in apostrophes, words.
-use Rattle.std.specs.Prelude.{ℕ, zero, suc, ◌+◌, ◌-◌, ◌*◌, ◌==◌, ◌&&◌, ◌||◌, not, Bool, true, false, if◌then◌else◌, nat_le, List, [], ◌∷◌, length, Option, Some, None, fold, bytes_eq, slice_get, take, drop}
+use Rattle.std.specs.Prelude.{ℕ, zero, suc, ◌+◌, ◌-◌, ◌==◌, ◌&&◌, ◌||◌, not, Bool, true, false, if◌then◌else◌, nat_le, List, [], ◌∷◌, length, Option, Some, None, bytes_eq, slice_get, take, drop}
 use Rattle.std.specs.List.{list_all}
 use Rattle.std.specs.Option.{option_map}
 use Rattle.ckr_base.specs.Grammar.{is_digit, is_text_of}
-use Rattle.ckr_statements.specs.Field.{is_apostrophe, is_opening, is_closing, is_comma}
+use Rattle.ckr_base.specs.Words.{number_in_digits}
+use Rattle.ckr_cards.specs.Field.{is_apostrophe, is_opening, is_closing, is_comma}
 
 -- a test as a value
 abbrev pub if_holds : {X : Type 0} → Bool → X → Option X
@@ -11,13 +12,6 @@ if_holds true x = Some x
 if_holds false x = None
 
 -- ---- numbers
-
-abbrev pub with_digit : ℕ → ℕ → ℕ
-with_digit number digit = number * 10 + (digit - 48)
-
--- what decimal digits stand for
-abbrev pub number_in_digits : List ℕ → ℕ
-number_in_digits text = fold with_digit 0 text
 
 -- 1 to 9 decimal digits
 unfoldable pub number_value : List ℕ → Option ℕ

@@ -5,7 +5,7 @@ use arrayvec::ArrayVec;
 use ckr_base::{CheckId, DsName, Name8, Volser};
 
 /// The restarts that a job or a step asks for (IBM GC28-6708).
-#[derive(Clone, Copy, PartialEq, Eq, Debug)]
+#[derive(Clone, Copy, PartialEq, Eq)]
 pub enum Rd {
     /// Automatic restarts at the step and at a checkpoint.
     R,
@@ -18,7 +18,7 @@ pub enum Rd {
 }
 
 /// A program (this project's profile; IEFBR14 is IBM's).
-#[derive(Clone, Copy, PartialEq, Eq, Debug)]
+#[derive(Clone, Copy, PartialEq, Eq)]
 pub enum Kind {
     Copy,
     Select,
@@ -31,7 +31,7 @@ pub enum Kind {
 }
 
 /// What PARM says to a program. A 0 or an empty text was not given.
-#[derive(Clone, PartialEq, Eq, Debug, Drop)]
+#[derive(PartialEq, Eq, Drop)]
 pub struct Parm {
     /// A checkpoint is taken after as many records, 1 to 9,999,999.
     pub chk: u32,
@@ -52,7 +52,7 @@ pub struct Parm {
 }
 
 /// What a program does with a DD.
-#[derive(Clone, Copy, PartialEq, Eq, Debug)]
+#[derive(Clone, Copy, PartialEq, Eq)]
 pub enum Role {
     /// Its records are an input.
     Reads,
@@ -67,7 +67,7 @@ pub enum Role {
 }
 
 /// Where the records of a DD are (IBM GC28-6704).
-#[derive(Clone, PartialEq, Eq, Debug, Drop)]
+#[derive(Drop)]
 pub enum Origin {
     /// In the deck, behind `*` or `DATA`.
     InStream(Cards),
@@ -84,7 +84,7 @@ pub enum Origin {
 }
 
 /// What is known of a data set before a step (IBM GC28-6704).
-#[derive(Clone, Copy, PartialEq, Eq, Debug)]
+#[derive(Clone, Copy, PartialEq, Eq)]
 pub enum Status {
     /// The step makes it.
     New,
@@ -97,7 +97,7 @@ pub enum Status {
 }
 
 /// What becomes of a data set after a step (IBM GC28-6704).
-#[derive(Clone, Copy, PartialEq, Eq, Debug)]
+#[derive(Clone, Copy, PartialEq, Eq)]
 pub enum After {
     /// It is removed.
     Delete,
@@ -112,7 +112,7 @@ pub enum After {
 }
 
 /// A disposition: the status, and what becomes of the data set after a normal and after an abnormal end.
-#[derive(Clone, Copy, PartialEq, Eq, Debug)]
+#[derive(Clone, Copy, PartialEq, Eq)]
 pub struct Disp {
     pub status: Status,
     /// None where it was not given.
@@ -122,7 +122,7 @@ pub struct Disp {
 }
 
 /// A DD of a step, or the SYSCHK of a job.
-#[derive(Clone, PartialEq, Eq, Debug, Drop)]
+#[derive(Drop)]
 pub struct Dd {
     pub name: Name8,
     pub role: Role,
@@ -137,7 +137,7 @@ pub struct Dd {
 }
 
 /// How a test of COND compares its number with a return code.
-#[derive(Clone, Copy, PartialEq, Eq, Debug)]
+#[derive(Clone, Copy, PartialEq, Eq)]
 pub enum CondOp {
     Gt,
     Ge,
@@ -148,7 +148,7 @@ pub enum CondOp {
 }
 
 /// A test of return codes (IBM GC28-6704).
-#[derive(Clone, Copy, PartialEq, Eq, Debug)]
+#[derive(Clone, Copy, PartialEq, Eq)]
 pub struct Cond {
     pub code: u16,
     pub op: CondOp,
@@ -157,7 +157,7 @@ pub struct Cond {
 }
 
 /// A step of a job.
-#[derive(Clone, PartialEq, Eq, Debug, Drop)]
+#[derive(Drop)]
 pub struct Step {
     pub name: Name8,
     pub program: Kind,
@@ -169,7 +169,7 @@ pub struct Step {
 }
 
 /// Where a job begins again (IBM GC28-6708).
-#[derive(Clone, PartialEq, Eq, Debug, Drop)]
+#[derive(PartialEq, Eq, Drop)]
 pub struct Restart {
     /// The number of the step, from 1.
     pub step: u8,
@@ -178,7 +178,7 @@ pub struct Restart {
 }
 
 /// The job of a deck.
-#[derive(Clone, PartialEq, Eq, Debug, Drop)]
+#[derive(Drop)]
 pub struct Job {
     pub name: Name8,
     pub rd: Option<Rd>,

@@ -1,41 +1,24 @@
-//! Decks: what the operands of a deck's statements mean, which decks are refused, and the job of a deck.
+//! What a deck says, as values: the job, its steps and DDs, PARM, the programs.
 #![tactic(auto)]
 
-mod checkpointed;
-mod dcb_value;
-mod dd_faults;
-mod dd_values;
 mod deck;
-mod deck_faults;
-mod deck_reader;
-mod deck_text;
 mod exact;
-mod faults;
-mod job;
-mod job_values;
-mod judged;
-mod keywords;
-mod laws;
 mod lists;
-mod met;
-mod operand_faults;
 mod parm;
-mod parm_value;
 mod programs;
 mod refusal;
-mod repeated;
 mod text;
 
 pub use deck::{
     After, Cond, CondOp, Dd, Disp, Job, Kind, Origin, Parm, Rd, Restart, Role, Status, Step,
 };
-pub use deck_reader::read_deck;
-pub use laws::{accepted_decks_are_sound, refusals_are_first_and_least};
 pub use lists::{Cards, Conds, Dds, Steps};
-pub use parm::read_parm;
+pub use parm::{no_parm, read_parm};
+pub use programs::{
+    names_checkpointed, names_read, names_updated, names_written, program_named, role_of,
+};
 pub use refusal::{DeckError, ParmError};
-
-#[cfg(test)]
-mod deck_tests;
-#[cfg(test)]
-mod tests;
+pub use text::{
+    before, begins_list, begins_quoted, behind, in_apostrophes, in_parentheses, is_among,
+    is_empty_or, is_spelled, is_word, item_at, item_count, length_before, number_value, opened,
+};

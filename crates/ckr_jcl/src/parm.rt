@@ -1,19 +1,18 @@
 //! PARM: the items that each program takes, and what they say.
 ghost use Rattle.std.specs.Prelude.{◌≡◌, ◌+◌, ◌≤◌, IfSome, take, drop, length};
 ghost use Rattle.ckr_base.specs.Grammar.{is_name_byte, is_text_of};
-ghost use Rattle.ckr_statements.specs.Tables.{look_up, pieces_between};
-ghost use Rattle.ckr_statements.specs.Field.{is_comma};
+ghost use Rattle.ckr_cards.specs.Tables.{look_up, pieces_between};
+ghost use Rattle.ckr_cards.specs.Field.{is_comma};
 ghost use Rattle.ckr_jcl.specs.Text.{before, behind};
 ghost use Rattle.ckr_jcl.specs.ParmGrammar.{checkpoint_keys, record_keys, print_keys, key_named, key_of, value_of, plain_number, pair_within, column_and_length, is_title, no_parm, with_value, takes, is_given, lacks_own, lacks_item, with_key, with_item, items_read, all_items_read, if_complete, read_parm_text};
 
-use crate::text::{
-    are_digits, are_name_bytes, before, behind, copy_of, length_before, number_in_digits,
-};
+use crate::text::{are_name_bytes, before, behind, length_before};
 use crate::{Kind, Parm, ParmError};
 use arrayvec::ArrayVec;
+use ckr_base::{are_digits, copy_of, small_number_in_digits};
 
 /// The key of an item `K=V` of PARM.
-#[derive(Clone, Copy, PartialEq, Eq, Debug)]
+#[derive(Clone, Copy)]
 pub enum ParmKey {
     Chk,
     Ids,
@@ -100,7 +99,7 @@ fn plain_number(most: u32, text: &[u8]) -> Option<u32>
             if text.len() > 7 || !are_digits(text) {
                 return None;
             }
-            let number = number_in_digits(text);
+            let number = small_number_in_digits(text);
             if number <= most { Some(number) } else { None }
         }
     }
@@ -140,7 +139,7 @@ fn is_id_text(text: &[u8]) -> bool
 }
 
 /// Nothing is given.
-pub(crate) fn no_parm() -> Parm
+pub fn no_parm() -> Parm
     ensures { result ≡ no_parm }
 {
     Parm {

@@ -22,7 +22,7 @@ impl From<NoMemory> for DeckError {
 }
 
 /// Why a text is no PARM of a program.
-#[derive(Clone, Copy, PartialEq, Eq, Debug)]
+#[derive(Clone, Copy, Debug)]
 pub struct ParmError {
     /// The offset of the first wrong item, or the text's length where a required item is missing.
     pub place: u8,

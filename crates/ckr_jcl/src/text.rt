@@ -1,55 +1,24 @@
 //! Numbers and words in a text.
-ghost use Rattle.std.specs.Prelude.{◌≡◌, ◌+◌, ◌-◌, ◌≤◌, not, IsTrue, length, take, drop, slice_get, bytes_eq};
+ghost use Rattle.std.specs.Prelude.{◌≡◌, ◌+◌, ◌-◌, ◌≤◌, not, length, take, drop, slice_get, bytes_eq};
 ghost use Rattle.std.specs.Option.{option_copied};
 ghost use Rattle.std.specs.List.{list_all};
-ghost use Rattle.ckr_base.specs.Grammar.{is_digit, is_name_byte, is_text_of};
-ghost use Rattle.ckr_statements.specs.Field.{parts_of};
-ghost use Rattle.ckr_statements.specs.Tables.{is_among, words};
-ghost use Rattle.ckr_jcl.specs.Text.{number_in_digits, number_value, before, behind, is_mark, is_enclosed, enclosed, in_parentheses, in_apostrophes, begins_list, begins_quoted, opened, item_at, is_special, is_word, is_empty_or};
+ghost use Rattle.ckr_base.specs.Grammar.{is_name_byte, is_text_of};
+ghost use Rattle.ckr_cards.specs.Field.{parts_of};
+ghost use Rattle.ckr_cards.specs.Tables.{is_among, words};
+ghost use Rattle.ckr_jcl.specs.Text.{number_value, before, behind, is_mark, is_enclosed, enclosed, in_parentheses, in_apostrophes, begins_list, begins_quoted, opened, item_at, is_special, is_word, is_empty_or};
 
-use arrayvec::ArrayVec;
-use ckr_statements::part_length;
-
-/// Whether each byte is a digit.
-pub(crate) fn are_digits(text: &[u8]) -> bool
-    ensures { result ≡ list_all is_digit text.now }
-{
-    text.iter().all(|byte| byte.is_ascii_digit())
-}
-
-/// What at most 9 digits stand for.
-pub(crate) fn number_in_digits(text: &[u8]) -> u32
-    requires digits { IsTrue (list_all is_digit text.now) }
-    requires short { length text.now ≤ 9 }
-    ensures { result ≡ number_in_digits text.now }
-{
-    let mut number: u32 = 0;
-    for digit in text {
-        number = number * 10 + u32::from(*digit - b'0');
-    }
-    number
-}
+use ckr_base::{are_digits, small_number_in_digits};
+use ckr_cards::part_length;
 
 /// What 1 to 9 digits stand for.
 #[tactic(auto, unfolding(crate::specs::Text::number_value))]
-pub(crate) fn number_value(text: &[u8]) -> Option<u32>
+pub fn number_value(text: &[u8]) -> Option<u32>
     ensures { result ≡ number_value text.now }
 {
     if text.is_empty() || text.len() > 9 || !are_digits(text) {
         return None;
     }
-    Some(number_in_digits(text))
-}
-
-/// A copy of a text that has room in `N` bytes.
-pub(crate) fn copy_of<const N: usize>(text: &[u8]) -> ArrayVec<u8, N>
-    requires { length text.now ≤ N }
-    ensures { result.items ≡ text.now }
-{
-    match ArrayVec::try_from(text) {
-        Ok(copy) => copy,
-        Err(_) => unreachable!(),
-    }
+    Some(small_number_in_digits(text))
 }
 
 /// A to Z, 0 to 9, `@`, `#` or `$`.
@@ -71,7 +40,7 @@ pub(crate) fn are_name_bytes(text: &[u8]) -> bool
 }
 
 /// How many bytes stand before the first mark.
-pub(crate) fn length_before(mark: u8, text: &[u8]) -> usize
+pub fn length_before(mark: u8, text: &[u8]) -> usize
     ensures before { take result text.now ≡ before mark text.now }
     ensures behind { drop (result + 1) text.now ≡ behind mark text.now }
     ensures bound { result ≤ length text.now }
@@ -87,14 +56,14 @@ pub(crate) fn length_before(mark: u8, text: &[u8]) -> usize
 }
 
 /// What stands before the first mark.
-pub(crate) fn before(mark: u8, text: &[u8]) -> &[u8]
+pub fn before(mark: u8, text: &[u8]) -> &[u8]
     ensures { result.now ≡ before mark text.now }
 {
     &text[..length_before(mark, text)]
 }
 
 /// What stands behind the first mark; nothing where there is none.
-pub(crate) fn behind(mark: u8, text: &[u8]) -> &[u8]
+pub fn behind(mark: u8, text: &[u8]) -> &[u8]
     ensures { result.now ≡ behind mark text.now }
 {
     let length = length_before(mark, text);
@@ -144,42 +113,42 @@ fn enclosed(left: u8, right: u8, text: &[u8]) -> Option<&[u8]>
 }
 
 /// Whether a text is a word.
-pub(crate) fn is_spelled(word: &[u8], text: &[u8]) -> bool
+pub fn is_spelled(word: &[u8], text: &[u8]) -> bool
     ensures { result ≡ bytes_eq word.now text.now }
 {
     word == text
 }
 
 /// What stands in the parentheses around a text.
-pub(crate) fn in_parentheses(text: &[u8]) -> Option<&[u8]>
+pub fn in_parentheses(text: &[u8]) -> Option<&[u8]>
     ensures { option_copied result ≡ in_parentheses text.now }
 {
     enclosed(b'(', b')', text)
 }
 
 /// What stands in the apostrophes around a text.
-pub(crate) fn in_apostrophes(text: &[u8]) -> Option<&[u8]>
+pub fn in_apostrophes(text: &[u8]) -> Option<&[u8]>
     ensures { option_copied result ≡ in_apostrophes text.now }
 {
     enclosed(b'\'', b'\'', text)
 }
 
 /// Whether a text begins with a parenthesis.
-pub(crate) fn begins_list(text: &[u8]) -> bool
+pub fn begins_list(text: &[u8]) -> bool
     ensures { result ≡ begins_list text.now }
 {
     matches!(text, [b'(', ..])
 }
 
 /// Whether a text begins with an apostrophe.
-pub(crate) fn begins_quoted(text: &[u8]) -> bool
+pub fn begins_quoted(text: &[u8]) -> bool
     ensures { result ≡ begins_quoted text.now }
 {
     matches!(text, [b'\'', ..])
 }
 
 /// The items of a list in parentheses, or of a text that stands without them.
-pub(crate) fn opened(text: &[u8]) -> Option<&[u8]>
+pub fn opened(text: &[u8]) -> Option<&[u8]>
     ensures { option_copied result ≡ opened text.now }
 {
     if begins_list(text) {
@@ -189,7 +158,7 @@ pub(crate) fn opened(text: &[u8]) -> Option<&[u8]>
 }
 
 /// How many items a list has.
-pub(crate) fn item_count(list: &[u8]) -> usize
+pub fn item_count(list: &[u8]) -> usize
     ensures { result ≡ length (parts_of list.now) }
 {
     let mut count: usize = 1;
@@ -205,7 +174,7 @@ pub(crate) fn item_count(list: &[u8]) -> usize
 }
 
 /// An item of a list by its place from 0; nothing where there is none.
-pub(crate) fn item_at(place: usize, list: &[u8]) -> &[u8]
+pub fn item_at(place: usize, list: &[u8]) -> &[u8]
     ensures { result.now ≡ item_at place (parts_of list.now) }
 {
     let length = part_length(list);
@@ -233,21 +202,21 @@ fn are_plain(text: &[u8]) -> bool
 }
 
 /// Whether a text is a word without special bytes.
-pub(crate) fn is_word(text: &[u8]) -> bool
+pub fn is_word(text: &[u8]) -> bool
     ensures { result ≡ is_word text.now }
 {
     !text.is_empty() && are_plain(text)
 }
 
 /// Whether a text is empty, or the one word that may stand there.
-pub(crate) fn is_empty_or(most: &[u8], text: &[u8]) -> bool
+pub fn is_empty_or(most: &[u8], text: &[u8]) -> bool
     ensures { result ≡ is_empty_or most.now text.now }
 {
     text.is_empty() || is_spelled(text, most)
 }
 
 /// Whether a key is among the words of a text.
-pub(crate) fn is_among(table: &[u8], key: &[u8]) -> bool
+pub fn is_among(table: &[u8], key: &[u8]) -> bool
     ensures { result ≡ is_among (words table.now) key.now }
 {
     if is_spelled(key, before(b' ', table)) {

@@ -1,3 +1,3 @@
 pub mod Events
 pub mod Layouts
-pub mod ReadUpTo
+pub mod EventReads

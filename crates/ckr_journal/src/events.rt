@@ -14,7 +14,7 @@ use std::alloc::Global;
 pub const BOOK_AT: u64 = 512;
 
 /// What stands at a gate of the book.
-#[derive(PartialEq, Eq, Debug, Drop)]
+#[derive(Drop)]
 pub enum Next {
     /// An event, and where the next gate stands, counted from the book's first byte.
     Event { event: Event, next: u32 },

@@ -3,7 +3,7 @@ ghost use Rattle.std.specs.Prelude.{◌≡◌, ◌≤◌, ◌+◌, IsTrue, IfOk,
 ghost use Rattle.ckr_outside.specs.Disk.{OnlyReads, HasCause};
 ghost use Rattle.ckr_outside.specs.Faults.{Rose};
 ghost use Rattle.ckr_volumes.specs.Header.{header_of, IsHeader};
-ghost use Rattle.ckr_volumes.specs.Stands.{is_laid_out};
+ghost use Rattle.ckr_volumes.specs.Layouts.{is_laid_out};
 ghost use Rattle.ckr_journal.specs.Layouts.{Answers, LayoutCause};
 
 use crate::error::LayoutError;

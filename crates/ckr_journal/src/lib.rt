@@ -3,12 +3,10 @@
 
 mod error;
 mod events;
-mod formatting;
+mod fresh_disk;
 mod layout;
-#[cfg(test)]
-mod tests;
 
 pub use error::{FormatError, LayoutError, NextEventError};
 pub use events::{BOOK_AT, Next, next_event};
-pub use formatting::format;
+pub use fresh_disk::format;
 pub use layout::read_layout;

@@ -1,9 +1,11 @@
 -- Spans in their order: what a search by halving finds, and what filing and unfiling do.
-use Rattle.std.proofs.Common.{◌≡◌, ℕ, zero, suc, ◌+◌, ◌-◌, ◌<◌, ◌≤◌, Bool, true, false, not, cond, ◌&&◌, IsTrue, List, [], ◌∷◌, ◌++◌, length, take, drop, filter, flat_map, refl, ap, sym, ◌∙◌, subst, arith, add-one, slice_index_or, insert, remove}
+use Rattle.std.proofs.Common.{◌≡◌, ℕ, zero, suc, ◌+◌, ◌-◌, ◌<◌, ◌≤◌, Bool, true, false, not, cond, IsTrue, List, [], ◌∷◌, ◌++◌, length, take, drop, filter, flat_map, refl, ap, sym, ◌∙◌, subst, arith, add-one, slice_index_or, insert, remove}
 use Rattle.std.specs.List.Sorted.{IsPartitionedBy}
 use Rattle.std.specs.Ordering.{is_eq}
 use Rattle.std.proofs.lemmas.Bool.Decides.{nat_tests}
 use Rattle.std.proofs.lemmas.Grind.{common_steps}
+use Rattle.std.proofs.lemmas.Bool.{and_from, not-true}
+use Rattle.ckr_base.proofs.Bools.{and-first, and-second, true-not-false}
 use Rattle.ckr_library.specs.declared.spread.Span.{Span}
 use Rattle.ckr_library.specs.Places.{lead}
 use Rattle.ckr_library.specs.Spread.{span_cmp, is_before, filed, filed_all, unfiled, unfiled_all, is_on, is_below, is_at_most, is_first, rises}
@@ -27,46 +29,24 @@ before_itself a = grind (arith, nat_tests)
 same_itself : (a : Span) → is_eq (span_cmp a a) ≡ true
 same_itself a = grind (arith, nat_tests)
 
-differ : {A : Type 0} → true ≡ false → A
-differ e = absurd (no e)
-  where
-    no : true ≡ false → ⊥
-    no e = cc
-
-pub first_of_both : (a b : Bool) → IsTrue (a && b) → IsTrue a
-first_of_both true b e = refl
-first_of_both false b e = e
-
-pub second_of_both : (a b : Bool) → IsTrue (a && b) → IsTrue b
-second_of_both true b e = e
-second_of_both false b e = differ (sym e)
-
-pub both : (a b : Bool) → IsTrue a → IsTrue b → IsTrue (a && b)
-both true b e f = f
-both false b e f = e
-
-pub untrue : (a : Bool) → IsTrue (not a) → a ≡ false
-untrue true e = sym e
-untrue false e = refl
-
 true_not : (a : Bool) → a ≡ false → IsTrue (not a)
 true_not a e = ap not e
 
 -- the spans behind a first one aren't before it
 first_at : (span : Span) (spans : List Span) → IsTrue (is_first span spans) → (j : ℕ) (d : Span) → j < length spans → is_before (slice_index_or spans j d) span ≡ false
 first_at span [] first j d inside = absurd (omega (arith, inside))
-first_at span (other ∷ others) first zero d inside = untrue _ (first_of_both _ _ first)
-first_at span (other ∷ others) first (suc j) d inside = first_at span others (second_of_both _ _ first) j d (omega (arith, inside))
+first_at span (other ∷ others) first zero d inside = not-true _ (and-first _ _ first)
+first_at span (other ∷ others) first (suc j) d inside = first_at span others (and-second _ _ first) j d (omega (arith, inside))
 
 -- the spans before a span stand in front of the others
 pub parted_before : (spans : List Span) → IsTrue (rises spans) → (span : Span) → IsPartitionedBy (λ other. is_before other span) spans
 parted_before [] rise span i j d le inside before = absurd (omega (arith, inside))
 parted_before (other ∷ others) rise span zero zero d le inside before = before
 parted_before (other ∷ others) rise span zero (suc j) d le inside before =
-    across (slice_index_or others j d) span other before (first_at other others (first_of_both _ _ rise) j d (omega (arith, inside)))
+    across (slice_index_or others j d) span other before (first_at other others (and-first _ _ rise) j d (omega (arith, inside)))
 parted_before (other ∷ others) rise span (suc i) zero d le inside before = absurd (omega (arith, le))
 parted_before (other ∷ others) rise span (suc i) (suc j) d le inside before =
-    parted_before others (second_of_both _ _ rise) span i j d (omega (arith, le)) (omega (arith, inside)) before
+    parted_before others (and-second _ _ rise) span i j d (omega (arith, le)) (omega (arith, inside)) before
 
 -- to file a span is to insert it behind the spans before it
 pub filed-insert : (span : Span) (spans : List Span) → insert spans (lead (λ other. is_before other span) spans) span ≡ filed span spans
@@ -83,18 +63,18 @@ first_down : (span other : Span) (spans : List Span) → is_before other span �
 first_down span other [] behind first = refl
 first_down span other (next ∷ spans) behind first =
     let before_next : is_before next span ≡ false = not_before (is_before next span) refl in
-    both _ _ (true_not _ before_next) (first_down span other spans behind (second_of_both _ _ first))
+    and_from _ _ (true_not _ before_next) (first_down span other spans behind (and-second _ _ first))
   where
     not_before : (b : Bool) → is_before next span ≡ b → b ≡ false
-    not_before true e = differ (sym (across next span other e (untrue _ (first_of_both _ _ first))) ∙ behind)
+    not_before true e = true-not-false (sym (across next span other e (not-true _ (and-first _ _ first))) ∙ behind)
     not_before false e = refl
 
 first-filed : (other span : Span) (spans : List Span) → is_before span other ≡ false → IsTrue (is_first other spans) → IsTrue (is_first other (filed span spans))
-first-filed other span [] behind first = both _ _ (true_not _ behind) refl
+first-filed other span [] behind first = and_from _ _ (true_not _ behind) refl
 first-filed other span (next ∷ spans) behind first =
     elim (is_before next span) as (λ b. IsTrue (is_first other (cond b (next ∷ filed span spans) (span ∷ next ∷ spans)))) [
-      | true ↦ both _ _ (first_of_both _ _ first) (first-filed other span spans behind (second_of_both _ _ first))
-      | false ↦ both _ _ (true_not _ behind) first
+      | true ↦ and_from _ _ (and-first _ _ first) (first-filed other span spans behind (and-second _ _ first))
+      | false ↦ and_from _ _ (true_not _ behind) first
     ]
 
 -- spans in order stay so
@@ -102,17 +82,17 @@ pub rises-filed : (span : Span) (spans : List Span) → IsTrue (rises spans) →
 rises-filed span [] rise = refl
 rises-filed span (other ∷ others) rise =
     elim (is_before other span) as (λ b. is_before other span ≡ b → IsTrue (rises (cond b (other ∷ filed span others) (span ∷ other ∷ others)))) [
-      | true ↦ λ e. both _ _ (first-filed other span others (one_way other span e) (first_of_both _ _ rise)) (rises-filed span others (second_of_both _ _ rise))
-      | false ↦ λ e. both _ _ (both _ _ (true_not _ e) (first_down span other others e (first_of_both _ _ rise))) rise
+      | true ↦ λ e. and_from _ _ (first-filed other span others (one_way other span e) (and-first _ _ rise)) (rises-filed span others (and-second _ _ rise))
+      | false ↦ λ e. and_from _ _ (and_from _ _ (true_not _ e) (first_down span other others e (and-first _ _ rise))) rise
     ] refl
 
 first-unfiled : (other span : Span) (spans : List Span) → IsTrue (is_first other spans) → IsTrue (is_first other (unfiled span spans))
 first-unfiled other span [] first = refl
 first-unfiled other span (next ∷ spans) first =
     elim (is_before next span) as (λ b. IsTrue (is_first other (cond b (next ∷ unfiled span spans) (cond (is_eq (span_cmp next span)) spans (next ∷ spans))))) [
-      | true ↦ both _ _ (first_of_both _ _ first) (first-unfiled other span spans (second_of_both _ _ first))
+      | true ↦ and_from _ _ (and-first _ _ first) (first-unfiled other span spans (and-second _ _ first))
       | false ↦ elim (is_eq (span_cmp next span)) as (λ b. IsTrue (is_first other (cond b spans (next ∷ spans)))) [
-        | true ↦ second_of_both _ _ first
+        | true ↦ and-second _ _ first
         | false ↦ first
       ]
     ]
@@ -121,9 +101,9 @@ pub rises-unfiled : (span : Span) (spans : List Span) → IsTrue (rises spans) �
 rises-unfiled span [] rise = refl
 rises-unfiled span (other ∷ others) rise =
     elim (is_before other span) as (λ b. IsTrue (rises (cond b (other ∷ unfiled span others) (cond (is_eq (span_cmp other span)) others (other ∷ others))))) [
-      | true ↦ both _ _ (first-unfiled other span others (first_of_both _ _ rise)) (rises-unfiled span others (second_of_both _ _ rise))
+      | true ↦ and_from _ _ (first-unfiled other span others (and-first _ _ rise)) (rises-unfiled span others (and-second _ _ rise))
       | false ↦ elim (is_eq (span_cmp other span)) as (λ b. IsTrue (rises (cond b others (other ∷ others)))) [
-        | true ↦ second_of_both _ _ rise
+        | true ↦ and-second _ _ rise
         | false ↦ rise
       ]
     ]
@@ -163,7 +143,7 @@ two_first : (a b : Span) (rest : List Span) → cond (is_before b a) (b ∷ a �
 two_first a b rest = by (is_before b a) (is_before a b) refl refl
   where
     by : (p q : Bool) → is_before b a ≡ p → is_before a b ≡ q → cond p (b ∷ a ∷ rest) (a ∷ b ∷ rest) ≡ cond q (a ∷ b ∷ rest) (b ∷ a ∷ rest)
-    by true true e f = differ (sym f ∙ one_way b a e)
+    by true true e f = true-not-false (sym f ∙ one_way b a e)
     by true false e f = refl
     by false true e f = refl
     by false false e f = λ i. tied a b f e i ∷ sym (tied a b f e) i ∷ rest
@@ -234,9 +214,9 @@ module _ (p : Span → Bool) (falls : (one other : Span) → one.volume ≤ othe
   parted_by_volume [] rise i j d le inside holds = absurd (omega (arith, inside))
   parted_by_volume (first ∷ rest) rise zero zero d le inside holds = holds
   parted_by_volume (first ∷ rest) rise zero (suc j) d le inside holds =
-      falls first (slice_index_or rest j d) (volumes_rise first (slice_index_or rest j d) (first_at first rest (first_of_both _ _ rise) j d (omega (arith, inside)))) holds
+      falls first (slice_index_or rest j d) (volumes_rise first (slice_index_or rest j d) (first_at first rest (and-first _ _ rise) j d (omega (arith, inside)))) holds
   parted_by_volume (first ∷ rest) rise (suc i) zero d le inside holds = absurd (omega (arith, le))
-  parted_by_volume (first ∷ rest) rise (suc i) (suc j) d le inside holds = parted_by_volume rest (second_of_both _ _ rise) i j d (omega (arith, le)) (omega (arith, inside)) holds
+  parted_by_volume (first ∷ rest) rise (suc i) (suc j) d le inside holds = parted_by_volume rest (and-second _ _ rise) i j d (omega (arith, le)) (omega (arith, inside)) holds
 
 pub parted_below : (volume : ℕ) (spans : List Span) → IsTrue (rises spans) → IsPartitionedBy (is_below volume) spans
 parted_below volume = parted_by_volume (is_below volume) (below_by volume)
@@ -248,15 +228,15 @@ parted_at_most volume = parted_by_volume (is_at_most volume) (at_most_by volume)
 none_below : (volume : ℕ) (first : Span) (spans : List Span) → volume ≤ first.volume → IsTrue (is_first first spans) → lead (is_below volume) spans ≡ 0
 none_below volume first [] le e = refl
 none_below volume first (next ∷ spans) le e =
-    let above : is_below volume next ≡ false = grind (arith, nat_tests, volumes_rise first next (untrue _ (first_of_both _ _ e))) in
+    let above : is_below volume next ≡ false = grind (arith, nat_tests, volumes_rise first next (not-true _ (and-first _ _ e))) in
     ap (λ b. cond b (suc (lead (is_below volume) spans)) 0) above
 
 -- behind a span of a higher volume, none is of the volume
 none_on : (volume : ℕ) (first : Span) (spans : List Span) → volume < first.volume → IsTrue (is_first first spans) → filter (is_on volume) spans ≡ []
 none_on volume first [] le e = refl
 none_on volume first (next ∷ spans) le e =
-    let past : is_on volume next ≡ false = grind (arith, nat_tests, volumes_rise first next (untrue _ (first_of_both _ _ e))) in
-    ap (λ b. cond b (next ∷ filter (is_on volume) spans) (filter (is_on volume) spans)) past ∙ none_on volume first spans le (second_of_both _ _ e)
+    let past : is_on volume next ≡ false = grind (arith, nat_tests, volumes_rise first next (not-true _ (and-first _ _ e))) in
+    ap (λ b. cond b (next ∷ filter (is_on volume) spans) (filter (is_on volume) spans)) past ∙ none_on volume first spans le (and-second _ _ e)
 
 take_none : (n : ℕ) (spans : List Span) → n ≡ 0 → take n spans ≡ []
 take_none n spans e = ap (λ k. take k spans) e
@@ -274,17 +254,17 @@ below-le-at_most volume (first ∷ rest) =
 pub spans_between : (volume : ℕ) (spans : List Span) → IsTrue (rises spans) → (from to : ℕ) → from ≡ lead (is_below volume) spans → to ≡ lead (is_at_most volume) spans → take (to - from) (drop from spans) ≡ filter (is_on volume) spans
 spans_between volume [] rise from to e f = grind (arith, common_steps)
 spans_between volume (first ∷ rest) rise from to e f =
-    by (spans_between volume rest (second_of_both _ _ rise) (lead (is_below volume) rest) (lead (is_at_most volume) rest) refl refl) (is_below volume first) (is_at_most volume first) (is_on volume first) refl refl refl
+    by (spans_between volume rest (and-second _ _ rise) (lead (is_below volume) rest) (lead (is_at_most volume) rest) refl refl) (is_below volume first) (is_at_most volume first) (is_on volume first) refl refl refl
   where
     by : take (lead (is_at_most volume) rest - lead (is_below volume) rest) (drop (lead (is_below volume) rest) rest) ≡ filter (is_on volume) rest → (p q r : Bool) → is_below volume first ≡ p → is_at_most volume first ≡ q → is_on volume first ≡ r → take (to - from) (drop from (first ∷ rest)) ≡ cond r (first ∷ filter (is_on volume) rest) (filter (is_on volume) rest)
-    by later true true true g h i = differ (sym (grind (arith, nat_tests, g, i)))
+    by later true true true g h i = true-not-false (sym (grind (arith, nat_tests, g, i)))
     by later true true false g h i =
         (λ j. let to_is : to ≡ suc (lead (is_at_most volume) rest) = f ∙ ap (λ b. cond b (suc (lead (is_at_most volume) rest)) 0) h in
         let from_is : from ≡ suc (lead (is_below volume) rest) = e ∙ ap (λ b. cond b (suc (lead (is_below volume) rest)) 0) g in
         take (to_is j - from_is j) (drop (from_is j) (first ∷ rest)))
         ∙ (let step : suc (lead (is_at_most volume) rest) - suc (lead (is_below volume) rest) ≡ lead (is_at_most volume) rest - lead (is_below volume) rest = omega arith in
         ap (λ n. take n (drop (lead (is_below volume) rest) rest)) step) ∙ later
-    by later true false r g h i = differ (sym (grind (arith, nat_tests, g, h)))
+    by later true false r g h i = true-not-false (sym (grind (arith, nat_tests, g, h)))
     by later false true true g h i =
         (λ j. let to_is : to ≡ suc (lead (is_at_most volume) rest) = f ∙ ap (λ b. cond b (suc (lead (is_at_most volume) rest)) 0) h in
         let from_is : from ≡ 0 = e ∙ ap (λ b. cond b (suc (lead (is_below volume) rest)) 0) g in
@@ -292,16 +272,16 @@ spans_between volume (first ∷ rest) rise from to e f =
         ∙ (let step : suc (lead (is_at_most volume) rest) - 0 ≡ suc (lead (is_at_most volume) rest) = omega arith in
         ap (λ n. take n (first ∷ rest)) step)
         ∙ ap (λ r. first ∷ r) (
-        let none : lead (is_below volume) rest ≡ 0 = none_below volume first rest (grind (arith, nat_tests, i)) (first_of_both _ _ rise) in
+        let none : lead (is_below volume) rest ≡ 0 = none_below volume first rest (grind (arith, nat_tests, i)) (and-first _ _ rise) in
         let less : lead (is_at_most volume) rest ≡ lead (is_at_most volume) rest - 0 = omega arith in
         ap (λ n. take n rest) less ∙ sym (ap (λ n. take (lead (is_at_most volume) rest - n) (drop n rest)) none) ∙ later)
-    by later false true false g h i = differ (sym (grind (arith, nat_tests, g, h, i)))
-    by later false false true g h i = differ (sym (grind (arith, nat_tests, h, i)))
+    by later false true false g h i = true-not-false (sym (grind (arith, nat_tests, g, h, i)))
+    by later false false true g h i = true-not-false (sym (grind (arith, nat_tests, h, i)))
     by later false false false g h i =
         (λ j. let to_is : to ≡ 0 = f ∙ ap (λ b. cond b (suc (lead (is_at_most volume) rest)) 0) h in
         let from_is : from ≡ 0 = e ∙ ap (λ b. cond b (suc (lead (is_below volume) rest)) 0) g in
         take (to_is j - from_is j) (drop (from_is j) (first ∷ rest)))
-        ∙ take_none (0 - 0) (first ∷ rest) (omega arith) ∙ sym (none_on volume first rest (grind (arith, nat_tests, h)) (first_of_both _ _ rise))
+        ∙ take_none (0 - 0) (first ∷ rest) (omega arith) ∙ sym (none_on volume first rest (grind (arith, nat_tests, h)) (and-first _ _ rise))
 
 -- a list that is worked off item by item: what is left from a place on
 module _ {A : Type 0} (spans : A → List Span) where

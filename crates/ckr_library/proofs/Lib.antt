@@ -1,6 +1,7 @@
 pub mod Filings
 pub mod Laws
-pub mod Ordered
-pub mod Points
+pub mod Named
+pub mod OrderedLists
+pub mod SearchPlaces
 pub mod Shelves
 pub mod Spreads

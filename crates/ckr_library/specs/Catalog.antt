@@ -4,7 +4,7 @@ use Rattle.std.specs.Option.{option_map}
 use Rattle.ckr_library.specs.declared.sets.DataSet.{DataSet}
 use Rattle.ckr_library.specs.declared.sets.Kept.{Kept}
 use Rattle.ckr_library.specs.declared.sets.Stamp.{Stamp}
-use Rattle.ckr_library.specs.Named.{Name, Named, entry_at}
+use Rattle.ckr_library.specs.NameMaps.{Name, Named, entry_at}
 
 -- a data set, and the checkpoint entries that it keeps
 pub record Holding : Type 0 where

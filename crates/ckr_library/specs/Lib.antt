@@ -1,5 +1,5 @@
 pub mod Catalog
-pub mod Named
+pub mod NameMaps
 pub mod Places
 pub mod Shelves
 pub mod Spread

@@ -4,7 +4,7 @@ use Rattle.std.specs.Ordering.{is_gt}
 use Rattle.std.specs.FinMap.Entries.{is_sorted}
 use Rattle.ckr_library.specs.declared.shelf.Held.{Held}
 use Rattle.ckr_library.specs.Catalog.{Holding}
-use Rattle.ckr_library.specs.Named.{Name, Named, name_cmp}
+use Rattle.ckr_library.specs.NameMaps.{Name, Named, name_cmp}
 use Rattle.ckr_library.specs.Places.{lead}
 
 abbrev pub holding_of : Held → Holding

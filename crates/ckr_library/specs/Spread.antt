@@ -7,7 +7,7 @@ use Rattle.ckr_library.specs.declared.sets.Extent.{Extent}
 use Rattle.ckr_library.specs.declared.sets.Part.{Part}
 use Rattle.ckr_library.specs.declared.spread.Span.{Span}
 use Rattle.ckr_library.specs.Catalog.{Holding}
-use Rattle.ckr_library.specs.Named.{Named}
+use Rattle.ckr_library.specs.NameMaps.{Named}
 
 -- the bytes of a volume that an extent takes
 abbrev pub span_of : ℕ → ℕ → Extent → Span

@@ -5,8 +5,6 @@ mod library;
 mod sets;
 mod shelf;
 mod spread;
-#[cfg(test)]
-mod tests;
 mod uses;
 
 pub use library::Library;

@@ -2,7 +2,7 @@
 ghost use Rattle.std.specs.Prelude.{◌≡◌, ◌+◌, ◌<◌, ◌≤◌, [], None, IsOk, IsTrue, OnOk, OnErr, slice_get};
 ghost use Rattle.std.specs.Option.{option_copied};
 ghost use Rattle.ckr_library.specs.Catalog.{set_of, kept_of, fresh_holding, with_catalog, with_length, with_stamp, HasSet};
-ghost use Rattle.ckr_library.specs.Named.{are_named_in_order, names_of, with_entry, without_entry, with_changed};
+ghost use Rattle.ckr_library.specs.NameMaps.{are_named_in_order, names_of, with_entry, without_entry, with_changed};
 ghost use Rattle.ckr_library.specs.Spread.{spread_on};
 
 use crate::shelf::Shelf;
@@ -13,7 +13,7 @@ use std::alloc::Global;
 use std::marker::Model;
 
 /// The data sets, each under its name, in ascending order of the names. A look-up halves.
-#[derive(Debug, Drop)]
+#[derive(Drop)]
 pub struct Library {
     shelf: Shelf,
     spread: Spread,

@@ -4,7 +4,7 @@ use arrayvec::ArrayVec;
 use ckr_base::CheckId;
 
 /// Who made, emptied or extended a data set, and how often its records were rewritten since (this project's profile).
-#[derive(Clone, Copy, PartialEq, Eq, Debug)]
+#[derive(Clone, Copy, PartialEq, Eq)]
 pub struct Stamp {
     /// The number of the run that owns the step, from 1.
     pub run: u32,
@@ -15,7 +15,7 @@ pub struct Stamp {
 }
 
 /// Records that stand next to each other on a volume.
-#[derive(Clone, Copy, PartialEq, Eq, Debug, Default)]
+#[derive(Clone, Copy, Default)]
 pub struct Extent {
     /// The byte of the volume at which the first record begins.
     pub start: u32,
@@ -24,7 +24,7 @@ pub struct Extent {
 }
 
 /// What the records of a data set are.
-#[derive(Clone, Copy, PartialEq, Eq, Debug)]
+#[derive(Clone, Copy)]
 pub enum Content {
     /// Records of programs.
     Plain,
@@ -33,7 +33,7 @@ pub enum Content {
 }
 
 /// The part of a data set that lies on one volume.
-#[derive(Clone, PartialEq, Eq, Debug, Default, Drop)]
+#[derive(Default, Drop)]
 pub struct Part {
     /// The number of the volume, counted from 0.
     pub volume: u8,
@@ -44,7 +44,7 @@ pub struct Part {
 }
 
 /// What the library knows of a data set. Its records stand on the volumes.
-#[derive(Clone, PartialEq, Eq, Debug, Drop)]
+#[derive(Drop)]
 pub struct DataSet {
     /// Its parts in order, one for each volume.
     pub parts: ArrayVec<Part, 5>,
@@ -63,7 +63,7 @@ pub struct DataSet {
 }
 
 /// A checkpoint entry: its identifier, its run, and where it stands in its data set.
-#[derive(Clone, PartialEq, Eq, Debug, Drop)]
+#[derive(Drop)]
 pub struct Kept {
     /// The identifier that names it.
     pub id: CheckId,

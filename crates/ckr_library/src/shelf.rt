@@ -3,7 +3,7 @@ ghost use Rattle.std.specs.Prelude.{◌≡◌, ◌+◌, ◌<◌, ◌≤◌, [], 
 ghost use Rattle.std.specs.Option.{option_copied, option_map};
 ghost use Rattle.std.specs.Ordering.{is_gt, is_eq};
 ghost use Rattle.ckr_library.specs.Catalog.{set_of, ends_within, fresh_holding, with_catalog, with_length, with_stamp, HasSet};
-ghost use Rattle.ckr_library.specs.Named.{name_cmp, are_named_in_order, names_of, entry_at, with_entry, without_entry, with_changed};
+ghost use Rattle.ckr_library.specs.NameMaps.{name_cmp, are_named_in_order, names_of, entry_at, with_entry, without_entry, with_changed};
 ghost use Rattle.ckr_library.specs.Shelves.{holding_of, entries_of, are_in_order, place_in};
 
 use crate::{DataSet, Kept, Stamp};
@@ -12,7 +12,7 @@ use std::alloc::Global;
 use std::marker::Model;
 
 /// A data set under its name, with the checkpoint entries that it keeps.
-#[derive(Debug, Drop)]
+#[derive(Drop)]
 pub(crate) struct Held {
     pub(crate) name: DsName,
     pub(crate) set: DataSet,
@@ -20,7 +20,7 @@ pub(crate) struct Held {
 }
 
 /// The data sets, each under its name, in ascending order of the names.
-#[derive(Debug, Drop)]
+#[derive(Drop)]
 pub(crate) struct Shelf {
     items: Vec<Held>,
 }
@@ -168,13 +168,6 @@ fn is_above(name: &DsName, other: &DsName) -> bool
     name.cmp(other).is_gt()
 }
 
-/// Whether the names are the same.
-fn is_same(name: &DsName, other: &DsName) -> bool
-    ensures { result ≡ is_eq (name_cmp name.now other.now) }
-{
-    name.cmp(other).is_eq()
-}
-
 /// The item at a place.
 fn item_at(items: &[Held], place: usize) -> Option<&Held>
     ensures { option_copied result ≡ slice_get items.now place }
@@ -198,7 +191,7 @@ fn find<'a>(items: &'a [Held], name: &DsName) -> Option<&'a Held>
 {
     match item_at(items, place_of(items, name)) {
         Some(held) => {
-            if is_same(name, &held.name) {
+            if name.is_same(&held.name) {
                 Some(held)
             } else {
                 None

@@ -13,7 +13,7 @@ use std::marker::Model;
 pub(crate) const MOST_EXTENTS: usize = 25;
 
 /// The bytes of a volume that an extent takes.
-#[derive(Clone, Copy, PartialEq, Eq, PartialOrd, Ord, Debug)]
+#[derive(Clone, Copy, PartialEq, Eq, PartialOrd, Ord)]
 pub struct Span {
     /// The number of the volume, counted from 0.
     pub volume: u8,
@@ -24,7 +24,7 @@ pub struct Span {
 }
 
 /// The spans of all data sets, in the order of volume, start and length.
-#[derive(Debug, Drop)]
+#[derive(Drop)]
 pub(crate) struct Spread {
     spans: Vec<Span>,
 }

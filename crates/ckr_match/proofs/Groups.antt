@@ -5,7 +5,7 @@ use Rattle.std.specs.Option.{option_map_or}
 use Rattle.std.proofs.lemmas.List.{map-append}
 use Rattle.ckr_base.specs.declared.programs.Output.TheVariants.{Rejects}
 use Rattle.ckr_base.specs.declared.programs.Write.{Write}
-use Rattle.ckr_match.specs.Taken.{Taken, Keys}
+use Rattle.ckr_match.specs.InputOrder.{Taken, Keys}
 use Rattle.ckr_match.specs.Images.{same_key}
 use Rattle.ckr_match.specs.Master.{write_to, outcome_of, reject_if, Balance, nothing_held, after_taken, balance_of, onto_groups, groups_of, write_held, group_writes, master_writes}
 

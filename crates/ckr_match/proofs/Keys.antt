@@ -5,7 +5,8 @@ use Rattle.std.specs.Cmp.Lexicographic.{slice_cmp, nat_list_cmp_total, pointwise
 use Rattle.std.specs.Ordering.{nat_cmp, is_lt, is_eq, ordering_reverse}
 use Rattle.std.specs.declared.cmp.Ordering.{Ordering}
 use Rattle.std.specs.declared.cmp.Ordering.TheVariants.{Less, Equal, Greater}
-use Rattle.ckr_match.specs.Taken.{Taken, Keys, is_below, key_of, stands_below, may_follow}
+use Rattle.std.proofs.lemmas.Bool.{not-false, not-true}
+use Rattle.ckr_match.specs.InputOrder.{Taken, Keys, is_below, key_of, stands_below, may_follow}
 
 compare : List ℕ → List ℕ → Ordering
 compare a b = slice_cmp nat_cmp a b
@@ -68,33 +69,21 @@ neither_is_same a b p q = lists_ties nat_cmp unsigned_ties a b ∙ by (slice_cmp
 pub before_is_low : (keys : Keys) (x y : Taken) → may_follow keys x y ≡ true → stands_below keys y x ≡ false
 before_is_low keys x y p = by (not y.second && keys.strict) refl p
   where
-    flip : (b : Bool) → not b ≡ true → b ≡ false
-    flip true e = absurd (cc)
-    flip false e = refl
-
     by : (b : Bool) → (not y.second && keys.strict) ≡ b → cond b (stands_below keys x y) (not (stands_below keys y x)) ≡ true → stands_below keys y x ≡ false
     by true e f = not_below_back (key_of keys x) (key_of keys y) f
-    by false e f = flip (stands_below keys y x) f
+    by false e f = not-true (stands_below keys y x) f
 
 pub before_chain : (keys : Keys) (x y z : Taken) → may_follow keys x y ≡ true → may_follow keys y z ≡ true → may_follow keys x z ≡ true
 before_chain keys x y z p q = by (not z.second && keys.strict) (before_is_low keys x y p) q
   where
-    flip : (b : Bool) → not b ≡ true → b ≡ false
-    flip true e = absurd (cc)
-    flip false e = refl
-
     by : (b : Bool) → stands_below keys y x ≡ false → cond b (stands_below keys y z) (not (stands_below keys z y)) ≡ true → cond b (stands_below keys x z) (not (stands_below keys z x)) ≡ true
     by true low f = not_below-below (key_of keys x) (key_of keys y) (key_of keys z) low f
-    by false low f = ap not (not_below-not_below (key_of keys x) (key_of keys y) (key_of keys z) low (flip (stands_below keys z y) f))
+    by false low f = ap not (not_below-not_below (key_of keys x) (key_of keys y) (key_of keys z) low (not-true (stands_below keys z y) f))
 
 -- a record out of order isn't above the one before it
 pub out_of_order_is_low : (keys : Keys) (x y : Taken) → may_follow keys x y ≡ false → stands_below keys x y ≡ false
 out_of_order_is_low keys x y p = by (not y.second && keys.strict) refl p
   where
-    back : (b : Bool) → not b ≡ false → b ≡ true
-    back true e = refl
-    back false e = absurd (cc)
-
     by : (b : Bool) → (not y.second && keys.strict) ≡ b → cond b (stands_below keys x y) (not (stands_below keys y x)) ≡ false → stands_below keys x y ≡ false
     by true e f = f
-    by false e f = not_below_back (key_of keys y) (key_of keys x) (back (stands_below keys y x) f)
+    by false e f = not_below_back (key_of keys y) (key_of keys x) (not-false (stands_below keys y x) f)

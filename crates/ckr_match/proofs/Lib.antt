@@ -1,10 +1,10 @@
 pub mod Keys
-pub mod Sorted
+pub mod SortedMerge
 pub mod Walk
 pub mod Groups
-pub mod Held
+pub mod HeldRecords
 pub mod Places
-pub mod Pushed
-pub mod Done
-pub mod Together
+pub mod NextRecords
+pub mod UnitResults
+pub mod AllUnits
 pub mod Rejects

@@ -1,9 +1,10 @@
 -- The records taken, one after the other: which comes next behind so many.
 use Rattle.std.proofs.Common.{◌≡◌, ◌<◌, ◌≤◌, ℕ, zero, suc, Bool, true, false, not, ◌&&◌, cond, List, [], ◌∷◌, ◌++◌, length, take, map, Option, Some, None, refl, sym, ap, ◌∙◌, subst, arith}
 use Rattle.std.specs.List.{slice_get, last_or, list_all}
-use Rattle.ckr_match.specs.Taken.{Taken, Keys, is_below, may_follow, taken_of, up_to_fault, prefix_of, taken_from, is_cut, of_first, of_second, chosen, next_of}
+use Rattle.std.proofs.lemmas.Bool.{not-false}
+use Rattle.ckr_match.specs.InputOrder.{Taken, Keys, is_below, may_follow, taken_of, up_to_fault, prefix_of, taken_from, is_cut, of_first, of_second, chosen, next_of}
 use Rattle.ckr_match.proofs.Keys.{below-not_below, not_below-not_below, not_below_back, before_chain, out_of_order_is_low}
-use Rattle.ckr_match.proofs.Sorted.{onto, merged, sorted_prefixes}
+use Rattle.ckr_match.proofs.SortedMerge.{onto, merged, sorted_prefixes}
 
 -- ---- the next record of one input
 
@@ -200,11 +201,7 @@ stuck_first keys bytes next (other ∷ others) g e =
 stuck_second : (keys : Keys) (bytes next : List ℕ) (others : List (List ℕ)) → GoesSecond keys bytes others → may_follow keys (taken_of true bytes) (taken_of true next) ≡ false → GoesSecond keys next others
 stuck_second keys bytes next [] g e = tt
 stuck_second keys bytes next (other ∷ others) g e =
-    below-not_below (keys.key true next) (keys.key true bytes) (keys.key false other) (back (is_below (keys.key true next) (keys.key true bytes)) e) (not_below_back (keys.key true bytes) (keys.key false other) g)
-  where
-    back : (b : Bool) → not b ≡ false → b ≡ true
-    back true h = refl
-    back false h = absurd (cc)
+    below-not_below (keys.key true next) (keys.key true bytes) (keys.key false other) (not-false (is_below (keys.key true next) (keys.key true bytes)) e) (not_below_back (keys.key true bytes) (keys.key false other) g)
 
 go_first : (keys : Keys) (bytes : List ℕ) (rest others : List (List ℕ)) (one other : Option Taken) (count : ℕ) → GoesFirst keys bytes others → suc count ≤ length (both_taken keys (bytes ∷ rest) others) → (Fits keys (Some (taken_of false bytes)) false rest → count ≤ length (both_taken keys rest others) → Reached keys rest others (Some (taken_of false bytes)) other (both_taken keys rest others) count) → Reached keys (bytes ∷ rest) others one other (both_taken keys (bytes ∷ rest) others) (suc count)
 go_first keys bytes rest others one other count g within behind = by (begins_first keys bytes rest others g)

@@ -1,11 +1,11 @@
 -- The images and keys of each program's records.
 use Rattle.std.specs.Prelude.{ℕ, ◌&&◌, Bool, true, false, if◌then◌else◌, List, [], ◌∷◌, drop, nat_eq}
 use Rattle.std.specs.Cmp.Lexicographic.{pointwise}
-use Rattle.ckr_columns.specs.Columns.{columns}
+use Rattle.ckr_base.specs.Columns.{columns}
 use Rattle.ckr_jcl.specs.declared.deck.Kind.{Kind}
 use Rattle.ckr_jcl.specs.declared.deck.Kind.TheVariants.{Master, Update}
 use Rattle.ckr_jcl.specs.declared.deck.Parm.{Parm}
-use Rattle.ckr_match.specs.Taken.{Taken, Keys, key_of}
+use Rattle.ckr_match.specs.InputOrder.{Taken, Keys, key_of}
 
 -- whether the second input has transactions for the masters of the first
 abbrev pub has_transactions : Kind → Bool

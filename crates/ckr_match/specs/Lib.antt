@@ -1,4 +1,4 @@
-pub mod Taken
+pub mod InputOrder
 pub mod Images
 pub mod State
 pub mod Master

@@ -4,8 +4,8 @@ use Rattle.std.specs.Option.{option_map, option_to_list}
 use Rattle.ckr_base.specs.declared.programs.Output.{Output}
 use Rattle.ckr_base.specs.declared.programs.Output.TheVariants.{Main, Rejects}
 use Rattle.ckr_base.specs.declared.programs.Write.{Write}
-use Rattle.ckr_match.specs.declared.steps.Outcome.{Outcome}
-use Rattle.ckr_match.specs.Taken.{Taken, Keys}
+use Rattle.ckr_match.specs.declared.steps.RecordOutcome.{RecordOutcome}
+use Rattle.ckr_match.specs.InputOrder.{Taken, Keys}
 use Rattle.ckr_match.specs.Images.{same_key, code_of}
 
 -- a write to an output
@@ -13,18 +13,18 @@ abbrev pub write_to : Output → List ℕ → Write
 write_to output image = record { output = output; image = image }
 
 -- what is held behind a record, and whether the record is rejected
-abbrev pub outcome : Option (List ℕ) → Bool → Outcome
+abbrev pub outcome : Option (List ℕ) → Bool → RecordOutcome
 outcome held rejected = record { held = held; rejected = rejected }
 
 -- A (65) with none held, C (67) and D (68) with one held; anything else is rejected
-abbrev pub outcome_of_code : ℕ → List ℕ → Option (List ℕ) → Outcome
+abbrev pub outcome_of_code : ℕ → List ℕ → Option (List ℕ) → RecordOutcome
 outcome_of_code code image None = if code == 65 then outcome (Some image) false else outcome None true
 outcome_of_code code image (Some held) =
     if code == 67 then outcome (Some image) false
     else (if code == 68 then outcome None false else outcome (Some held) true)
 
 -- a master is held
-abbrev pub outcome_of : Bool → List ℕ → Option (List ℕ) → Outcome
+abbrev pub outcome_of : Bool → List ℕ → Option (List ℕ) → RecordOutcome
 outcome_of false bytes held = outcome (Some bytes) false
 outcome_of true bytes held = outcome_of_code (code_of bytes) (drop 1 bytes) held
 

@@ -10,8 +10,8 @@ use Rattle.ckr_jcl.specs.declared.deck.Kind.{Kind}
 use Rattle.ckr_jcl.specs.declared.deck.Kind.TheVariants.{Merge, Master, Update}
 use Rattle.ckr_jcl.specs.declared.deck.Parm.{Parm}
 use Rattle.ckr_match.specs.declared.state.MatchState.{MatchState}
-use Rattle.ckr_match.specs.declared.steps.Step.{Step}
-use Rattle.ckr_match.specs.Taken.{Taken, is_below, chosen}
+use Rattle.ckr_match.specs.declared.steps.RecordStep.{RecordStep}
+use Rattle.ckr_match.specs.InputOrder.{Taken, is_below, chosen}
 use Rattle.ckr_match.specs.Images.{has_transactions, image_in, key_in, keys_of, same_bytes, code_of}
 use Rattle.ckr_match.specs.State.{return_code}
 use Rattle.ckr_match.specs.Master.{write_to, outcome_of, reject_if, write_held}
@@ -28,7 +28,7 @@ released parm true bytes (Some held) = if same_bytes (key_in parm held) (key_in 
 released parm true bytes None = None
 released parm false bytes held = held
 
-abbrev pub master_step : Parm → MatchState → Bool → List ℕ → Step
+abbrev pub master_step : Parm → MatchState → Bool → List ℕ → RecordStep
 master_step parm state second bytes =
     let next = outcome_of second bytes (carried parm second bytes state.held) in
     record {
@@ -42,7 +42,7 @@ abbrev pub place_by : Parm → List ℕ → Option (ℕ × List ℕ) → Option 
 place_by parm bytes None = None
 place_by parm bytes (Some last) = if same_bytes (key_in parm (drop 1 bytes)) (key_in parm last.1) then Some last.0 else None
 
-abbrev pub update_step : Parm → MatchState → Bool → List ℕ → Step
+abbrev pub update_step : Parm → MatchState → Bool → List ℕ → RecordStep
 update_step parm state false bytes = record { writes = record { items = [] }; held = state.held; last = Some (state.first, bytes) }
 update_step parm state true bytes = record {
   writes = record { items = write_at (if code_of bytes == 67 then place_by parm bytes state.last else None) bytes ∷ [] };
@@ -51,7 +51,7 @@ update_step parm state true bytes = record {
 }
 
 -- what a record of the first or of the second input makes
-abbrev pub step_of : Kind → Parm → MatchState → Bool → List ℕ → Step
+abbrev pub step_of : Kind → Parm → MatchState → Bool → List ℕ → RecordStep
 step_of Merge parm state second bytes = record { writes = record { items = write_to Main bytes ∷ [] }; held = state.held; last = state.last }
 step_of Master parm state second bytes = master_step parm state second bytes
 step_of Update parm state second bytes = update_step parm state second bytes
@@ -66,7 +66,7 @@ is_next state false key = may_come (has_transactions state.kind) state.first sta
 is_next state true key = may_come false state.second state.second_key.items key
 
 -- a record of an input is counted, and its key kept; at a new count nothing is done yet
-abbrev pub counted : Bool → List ℕ → Step → MatchState → MatchState
+abbrev pub counted : Bool → List ℕ → RecordStep → MatchState → MatchState
 counted false key step state = record state {
   first = state.first + 1;
   first_key = record { items = key };

@@ -9,7 +9,7 @@ use Rattle.ckr_jcl.specs.declared.deck.Kind.{Kind}
 use Rattle.ckr_jcl.specs.declared.deck.Kind.TheVariants.{Master, Update}
 use Rattle.ckr_jcl.specs.declared.deck.Parm.{Parm}
 use Rattle.ckr_match.specs.declared.state.MatchState.{MatchState}
-use Rattle.ckr_match.specs.Taken.{Taken, Keys, key_of, of_first, of_second}
+use Rattle.ckr_match.specs.InputOrder.{Taken, Keys, key_of, of_first, of_second}
 use Rattle.ckr_match.specs.Master.{groups_of, balance_of}
 use Rattle.ckr_match.specs.Work.{MatchCase, case_keys, taken_records, upto, rest, work, rejects_in}
 

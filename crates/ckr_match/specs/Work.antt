@@ -11,7 +11,7 @@ use Rattle.ckr_jcl.specs.declared.deck.Kind.{Kind}
 use Rattle.ckr_jcl.specs.declared.deck.Kind.TheVariants.{Merge, Master, Update}
 use Rattle.ckr_jcl.specs.declared.deck.Parm.{Parm}
 use Rattle.ckr_programs.specs.Work.{Work}
-use Rattle.ckr_match.specs.Taken.{Taken, Keys, taken_from, is_cut, of_first, of_second}
+use Rattle.ckr_match.specs.InputOrder.{Taken, Keys, taken_from, is_cut, of_first, of_second}
 use Rattle.ckr_match.specs.Images.{keys_of, same_key, code_of}
 use Rattle.ckr_match.specs.State.{return_code}
 use Rattle.ckr_match.specs.Master.{write_to, groups_of, master_writes}

@@ -1,10 +1,10 @@
 //! The images and keys of records.
 ghost use Rattle.std.specs.Prelude.{◌≡◌, ◌≤◌, drop, length};
 ghost use Rattle.ckr_match.specs.Images.{has_transactions, image_in, key_in, same_bytes, code_of};
-ghost use Rattle.ckr_match.specs.Taken.{is_below};
+ghost use Rattle.ckr_match.specs.InputOrder.{is_below};
 
 use arrayvec::ArrayVec;
-use ckr_columns::columns;
+use ckr_base::columns;
 use ckr_jcl::{Kind, Parm};
 use std::cmp::Ordering;
 

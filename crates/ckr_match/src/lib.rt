@@ -6,8 +6,6 @@ mod laws;
 mod order;
 mod state;
 mod steps;
-#[cfg(test)]
-mod tests;
 mod units;
 mod writes;
 

@@ -2,7 +2,7 @@
 ghost use Rattle.std.specs.Prelude.{◌≡◌, ◌≤◌, MatchOption};
 ghost use Rattle.ckr_match.specs.Images.{keys_of};
 ghost use Rattle.ckr_match.specs.Steps.{may_come, is_next};
-ghost use Rattle.ckr_match.specs.Taken.{chosen, taken_of};
+ghost use Rattle.ckr_match.specs.InputOrder.{chosen, taken_of};
 
 use crate::images::{has_transactions, is_below, key_of};
 use crate::state::MatchState;

@@ -8,7 +8,7 @@ use ckr_jcl::{Kind, Parm};
 use ckr_programs::{DueState, due_at};
 
 /// The records taken and written so far, and what is done at the present count.
-#[derive(Clone, PartialEq, Eq, Debug, Drop)]
+#[derive(PartialEq, Eq, Drop)]
 pub struct MatchState {
     /// MERGE, MASTER or UPDATE.
     pub kind: Kind,

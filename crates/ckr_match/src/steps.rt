@@ -11,33 +11,33 @@ use ckr_base::{Output, Rec, Write};
 use ckr_jcl::{Kind, Parm};
 
 /// What is held behind a record, and whether the record is rejected.
-#[derive(PartialEq, Eq, Debug, Drop)]
-pub struct Outcome {
+#[derive(Drop)]
+pub struct RecordOutcome {
     pub held: Option<Rec>,
     pub rejected: bool,
 }
 
 /// What a record writes, and what is then held and the last master with its place.
-#[derive(PartialEq, Eq, Debug, Drop)]
-pub struct Step {
+#[derive(Drop)]
+pub struct RecordStep {
     pub writes: ArrayVec<Write, 4>,
     pub held: Option<Rec>,
     pub last: Option<(u32, Rec)>,
 }
 
 /// What a transaction of this code and image leaves of what is held.
-fn outcome_of_code(code: u8, image: Rec, held: Option<Rec>) -> Outcome
+fn outcome_of_code(code: u8, image: Rec, held: Option<Rec>) -> RecordOutcome
     ensures { result ≡ outcome_of_code code image held }
 {
     match held {
         None => {
             if code == b'A' {
-                Outcome {
+                RecordOutcome {
                     held: Some(image),
                     rejected: false,
                 }
             } else {
-                Outcome {
+                RecordOutcome {
                     held: None,
                     rejected: true,
                 }
@@ -45,18 +45,18 @@ fn outcome_of_code(code: u8, image: Rec, held: Option<Rec>) -> Outcome
         }
         Some(held) => {
             if code == b'C' {
-                return Outcome {
+                return RecordOutcome {
                     held: Some(image),
                     rejected: false,
                 };
             }
             if code == b'D' {
-                return Outcome {
+                return RecordOutcome {
                     held: None,
                     rejected: false,
                 };
             }
-            Outcome {
+            RecordOutcome {
                 held: Some(held),
                 rejected: true,
             }
@@ -65,7 +65,7 @@ fn outcome_of_code(code: u8, image: Rec, held: Option<Rec>) -> Outcome
 }
 
 /// What a master or a transaction leaves of what is held.
-fn outcome_of(second: bool, head: &Rec, held: Option<Rec>) -> Outcome
+fn outcome_of(second: bool, head: &Rec, held: Option<Rec>) -> RecordOutcome
     ensures { result ≡ outcome_of second head.now held }
 {
     if second {
@@ -75,7 +75,7 @@ fn outcome_of(second: bool, head: &Rec, held: Option<Rec>) -> Outcome
             held,
         )
     } else {
-        Outcome {
+        RecordOutcome {
             held: Some(head.copied()),
             rejected: false,
         }
@@ -137,14 +137,14 @@ fn last_of(state: &MatchState) -> Option<(u32, Rec)>
 }
 
 /// MASTER's step.
-fn master_step(parm: &Parm, state: &MatchState, second: bool, head: &Rec) -> Step
+fn master_step(parm: &Parm, state: &MatchState, second: bool, head: &Rec) -> RecordStep
     requires { parm.now.key.1 ≤ 32 }
     ensures { result ≡ master_step parm.now state.now second head.now }
 {
     let mut writes = write_held(released(parm, second, head, &state.held));
     let outcome = outcome_of(second, head, carried(parm, second, head, &state.held));
     put_reject(&mut writes, outcome.rejected, head);
-    Step {
+    RecordStep {
         writes,
         held: outcome.held,
         last: last_of(state),
@@ -169,12 +169,12 @@ fn place_by(parm: &Parm, head: &Rec, last: &Option<(u32, Rec)>) -> Option<u32>
 }
 
 /// UPDATE's step.
-fn update_step(parm: &Parm, state: &MatchState, second: bool, head: &Rec) -> Step
+fn update_step(parm: &Parm, state: &MatchState, second: bool, head: &Rec) -> RecordStep
     requires { parm.now.key.1 ≤ 32 }
     ensures { result ≡ update_step parm.now state.now second head.now }
 {
     if !second {
-        return Step {
+        return RecordStep {
             writes: ArrayVec::new(),
             held: held_of(state),
             last: Some((state.first, head.copied())),
@@ -187,7 +187,7 @@ fn update_step(parm: &Parm, state: &MatchState, second: bool, head: &Rec) -> Ste
     };
     let mut writes = ArrayVec::new();
     writes.push(write_at(place, head));
-    Step {
+    RecordStep {
         writes,
         held: held_of(state),
         last: last_of(state),
@@ -195,19 +195,19 @@ fn update_step(parm: &Parm, state: &MatchState, second: bool, head: &Rec) -> Ste
 }
 
 /// The step of a record of the first or of the second input.
-pub(crate) fn step_of(parm: &Parm, state: &MatchState, second: bool, head: &Rec) -> Step
+pub(crate) fn step_of(parm: &Parm, state: &MatchState, second: bool, head: &Rec) -> RecordStep
     requires { parm.now.key.1 ≤ 32 }
     ensures { result ≡ step_of state.now.kind parm.now state.now second head.now }
 {
     match state.kind {
         Kind::Master => master_step(parm, state, second, head),
         Kind::Update => update_step(parm, state, second, head),
-        Kind::Merge => Step {
+        Kind::Merge => RecordStep {
             writes: single(Output::Main, head.copied()),
             held: held_of(state),
             last: last_of(state),
         },
-        _ => Step {
+        _ => RecordStep {
             writes: ArrayVec::new(),
             held: held_of(state),
             last: last_of(state),

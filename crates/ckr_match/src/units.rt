@@ -10,7 +10,7 @@ ghost use Rattle.ckr_match.specs.Units.{IsUnitAt, StandsFor, unit_done, taken_be
 use crate::images::key_of;
 use crate::order::{chosen, is_next};
 use crate::state::{MatchState, return_code};
-use crate::steps::{Step, held_of, step_of};
+use crate::steps::{RecordStep, held_of, step_of};
 use crate::writes::{rejects_in, write_held};
 use arrayvec::ArrayVec;
 use ckr_base::{Code, Finish, Heads, Rec, UnitDone, Write};
@@ -49,7 +49,7 @@ fn count(
     state: &mut MatchState,
     second: bool,
     key: ArrayVec<u8, 32>,
-    step: Step,
+    step: RecordStep,
 ) -> ArrayVec<Write, 4>
     requires first { state.old.first ≤ 2000000 }
     requires second { state.old.second ≤ 2000000 }

@@ -4,23 +4,23 @@ use Rattle.std.proofs.lemmas.List.Elements.{All-nil, All-push, All-set}
 use Rattle.ckr_base.specs.declared.programs.Output.{Output}
 use Rattle.ckr_base.specs.declared.programs.Output.TheVariants.{Main, Rejects, InPlace}
 use Rattle.ckr_base.specs.declared.programs.Write.{Write}
-use Rattle.ckr_columns.specs.Columns.{fitted}
-use Rattle.ckr_columns.proofs.Filling.{length-fitted}
+use Rattle.ckr_base.proofs.Sequences.{length-fitted}
+use Rattle.ckr_base.specs.Columns.{fitted}
 use Rattle.ckr_jcl.specs.declared.deck.After.{After}
 use Rattle.ckr_jcl.specs.declared.deck.After.TheVariants.{Delete, Keep, Pass, Catlg, Uncatlg}
 use Rattle.ckr_jcl.specs.declared.deck.Status.{Status}
 use Rattle.ckr_jcl.specs.declared.deck.Status.TheVariants.{New, Old, Shr, Mod}
 use Rattle.ckr_library.specs.declared.sets.Stamp.{Stamp}
-use Rattle.ckr_library.specs.Named.{Name}
-use Rattle.ckr_library.proofs.Laws.{each-with_entry, each-without_entry, each-with_changed}
+use Rattle.ckr_library.specs.NameMaps.{Name}
+use Rattle.ckr_library.proofs.Named.{each-with_changed, each-with_entry, each-without_entry}
 use Rattle.ckr_meaning.specs.declared.place.Place.{Place}
 use Rattle.ckr_meaning.specs.LibrarySet.{LibrarySet, Library, HasRecordLength, HasRecordLengths, record_ways}
-use Rattle.ckr_meaning.specs.Allocating.{Allotment, found, made, refused, Placed, opened_by, opened_one, opened_all, is_output}
-use Rattle.ckr_meaning.specs.Disposing.{Disposal, Standing, sets_after, disposed_one, disposed_all}
-use Rattle.ckr_meaning.specs.Effective.{OwnedStep, Effective, disposals_of}
+use Rattle.ckr_meaning.specs.Allotments.{AllotmentModel, found, made, refused, DdAllotment, opened_by, opened_one, opened_all, is_output}
+use Rattle.ckr_meaning.specs.Dispositions.{Disposal, Stock, sets_after, disposed_one, disposed_all}
+use Rattle.ckr_meaning.specs.EffectiveJob.{OwnedStep, Effective, disposals_of}
 use Rattle.ckr_meaning.specs.StepRun.{StepStart, placed_at, stamp_at, opened_at, fresh_set, made_one, made_all, made_at, output_name, extended, written_set, changed_in, written_one, written_all, work_at, within_at, disposed_at}
 use Rattle.ckr_meaning.specs.JobRun.{at, job_run}
-use Rattle.ckr_meaning.proofs.Holding.{EachFine, at_holds, job_run_holds}
+use Rattle.ckr_meaning.proofs.SetProperties.{EachFine, at_holds, job_run_holds}
 
 abbrev lengths : LibrarySet → Type 0
 lengths set = HasRecordLength set
@@ -31,25 +31,25 @@ opened_by-lengths stamp Old set whole = All-nil (λ image. length image ≡ set.
 opened_by-lengths stamp Shr set whole = whole
 opened_by-lengths stamp Mod set whole = whole
 
-opened_one-lengths : (stamp : Stamp) (placed : Placed) (allotment : Allotment) (output : Bool) (library : Library) → HasRecordLengths library → HasRecordLengths (opened_one record_ways stamp placed allotment output library)
+opened_one-lengths : (stamp : Stamp) (placed : DdAllotment) (allotment : AllotmentModel) (output : Bool) (library : Library) → HasRecordLengths library → HasRecordLengths (opened_one record_ways stamp placed allotment output library)
 opened_one-lengths stamp placed found true library whole =
     each-with_changed HasRecordLength placed.name (opened_by record_ways stamp placed.dd.disp.status) library (opened_by-lengths stamp placed.dd.disp.status) whole
 opened_one-lengths stamp placed found false library whole = whole
 opened_one-lengths stamp placed made output library whole = whole
 opened_one-lengths stamp placed (refused flaw) output library whole = whole
 
-opened_all-lengths : (stamp : Stamp) (all : List Placed) (library : Library) → HasRecordLengths library → HasRecordLengths (opened_all record_ways stamp all library)
+opened_all-lengths : (stamp : Stamp) (all : List DdAllotment) (library : Library) → HasRecordLengths library → HasRecordLengths (opened_all record_ways stamp all library)
 opened_all-lengths stamp [] library whole = whole
 opened_all-lengths stamp (placed ∷ rest) library whole =
     opened_all-lengths stamp rest _ (opened_one-lengths stamp placed placed.allotment (is_output placed.dd.role) library whole)
 
-made_one-lengths : (stamp : Stamp) (placed : Placed) (allotment : Allotment) (library : Library) → HasRecordLengths library → HasRecordLengths (made_one stamp placed allotment library)
+made_one-lengths : (stamp : Stamp) (placed : DdAllotment) (allotment : AllotmentModel) (library : Library) → HasRecordLengths library → HasRecordLengths (made_one stamp placed allotment library)
 made_one-lengths stamp placed found library whole = whole
 made_one-lengths stamp placed made library whole =
     each-with_entry HasRecordLength placed.name (fresh_set stamp placed.dd) library (All-nil (λ image. length image ≡ placed.dd.lrecl)) whole
 made_one-lengths stamp placed (refused flaw) library whole = whole
 
-made_all-lengths : (stamp : Stamp) (all : List Placed) (library : Library) → HasRecordLengths library → HasRecordLengths (made_all stamp all library)
+made_all-lengths : (stamp : Stamp) (all : List DdAllotment) (library : Library) → HasRecordLengths library → HasRecordLengths (made_all stamp all library)
 made_all-lengths stamp [] library whole = whole
 made_all-lengths stamp (placed ∷ rest) library whole =
     made_all-lengths stamp rest _ (made_one-lengths stamp placed placed.allotment library whole)
@@ -101,7 +101,7 @@ sets_after-lengths Catlg name library whole =
 sets_after-lengths Uncatlg name library whole =
     each-with_changed HasRecordLength name (record_ways.marked false) library (λ set whole. whole) whole
 
-disposed_all-lengths : (disposals : List Disposal) (standing : Standing LibrarySet) → HasRecordLengths standing.sets → HasRecordLengths (disposed_all record_ways disposals standing).sets
+disposed_all-lengths : (disposals : List Disposal) (standing : Stock LibrarySet) → HasRecordLengths standing.sets → HasRecordLengths (disposed_all record_ways disposals standing).sets
 disposed_all-lengths [] standing whole = whole
 disposed_all-lengths (disposal ∷ rest) standing whole =
     disposed_all-lengths rest (disposed_one record_ways disposal standing) (sets_after-lengths disposal.after disposal.name standing.sets whole)

@@ -6,14 +6,14 @@ use Rattle.ckr_base.specs.declared.programs.Write.{Write}
 use Rattle.ckr_programs.specs.Work.{ProgCase}
 use Rattle.ckr_programs.specs.Work as plain
 use Rattle.ckr_programs.specs.Units as plain_units
-use Rattle.ckr_programs.proofs.Done as plain_done
-use Rattle.ckr_programs.proofs.Together as plain_together
+use Rattle.ckr_programs.proofs.UnitResults as plain_done
+use Rattle.ckr_programs.proofs.AllUnits as plain_together
 use Rattle.ckr_match.specs.State.{has_two_inputs}
-use Rattle.ckr_match.specs.Taken.{of_second}
+use Rattle.ckr_match.specs.InputOrder.{of_second}
 use Rattle.ckr_match.specs.Work.{MatchCase}
 use Rattle.ckr_match.specs.Work as matched
 use Rattle.ckr_match.specs.Units as matched_units
-use Rattle.ckr_match.proofs.Together as matched_together
+use Rattle.ckr_match.proofs.AllUnits as matched_together
 use Rattle.ckr_meaning.specs.Program.{ProgramCase, plain_case, match_case, work_by, taken_by, upto_by, unit_by, work, records_taken, upto, rest, unit_done}
 
 -- the next unit takes a record

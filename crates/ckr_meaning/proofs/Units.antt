@@ -3,9 +3,9 @@ use Rattle.std.proofs.Common.{◌≡◌, ◌≤◌, ℕ, ◌+◌, ◌-◌, Bool,
 use Rattle.std.specs.List.{range_with_len}
 use Rattle.ckr_base.specs.declared.programs.UnitDone.{UnitDone}
 use Rattle.ckr_programs.specs.Units.{written_by, end_of}
-use Rattle.ckr_programs.proofs.Together as plain_units
+use Rattle.ckr_programs.proofs.AllUnits as plain_units
 use Rattle.ckr_match.specs.State.{has_two_inputs}
-use Rattle.ckr_match.proofs.Together as matched_units
+use Rattle.ckr_match.proofs.AllUnits as matched_units
 use Rattle.ckr_meaning.specs.Program.{ProgramCase, plain_case, match_case, work_by, taken_by, upto_by, unit_by, work, records_taken, upto, rest, unit_done, units_from}
 
 units_by : Bool → ProgramCase → ℕ → List UnitDone

@@ -7,13 +7,13 @@ use Rattle.ckr_base.specs.declared.programs.Finish.TheVariants.{Returned, Abend}
 use Rattle.ckr_jcl.specs.declared.deck.Cond.{Cond}
 use Rattle.ckr_jcl.specs.declared.deck.CondOp.{CondOp}
 use Rattle.ckr_jcl.specs.declared.deck.CondOp.TheVariants.{Gt, Ge, Eq, Lt, Le, Ne}
-use Rattle.ckr_library.specs.Named.{Name}
+use Rattle.ckr_library.specs.NameMaps.{Name}
 use Rattle.ckr_programs.specs.Work.{Work}
 use Rattle.ckr_meaning.specs.declared.place.Place.{Place}
 use Rattle.ckr_meaning.specs.declared.place.Place.TheVariants.{Before, Opened, Within}
 use Rattle.ckr_meaning.specs.LibrarySet.{LibrarySet, Library}
-use Rattle.ckr_meaning.specs.Disposing.{Standing, passed_ended}
-use Rattle.ckr_meaning.specs.Effective.{OwnedStep, Effective, step_at, names_made}
+use Rattle.ckr_meaning.specs.Dispositions.{Stock, passed_ended}
+use Rattle.ckr_meaning.specs.EffectiveJob.{OwnedStep, Effective, step_at, names_made}
 use Rattle.ckr_meaning.specs.StepRun.{StepStart, StepEnd, not_started, ended, placed_at, opened_at, within_at, work_at, disposed_at, end_at}
 
 -- ---- tests of return codes
@@ -47,7 +47,7 @@ is_bypassed rcs owned = list_any (test_holds rcs) owned.tests
 
 -- how far a job has come between two steps: the library with the passed list, the names that its steps made, their return codes
 pub record Walk : Type 0 where
-  pub standing : Standing LibrarySet
+  pub standing : Stock LibrarySet
   pub earlier : List Name
   pub rcs : StepCodes
 
@@ -95,11 +95,11 @@ start_at job library number =
 
 -- ---- a place
 
-abbrev pub with_sets : Library → Standing LibrarySet → Standing LibrarySet
+abbrev pub with_sets : Library → Stock LibrarySet → Stock LibrarySet
 with_sets library standing = record standing { sets = library }
 
 -- the library with the passed list at a place
-unfoldable pub at : Effective → Library → Place → Standing LibrarySet
+unfoldable pub at : Effective → Library → Place → Stock LibrarySet
 at job library (Before number) = (walk_before job library number).standing
 at job library (Opened number) =
     option_map_or (λ start. with_sets (opened_at start) start.standing) (start_at job library number) (walk_before job library number).standing
@@ -107,11 +107,11 @@ at job library (Within number writes) =
     option_map_or (λ start. with_sets (within_at start writes) start.standing) (start_at job library number) (walk_before job library number).standing
 
 -- what is left when the job ends with this library and passed list
-abbrev pub ended_with : Standing LibrarySet → Library
+abbrev pub ended_with : Stock LibrarySet → Library
 ended_with standing = passed_ended standing.passed standing.sets
 
 -- with the abnormal dispositions of a step that was running
-abbrev pub cut_from : Effective → Library → Place → Standing LibrarySet → Standing LibrarySet
+abbrev pub cut_from : Effective → Library → Place → Stock LibrarySet → Stock LibrarySet
 cut_from job library (Before number) standing = standing
 cut_from job library (Opened number) standing = standing
 cut_from job library (Within number writes) standing =

@@ -1,6 +1,6 @@
-pub mod Allocating
-pub mod Disposing
-pub mod Effective
+pub mod Allotments
+pub mod Dispositions
+pub mod EffectiveJob
 pub mod JobRun
 pub mod LibrarySet
 pub mod Program

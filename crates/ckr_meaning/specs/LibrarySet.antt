@@ -2,7 +2,7 @@
 use Rattle.std.specs.Prelude.{◌≡◌, ◌≤◌, ℕ, Bool, List, [], length, All}
 use Rattle.ckr_library.specs.declared.sets.Content.{Content}
 use Rattle.ckr_library.specs.declared.sets.Stamp.{Stamp}
-use Rattle.ckr_library.specs.Named.{Named, EachEntry}
+use Rattle.ckr_library.specs.NameMaps.{Named, EachEntry}
 
 -- a data set with its records; those of a checkpoint data set aren't compared, and it has none here
 pub record LibrarySet : Type 0 where

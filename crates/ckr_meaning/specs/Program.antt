@@ -74,41 +74,41 @@ units_from case taken = map (unit_done case) (range_with_len taken (records_take
 -- ---- the room of the outputs
 
 -- how many more records each output has space for
-pub record Room : Type 0 where
+pub record OutputRoom : Type 0 where
   pub main : ℕ
   pub rejects : ℕ
 
-abbrev pub less_main : ℕ → ℕ → Option Room
+abbrev pub less_main : ℕ → ℕ → Option OutputRoom
 less_main zero rejects = None
 less_main (suc main) rejects = Some (record { main = main; rejects = rejects })
 
-abbrev pub less_rejects : ℕ → ℕ → Option Room
+abbrev pub less_rejects : ℕ → ℕ → Option OutputRoom
 less_rejects main zero = None
 less_rejects main (suc rejects) = Some (record { main = main; rejects = rejects })
 
 -- the room behind a write, if it fits; a rewrite in place always does
-abbrev pub room_behind : Output → Room → Option Room
+abbrev pub room_behind : Output → OutputRoom → Option OutputRoom
 room_behind Main room = less_main room.main room.rejects
 room_behind Rejects room = less_rejects room.main room.rejects
 room_behind (InPlace place) room = Some room
 
 -- the room behind all the writes, if they fit
-abbrev pub room_after : List Write → Room → Option Room
+abbrev pub room_after : List Write → OutputRoom → Option OutputRoom
 room_after [] room = Some room
 room_after (write ∷ writes) room = option_and_then (room_after writes) (room_behind write.output room)
 
 -- the writes before the first one that doesn't fit
-abbrev pub fitting : List Write → Room → List Write
+abbrev pub fitting : List Write → OutputRoom → List Write
 fitting [] room = []
 fitting (write ∷ writes) room = option_map_or (λ left. write ∷ fitting writes left) (room_behind write.output room) []
 
 -- what fits of more writes, in the room behind the first ones if there is any
-abbrev pub fitting_in : Option Room → List Write → List Write
+abbrev pub fitting_in : Option OutputRoom → List Write → List Write
 fitting_in None writes = []
 fitting_in (Some room) writes = fitting writes room
 
 -- the work as far as the room goes: SB37 where a write doesn't fit
-unfoldable pub work_within : Room → Work → Work
+unfoldable pub work_within : OutputRoom → Work → Work
 work_within room whole =
     let writes = fitting whole.writes room in
     record {

@@ -5,20 +5,20 @@ use Rattle.ckr_base.specs.declared.programs.Finish.{Finish}
 use Rattle.ckr_base.specs.declared.programs.Output.{Output}
 use Rattle.ckr_base.specs.declared.programs.Output.TheVariants.{Main, Rejects, InPlace}
 use Rattle.ckr_base.specs.declared.programs.Write.{Write}
-use Rattle.ckr_columns.specs.Columns.{fitted}
+use Rattle.ckr_base.specs.Columns.{fitted}
 use Rattle.ckr_jcl.specs.declared.deck.Dd.{Dd}
 use Rattle.ckr_jcl.specs.declared.deck.Kind.{Kind}
 use Rattle.ckr_jcl.specs.declared.deck.Origin.{Origin}
 use Rattle.ckr_jcl.specs.declared.deck.Origin.TheVariants.{InStream}
 use Rattle.ckr_jcl.specs.Programs.{names_read, names_written, names_updated}
 use Rattle.ckr_library.specs.declared.sets.Stamp.{Stamp}
-use Rattle.ckr_library.specs.Named.{Name, same_name, entry_at, with_entry, with_changed}
+use Rattle.ckr_library.specs.NameMaps.{Name, same_name, entry_at, with_entry, with_changed}
 use Rattle.ckr_programs.specs.Work.{Work}
 use Rattle.ckr_meaning.specs.LibrarySet.{LibrarySet, Library, record_ways}
-use Rattle.ckr_meaning.specs.Disposing.{Standing, disposed_all}
-use Rattle.ckr_meaning.specs.Allocating.{Allotment, found, made, refused, Flaw, Placed, opened_all, content_for, space_for}
-use Rattle.ckr_meaning.specs.Effective.{OwnedStep, stamp_of, name_of, placed_in, disposals_of, flaws_in}
-use Rattle.ckr_meaning.specs.Program.{ProgramCase, Room, work, work_within}
+use Rattle.ckr_meaning.specs.Dispositions.{Stock, disposed_all}
+use Rattle.ckr_meaning.specs.Allotments.{AllotmentModel, found, made, refused, FlawModel, DdAllotment, opened_all, content_for, space_for}
+use Rattle.ckr_meaning.specs.EffectiveJob.{OwnedStep, stamp_of, name_of, placed_in, disposals_of, flaws_in}
+use Rattle.ckr_meaning.specs.Program.{ProgramCase, OutputRoom, work, work_within}
 
 -- a step as it is about to start: the root of its run, the step with its number, the library with the passed list, and the names
 -- that earlier steps of the job made
@@ -26,11 +26,11 @@ pub record StepStart : Type 0 where
   pub root : ℕ
   pub owned : OwnedStep
   pub number : ℕ
-  pub standing : Standing LibrarySet
+  pub standing : Stock LibrarySet
   pub earlier : List Name
 
 -- what allocation says of the step's DDs
-unfoldable pub placed_at : StepStart → List Placed
+unfoldable pub placed_at : StepStart → List DdAllotment
 placed_at start = placed_in record_ways start.standing start.root start.owned
 
 abbrev pub stamp_at : StepStart → Stamp
@@ -51,12 +51,12 @@ fresh_set stamp dd = record {
   records = [];
 }
 
-abbrev pub made_one : Stamp → Placed → Allotment → Library → Library
+abbrev pub made_one : Stamp → DdAllotment → AllotmentModel → Library → Library
 made_one stamp placed found library = library
 made_one stamp placed made library = with_entry placed.name (fresh_set stamp placed.dd) library
 made_one stamp placed (refused flaw) library = library
 
-abbrev pub made_all : Stamp → List Placed → Library → Library
+abbrev pub made_all : Stamp → List DdAllotment → Library → Library
 made_all stamp [] library = library
 made_all stamp (placed ∷ rest) library = made_all stamp rest (made_one stamp placed placed.allotment library)
 
@@ -128,7 +128,7 @@ abbrev pub room_in : Library → Option Name → ℕ
 room_in library name = option_map_or room_of (option_and_then (entry_at library) name) 0
 
 -- the room of the outputs when the step's data sets are made
-unfoldable pub room_at : StepStart → Room
+unfoldable pub room_at : StepStart → OutputRoom
 room_at start = let library = made_at start in
     record { main = room_in library (output_name start Main); rejects = room_in library (output_name start Rejects) }
 
@@ -182,16 +182,16 @@ within_at start writes = written_all start (take writes (work_at start).writes) 
 -- ---- the end
 
 -- the library and the passed list after the step's dispositions, of a normal or an abnormal end
-unfoldable pub disposed_at : StepStart → Bool → Library → Standing LibrarySet
+unfoldable pub disposed_at : StepStart → Bool → Library → Stock LibrarySet
 disposed_at start abnormal library =
     disposed_all record_ways (disposals_of start.earlier abnormal (placed_at start)) (record { sets = library; passed = start.standing.passed })
 
 -- how a step ends: it isn't started, for a cause at the DD of this number, or its program ends
 pub data StepEnd : Type 0 where
-  not_started : ℕ × Flaw → StepEnd
+  not_started : ℕ × FlawModel → StepEnd
   ended : Finish → StepEnd
 
-abbrev pub end_by : List (ℕ × Flaw) → Finish → StepEnd
+abbrev pub end_by : List (ℕ × FlawModel) → Finish → StepEnd
 end_by [] finish = ended finish
 end_by (first ∷ others) finish = not_started first
 

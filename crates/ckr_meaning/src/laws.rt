@@ -3,15 +3,15 @@ ghost use Rattle.std.specs.Prelude.{◌≡◌, ◌<◌, ◌≤◌, ℕ, suc, ◌
 ghost use Rattle.ckr_base.specs.declared.code.Code.TheVariants.{System};
 ghost use Rattle.ckr_base.specs.declared.programs.Finish.TheVariants.{Abend};
 ghost use Rattle.ckr_base.specs.declared.programs.Write.{Write as RecordWritten};
-ghost use Rattle.ckr_dispositions.specs.Using.{are_distinct};
+ghost use Rattle.ckr_uses.specs.Uses.{are_distinct};
 ghost use Rattle.ckr_entry.specs.declared.point.State.{State as ProgramState};
-ghost use Rattle.ckr_library.specs.Named.{Name, entry_at};
+ghost use Rattle.ckr_library.specs.NameMaps.{Name, entry_at};
 ghost use Rattle.ckr_programs.specs.Units.{end_of, written_by};
 ghost use Rattle.ckr_meaning.specs.declared.place.Place.{Place as PlaceInJob};
 ghost use Rattle.ckr_meaning.specs.declared.place.Place.TheVariants.{Before};
 ghost use Rattle.ckr_meaning.specs.LibrarySet.{Library, AreWithinSpace, HasRecordLengths};
-ghost use Rattle.ckr_meaning.specs.Effective.{AgreeOn, Effective, HasDistinctNames, OwnedStep, is_among, names_of, names_of_job, step_at};
-ghost use Rattle.ckr_meaning.specs.Program.{ProgramCase, Room, fitting, fitting_in, records_taken, rest, room_after, unit_done, units_from, upto, work};
+ghost use Rattle.ckr_meaning.specs.EffectiveJob.{AgreeOn, Effective, HasDistinctNames, OwnedStep, is_among, names_of, names_of_job, step_at};
+ghost use Rattle.ckr_meaning.specs.Program.{ProgramCase, OutputRoom, fitting, fitting_in, records_taken, rest, room_after, unit_done, units_from, upto, work};
 ghost use Rattle.ckr_meaning.specs.States.{IsSameRemainder};
 ghost use Rattle.ckr_meaning.specs.StepRun.{StepStart, case_at, disposed_at, made_at, room_at, within_at, work_at, written_all};
 ghost use Rattle.ckr_meaning.specs.JobRun.{Walk, at, end_of_job, is_bypassed, is_place, job_run, start_at, walk_before, walked};
@@ -40,19 +40,19 @@ pub fn units_go_on()
 /// What fits of more writes is what fits of the first ones, and then what fits of the others in the room behind the first ones,
 /// if those left any.
 pub fn more_writes_fit_behind_the_first()
-    ensures { (first more : List RecordWritten) (room : Room) → fitting (first ++ more) room ≡ fitting first room ++ fitting_in (room_after first room) more }
+    ensures { (first more : List RecordWritten) (room : OutputRoom) → fitting (first ++ more) room ≡ fitting first room ++ fitting_in (room_after first room) more }
 {}
 
 /// Writes that leave room fit as they are, and of others a front fits.
 pub fn writes_fit_that_leave_room()
-    ensures all { (writes : List RecordWritten) (room left : Room) → room_after writes room ≡ Some left → fitting writes room ≡ writes }
-    ensures some { (writes : List RecordWritten) (room : Room) → room_after writes room ≡ None → length (fitting writes room) < length writes }
-    ensures front { (writes : List RecordWritten) (room : Room) → take (length (fitting writes room)) writes ≡ fitting writes room }
+    ensures all { (writes : List RecordWritten) (room left : OutputRoom) → room_after writes room ≡ Some left → fitting writes room ≡ writes }
+    ensures some { (writes : List RecordWritten) (room : OutputRoom) → room_after writes room ≡ None → length (fitting writes room) < length writes }
+    ensures front { (writes : List RecordWritten) (room : OutputRoom) → take (length (fitting writes room)) writes ≡ fitting writes room }
 {}
 
 /// A step whose writes all fit ends as its program's work does, and any other one with SB37.
 pub fn steps_end_as_their_work_where_it_fits()
-    ensures all { (start : StepStart) (left : Room) → room_after (work (case_at start)).writes (room_at start) ≡ Some left → work_at start ≡ work (case_at start) }
+    ensures all { (start : StepStart) (left : OutputRoom) → room_after (work (case_at start)).writes (room_at start) ≡ Some left → work_at start ≡ work (case_at start) }
     ensures some { (start : StepStart) → room_after (work (case_at start)).writes (room_at start) ≡ None → (work_at start).finish ≡ Abend (System 2871) }
 {}
 

@@ -1,7 +1,7 @@
 //! How far a job has come.
 
 /// A place in a job, by the number of a step from 1.
-#[derive(Clone, Copy, PartialEq, Eq, Debug)]
+#[derive(Clone, Copy)]
 pub enum Place {
     /// Before the step, or behind the last one, whose number is one less.
     Before(u8),

@@ -1,2 +1,2 @@
-mod Called
+mod DiskCalls
 pub mod Fronts

@@ -10,4 +10,4 @@ pub mod Moments
 pub mod Plan
 pub mod Ranges
 pub mod Stop
-pub mod Within
+pub mod RangeCalls

@@ -4,7 +4,7 @@ use Rattle.ckr_outside.specs.Faults.{Rose, one_more}
 use Rattle.ckr_outside.specs.Plan.{listed_calls, next_is_due}
 use Rattle.ckr_outside.specs.Changes.{IsImage, LeftSince}
 use Rattle.ckr_outside.specs.Stop.{left_after}
-use Rattle.ckr_outside.specs.declared.failed.Failed.{Failed}
+use Rattle.ckr_outside.specs.declared.failure.Failed.{Failed}
 use Rattle.ckr_outside.specs.declared.changes.Pick.{Pick}
 use Rattle.ckr_outside.specs.declared.memory_disk.DiskCall.{DiskCall}
 use Rattle.ckr_outside.specs.declared.memory_disk.MemDisk.{MemDisk}

@@ -1,7 +1,7 @@
 //! The trusted edge: a reader and a writer of the library as a source and a sink.
 ghost use Rattle.std.specs.Prelude.{◌≡◌};
 
-use crate::failed::{Failed, count_on};
+use crate::failure::{Failed, count_on};
 use crate::{Sink, Source};
 use std::io::{Read, Write};
 

@@ -17,7 +17,7 @@ pub(crate) enum Change {
 }
 
 /// What a stop leaves in the ranges that are pending.
-#[derive(Clone, Copy, Debug, PartialEq, Eq)]
+#[derive(Clone, Copy)]
 pub enum Pick {
     /// The new bytes.
     Kept,

@@ -4,7 +4,7 @@ ghost use Rattle.std.proofs.Common.{lit< as literal_below};
 ghost use Rattle.ckr_outside.specs.Faults.{Rose};
 
 use crate::Disk;
-use crate::failed::{Failed, count_on};
+use crate::failure::{Failed, count_on};
 use std::fs::File;
 use std::io;
 use std::os::unix::fs::FileExt;

@@ -4,7 +4,7 @@
 mod adapters;
 mod changes;
 mod disk;
-mod failed;
+mod failure;
 mod file_disk;
 mod memory_disk;
 mod memory_sink;
@@ -16,13 +16,10 @@ mod source;
 pub use adapters::{StdSink, StdSource};
 pub use changes::Pick;
 pub use disk::Disk;
-pub use failed::Failed;
+pub use failure::Failed;
 pub use file_disk::FileDisk;
 pub use memory_disk::{CallKind, DiskCall, MemDisk};
 pub use memory_sink::MemSink;
 pub use memory_source::MemSource;
 pub use sink::{Sink, put_all};
-pub use source::Source;
-
-#[cfg(test)]
-mod tests;
+pub use source::{PIECE_BYTES, STREAM_LIMIT, Source, take_piece};

@@ -5,13 +5,13 @@ ghost use Rattle.ckr_outside.specs.Changes.{content_after};
 
 use crate::Disk;
 use crate::changes::{Change, Pick, leave, put};
-use crate::failed::Failed;
-use crate::plan::{Listed, Plan};
+use crate::failure::Failed;
+use crate::plan::{FailurePlan, ListedCalls};
 use ckr_base::NoMemory;
 use std::alloc::Global;
 
 /// Which call of a disk it was.
-#[derive(Clone, Copy, Debug, PartialEq, Eq)]
+#[derive(Clone, Copy, PartialEq, Eq)]
 pub enum CallKind {
     Read,
     Write,
@@ -19,7 +19,7 @@ pub enum CallKind {
 }
 
 /// A call of a disk, with its place and its number of bytes. A sync has 0 and 0.
-#[derive(Clone, Copy, Debug, PartialEq, Eq)]
+#[derive(Clone, Copy, PartialEq, Eq)]
 pub struct DiskCall {
     pub kind: CallKind,
     pub at: u64,
@@ -60,7 +60,7 @@ pub struct MemDisk {
     bytes: Vec<u8>,
     changes: Vec<Change>,
     calls: Vec<DiskCall>,
-    plan: Plan,
+    plan: FailurePlan,
     stop_at: Option<u64>,
     ghost replays: { bytes.items ≡ content_after first.items changes.items },
     ghost bounded: { length bytes.items < 2 ^ 64 },
@@ -89,7 +89,7 @@ impl MemDisk {
             bytes: vec![in alloc; 0; size as usize]?,
             changes: Vec::new(alloc),
             calls: Vec::new(alloc),
-            plan: Plan::new(Listed::Wide(failing)),
+            plan: FailurePlan::new(ListedCalls::Wide(failing)),
             stop_at,
         })
     }
@@ -125,7 +125,7 @@ impl MemDisk {
             bytes,
             changes,
             calls,
-            plan: Plan::new(Listed::Wide(Vec::new(alloc))),
+            plan: FailurePlan::new(ListedCalls::Wide(Vec::new(alloc))),
             stop_at: None,
         }
     }

@@ -4,15 +4,15 @@ ghost use Rattle.std.specs.Io.KnownBytes.{WriteAppends};
 ghost use Rattle.ckr_outside.specs.Faults.{Rose, one_more};
 
 use crate::Sink;
-use crate::failed::Failed;
-use crate::plan::{Listed, Plan};
+use crate::failure::Failed;
+use crate::plan::{FailurePlan, ListedCalls};
 use std::alloc::Global;
 
 /// A text in memory. It fails exactly at the listed calls, which are counted from 0, and where it finds no memory.
 #[derive(Drop)]
 pub struct MemSink {
     text: Vec<u8>,
-    plan: Plan,
+    plan: FailurePlan,
 }
 
 impl MemSink {
@@ -28,7 +28,7 @@ impl MemSink {
     {
         MemSink {
             text: Vec::new(alloc),
-            plan: Plan::new(Listed::Narrow(failing)),
+            plan: FailurePlan::new(ListedCalls::Narrow(failing)),
         }
     }
 

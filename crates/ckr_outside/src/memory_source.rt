@@ -4,15 +4,15 @@ ghost use Rattle.std.specs.Io.KnownBytes.{ReadConsumes};
 ghost use Rattle.ckr_outside.specs.Faults.{Rose, one_more};
 
 use crate::Source;
-use crate::failed::Failed;
-use crate::plan::{Listed, Plan};
+use crate::failure::Failed;
+use crate::plan::{FailurePlan, ListedCalls};
 
 /// A stream in memory. It fails exactly at the listed calls, which are counted from 0.
 #[derive(Drop)]
 pub struct MemSource {
     bytes: Vec<u8>,
     at: usize,
-    plan: Plan,
+    plan: FailurePlan,
     ghost in_bytes: { at ≤ vec_len bytes },
 }
 
@@ -29,7 +29,7 @@ impl MemSource {
         MemSource {
             bytes,
             at: 0,
-            plan: Plan::new(Listed::Narrow(failing)),
+            plan: FailurePlan::new(ListedCalls::Narrow(failing)),
         }
     }
 }

@@ -3,30 +3,30 @@ ghost use Rattle.std.specs.Prelude.{◌≡◌, ◌≤◌, ◌↔◌, IsTrue, Con
 ghost use Rattle.ckr_outside.specs.Faults.{Rose, one_more};
 ghost use Rattle.ckr_outside.specs.Plan.{listed_calls, planned, next_is_listed, next_is_due};
 
-use crate::failed::{Failed, count_on};
+use crate::failure::{Failed, count_on};
 
 /// The numbers of the calls that are to fail, in either width.
 #[derive(Drop)]
-pub(crate) enum Listed {
+pub(crate) enum ListedCalls {
     Narrow(Vec<u32>),
     Wide(Vec<u64>),
 }
 
-impl Listed {
+impl ListedCalls {
     fn contains(&self, call: u64) -> bool
         ensures { IsTrue result ↔ Contains (listed_calls self.now) call }
     {
         match self {
-            Listed::Narrow(calls) => calls.iter().any(|listed| u64::from(*listed) == call),
-            Listed::Wide(calls) => calls.contains(&call),
+            ListedCalls::Narrow(calls) => calls.iter().any(|listed| u64::from(*listed) == call),
+            ListedCalls::Wide(calls) => calls.contains(&call),
         }
     }
 }
 
 /// A plan of failures, with the counts that go with it.
 #[derive(Drop)]
-pub(crate) struct Plan {
-    pub(crate) failing: Listed,
+pub(crate) struct FailurePlan {
+    pub(crate) failing: ListedCalls,
     /// The number of the next call, counted from 0.
     pub(crate) next: u64,
     /// How often a call has failed.
@@ -35,12 +35,12 @@ pub(crate) struct Plan {
     pub(crate) lacks: u64,
 }
 
-impl Plan {
+impl FailurePlan {
     /// These calls are to fail, and none was made.
-    pub(crate) fn new(failing: Listed) -> Plan
+    pub(crate) fn new(failing: ListedCalls) -> FailurePlan
         ensures { result ≡ planned failing }
     {
-        Plan {
+        FailurePlan {
             failing,
             next: 0,
             faults: 0,

@@ -7,10 +7,10 @@ use Rattle.ckr_jcl.specs.declared.deck.Origin.{Origin}
 use Rattle.ckr_jcl.specs.declared.deck.Origin.TheVariants.{InStream, Named as NamedOrigin, Temporary, Unnamed, Sysout, Dummy}
 use Rattle.ckr_library.specs.declared.sets.Part.{Part}
 use Rattle.ckr_library.specs.declared.sets.Stamp.{Stamp}
-use Rattle.ckr_library.specs.Named.{Name, Named, same_name, entry_at, with_entry, with_changed, without_entry}
-use Rattle.ckr_meaning.specs.Allocating.{is_output}
+use Rattle.ckr_library.specs.NameMaps.{Name, Named, same_name, entry_at, with_entry, with_changed, without_entry}
+use Rattle.ckr_meaning.specs.Allotments.{is_output}
 use Rattle.ckr_entry.specs.declared.point.Passed.{Passed}
-use Rattle.ckr_meaning.specs.Effective.{OwnedStep, owned_by, name_of, names_of, names_of_steps, names_of_job, is_among}
+use Rattle.ckr_meaning.specs.EffectiveJob.{OwnedStep, owned_by, name_of, names_of, names_of_steps, names_of_job, is_among}
 use Rattle.ckr_entry.specs.declared.point.Mark.{Mark}
 use Rattle.ckr_entry.specs.declared.point.Present.{Present}
 use Rattle.ckr_points.specs.Rows.{TableSet, StartPoint, RunRow, table_ways, cut_set}

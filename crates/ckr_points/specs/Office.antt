@@ -2,21 +2,21 @@
 use Rattle.std.specs.Prelude.{ℕ, zero, suc, pred, ◌==◌, Bool, true, false, ◌&&◌, nat_lt, if◌then◌else◌, List, [], ◌∷◌, ◌++◌, map, filter, find, drop, Option, None, Some}
 use Rattle.std.specs.Option.{option_map_or}
 use Rattle.ckr_events.specs.declared.event.Event.{Event}
-use Rattle.ckr_events.specs.declared.event.Event.TheVariants.{Submitted, Selected, Denied, Started, Rewritten, Checkpointed, Cancelled, StepEnded, Restarted, Held, Released, Ended, Purged}
+use Rattle.ckr_events.specs.declared.event.Event.TheVariants.{Selected, Ended}
 use Rattle.ckr_events.specs.declared.event.Ending.{Ending}
 use Rattle.ckr_events.specs.declared.event.Ending.TheVariants.{Completed, Coded, Allocation}
-use Rattle.ckr_library.specs.Named.{Name, entry_at, taken_over}
+use Rattle.ckr_library.specs.NameMaps.{Name, entry_at, taken_over}
 use Rattle.ckr_meaning.specs.LibrarySet.{LibrarySet, Library}
 use Rattle.ckr_entry.specs.declared.point.Passed.{Passed}
-use Rattle.ckr_meaning.specs.Disposing.{Standing}
-use Rattle.ckr_meaning.specs.Effective.{Effective, names_of_steps, names_of_job, is_among}
+use Rattle.ckr_meaning.specs.Dispositions.{Stock}
+use Rattle.ckr_meaning.specs.EffectiveJob.{Effective, names_of_steps, names_of_job, is_among}
 use Rattle.ckr_meaning.specs.declared.place.Place.{Place}
 use Rattle.ckr_meaning.specs.declared.place.Place.TheVariants.{Before, Within}
 use Rattle.ckr_meaning.specs.JobRun.{at, job_run}
 use Rattle.ckr_points.specs.declared.run.RunState.{RunState}
 use Rattle.ckr_points.specs.declared.run.RunState.TheVariants.{Queued, On, Held as HeldRun, Released as ReleasedRun, Ended as EndedRun, Denied as DeniedRun, Purged as PurgedRun}
-use Rattle.ckr_points.specs.Rows.{RunRow, Tables, no_tables, run_of}
-use Rattle.ckr_points.specs.Restarting.{Decked, after_event, place_of, step_in}
+use Rattle.ckr_points.specs.Rows.{RunRow, TablesModel, no_tables, run_of}
+use Rattle.ckr_points.specs.Restart.{Decked, after_event, place_of, step_in}
 
 -- a selected run as the office knows it: its effective job, the library that it began on, and its reach
 pub record Leg : Type 0 where
@@ -27,7 +27,7 @@ pub record Leg : Type 0 where
 
 -- the tables, what the ended jobs left, and the selected runs in the order of their numbers
 pub record Office : Type 0 where
-  pub tables : Tables
+  pub tables : TablesModel
   pub library : Library
   pub legs : List Leg
 
@@ -74,7 +74,7 @@ library_after office row ending =
     option_map_or (λ leg. taken_over leg.reach (job_run leg.job leg.start (cut_of row ending)) office.library) (leg_of office row.number) office.library
 
 -- the office with tables after Selected
-abbrev pub office_selected : Office → ℕ → Tables → Office
+abbrev pub office_selected : Office → ℕ → TablesModel → Office
 office_selected office job tables =
     record office {
       tables = tables;
@@ -82,27 +82,17 @@ office_selected office job tables =
     }
 
 -- the office with tables after Ended
-abbrev pub office_ended : Office → ℕ → Ending → Tables → Office
+abbrev pub office_ended : Office → ℕ → Ending → TablesModel → Office
 office_ended office job ending tables =
     record office {
       tables = tables;
       library = option_map_or (λ row. library_after office row ending) (run_of office.tables job) office.library;
     }
 
-abbrev pub office_with : Office → Event → Tables → Office
-office_with office (Submitted job cards) tables = record office { tables = tables }
+abbrev pub office_with : Office → Event → TablesModel → Office
 office_with office (Selected job initiator earlier step id) tables = office_selected office job tables
-office_with office (Denied job rule name) tables = record office { tables = tables }
-office_with office (Started job step items) tables = record office { tables = tables }
-office_with office (Rewritten job taken writes lengths place image) tables = record office { tables = tables }
-office_with office (Checkpointed job id taken writes lengths place bytes) tables = record office { tables = tables }
-office_with office (Cancelled job) tables = record office { tables = tables }
-office_with office (StepEnded job step rc writes lengths) tables = record office { tables = tables }
-office_with office (Restarted job initiator code checkpoint) tables = record office { tables = tables }
-office_with office (Held job code writes lengths) tables = record office { tables = tables }
-office_with office (Released job) tables = record office { tables = tables }
 office_with office (Ended job ending) tables = office_ended office job ending tables
-office_with office (Purged job) tables = record office { tables = tables }
+office_with office _ tables = record office { tables = tables }
 
 -- the office after an event
 abbrev pub office_after : Decked → Office → Office
@@ -135,7 +125,7 @@ abbrev pub holder_of : Office → Name → Option Leg
 holder_of office name = find (holds_name office name) office.legs
 
 -- a run's library and passed list at its place
-abbrev pub standing_at : Office → Leg → Standing LibrarySet
+abbrev pub standing_at : Office → Leg → Stock LibrarySet
 standing_at office leg = option_map_or (λ row. at leg.job leg.start (place_of row)) (run_of office.tables leg.number) (at leg.job leg.start (Before 1))
 
 -- the library that the tables stand for at a name: that of its holder's place, or what the ended jobs left

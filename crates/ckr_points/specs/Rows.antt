@@ -5,11 +5,11 @@ use Rattle.ckr_jcl.specs.declared.deck.Job.{Job}
 use Rattle.ckr_library.specs.declared.sets.DataSet.{DataSet}
 use Rattle.ckr_library.specs.declared.sets.Kept.{Kept}
 use Rattle.ckr_library.specs.Catalog.{ends_within, Holding}
-use Rattle.ckr_library.specs.Named.{Name, Named}
+use Rattle.ckr_library.specs.NameMaps.{Name, Named}
 use Rattle.ckr_meaning.specs.LibrarySet.{SetWays}
 use Rattle.ckr_entry.specs.declared.point.Passed.{Passed}
-use Rattle.ckr_meaning.specs.Disposing.{Standing}
-use Rattle.ckr_meaning.specs.Effective.{Effective, OwnedStep, step_at}
+use Rattle.ckr_meaning.specs.Dispositions.{Stock}
+use Rattle.ckr_meaning.specs.EffectiveJob.{Effective, OwnedStep, step_at}
 use Rattle.ckr_entry.specs.declared.point.Mark.{Mark}
 use Rattle.ckr_meaning.specs.JobRun.{StepCodes}
 use Rattle.ckr_meaning.specs.declared.place.Place.{Place}
@@ -71,16 +71,16 @@ pub record RunRow : Type 0 where
   pub points : List StartPoint
   pub in_effect : Option EffectPoint
 
-pub record Tables : Type 0 where
+pub record TablesModel : Type 0 where
   pub sets : Named TableSet
   pub runs : List RunRow
 
 -- the tables of no events
-abbrev pub no_tables : Tables
+abbrev pub no_tables : TablesModel
 no_tables = record { sets = []; runs = [] }
 
 -- a run by its number, from 1
-abbrev pub run_of : Tables → ℕ → Option RunRow
+abbrev pub run_of : TablesModel → ℕ → Option RunRow
 run_of tables zero = None
 run_of tables (suc before) = slice_get tables.runs before
 
@@ -89,15 +89,15 @@ with_row row zero runs = runs
 with_row row (suc before) runs = slice_set runs before row
 
 -- the tables with a run's row, in the place of its number
-abbrev pub with_run : RunRow → Tables → Tables
+abbrev pub with_run : RunRow → TablesModel → TablesModel
 with_run row tables = record tables { runs = with_row row row.number tables.runs }
 
 -- the data sets, and the passed list of a run
-abbrev pub standing_of : RunRow → Tables → Standing TableSet
+abbrev pub standing_of : RunRow → TablesModel → Stock TableSet
 standing_of row tables = record { sets = tables.sets; passed = row.passed }
 
 -- the tables with a run's row and these data sets, the passed list with them
-abbrev pub with_standing : RunRow → Standing TableSet → Tables → Tables
+abbrev pub with_standing : RunRow → Stock TableSet → TablesModel → TablesModel
 with_standing row standing tables =
     with_run (record row { passed = standing.passed }) (record tables { sets = standing.sets })
 

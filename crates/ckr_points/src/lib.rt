@@ -5,4 +5,4 @@ mod denial;
 mod run;
 
 pub use denial::{Denial, Seen};
-pub use run::{Run, RunState};
+pub use run::{Run, RunState, step_in};

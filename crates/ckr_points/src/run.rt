@@ -1,9 +1,12 @@
 //! What the tables have of a run.
+ghost use Rattle.std.specs.Prelude.{◌≡◌};
+ghost use Rattle.ckr_points.specs.Restart.{step_in};
 
 use ckr_base::Name8;
+use ckr_meaning::Place;
 
 /// Where a submitted job is.
-#[derive(Clone, Copy, PartialEq, Eq, Debug)]
+#[derive(Clone, Copy)]
 pub enum RunState {
     /// It waits for an initiator.
     Queued,
@@ -21,7 +24,7 @@ pub enum RunState {
 }
 
 /// A submitted job's line; `initiator` is given exactly for a run that is on one.
-#[derive(Clone, PartialEq, Eq, Debug, Drop)]
+#[derive(Drop)]
 pub struct Run {
     /// From 1, in the order in which the decks were submitted.
     pub number: u32,
@@ -29,4 +32,13 @@ pub struct Run {
     pub state: RunState,
     /// From 1.
     pub initiator: Option<u8>,
+}
+
+/// The step that a place is before or in.
+pub fn step_in(place: Place) -> u8
+    ensures { result ≡ step_in place }
+{
+    match place {
+        Place::Before(step) | Place::Opened(step) | Place::Within(step, _) => step,
+    }
 }

@@ -1,5 +1,5 @@
-pub mod Taken
-pub mod Written
+pub mod InputRecords
+pub mod OutputRecords
 pub mod Ranges
-pub mod Done
-pub mod Together
+pub mod UnitResults
+pub mod AllUnits

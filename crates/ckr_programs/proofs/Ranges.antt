@@ -3,7 +3,9 @@ use Rattle.std.proofs.Common.{◌≡◌, ◌≤◌, ℕ, ◌+◌, Bool, true, fa
 use Rattle.std.specs.Option.{option_map}
 use Rattle.std.proofs.lemmas.Bool.{leb-true}
 use Rattle.ckr_base.specs.Grammar.{is_digit, is_text_of}
-use Rattle.ckr_jcl.specs.Text.{if_holds, number_in_digits, before, behind}
+use Rattle.ckr_base.specs.Words.{number_in_digits}
+use Rattle.ckr_base.proofs.Bools.{and-second}
+use Rattle.ckr_jcl.specs.Text.{if_holds, before, behind}
 use Rattle.ckr_jcl.specs.declared.deck.Kind.{Kind}
 use Rattle.ckr_jcl.specs.declared.deck.Kind.TheVariants.{Copy, Select, Merge, Master, Update, Print, Br14}
 use Rattle.ckr_jcl.specs.declared.deck.Parm.{Parm}
@@ -13,10 +15,6 @@ use Rattle.ckr_jcl.specs.declared.refusal.ParmError.{ParmError}
 use Rattle.ckr_jcl.specs.ParmGrammar.{begins_with_zero, plain_number, pair_within, column_and_length, no_parm, with_value, takes, is_given, key_of, value_of, with_key, with_item, read_on, items_read, all_items_read, if_complete, lacks_item, read_parm_text}
 use Rattle.ckr_programs.specs.Ranges.{IsInRange}
 
-second_holds : (a b : Bool) → (a && b) ≡ true → b ≡ true
-second_holds true b e = e
-second_holds false b e = absurd (cc)
-
 number_if : (b : Bool) (value number most : ℕ) → (b ≡ true → value ≤ most) → cond b (Some value) None ≡ Some number → number ≤ most
 number_if true value number most bound e = let same : value ≡ number = cc in subst (λ n. n ≤ most) same (bound refl)
 number_if false value number most bound e = absurd (cc)
@@ -25,7 +23,7 @@ plain_number_bound : (most : ℕ) (text : List ℕ) (number : ℕ) → plain_num
 unfolding plain_number
 plain_number_bound most text number e =
     number_if (is_text_of is_digit 7 text && not (begins_with_zero text) && leb (number_in_digits text) most) (number_in_digits text) number most
-    (λ c. leb-true (number_in_digits text) most (second_holds (is_text_of is_digit 7 text && not (begins_with_zero text)) (leb (number_in_digits text) most) c))
+    (λ c. leb-true (number_in_digits text) most (and-second (is_text_of is_digit 7 text && not (begins_with_zero text)) (leb (number_in_digits text) most) c))
     e
 
 pair_bound : (most longest : ℕ) (column count : Option ℕ) (pair : ℕ × ℕ) → ((n : ℕ) → count ≡ Some n → n ≤ longest) → pair_within most column count ≡ Some pair → pair.1 ≤ longest

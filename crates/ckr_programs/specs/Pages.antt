@@ -1,7 +1,7 @@
 -- What PRINT writes: pages of 50 records behind their headings, and the total.
 use Rattle.std.specs.Prelude.{ℕ, ◌+◌, ◌/◌, ◌%◌, ◌==◌, if◌then◌else◌, List, [], ◌∷◌, ◌++◌, take, flat_map, codes}
 use Rattle.std.specs.List.{enumerate_from}
-use Rattle.ckr_columns.specs.Digits.{last_digits, decimal_text}
+use Rattle.ckr_base.specs.Digits.{last_digits, decimal_text}
 use Rattle.ckr_jcl.specs.declared.deck.Parm.{Parm}
 
 -- the title and a blank, where one is given

@@ -3,7 +3,7 @@ use Rattle.std.specs.Prelude.{ℕ, ◌-◌, ◌==◌, ◌||◌, not, Bool, false
 use Rattle.std.specs.List.{list_all, starts_with}
 use Rattle.ckr_base.specs.Grammar.{is_digit}
 use Rattle.ckr_base.specs.Words.{number_in_digits}
-use Rattle.ckr_columns.specs.Columns.{columns}
+use Rattle.ckr_base.specs.Columns.{columns}
 use Rattle.ckr_jcl.specs.declared.deck.Kind.{Kind}
 use Rattle.ckr_jcl.specs.declared.deck.Kind.TheVariants.{Print}
 use Rattle.ckr_jcl.specs.declared.deck.Parm.{Parm}

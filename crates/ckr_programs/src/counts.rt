@@ -6,7 +6,7 @@ use ckr_base::NextDue;
 use ckr_jcl::Parm;
 
 /// How far a program has come, and what is done at this count.
-#[derive(Clone, Copy, PartialEq, Eq, Debug)]
+#[derive(Clone, Copy)]
 pub struct DueState {
     /// The records taken of all inputs.
     pub taken: u64,

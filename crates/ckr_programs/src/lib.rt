@@ -6,8 +6,6 @@ mod laws;
 mod pages;
 mod records;
 mod state;
-#[cfg(test)]
-mod tests;
 mod units;
 mod writes;
 

@@ -6,8 +6,7 @@ ghost use Rattle.ckr_programs.specs.Work.{to_main};
 
 use crate::writes::{single, to_main};
 use arrayvec::ArrayVec;
-use ckr_base::{Rec, Write};
-use ckr_columns::{decimal_text, last_digits};
+use ckr_base::{Rec, Write, decimal_text, last_digits};
 use ckr_jcl::Parm;
 
 /// The records of a page.
@@ -52,7 +51,7 @@ fn heading(parm: &Parm, page: u32) -> Rec
 }
 
 /// A blank and the record, together cut to 256 bytes.
-#[tactic(auto, using(crate::proofs::Written::take_shorter))]
+#[tactic(auto, using(crate::proofs::OutputRecords::take_shorter))]
 fn print_line(head: &Rec) -> Rec
     ensures { result ≡ print_line head.now }
 {

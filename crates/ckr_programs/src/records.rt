@@ -7,8 +7,7 @@ ghost use Rattle.ckr_programs.specs.Units.{images_at};
 use crate::pages::page_lines;
 use crate::writes::single;
 use arrayvec::ArrayVec;
-use ckr_base::{Rec, Write};
-use ckr_columns::{are_digits, columns, number_in_digits};
+use ckr_base::{Rec, Write, are_digits, columns, number_in_digits};
 use ckr_jcl::{Kind, Parm};
 
 /// Whether the columns from COL on equal VAL.

@@ -8,7 +8,7 @@ use ckr_base::NextDue;
 use ckr_jcl::{Kind, Parm};
 
 /// The records taken and written so far, and what is done at the present count.
-#[derive(Clone, Copy, PartialEq, Eq, Debug)]
+#[derive(Clone, Copy, PartialEq, Eq)]
 pub struct ProgState {
     /// COPY, SELECT, PRINT or IEFBR14.
     pub kind: Kind,

@@ -1,5 +1,5 @@
 pub mod Edits
-pub mod Halving
+pub mod Search
 pub mod Places
-pub mod Rising
-pub mod Selecting
+pub mod Order
+pub mod Select

@@ -3,8 +3,8 @@ use Rattle.std.specs.Prelude.{ℕ, ◌==◌, ◌&&◌, nat_lt, Bool, true, false
 use Rattle.std.specs.List.{list_any, list_all}
 use Rattle.std.specs.Option.{option_map}
 use Rattle.ckr_library.specs.declared.uses.Use.{Use}
-use Rattle.ckr_dispositions.specs.Using.{holds}
-use Rattle.ckr_queue.specs.declared.entry.Entry.{Entry}
+use Rattle.ckr_uses.specs.Uses.{holds}
+use Rattle.ckr_queue.specs.declared.entry.QueueEntry.{QueueEntry}
 use Rattle.ckr_queue.specs.declared.entry.QueueState.{QueueState}
 use Rattle.ckr_queue.specs.declared.entry.QueueState.TheVariants.{Queued, Selected, Held, Released}
 use Rattle.ckr_queue.specs.declared.entry.Selection.{Selection}
@@ -12,44 +12,44 @@ use Rattle.ckr_queue.specs.declared.entry.Selection.TheVariants.{Job, Idle}
 
 -- the runs in the order of their numbers, and how many more fit with no memory taken
 pub record RoomyQueue : Type 0 where
-  pub entries : List Entry
+  pub entries : List QueueEntry
   pub room : ℕ
 
 -- ---- the entries
 
-abbrev pub is_of : ℕ → Entry → Bool
+abbrev pub is_of : ℕ → QueueEntry → Bool
 is_of number entry = entry.number == number
 
-abbrev pub is_above : ℕ → Entry → Bool
+abbrev pub is_above : ℕ → QueueEntry → Bool
 is_above number entry = nat_lt number entry.number
 
-abbrev pub is_below : ℕ → Entry → Bool
+abbrev pub is_below : ℕ → QueueEntry → Bool
 is_below number entry = nat_lt entry.number number
 
 -- whether the numbers ascend, each standing once
-abbrev pub rises : List Entry → Bool
+abbrev pub rises : List QueueEntry → Bool
 rises [] = true
 rises (entry ∷ entries) = list_all (is_above entry.number) entries && rises entries
 
 -- the state of the run of this number, if it is there
-abbrev pub state_of : ℕ → List Entry → Option QueueState
-state_of number entries = option_map (λ (entry : Entry). entry.state) (find (is_of number) entries)
+abbrev pub state_of : ℕ → List QueueEntry → Option QueueState
+state_of number entries = option_map (λ (entry : QueueEntry). entry.state) (find (is_of number) entries)
 
-abbrev pub queued : ℕ → List Use → Entry
+abbrev pub queued : ℕ → List Use → QueueEntry
 queued number uses = record { number = number; state = Queued; uses = uses }
 
 -- the entries with this one at its place
-abbrev pub with_entry : Entry → List Entry → List Entry
+abbrev pub with_entry : QueueEntry → List QueueEntry → List QueueEntry
 with_entry entry [] = entry ∷ []
 with_entry entry (first ∷ rest) = if is_below entry.number first then first ∷ with_entry entry rest else entry ∷ first ∷ rest
 
 -- the entries with the run of this number in this state
-abbrev pub with_state : ℕ → QueueState → List Entry → List Entry
+abbrev pub with_state : ℕ → QueueState → List QueueEntry → List QueueEntry
 with_state number state [] = []
 with_state number state (first ∷ rest) = if is_of number first then record first { state = state } ∷ rest else first ∷ with_state number state rest
 
 -- the entries without the run of this number
-abbrev pub without : ℕ → List Entry → List Entry
+abbrev pub without : ℕ → List QueueEntry → List QueueEntry
 without number [] = []
 without number (first ∷ rest) = if is_of number first then rest else first ∷ without number rest
 
@@ -63,7 +63,7 @@ has_names Held = true
 has_names Released = true
 
 -- whether a run is kept waiting by another one
-abbrev pub keeps_out : Entry → Entry → Bool
+abbrev pub keeps_out : QueueEntry → QueueEntry → Bool
 keeps_out entry other = has_names other.state && holds entry.uses other.uses
 
 -- a released run has its names; a queued one waits until none that it needs is held against it
@@ -73,15 +73,15 @@ may_start_as Selected kept_out = false
 may_start_as Held kept_out = false
 may_start_as Released kept_out = true
 
-abbrev pub may_start : List Entry → Entry → Bool
+abbrev pub may_start : List QueueEntry → QueueEntry → Bool
 may_start entries entry = may_start_as entry.state (list_any (keeps_out entry) entries)
 
-abbrev pub selection_with : Option Entry → Selection
+abbrev pub selection_with : Option QueueEntry → Selection
 selection_with None = Idle
 selection_with (Some entry) = Job entry.number
 
 -- the first that may start, and so the lowest
-unfoldable pub selection_of : List Entry → Selection
+unfoldable pub selection_of : List QueueEntry → Selection
 selection_of entries = selection_with (find (may_start entries) entries)
 
 -- ---- what a call asks of a run
@@ -103,26 +103,26 @@ passes test None = false
 passes test (Some state) = test state
 
 -- whether the run of this number is there, in a state that passes the test
-abbrev pub is_in : (QueueState → Bool) → ℕ → List Entry → Bool
+abbrev pub is_in : (QueueState → Bool) → ℕ → List QueueEntry → Bool
 is_in test number entries = passes test (state_of number entries)
 
-abbrev pub starts : List Entry → Option Entry → Bool
+abbrev pub starts : List QueueEntry → Option QueueEntry → Bool
 starts entries None = false
 starts entries (Some entry) = may_start entries entry
 
 -- whether the run of this number is there and may start
-abbrev pub may_take : ℕ → List Entry → Bool
+abbrev pub may_take : ℕ → List QueueEntry → Bool
 may_take number entries = starts entries (find (is_of number) entries)
 
-abbrev pub MayTake : List Entry → Selection → Type 0
+abbrev pub MayTake : List QueueEntry → Selection → Type 0
 MayTake entries Idle = Unit {0}
 MayTake entries (Job number) = IsTrue (may_take number entries)
 
 -- whether a run may not start, or has no lower number
-abbrev pub is_no_lower : List Entry → ℕ → Entry → Bool
+abbrev pub is_no_lower : List QueueEntry → ℕ → QueueEntry → Bool
 is_no_lower entries number entry = not (nat_lt entry.number number && may_start entries entry)
 
 -- the run is there and may start, and none of a lower number may
-pub record IsLowest (entries : List Entry) (number : ℕ) : Type 0 where
+pub record IsLowest (entries : List QueueEntry) (number : ℕ) : Type 0 where
   pub may : IsTrue (may_take number entries)
   pub lowest : IsTrue (list_all (is_no_lower entries number) entries)

@@ -4,9 +4,7 @@
 mod entry;
 mod laws;
 mod queue;
-#[cfg(test)]
-mod tests;
 
-pub use entry::{Entry, QueueState, Selection};
+pub use entry::{QueueEntry, QueueState, Selection};
 pub use laws::{idle_where_none_may_start, selections_are_lowest};
 pub use queue::Queue;

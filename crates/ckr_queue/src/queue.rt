@@ -6,17 +6,17 @@ ghost use Rattle.ckr_queue.specs.declared.entry.QueueState.TheVariants.{Selected
 ghost use Rattle.ckr_queue.specs.Queue.{has_names, is_of, is_below, is_in, is_held, is_queued, may_start, may_take, queued, rises, selection_of, state_of, with_entry, with_state, without, MayTake};
 
 use crate::entry::may_start;
-use crate::{Entry, QueueState, Selection};
+use crate::{QueueEntry, QueueState, Selection};
 use ckr_base::NoMemory;
-use ckr_dispositions::Uses;
+use ckr_uses::Uses;
 use std::alloc::Global;
 use std::marker::Model;
 
 /// The runs of which one may be next, in the order of their numbers. What has ended or was purged isn't kept, so that many
 /// ended runs don't slow the queue down.
-#[derive(Debug, Drop)]
+#[derive(Drop)]
 pub struct Queue {
-    entries: Vec<Entry>,
+    entries: Vec<QueueEntry>,
 }
 
 impl Model for Queue {
@@ -67,7 +67,7 @@ impl Queue {
         let state = QueueState::Queued;
         self.entries.insert(
             place,
-            Entry {
+            QueueEntry {
                 number,
                 state,
                 uses,
@@ -78,7 +78,7 @@ impl Queue {
 
     /// The lowest number that is released, or is queued and whose uses don't hold against those of a run that is selected and
     /// hasn't ended. `Idle` exactly where there is none.
-    #[tactic(auto, using(crate::proofs::Selecting::first_may_be_taken), unfolding(crate::specs::Queue::selection_of))]
+    #[tactic(auto, using(crate::proofs::Select::first_may_be_taken), unfolding(crate::specs::Queue::selection_of))]
     pub fn select(&self) -> Selection
         ensures selection { result ≡ selection_of self.now.entries }
         ensures order { IsTrue (rises self.now.entries) }
@@ -165,7 +165,7 @@ impl Queue {
 }
 
 /// The place of the first run whose number isn't lower: that of the run of this number, or where it is to stand.
-fn place_for(entries: &[Entry], number: u32) -> usize
+fn place_for(entries: &[QueueEntry], number: u32) -> usize
     requires { IsTrue (rises entries.now) }
     ensures place { result ≡ lead (is_below number) entries.now }
     ensures bound { result ≤ length entries.now }
@@ -174,7 +174,7 @@ fn place_for(entries: &[Entry], number: u32) -> usize
 }
 
 /// The run at a place.
-fn entry_at(entries: &[Entry], place: usize) -> Option<&Entry>
+fn entry_at(entries: &[QueueEntry], place: usize) -> Option<&QueueEntry>
     ensures { option_copied result ≡ slice_get entries.now place }
 {
     entries.get(place)
@@ -182,7 +182,7 @@ fn entry_at(entries: &[Entry], place: usize) -> Option<&Entry>
 
 /// The place of a run, found by halving.
 
-fn place_of(entries: &[Entry], number: u32) -> Option<usize>
+fn place_of(entries: &[QueueEntry], number: u32) -> Option<usize>
     requires { IsTrue (rises entries.now) }
     ensures { result ≡ position (is_of number) entries.now }
 {
@@ -201,7 +201,7 @@ fn place_of(entries: &[Entry], number: u32) -> Option<usize>
 
 /// The state of a run, if it is there.
 
-fn state_of(entries: &[Entry], number: u32) -> Option<QueueState>
+fn state_of(entries: &[QueueEntry], number: u32) -> Option<QueueState>
     requires { IsTrue (rises entries.now) }
     ensures { result ≡ state_of number entries.now }
 {
@@ -218,7 +218,7 @@ fn state_of(entries: &[Entry], number: u32) -> Option<QueueState>
 }
 
 /// The first run that may start.
-fn first_to_start(entries: &[Entry]) -> Option<&Entry>
+fn first_to_start(entries: &[QueueEntry]) -> Option<&QueueEntry>
     ensures { option_copied result ≡ find (may_start entries.now) entries.now }
 {
     entries.iter().find(|entry| may_start(entry, entries))

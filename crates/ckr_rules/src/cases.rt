@@ -3,7 +3,7 @@
 use ckr_jcl::Rd;
 
 /// A rule by which a restart is denied (the rules are IBM GC28-6708's, restated; this project's profile numbers them).
-#[derive(Clone, Copy, PartialEq, Eq, Debug)]
+#[derive(Clone, Copy, PartialEq, Eq)]
 pub enum Rule {
     /// RD is NR or NC.
     A1,
@@ -40,7 +40,7 @@ pub enum Rule {
 }
 
 /// Where a run goes on, or the rule by which it doesn't.
-#[derive(Clone, Copy, PartialEq, Eq, Debug)]
+#[derive(Clone, Copy, PartialEq, Eq)]
 pub enum Verdict {
     /// At the start of the step.
     Step,
@@ -50,7 +50,7 @@ pub enum Verdict {
 }
 
 /// What an automatic restart is judged by.
-#[derive(Clone, Copy, PartialEq, Eq, Debug)]
+#[derive(Clone, Copy)]
 pub struct AutoCase {
     /// The RD in effect; None where it is omitted.
     pub rd: Option<Rd>,
@@ -67,7 +67,7 @@ pub struct AutoCase {
 }
 
 /// What a deferred restart is judged by.
-#[derive(Clone, Copy, PartialEq, Eq, Debug)]
+#[derive(Clone, Copy)]
 pub struct DeferredCase {
     /// Whether RESTART names a checkpoint.
     pub checkpoint: bool,

@@ -2,9 +2,7 @@
 #![tactic(auto)]
 
 mod cases;
-mod judged;
-#[cfg(test)]
-mod tests;
+mod rule_tables;
 
 pub use cases::{AutoCase, DeferredCase, Rule, Verdict};
-pub use judged::{automatic, deferred};
+pub use rule_tables::{automatic, deferred};

@@ -4,22 +4,24 @@ use Rattle.std.specs.Prelude.{if◌then◌else◌, nat_lt, ◌⊎◌}
 use Rattle.std.proofs.Common.{⊎_elim}
 use Rattle.std.specs.List.{list_all, position_from}
 use Rattle.std.proofs.lemmas.Bool.{false≢true, and_parts, lt-ltb, ltb-true}
+use Rattle.std.proofs.lemmas.Option.{same_Some}
 use Rattle.ckr_base.specs.declared.programs.Output.{Output}
 use Rattle.ckr_base.specs.declared.programs.Output.TheVariants.{Main, Rejects, InPlace}
 use Rattle.ckr_base.specs.declared.programs.Write.{Write}
-use Rattle.ckr_columns.specs.Columns.{fitted}
+use Rattle.ckr_base.proofs.Options.{some-not-none}
+use Rattle.ckr_base.specs.Columns.{fitted}
 use Rattle.ckr_jcl.specs.declared.deck.Kind.{Kind}
 use Rattle.ckr_jcl.specs.declared.deck.Kind.TheVariants.{Copy, Select, Merge, Master, Update, Print, Br14}
 use Rattle.ckr_entry.specs.declared.point.State.{State}
 use Rattle.ckr_entry.specs.declared.point.State.TheVariants.{Plain, Matched}
-use Rattle.ckr_library.specs.Named.{Name, same_name, entry_at, with_changed}
-use Rattle.ckr_library.proofs.Ordered.{not_None, same_item}
+use Rattle.ckr_library.specs.NameMaps.{Name, same_name, entry_at, with_changed}
+use Rattle.ckr_library.proofs.Named.{at-with_changed-other, name-same}
 use Rattle.ckr_programs.specs.Work.{to_main, images_for, prog_writes}
 use Rattle.ckr_programs.specs.Work as plain
 use Rattle.ckr_match.specs.Images.{same_key, code_of}
 use Rattle.ckr_match.specs.Master.{Balance, write_to, write_held, group_writes, master_writes, balance_of, groups_of}
 use Rattle.ckr_match.specs.State.{has_two_inputs}
-use Rattle.ckr_match.specs.Taken.{Taken, Keys, taken_from, of_first, of_second}
+use Rattle.ckr_match.specs.InputOrder.{Taken, Keys, taken_from, of_first, of_second}
 use Rattle.ckr_match.specs.Work.{MatchCase, match_writes, update_write, write_at, case_keys}
 use Rattle.ckr_match.specs.Work as matched
 use Rattle.ckr_match.specs.Units as matched_units
@@ -28,11 +30,10 @@ use Rattle.ckr_meaning.specs.LibrarySet.{LibrarySet, Library}
 use Rattle.ckr_meaning.specs.Program.{ProgramCase, plain_case, match_case, upto_by, upto}
 use Rattle.ckr_meaning.specs.States.{StandsFor, first_of}
 use Rattle.ckr_meaning.specs.StepRun.{StepStart, output_name, extended, rewritten, written_set, changed_in, written_one, written_all}
-use Rattle.ckr_meaning.proofs.Keeping.{with_changed-other}
 use Rattle.ckr_meaning.proofs.Room.{AreApart}
 use Rattle.ckr_steps.proofs.Lists.{some_within}
-use Rattle.ckr_steps.proofs.Names.{same_is, changed_here}
-use Rattle.ckr_steps.proofs.Counted.{chosen_first}
+use Rattle.ckr_steps.proofs.Names.{changed_here}
+use Rattle.ckr_steps.proofs.Counts.{chosen_first}
 use Rattle.ckr_steps.proofs.Writes.{all-append}
 
 -- ---- no more records are taken of an input than it has
@@ -107,11 +108,11 @@ merged_within limit [] = refl
 merged_within limit (one ∷ taken) = merged_within limit taken
 
 position_below : (test : Taken → Bool) (from : ℕ) (records : List Taken) (place : ℕ) → position_from test from records ≡ Some place → place < from + length records
-position_below test from [] place is = absurd (not_None place (sym is))
+position_below test from [] place is = absurd (some-not-none place (sym is))
 position_below test from (first ∷ records) place is = by (test first) is (position_below test (from + 1) records place)
   where
     by : (b : Bool) → cond b (Some from) (position_from test (from + 1) records) ≡ Some place → (position_from test (from + 1) records ≡ Some place → place < from + 1 + length records) → place < from + length (first ∷ records)
-    by true e rest = let same : from ≡ place = same_item from place e in omega arith
+    by true e rest = let same : from ≡ place = same_Some from place e in omega arith
     by false e rest = let less : place < from + 1 + length records = rest e in omega arith
 
 update_within : (keys : Keys) (masters : List Taken) (taken : Taken) → is_within (length masters) (update_write keys masters taken) ≡ true
@@ -197,7 +198,7 @@ module _ (start : StepStart) (limit bound : ℕ) (name : Name) (main : AreApart 
     (in_place : (place : ℕ) → place < bound → (place < limit) ⊎ AreApart (Some name) (output_name start (InPlace place))) where
   changed_apart : (other : Option Name) (change : LibrarySet → LibrarySet) (library : Library) (set : LibrarySet) → AreApart (Some name) other → entry_at library name ≡ Some set → IsKept (changed_in other change library) limit name set
   changed_apart None change library set apart is = record { set = set; is = is; kept = kept_itself limit set }
-  changed_apart (Some other) change library set apart is = record { set = set; is = with_changed-other other name change library apart ∙ is; kept = kept_itself limit set }
+  changed_apart (Some other) change library set apart is = record { set = set; is = at-with_changed-other other name change library apart ∙ is; kept = kept_itself limit set }
 
   changed_before : (other : Option Name) (place : ℕ) (bytes : List ℕ) (library : Library) (set : LibrarySet) → place < limit → entry_at library name ≡ Some set → IsKept (changed_in other (rewritten start.owned.owner start.number place bytes) library) limit name set
   changed_before None place bytes library set less is = record { set = set; is = is; kept = kept_itself limit set }
@@ -206,10 +207,10 @@ module _ (start : StepStart) (limit bound : ℕ) (name : Name) (main : AreApart 
       by : (same : Bool) → same_name name other ≡ same → IsKept (with_changed other (rewritten start.owned.owner start.number place bytes) library) limit name set
       by true e = record {
         set = rewritten start.owned.owner start.number place bytes set;
-        is = ap (λ n. entry_at (with_changed n (rewritten start.owned.owner start.number place bytes) library) name) (sym (same_is name other e)) ∙ changed_here name (rewritten start.owned.owner start.number place bytes) library set is;
+        is = ap (λ n. entry_at (with_changed n (rewritten start.owned.owner start.number place bytes) library) name) (sym (name-same name other e)) ∙ changed_here name (rewritten start.owned.owner start.number place bytes) library set is;
         kept = rewritten_kept start.owned.owner start.number limit place bytes set less;
       }
-      by false e = record { set = set; is = with_changed-other other name (rewritten start.owned.owner start.number place bytes) library e ∙ is; kept = kept_itself limit set }
+      by false e = record { set = set; is = at-with_changed-other other name (rewritten start.owned.owner start.number place bytes) library e ∙ is; kept = kept_itself limit set }
 
   one_kept : (output : Output) (bytes : List ℕ) (library : Library) (set : LibrarySet) → is_output_within bound output ≡ true → entry_at library name ≡ Some set → IsKept (changed_in (output_name start output) (written_set start output bytes) library) limit name set
   one_kept Main bytes library set within is = changed_apart (output_name start Main) (extended bytes) library set main is

@@ -8,15 +8,16 @@ use Rattle.ckr_base.specs.declared.programs.Output.{Output}
 use Rattle.ckr_base.specs.declared.programs.Output.TheVariants.{Main, Rejects}
 use Rattle.ckr_library.specs.declared.sets.DataSet.{DataSet}
 use Rattle.ckr_library.specs.Catalog.{Catalog, set_of, HasSet}
-use Rattle.ckr_library.specs.Named.{Name, same_name}
-use Rattle.ckr_meaning.specs.Program.{Room, less_main, less_rejects, room_behind}
+use Rattle.ckr_library.specs.NameMaps.{Name, same_name}
+use Rattle.ckr_library.proofs.Named.{name-turned}
+use Rattle.ckr_meaning.specs.Program.{OutputRoom, less_main, less_rejects, room_behind}
 use Rattle.ckr_steps.specs.declared.files.Files.{Files}
-use Rattle.ckr_steps.specs.declared.files.Source.{Source}
-use Rattle.ckr_steps.specs.declared.files.Source.TheVariants.{Nowhere, InDeck, InSet}
-use Rattle.ckr_steps.specs.Reading.{IsSourceThere, IsSetThere, AreSameSet, AreThere}
-use Rattle.ckr_steps.specs.Writing.{room_of_set, room_at, room_of, grown_in}
-use Rattle.ckr_steps.proofs.Names.{set_there, same_turned}
-use Rattle.ckr_steps.proofs.Growing.{is_longer, IsGrown, grown_longer}
+use Rattle.ckr_steps.specs.declared.files.RecordSource.{RecordSource}
+use Rattle.ckr_steps.specs.declared.files.RecordSource.TheVariants.{Nowhere, InDeck, InSet}
+use Rattle.ckr_steps.specs.Inputs.{IsSourceThere, IsSetThere, AreSameSet, AreThere}
+use Rattle.ckr_steps.specs.Writes.{room_of_set, room_at, room_of, grown_in}
+use Rattle.ckr_steps.proofs.Names.{set_there}
+use Rattle.ckr_steps.proofs.Growth.{is_longer, IsGrown, grown_longer}
 
 -- two facts of an answer
 pub if_both : {T E : Type 0} (result : Result T E) (P Q R : T → Type 0) → ((x : T) → P x → Q x → R x) → IfOk result P → IfOk result Q → IfOk result R
@@ -33,7 +34,7 @@ there_kept files old new kept there = record {
   differ = there.differ;
 }
   where
-    source : (s : Source) → IsSourceThere old s → IsSourceThere new s
+    source : (s : RecordSource) → IsSourceThere old s → IsSourceThere new s
     source Nowhere is = is
     source (InDeck cards) is = is
     source (InSet name) is = kept name is
@@ -71,7 +72,7 @@ turned : (one other : Option Name) → (AreSameSet one other → ⊥) → AreSam
 turned None None differ same = same
 turned None (Some other) differ same = same
 turned (Some one) None differ same = same
-turned (Some one) (Some other) differ same = differ (same_turned one other ∙ same)
+turned (Some one) (Some other) differ same = differ (name-turned one other ∙ same)
 
 above : (n : ℕ) → nat_lt 0 (suc n) ≡ true
 above n = grind (arith, nat_tests)
@@ -92,7 +93,7 @@ left_rejects : (main rejects : ℕ) → nat_lt 0 rejects ≡ true → less_rejec
 left_rejects main zero fits = absurd (false≢true fits)
 left_rejects main (suc rejects) fits = ap (λ n. less_rejects main (suc n)) (let e : rejects ≡ suc rejects - 1 = omega arith in e)
 
-abbrev room : ℕ → ℕ → Room
+abbrev room : ℕ → ℕ → OutputRoom
 room main rejects = record { main = main; rejects = rejects }
 
 module _ (files : Files) (old new : Catalog) (there : AreThere files old) (output : Output) (fits : Bool) where

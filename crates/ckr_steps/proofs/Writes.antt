@@ -4,6 +4,7 @@ use Rattle.std.specs.Prelude.{if◌then◌else◌}
 use Rattle.std.specs.List.{list_all, last_or}
 use Rattle.std.specs.Option.{option_map, option_map_or}
 use Rattle.std.proofs.lemmas.Bool.{false≢true}
+use Rattle.std.proofs.lemmas.Option.{same_Some}
 use Rattle.ckr_base.specs.declared.code.Code.TheVariants.{System, User}
 use Rattle.ckr_base.specs.declared.programs.Finish.{Finish}
 use Rattle.ckr_base.specs.declared.programs.Finish.TheVariants as Finishes
@@ -12,12 +13,12 @@ use Rattle.ckr_base.specs.declared.programs.Output.{Output}
 use Rattle.ckr_base.specs.declared.programs.Output.TheVariants.{Main, Rejects, InPlace}
 use Rattle.ckr_base.specs.declared.programs.UnitDone.{UnitDone}
 use Rattle.ckr_base.specs.declared.programs.Write.{Write}
+use Rattle.ckr_base.proofs.Options.{some-not-none}
 use Rattle.ckr_jcl.specs.declared.deck.Kind.{Kind}
 use Rattle.ckr_jcl.specs.declared.deck.Kind.TheVariants.{Copy, Select, Merge, Master, Update, Print, Br14}
 use Rattle.ckr_jcl.specs.declared.deck.Parm.{Parm}
 use Rattle.ckr_entry.specs.declared.point.State.{State}
 use Rattle.ckr_entry.specs.declared.point.State.TheVariants.{Plain, Matched}
-use Rattle.ckr_library.proofs.Ordered.{not_None, same_item}
 use Rattle.ckr_programs.specs.Records.{can_take}
 use Rattle.ckr_programs.specs.Work.{Work, to_main, images_for, closing_images, sum_of, prog_writes}
 use Rattle.ckr_programs.specs.Work as plain
@@ -27,7 +28,7 @@ use Rattle.ckr_match.specs.declared.state.MatchState.{MatchState}
 use Rattle.ckr_match.specs.Images.{has_transactions, keys_of, key_in, same_bytes, code_of}
 use Rattle.ckr_match.specs.Master.{write_to, write_held, reject_if, outcome_of}
 use Rattle.ckr_match.specs.State.{has_two_inputs}
-use Rattle.ckr_match.specs.Taken.{Taken, Keys, chosen, of_first}
+use Rattle.ckr_match.specs.InputOrder.{Taken, Keys, chosen, of_first}
 use Rattle.ckr_match.specs.Work.{MatchCase, match_writes, write_at}
 use Rattle.ckr_match.specs.Work as matched
 use Rattle.ckr_match.specs.Units as matched_units
@@ -36,8 +37,8 @@ use Rattle.ckr_meaning.specs.Program.{ProgramCase, room_behind, fitting, work_wi
 use Rattle.ckr_meaning.specs.States.{StandsFor, first_of}
 use Rattle.ckr_meaning.specs.StepRun.{StepStart, case_at, room_at, work_at}
 use Rattle.ckr_steps.specs.Units.{unit_of}
-use Rattle.ckr_steps.specs.Writing.{is_behind}
-use Rattle.ckr_steps.specs.Standing.{first_room}
+use Rattle.ckr_steps.specs.Writes.{is_behind}
+use Rattle.ckr_steps.specs.Places.{first_room}
 
 abbrev pub rewrite : ℕ → List ℕ → Write
 rewrite place bytes = record { output = InPlace place; image = bytes }
@@ -84,12 +85,12 @@ rejects_behind true bytes = refl
 rejects_behind false bytes = refl
 
 last_below : (records : List Taken) (last : ℕ × List ℕ) → option_map (λ (one : Taken). (length records - 1, one.bytes)) (last_or None records) ≡ Some last → last.0 < length records
-last_below [] last is = absurd (not_None last (sym is))
+last_below [] last is = absurd (some-not-none last (sym is))
 last_below (first ∷ records) last is = by (last_or None (first ∷ records)) is
   where
     by : (found : Option Taken) → option_map (λ (one : Taken). (length (first ∷ records) - 1, one.bytes)) found ≡ Some last → last.0 < length (first ∷ records)
-    by None e = absurd (not_None last (sym e))
-    by (Some one) e = let place : length (first ∷ records) - 1 ≡ last.0 = ap (λ (l : ℕ × List ℕ). l.0) (same_item _ last e) in omega (arith, place)
+    by None e = absurd (some-not-none last (sym e))
+    by (Some one) e = let place : length (first ∷ records) - 1 ≡ last.0 = ap (λ (l : ℕ × List ℕ). l.0) (same_Some _ last e) in omega (arith, place)
 
 -- ---- what a unit writes
 
@@ -99,13 +100,13 @@ module _ (parm : Parm) (state : MatchState) (program : Kind) (first : ℕ) (belo
   placed_kinds (Some place) bytes is less = rewrites place _ is refl (less place refl) refl
 
   found_below : (bytes : List ℕ) (place : ℕ) → program ≡ Update → (c : Bool) (last : Option (ℕ × List ℕ)) → state.last ≡ last → (if c then matched_steps.place_by parm bytes last else None) ≡ Some place → place < first
-  found_below bytes place is false last e found = absurd (not_None place (sym found))
-  found_below bytes place is true None e found = absurd (not_None place (sym found))
+  found_below bytes place is false last e found = absurd (some-not-none place (sym found))
+  found_below bytes place is true None e found = absurd (some-not-none place (sym found))
   found_below bytes place is true (Some last) e found = by (same_bytes (key_in parm _) (key_in parm last.1)) found
     where
       by : (same : Bool) → (if same then Some last.0 else None) ≡ Some place → place < first
-      by true f = subst (λ n. n < first) (same_item last.0 place f) (below is last e)
-      by false f = absurd (not_None place (sym f))
+      by true f = subst (λ n. n < first) (same_Some last.0 place f) (below is last e)
+      by false f = absurd (some-not-none place (sym f))
 
   both_kinds : (held : Option (List ℕ)) (rejected : Bool) (bytes : List ℕ) → Kinds program None first (write_held held ++ map (write_to Rejects) (reject_if rejected bytes))
   both_kinds held rejected bytes = go_behind (all-append is_behind (write_held held) (map (write_to Rejects) (reject_if rejected bytes)) (held_behind held) (rejects_behind rejected bytes))

@@ -6,12 +6,12 @@ use Rattle.ckr_jcl.specs.declared.deck.Origin.{Origin}
 use Rattle.ckr_jcl.specs.declared.deck.Origin.TheVariants.{InStream}
 use Rattle.ckr_jcl.specs.declared.deck.Step.{Step}
 use Rattle.ckr_jcl.specs.Programs.{names_written}
-use Rattle.ckr_dispositions.specs.Naming.{library_name}
-use Rattle.ckr_library.specs.Named.{Name, same_name}
+use Rattle.ckr_uses.specs.SetNames.{library_name}
+use Rattle.ckr_library.specs.NameMaps.{Name, same_name}
 use Rattle.ckr_meaning.specs.StepRun.{input_names, main_names, rejects_dd}
 use Rattle.ckr_steps.specs.declared.files.Files.{Files}
-use Rattle.ckr_steps.specs.declared.files.Source.{Source}
-use Rattle.ckr_steps.specs.declared.files.Source.TheVariants.{Nowhere, InDeck, InSet}
+use Rattle.ckr_steps.specs.declared.files.RecordSource.{RecordSource}
+use Rattle.ckr_steps.specs.declared.files.RecordSource.TheVariants.{Nowhere, InDeck, InSet}
 
 -- the DD of that name in a step
 abbrev pub dd_in : Step → Name → Option Dd
@@ -29,13 +29,13 @@ main_dd step = option_and_then (dd_in step) (slice_get (main_names step.program)
 abbrev pub dd_of_rejects : Step → Option Dd
 dd_of_rejects step = option_and_then (dd_in step) (find (same_name rejects_dd) (names_written step.program))
 
-abbrev pub source_by : Origin → Option Name → Source
+abbrev pub source_by : Origin → Option Name → RecordSource
 source_by (InStream cards) name = InDeck cards
 source_by _ None = Nowhere
 source_by _ (Some name) = InSet name
 
 -- where the records in a DD are, of a step with these qualifiers
-abbrev pub source_in : ℕ → ℕ → Step → Option Dd → Source
+abbrev pub source_in : ℕ → ℕ → Step → Option Dd → RecordSource
 source_in root owner step dd = option_map_or (λ (one : Dd). source_by one.origin (library_name one root owner step.name)) dd Nowhere
 
 -- the data set of a DD
@@ -52,7 +52,7 @@ files_of root owner step = record {
 }
 
 -- the data set of an input, if it has one
-abbrev pub set_of_source : Source → Option Name
+abbrev pub set_of_source : RecordSource → Option Name
 set_of_source Nowhere = None
 set_of_source (InDeck cards) = None
 set_of_source (InSet name) = Some name

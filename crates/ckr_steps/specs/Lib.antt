@@ -1,7 +1,6 @@
 pub mod Files
 pub mod Units
-pub mod Reading
-pub mod Writing
-pub mod Stepping
-pub mod Standing
-pub mod Placed
+pub mod Inputs
+pub mod Writes
+pub mod StepUnit
+pub mod Places

@@ -1,17 +1,17 @@
 //! Where a step's program finds its records, and where its records go.
 ghost use Rattle.std.specs.Prelude.{◌≡◌, ◌≤◌, IfOk, find, slice_get, option_and_then};
 ghost use Rattle.std.specs.Option.{option_copied};
-ghost use Rattle.ckr_library.specs.Named.{same_name};
+ghost use Rattle.ckr_library.specs.NameMaps.{same_name};
 ghost use Rattle.ckr_steps.specs.Files.{dd_in, input_dd, main_dd, dd_of_rejects, source_in, set_in, files_of};
 
 use ckr_base::{DsName, Duplicate, NoMemory};
-use ckr_dispositions::library_name;
 use ckr_jcl::{Cards, Dd, Kind, Origin, Step};
+use ckr_uses::library_name;
 use std::alloc::Global;
 
 /// Where the records of an input are.
-#[derive(Debug, Drop)]
-pub enum Source {
+#[derive(Drop)]
+pub enum RecordSource {
     /// The program has no such input, or the DD has no records.
     Nowhere,
     /// In the deck.
@@ -21,10 +21,10 @@ pub enum Source {
 }
 
 /// The inputs and the outputs of a step's program. What is updated in place is the first input.
-#[derive(Debug, Drop)]
+#[derive(Drop)]
 pub struct Files {
-    pub first: Source,
-    pub second: Source,
+    pub first: RecordSource,
+    pub second: RecordSource,
     /// The data set of the output. None where the program has none.
     pub main: Option<DsName>,
     /// The data set of the rejects. None where the program has none.
@@ -99,20 +99,20 @@ fn source_in(
     root: u32,
     owner: u32,
     dd: Option<&Dd>,
-) -> Result<Source, NoMemory>
+) -> Result<RecordSource, NoMemory>
     requires root { root ≤ 9999999 }
     requires owner { owner ≤ 9999999 }
     ensures { IfOk result (λ source. source ≡ source_in root owner step.now (option_copied dd.entry)) }
 {
     let Some(dd) = dd else {
-        return Ok(Source::Nowhere);
+        return Ok(RecordSource::Nowhere);
     };
     if let Origin::InStream(cards) = &dd.origin {
-        return Ok(Source::InDeck(cards.duplicate(alloc)?));
+        return Ok(RecordSource::InDeck(cards.duplicate(alloc)?));
     }
     match library_name(dd, root, owner, &step.name) {
-        Some(name) => Ok(Source::InSet(name)),
-        None => Ok(Source::Nowhere),
+        Some(name) => Ok(RecordSource::InSet(name)),
+        None => Ok(RecordSource::Nowhere),
     }
 }
 

@@ -1,12 +1,12 @@
 //! The next records of a step's inputs.
 ghost use Rattle.std.specs.Prelude.{◌≡◌, ◌≤◌, ◌<◌, IsTrue, IsSome, IfOk, slice_get};
 ghost use Rattle.ckr_outside.specs.Disk.{OnlyReads, HasCause};
-ghost use Rattle.ckr_volumes.specs.Stands.{is_laid_out, disk_needed, StandsIn};
+ghost use Rattle.ckr_volumes.specs.Layouts.{is_laid_out, disk_needed, StandsIn};
 ghost use Rattle.ckr_meaning.specs.States.{first_of, second_of};
-ghost use Rattle.ckr_steps.specs.Reading.{AreStored, AreThere, IsSourceThere, head_of_set, head_of, heads_of};
+ghost use Rattle.ckr_steps.specs.Inputs.{AreStored, AreThere, IsSourceThere, head_of_set, head_of, heads_of};
 ghost use Rattle.std.specs.Prelude.{Some};
 
-use crate::files::{Files, Source};
+use crate::files::{Files, RecordSource};
 use crate::units;
 use ckr_base::{Heads, Rec};
 use ckr_entry::State;
@@ -54,7 +54,7 @@ fn head_of<D: Disk>(
     disk: &mut D,
     layout: &Layout,
     library: &Library,
-    source: &Source,
+    source: &RecordSource,
     taken: u32,
 ) -> Result<Option<Rec>, Failed>
     requires layout { IsTrue (is_laid_out layout.now) }
@@ -68,9 +68,9 @@ fn head_of<D: Disk>(
     ensures cause { HasCause (D.faults disk.old) (D.faults disk.new) result }
 {
     match source {
-        Source::Nowhere => Ok(None),
-        Source::InDeck(cards) => Ok(card_at(cards, taken)),
-        Source::InSet(name) => match library.get(name) {
+        RecordSource::Nowhere => Ok(None),
+        RecordSource::InDeck(cards) => Ok(card_at(cards, taken)),
+        RecordSource::InSet(name) => match library.get(name) {
             Some(set) => head_of_set(disk, layout, set, taken),
             None => unreachable!(),
         },

@@ -3,11 +3,9 @@
 
 mod files;
 mod heads;
-mod stepping;
-#[cfg(test)]
-mod tests;
+mod step_run;
+mod unit_writes;
 mod units;
-mod writing;
 
-pub use files::{Files, Source};
-pub use stepping::{Progress, StepRun, Worked};
+pub use files::{Files, RecordSource};
+pub use step_run::{Progress, StepRun, Worked};

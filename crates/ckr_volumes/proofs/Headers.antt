@@ -3,7 +3,9 @@ use Rattle.std.proofs.Common.{◌≡◌, ◌<◌, ℕ, zero, suc, ◌+◌, ◌-�
 use Rattle.std.specs.List.{position_or_len}
 use Rattle.std.proofs.lemmas.Bool.{ltb-false}
 use Rattle.std.proofs.lemmas.List.Sums.{prefix_len-le-length}
+use Rattle.std.proofs.lemmas.Option.{none-some, same_Some}
 use Rattle.ckr_base.specs.declared.code.Code.{Code}
+use Rattle.ckr_base.proofs.Options.{some-not-none}
 use Rattle.ckr_volumes.specs.declared.layout.Volume.{Volume}
 use Rattle.ckr_volumes.specs.Header.{word_at, lengths_at, volume_at, volumes_at, code_at, codes_at}
 
@@ -11,25 +13,16 @@ use Rattle.ckr_volumes.specs.Header.{word_at, lengths_at, volume_at, volumes_at,
 pub some_place : (p : ℕ → Bool) (xs : List ℕ) (n : ℕ) → position p xs ≡ Some n → n ≡ position_or_len p xs
 some_place p xs n found =
     elim (nat_lt (position_or_len p xs) (length xs)) as (λ b. cond b (Some (position_or_len p xs)) None ≡ Some n → n ≡ position_or_len p xs) [
-      | true ↦ λ is. sym (same _ _ is)
-      | false ↦ λ is. absurd (no _ is)
+      | true ↦ λ is. sym (same_Some _ _ is)
+      | false ↦ λ is. absurd (none-some _ is)
     ] found
-  where
-    same : (a b : ℕ) → Some a ≡ Some b → a ≡ b
-    same a b e = cc
-
-    no : (n : ℕ) → None ≡ Some n → ⊥
-    no n e = cc
 
 pub none_place : (p : ℕ → Bool) (xs : List ℕ) → position p xs ≡ None → length xs ≡ position_or_len p xs
 none_place p xs none =
     (elim (nat_lt (position_or_len p xs) (length xs)) as (λ b. nat_lt (position_or_len p xs) (length xs) ≡ b → cond b (Some (position_or_len p xs)) None ≡ None → length xs ≡ position_or_len p xs) [
-      | true ↦ λ e is. absurd (no _ is)
+      | true ↦ λ e is. absurd (some-not-none _ is)
       | false ↦ λ e is. omega (arith, ltb-false (position_or_len p xs) (length xs) e, prefix_len-le-length (λ x. not (p x)) xs)
     ]) refl none
-  where
-    no : (n : ℕ) → Some n ≡ None → ⊥
-    no n e = cc
 
 -- one more of those that are left
 less_one : (count number : ℕ) → number < count → count - number ≡ suc (count - (number + 1))

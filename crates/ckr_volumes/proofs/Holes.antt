@@ -4,8 +4,9 @@ use Rattle.std.specs.List.{list_all}
 use Rattle.std.proofs.lemmas.List.{append-nil}
 use Rattle.std.proofs.Math.Nat.{mul-le-mul_right}
 use Rattle.std.proofs.lemmas.Nat.{le-div}
-use Rattle.std.proofs.lemmas.Bool.{leb-true, leb-false, and_parts, and_from, or_cases, or_left, or_right}
-use Rattle.std.proofs.lemmas.Bool.Decides.{nat_tests}
+use Rattle.std.proofs.lemmas.Bool.{and_from, and_parts, leb-false, leb-true, or_cases, or_left, or_right, true≢false}
+use Rattle.std.proofs.lemmas.Option.{none-some, same_Some}
+use Rattle.ckr_base.proofs.Numbers.{nat_le-from}
 use Rattle.ckr_library.specs.declared.spread.Span.{Span}
 use Rattle.ckr_library.specs.Spread.{ascends}
 use Rattle.ckr_volumes.specs.declared.space.Hole.{Hole}
@@ -25,9 +26,6 @@ each_both : (P : Hole → Type 0) (xs ys : List Hole) → EachHole P xs → Each
 each_both P [] ys each others = others
 each_both P (x ∷ xs) ys each others = (each.0, each_both P xs ys each.1 others)
 
-pub le_true : (a b : ℕ) → a ≤ b → IsTrue (nat_le a b)
-le_true a b le = grind (arith, nat_tests)
-
 -- a run of bytes that lies in no span
 pub record IsHole (from end : ℕ) (spans : List Span) (hole : Hole) : Type 0 where
   pub low : from ≤ hole.from
@@ -42,7 +40,7 @@ clear_before from bytes low (span ∷ spans) before up =
     let both = and_parts (nat_le low span.start) (ascends span.start spans) up in
     let start : low ≤ span.start = leb-true low span.start both.0 in
     and_from _ _
-    (or_right (eqb span.bytes 0) _ (or_right (nat_le (span_end span) from) _ (le_true (from + bytes) span.start (omega (arith, before, start)))))
+    (or_right (eqb span.bytes 0) _ (or_right (nat_le (span_end span) from) _ (nat_le-from (from + bytes) span.start (omega (arith, before, start)))))
     (clear_before from bytes span.start spans (omega (arith, before, start)) both.1)
 
 -- a hole in front of a span
@@ -55,7 +53,7 @@ first_hole from end span spans ends up =
         some = below;
         high = omega (arith, leb-true (span_end span) end ends);
         clear = and_from _ _
-            (or_right (eqb span.bytes 0) _ (or_right (nat_le (span_end span) from) _ (le_true (from + (span.start - from)) span.start (omega (arith, below)))))
+            (or_right (eqb span.bytes 0) _ (or_right (nat_le (span_end span) from) _ (nat_le-from (from + (span.start - from)) span.start (omega (arith, below)))))
             (clear_before from (span.start - from) span.start spans (omega (arith, below)) up);
       },
       tt,
@@ -68,7 +66,7 @@ behind_span from end span spans hole is = record {
   low = omega (arith, is.low);
   some = is.some;
   high = is.high;
-  clear = and_from _ _ (or_right (eqb span.bytes 0) _ (or_left (nat_le (span_end span) hole.from) _ (le_true (span_end span) hole.from (omega (arith, is.low))))) is.clear;
+  clear = and_from _ _ (or_right (eqb span.bytes 0) _ (or_left (nat_le (span_end span) hole.from) _ (nat_le-from (span_end span) hole.from (omega (arith, is.low))))) is.clear;
 }
 
 over_empty : (from end : ℕ) (span : Span) (spans : List Span) → IsTrue (eqb span.bytes 0) → (hole : Hole) → IsHole from end spans hole → IsHole from end (span ∷ spans) hole
@@ -78,7 +76,7 @@ up_from : (low high : ℕ) (spans : List Span) → low ≤ high → IsTrue (asce
 up_from low high [] le up = refl
 up_from low high (span ∷ spans) le up =
     let both = and_parts (nat_le high span.start) (ascends span.start spans) up in
-    and_from _ _ (le_true low span.start (omega (arith, le, leb-true high span.start both.0))) both.1
+    and_from _ _ (nat_le-from low span.start (omega (arith, le, leb-true high span.start both.0))) both.1
 
 -- what the walk finds are holes
 pub holes-each : (low from end : ℕ) (spans : List Span) → IsTrue (ascends low spans) → IsTrue (list_all (ends_by end) spans) → EachHole (IsHole from end spans) (holes_from from end spans)
@@ -105,12 +103,9 @@ found-each P test [] hole each found = absurd (no found)
     no e = cc
 found-each P test (first ∷ rest) hole each found =
     elim (test first) as (λ b. test first ≡ b → cond b (Some first) (find test rest) ≡ Some hole → P hole × IsTrue (test hole)) [
-      | true ↦ λ e found. subst (λ (h : Hole). P h × IsTrue (test h)) (same first hole found) (each.0, e)
+      | true ↦ λ e found. subst (λ (h : Hole). P h × IsTrue (test h)) (same_Some first hole found) (each.0, e)
       | false ↦ λ e found. found-each P test rest hole each.1 found
     ] refl found
-  where
-    same : (a b : Hole) → Some a ≡ Some b → a ≡ b
-    same a b e = cc
 
 -- the largest room is that of a hole
 pub largest-each : (P : Hole → Type 0) (lrecl : ℕ) (holes : List Hole) → EachHole P holes → 1 ≤ largest lrecl holes → (hole : Hole) × P hole × (room_in lrecl hole ≡ largest lrecl holes)
@@ -124,21 +119,12 @@ largest-each P lrecl (hole ∷ holes) each some =
 clear_parts : (at bytes : ℕ) (span : Span) → IsTrue (is_clear at bytes span) → eqb span.bytes 0 ≡ false → (span_end span ≤ at) ⊎ (at + bytes ≤ span.start)
 clear_parts at bytes span clear some =
     ⊎_elim
-    (λ none. absurd (differ (sym none ∙ some)))
+    (λ none. absurd (true≢false (sym none ∙ some)))
     (λ near. ⊎_elim
     (λ behind. inl (leb-true (span_end span) at behind))
     (λ before. inr (leb-true (at + bytes) span.start before))
     (or_cases (nat_le (span_end span) at) (nat_le (at + bytes) span.start) near))
     (or_cases (eqb span.bytes 0) (nat_le (span_end span) at || nat_le (at + bytes) span.start) clear)
-  where
-    differ : true ≡ false → ⊥
-    differ e = cc
-
-same_hole : (a b : Hole) → Some a ≡ Some b → a ≡ b
-same_hole a b e = cc
-
-no_hole : (hole : Hole) → None ≡ Some hole → ⊥
-no_hole hole e = cc
 
 module _ (lrecl : ℕ) (wide : 1 ≤ lrecl) where
   some_bytes : (records : ℕ) → 1 ≤ records → 1 ≤ records * lrecl
@@ -185,7 +171,7 @@ module _ (lrecl : ℕ) (wide : 1 ≤ lrecl) where
   first_found from to at records holes hole some low later found =
       by_test from to (λ b. find (λ h. nat_le records (room_in lrecl h)) (cond b (record { from = from; to = to } ∷ []) [] ++ holes) ≡ Some hole → hole.from ≤ at)
       (λ below. (elim (nat_le records ((to - from) / lrecl)) as (λ b. nat_le records ((to - from) / lrecl) ≡ b → cond b (Some (record { from = from; to = to })) (find (λ h. nat_le records (room_in lrecl h)) holes) ≡ Some hole → hole.from ≤ at) [
-        | true ↦ λ holds is. subst (λ (h : Hole). h.from ≤ at) (same_hole (record { from = from; to = to }) hole is) low
+        | true ↦ λ holds is. subst (λ (h : Hole). h.from ≤ at) (same_Some _ hole is) low
         | false ↦ λ small is. by_test to (at + records * lrecl) (λ _. hole.from ≤ at)
             (λ short. later short is)
             (λ long. absurd (omega (arith, le-div records (to - from) lrecl wide (omega (arith, long, low)), leb-false records ((to - from) / lrecl) small)))
@@ -197,7 +183,7 @@ module _ (lrecl : ℕ) (wide : 1 ≤ lrecl) where
   pub lowest-found : (from end : ℕ) (spans : List Span) (at records : ℕ) (hole : Hole) → 1 ≤ records → from ≤ at → at + records * lrecl ≤ end → IsTrue (list_all (is_clear at (records * lrecl)) spans)
       → find (λ h. nat_le records (room_in lrecl h)) (holes_from from end spans) ≡ Some hole → hole.from ≤ at
   lowest-found from end [] at records hole some low high clear found =
-      first_found from end at records [] hole some low (λ short none. absurd (no_hole hole none))
+      first_found from end at records [] hole some low (λ short none. absurd (none-some hole none))
       (ap (find (λ h. nat_le records (room_in lrecl h))) (append-nil (hole_between from end)) ∙ found)
   lowest-found from end (span ∷ spans) at records hole some low high clear found =
       let both = and_parts (is_clear at (records * lrecl) span) (list_all (is_clear at (records * lrecl)) spans) clear in
@@ -221,7 +207,7 @@ clear_fewer at bytes fewer (span ∷ spans) le clear =
     (λ none. or_left (eqb span.bytes 0) _ none)
     (λ near. or_right (eqb span.bytes 0) _ (⊎_elim
     (λ behind. or_left (nat_le (span_end span) at) _ behind)
-    (λ before. or_right (nat_le (span_end span) at) _ (le_true (at + fewer) span.start (omega (arith, leb-true (at + bytes) span.start before, le))))
+    (λ before. or_right (nat_le (span_end span) at) _ (nat_le-from (at + fewer) span.start (omega (arith, leb-true (at + bytes) span.start before, le))))
     (or_cases (nat_le (span_end span) at) (nat_le (at + bytes) span.start) near)))
     (or_cases (eqb span.bytes 0) (nat_le (span_end span) at || nat_le (at + bytes) span.start) both.0))
     (clear_fewer at bytes fewer spans le both.1)
@@ -231,11 +217,11 @@ pub none-found : (lrecl records : ℕ) (holes : List Hole) → 1 ≤ records →
 none-found lrecl records [] some none = some
 none-found lrecl records (hole ∷ holes) some none =
     elim (nat_le records (room_in lrecl hole)) as (λ b. nat_le records (room_in lrecl hole) ≡ b → cond b (Some hole) (find (λ h. nat_le records (room_in lrecl h)) holes) ≡ None → max (room_in lrecl hole) (largest lrecl holes) < records) [
-      | true ↦ λ holds is. absurd (no_hole hole (sym is))
+      | true ↦ λ holds is. absurd (none-some hole (sym is))
       | false ↦ λ small is. omega (arith, leb-false records (room_in lrecl hole) small, none-found lrecl records holes some is)
     ] refl none
 
 -- no bytes are in no span
 pub clear_none : (spans : List Span) → IsTrue (list_all (is_clear 0 0) spans)
 clear_none [] = refl
-clear_none (span ∷ spans) = and_from _ _ (or_right (eqb span.bytes 0) _ (or_right (nat_le (span_end span) 0) _ (le_true 0 span.start (omega arith)))) (clear_none spans)
+clear_none (span ∷ spans) = and_from _ _ (or_right (eqb span.bytes 0) _ (or_right (nat_le (span_end span) 0) _ (nat_le-from 0 span.start (omega arith)))) (clear_none spans)

@@ -1,7 +1,7 @@
 pub mod Headers
-pub mod Allotted
+pub mod Allocation
 pub mod Holes
 pub mod Walks
-pub mod Spelled
-pub mod Read
+pub mod HeaderSpelling
+pub mod HeaderReads
 mod Rows

@@ -1,11 +1,11 @@
 pub mod Addresses
-pub mod Allotted
+pub mod Allocation
 pub mod Header
-pub mod Kept
+pub mod RecordWrites
 pub mod Lists
 pub mod Places
 pub mod Records
-pub mod Same
+pub mod SamePlaces
 pub mod Space
 pub mod Spots
-pub mod Stands
+pub mod Layouts

@@ -4,7 +4,7 @@ use arrayvec::ArrayVec;
 use ckr_base::{Code, Volser};
 
 /// A volume, and where it stands on the disk. The volumes of a layout are numbered from 0.
-#[derive(Clone, PartialEq, Eq, Debug, Default, Drop)]
+#[derive(Default, Drop)]
 pub struct Volume {
     /// Its serial, which no other volume of the disk has.
     pub serial: Volser,
@@ -15,7 +15,7 @@ pub struct Volume {
 }
 
 /// What the header of a disk says (this project's profile).
-#[derive(Clone, PartialEq, Eq, Debug, Drop)]
+#[derive(Drop)]
 pub struct Layout {
     /// The version of the format.
     pub version: u16,

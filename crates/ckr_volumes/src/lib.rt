@@ -6,10 +6,8 @@ mod layout;
 mod places;
 mod records;
 mod space;
-#[cfg(test)]
-mod tests;
 
 pub use header::{HEADER_BYTES, HeaderError, header_bytes, read_header};
 pub use layout::{Layout, NoSpace, Volume};
 pub use records::{read_record, write_record};
-pub use space::allocate;
+pub use space::{allocate, bytes_of};

@@ -2,18 +2,18 @@
 ghost use Rattle.std.specs.Prelude.{◌≡◌, ◌≤◌, ◌<◌, ◌^◌, ◌+◌, ◌-◌, ◌/◌, [], ◌∷◌, ◌++◌, map, length, max, IfOk, IfErr, IsTrue, Ok, Err, Some};
 ghost use Rattle.std.specs.List.{list_all};
 ghost use Rattle.ckr_library.specs.Catalog.{Holding};
-ghost use Rattle.ckr_library.specs.Named.{EachEntry};
+ghost use Rattle.ckr_library.specs.NameMaps.{EachEntry};
 ghost use Rattle.ckr_volumes.specs.Places.{bytes_of};
-ghost use Rattle.ckr_volumes.specs.Stands.{StandsIn};
+ghost use Rattle.ckr_volumes.specs.Layouts.{StandsIn};
 ghost use Rattle.ckr_volumes.specs.Space.{span_end, ends_by, room_in, placed_in, placed_after, holes_from, allocated};
-ghost use Rattle.ckr_volumes.specs.Allotted.{Allotted, Refused};
+ghost use Rattle.ckr_volumes.specs.Allocation.{Allotted, Refused};
 
 use crate::{Layout, NoSpace, Volume};
 use arrayvec::ArrayVec;
 use ckr_library::{Extent, Library, Span};
 
 /// The bytes of a volume from one up to another.
-#[derive(Clone, Copy, PartialEq, Eq, Debug)]
+#[derive(Clone, Copy)]
 pub(crate) struct Hole {
     pub(crate) from: u64,
     pub(crate) to: u64,
@@ -112,7 +112,7 @@ fn room_between(from: u64, to: u64, lrecl: u16) -> u32
 }
 
 /// How many bytes a volume has.
-fn bytes_of(volumes: &[Volume], number: u8) -> u32
+pub fn bytes_of(volumes: &[Volume], number: u8) -> u32
     ensures { result ≡ bytes_of volumes.now number }
 {
     match volumes {

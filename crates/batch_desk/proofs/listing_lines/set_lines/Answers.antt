@@ -1,12 +1,12 @@
 use Rattle.std.proofs.Common.{◌≡◌, ◌++◌, ℕ, Some, take, slice_get, sym, ap, subst, ◌∙◌, append-nil}
 use Rattle.std.specs.List.{flat_map}
 use Rattle.std.specs.Option.{option_map}
-use Rattle.ckr_listing.specs.Listed.{listed}
-use Rattle.ckr_listing.specs.declared.Listed.{Listed}
-use Rattle.ckr_desk.specs.Sound.{state_of}
-use Rattle.ckr_volumes.specs.declared.layout.Layout.{Layout}
+use Rattle.ckr_desk.specs.Model.Listing.{listed}
+use Rattle.ckr_desk.specs.Model.Listed.{Listed}
+use Rattle.ckr_desk.specs.Soundness.{state_of}
+use Rattle.ckr_desk.specs.Model.Layout.{Layout}
 use Rattle.batch_desk.specs.Listings.{set_text}
-use Rattle.batch_desk.proofs.Listing.{listed_more, listed_all}
+use Rattle.batch_desk.proofs.Texts.Lists.{listed_more, listed_all}
 use Rattle.batch_desk.proofs.listing_lines.set_lines.Goals as goal
 
 pub loop-line-init : goal.loop-line-init

@@ -1,7 +1,7 @@
 use Rattle.std.proofs.Common.{◌≡◌, ◌++◌, ◌-◌, take}
 use Rattle.std.specs.List.{flat_map}
-use Rattle.ckr_listing.specs.Listed.{listed}
-use Rattle.ckr_desk.specs.Sound.{IsTrusted, state_of}
+use Rattle.ckr_desk.specs.Model.Listing.{listed}
+use Rattle.ckr_desk.specs.Soundness.{IsTrusted, state_of}
 use Rattle.batch_desk.specs.Listings.{set_text}
 use Rattle.batch_desk.proofs.listing_lines.set_lines.Given as goal
 

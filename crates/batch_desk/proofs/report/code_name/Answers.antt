@@ -1,6 +1,6 @@
 use Rattle.std.proofs.Common.{◌≡◌, ℕ, List, ◌++◌, OnOk, subst, sym, ◌∙◌}
 use Rattle.ckr_base.specs.CodeText.{code_text}
-use Rattle.batch_desk.proofs.CodeNames.{text_reads}
+use Rattle.batch_desk.proofs.Texts.CodeNames.{text_reads}
 use Rattle.batch_desk.proofs.report.code_name.Goals as goal
 
 pub returns : goal.returns

@@ -1,6 +1,6 @@
 use Rattle.std.proofs.Common.{codes}
 use Rattle.batch_desk.specs.Listings.{serial_of}
-use Rattle.batch_desk.proofs.Pushing.{pushed_twice}
+use Rattle.batch_desk.proofs.Texts.Pushes.{pushed_twice}
 use Rattle.batch_desk.proofs.report.mount_refused.Goals as goal
 
 pub returns : goal.returns

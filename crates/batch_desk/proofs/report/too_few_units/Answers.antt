@@ -1,6 +1,6 @@
 use Rattle.std.proofs.Common.{codes, ◌++◌, ap, refl}
 use Rattle.std.specs.Fmt.{decimal}
-use Rattle.batch_desk.proofs.Pushing.{pushed_twice}
+use Rattle.batch_desk.proofs.Texts.Pushes.{pushed_twice}
 use Rattle.batch_desk.proofs.report.too_few_units.Goals as goal
 
 pub returns : goal.returns

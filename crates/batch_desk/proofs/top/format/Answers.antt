@@ -1,4 +1,4 @@
-use Rattle.batch_desk.proofs.Closed.{has_formatted}
+use Rattle.batch_desk.proofs.Calls.Ends.{has_formatted}
 use Rattle.batch_desk.proofs.top.format.Goals as goal
 
 pub returns : goal.returns

@@ -1,6 +1,6 @@
-use Rattle.ckr_desk.specs.Sound.{AllSound, IsTrusted, state_of}
-use Rattle.batch_desk.proofs.Closed.{run_ended, run_not_opened}
-use Rattle.batch_desk.proofs.Stopping.{safe_served}
+use Rattle.ckr_desk.specs.Soundness.{AllSound, IsTrusted, state_of}
+use Rattle.batch_desk.proofs.Calls.Ends.{run_ended, run_not_opened}
+use Rattle.batch_desk.proofs.Calls.OpenStops.{safe_served}
 use Rattle.batch_desk.proofs.top.run.Goals as goal
 
 pub returns-in-Ok : goal.returns-in-Ok

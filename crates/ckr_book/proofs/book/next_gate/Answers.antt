@@ -1,6 +1,6 @@
 use Rattle.std.proofs.Common.{◌≡◌, ◌+◌, ℕ, List, drop, refl, ◌∙◌, ap, arith}
 use Rattle.ckr_book.specs.Records.{body_length}
-use Rattle.ckr_book.proofs.Opening.{closed_gate, no_room, too_long, next_gate, leads}
+use Rattle.ckr_book.proofs.Gates.{closed_gate, no_room, too_long, next_gate, leads}
 use Rattle.ckr_book.proofs.book.next_gate.Goals as goal
 
 pub returns-then-gate-ne-OPEN-clause-next : goal.returns-then-gate-ne-OPEN-clause-next

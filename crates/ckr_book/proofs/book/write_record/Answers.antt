@@ -2,7 +2,7 @@ use Rattle.std.proofs.Common.{◌≡◌, ◌+◌, ◌∷◌, [], ◌++◌, ℕ, 
 use Rattle.std.proofs.lemmas.Result.{on_ok_weaker}
 use Rattle.ckr_outside.specs.Disk.{Overwrites}
 use Rattle.ckr_outside.specs.Ranges.{overwrites_twice}
-use Rattle.ckr_outside.specs.Within.{within_wider, within_twice}
+use Rattle.ckr_outside.specs.RangeCalls.{within_wider, within_twice}
 use Rattle.ckr_book.specs.Records.{written_record}
 use Rattle.ckr_book.proofs.book.write_record.Goals as goal
 

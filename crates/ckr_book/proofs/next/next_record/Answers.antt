@@ -1,7 +1,7 @@
 use Rattle.std.proofs.Common.{◌≡◌, ◌+◌, ◌-◌, ℕ, List, drop, ◌∙◌, sym, ap, subst, arith}
 use Rattle.ckr_outside.specs.Disk.{part}
 use Rattle.ckr_book.specs.Next.{LeadsWith}
-use Rattle.ckr_book.proofs.Opening.{part-part}
+use Rattle.ckr_book.proofs.Gates.{part-part}
 use Rattle.ckr_book.proofs.next.next_record.Goals as goal
 
 pub returns-clause-found : goal.returns-clause-found

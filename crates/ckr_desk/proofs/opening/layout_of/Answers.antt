@@ -1,4 +1,4 @@
-use Rattle.ckr_desk.proofs.Opened.{not_formatted, other_version, bad_header}
+use Rattle.ckr_desk.proofs.Openings.Answers.{not_formatted, other_version, bad_header}
 use Rattle.ckr_desk.proofs.opening.layout_of.Goals as goal
 
 pub returns-in-Err-NotFormatted-clause-cause : goal.returns-in-Err-NotFormatted-clause-cause

@@ -1,12 +1,12 @@
 use Rattle.std.proofs.Common.{◌∙◌, ap, arith, subst, sym}
 use Rattle.ckr_outside.specs.Faults.{Rose}
-use Rattle.ckr_standing.specs.Again.{last_event}
-use Rattle.ckr_store.specs.Opens.{event_records}
-use Rattle.ckr_tables.specs.Seen.{RoomyTables}
-use Rattle.ckr_desk.specs.Replaying.{IsFound}
-use Rattle.ckr_desk.specs.Sound.{events_in, last_on}
-use Rattle.ckr_desk.proofs.Opened.{found_behind, book_cause_behind, rose_before}
-use Rattle.ckr_desk.proofs.Replays.{handed_on}
+use Rattle.ckr_desk_refines.specs.RewriteRecord.{last_event}
+use Rattle.ckr_desk_store.specs.OpenImages.{event_records}
+use Rattle.ckr_points_tables.specs.View.{RoomyTables}
+use Rattle.ckr_desk.specs.Replay.{IsFound}
+use Rattle.ckr_desk.specs.Soundness.{events_in, last_on}
+use Rattle.ckr_desk.proofs.Openings.Answers.{found_behind, book_cause_behind, rose_before}
+use Rattle.ckr_desk.proofs.Openings.Replay.{handed_on}
 use Rattle.ckr_desk.proofs.opening.read_disk.Goals as goal
 
 pub returns-clause-found : goal.returns-clause-found

@@ -1,9 +1,9 @@
 use Rattle.std.proofs.Common.{arith, refl, inl}
 use Rattle.ckr_book.specs.Records.{records_from}
 use Rattle.ckr_outside.specs.Disk.{part}
-use Rattle.ckr_desk.proofs.Kept.{no-jobs}
-use Rattle.ckr_desk.proofs.Replays.{at_first, last-first}
-use Rattle.ckr_desk.specs.Sound.{events_in}
+use Rattle.ckr_desk.proofs.Layouts.{no-jobs}
+use Rattle.ckr_desk.proofs.Openings.Replay.{at_first, last-first}
+use Rattle.ckr_desk.specs.Soundness.{events_in}
 use Rattle.ckr_desk.proofs.opening.replay.Goals as goal
 
 pub loop-found-init : goal.loop-found-init

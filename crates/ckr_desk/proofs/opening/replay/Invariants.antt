@@ -1,7 +1,7 @@
 use Rattle.std.proofs.Common.{◌≡◌, ◌≤◌, ◌-◌, []}
 use Rattle.ckr_outside.specs.Disk.{OnlyReads, part}
-use Rattle.ckr_jobs.specs.Holding.{AreJobs}
-use Rattle.ckr_desk.specs.Replaying.{IsLastTo, IsReplayed}
+use Rattle.ckr_desk_memory.specs.Invariant.{AreJobs}
+use Rattle.ckr_desk.specs.Replay.{IsLastTo, IsReplayed}
 use Rattle.ckr_desk.proofs.opening.replay.Given as goal
 
 abbrev pub invariant-loop-found : goal.invariant-loop-found

@@ -2,7 +2,7 @@ use Rattle.std.proofs.Common.{subst}
 use Rattle.ckr_outside.specs.Disk.{part}
 use Rattle.ckr_outside.specs.Faults.{Rose}
 use Rattle.ckr_journal.specs.Events.{GoesOn}
-use Rattle.ckr_desk.proofs.Replays.{gone_on, not_followed, book_inside, replay_cause, handed_on, event_read}
+use Rattle.ckr_desk.proofs.Openings.Replay.{gone_on, not_followed, book_inside, replay_cause, handed_on, event_read}
 use Rattle.ckr_desk.proofs.opening.replay_one.Goals as goal
 
 pub returns-in_err-event_at-clause-cause : goal.returns-in_err-event_at-clause-cause

@@ -2,8 +2,8 @@ use Rattle.std.proofs.Common.{◌≡◌, ◌+◌, ◌<◌, ◌∙◌, length, ar
 use Rattle.std.proofs.lemmas.Grind.{common_steps}
 use Rattle.ckr_jcl.specs.ParmGrammar.{with_item, items_read}
 use Rattle.ckr_jcl.specs.Text.{before, behind}
-use Rattle.ckr_statements.specs.Field.{is_comma}
-use Rattle.ckr_statements.specs.Tables.{pieces_between}
+use Rattle.ckr_cards.specs.Field.{is_comma}
+use Rattle.ckr_cards.specs.Tables.{pieces_between}
 use Rattle.ckr_jcl.proofs.Items.{wrong_item, last_item, next_item}
 use Rattle.ckr_jcl.proofs.parm.+items_read.Goals as goal
 

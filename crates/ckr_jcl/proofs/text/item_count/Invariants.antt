@@ -1,5 +1,5 @@
 use Rattle.std.proofs.Common.{◌≡◌, ◌≤◌, ◌+◌, length}
-use Rattle.ckr_statements.specs.Field.{parts_of}
+use Rattle.ckr_cards.specs.Field.{parts_of}
 use Rattle.ckr_jcl.proofs.text.item_count.Given as goal
 
 abbrev pub invariant-loop-rest : goal.invariant-loop-rest

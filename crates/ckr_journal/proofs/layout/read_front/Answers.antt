@@ -1,7 +1,7 @@
 use Rattle.std.proofs.Common.{◌≡◌, ℕ, take, length, ◌∙◌, ap}
 use Rattle.std.proofs.lemmas.Result.{on_ok_weaker}
 use Rattle.ckr_outside.specs.Disk.{part}
-use Rattle.ckr_journal.proofs.Formatted.{front_read}
+use Rattle.ckr_journal.proofs.FreshDisks.{front_read}
 use Rattle.ckr_journal.proofs.layout.read_front.Goals as goal
 
 pub returns-clause-read : goal.returns-clause-read

@@ -2,8 +2,8 @@ use Rattle.std.proofs.Common.{rules}
 use Rattle.std.specs.Ordering.{is_gt}
 use Rattle.std.proofs.lemmas.List.Sorted.{IsPartitionPoint-from_clause}
 use Rattle.ckr_library.specs.declared.shelf.Held.{Held}
-use Rattle.ckr_library.specs.Named.{name_cmp}
-use Rattle.ckr_library.proofs.Points.{lead-point}
+use Rattle.ckr_library.specs.NameMaps.{name_cmp}
+use Rattle.ckr_library.proofs.SearchPlaces.{lead-point}
 use Rattle.ckr_library.proofs.Shelves.{parted_by_name}
 use Rattle.ckr_library.proofs.shelf.place_of.Goals as goal
 

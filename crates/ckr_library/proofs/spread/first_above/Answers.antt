@@ -2,7 +2,7 @@ use Rattle.std.proofs.Common.{rules}
 use Rattle.std.proofs.lemmas.List.Sorted.{IsPartitionPoint-from_clause}
 use Rattle.ckr_library.specs.Spread.{is_at_most}
 use Rattle.ckr_library.proofs.Filings.{parted_at_most}
-use Rattle.ckr_library.proofs.Points.{lead-point}
+use Rattle.ckr_library.proofs.SearchPlaces.{lead-point}
 use Rattle.ckr_library.proofs.spread.first_above.Goals as goal
 
 pub returns-clause-place : goal.returns-clause-place

@@ -1,4 +1,4 @@
-use Rattle.ckr_match.proofs.Together.{last_ends, others_go_on}
+use Rattle.ckr_match.proofs.AllUnits.{last_ends, others_go_on}
 use Rattle.ckr_match.proofs.laws.the_last_unit_ends_as_the_work.Goals as goal
 
 pub returns : goal.returns

@@ -1,7 +1,7 @@
 use Rattle.std.proofs.Common.{sym, ◌∙◌, subst, ap}
 use Rattle.ckr_match.specs.Units.{StandsFor, taken_behind}
 use Rattle.ckr_match.specs.Steps.{record_unit, unit_for, state_behind, unit_of, state_of}
-use Rattle.ckr_match.proofs.Done.{IsDone, is_done}
+use Rattle.ckr_match.proofs.UnitResults.{IsDone, is_done}
 use Rattle.ckr_match.proofs.units.unit.Goals as goal
 
 pub returns-in-Some-clause-work : goal.returns-in-Some-clause-work

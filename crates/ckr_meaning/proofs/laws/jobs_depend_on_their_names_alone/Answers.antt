@@ -1,4 +1,4 @@
-use Rattle.ckr_meaning.proofs.Agreeing.{at-agrees, at-passes, end-agrees, job_run-agrees}
+use Rattle.ckr_meaning.proofs.NameDependence.{at-agrees, at-passes, end-agrees, job_run-agrees}
 use Rattle.ckr_meaning.proofs.laws.jobs_depend_on_their_names_alone.Goals as goal
 
 pub returns : goal.returns

@@ -1,4 +1,4 @@
-use Rattle.ckr_meaning.proofs.Keeping.{within_at-other, disposed_at-other}
+use Rattle.ckr_meaning.proofs.OtherNames.{within_at-other, disposed_at-other}
 use Rattle.ckr_meaning.proofs.laws.steps_leave_other_names.Goals as goal
 
 pub returns : goal.returns

@@ -1,7 +1,7 @@
 use Rattle.std.proofs.Common.{◌+◌, sym, ◌∙◌, subst, ap}
 use Rattle.ckr_programs.specs.Units.{IsUnitAt, StandsFor}
 use Rattle.ckr_programs.specs.Steps.{record_unit, unit_of, state_of}
-use Rattle.ckr_programs.proofs.Done.{record_done, record_stands, closing_done}
+use Rattle.ckr_programs.proofs.UnitResults.{record_done, record_stands, closing_done}
 use Rattle.ckr_programs.proofs.units.unit.Goals as goal
 
 pub returns-in-Some-clause-work : goal.returns-in-Some-clause-work

@@ -1,8 +1,8 @@
 use Rattle.std.proofs.Common.{rules}
 use Rattle.std.proofs.lemmas.List.Sorted.{IsPartitionPoint-from_clause}
-use Rattle.ckr_library.proofs.Points.{lead-point}
+use Rattle.ckr_library.proofs.SearchPlaces.{lead-point}
 use Rattle.ckr_queue.specs.Queue.{is_below}
-use Rattle.ckr_queue.proofs.Halving.{parted}
+use Rattle.ckr_queue.proofs.Search.{parted}
 use Rattle.ckr_queue.proofs.queue.place_for.Goals as goal
 
 pub returns-clause-place : goal.returns-clause-place

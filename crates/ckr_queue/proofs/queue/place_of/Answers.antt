@@ -1,7 +1,7 @@
 use Rattle.std.proofs.Common.{◌≡◌, true, false, cond, Some, None, sym, ap, ◌∙◌, arith}
 use Rattle.std.proofs.lemmas.Bool.Decides.{nat_tests}
 use Rattle.ckr_queue.specs.Queue.{is_of}
-use Rattle.ckr_queue.proofs.Halving.{place-seen}
+use Rattle.ckr_queue.proofs.Search.{place-seen}
 use Rattle.ckr_queue.proofs.queue.place_of.Goals as goal
 
 pub returns-then-entry-number : goal.returns-then-entry-number

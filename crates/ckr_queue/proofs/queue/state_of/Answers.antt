@@ -1,21 +1,21 @@
 use Rattle.std.proofs.Common.{◌≡◌, true, false, cond, Some, None, sym, ap, ◌∙◌, arith}
 use Rattle.std.proofs.lemmas.Bool.Decides.{nat_tests}
 use Rattle.std.specs.Option.{option_map}
-use Rattle.ckr_queue.specs.declared.entry.Entry.{Entry}
+use Rattle.ckr_queue.specs.declared.entry.QueueEntry.{QueueEntry}
 use Rattle.ckr_queue.specs.Queue.{is_of}
-use Rattle.ckr_queue.proofs.Halving.{state-seen}
+use Rattle.ckr_queue.proofs.Search.{state-seen}
 use Rattle.ckr_queue.proofs.queue.state_of.Goals as goal
 
 pub returns-then-entry-number : goal.returns-then-entry-number
 returns-then-entry-number c =
     let hit : is_of c.args.number c.in-Some.entry.now ≡ true = grind (arith, nat_tests) in
-    ap (λ b. option_map (λ (entry : Entry). entry.state) (cond b (Some c.in-Some.entry.now) None)) (sym hit)
+    ap (λ b. option_map (λ (entry : QueueEntry). entry.state) (cond b (Some c.in-Some.entry.now) None)) (sym hit)
     ∙ state-seen c.args.number c.args.entries.now c.requires c.place_for.result c.place_for.ensures.place (Some c.in-Some.entry.now) c.in-Some.ensures
 
 pub returns-else-entry-number : goal.returns-else-entry-number
 returns-else-entry-number c =
     let miss : is_of c.args.number c.in-Some.entry.now ≡ false = grind (arith, nat_tests) in
-    ap (λ b. option_map (λ (entry : Entry). entry.state) (cond b (Some c.in-Some.entry.now) None)) (sym miss)
+    ap (λ b. option_map (λ (entry : QueueEntry). entry.state) (cond b (Some c.in-Some.entry.now) None)) (sym miss)
     ∙ state-seen c.args.number c.args.entries.now c.requires c.place_for.result c.place_for.ensures.place (Some c.in-Some.entry.now) c.in-Some.ensures
 
 pub returns-in-None : goal.returns-in-None

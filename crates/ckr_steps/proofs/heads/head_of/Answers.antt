@@ -1,6 +1,6 @@
 use Rattle.std.proofs.Common.{◌<◌, ◌≤◌, length, IsSome, sym, subst, arith}
 use Rattle.ckr_steps.proofs.Lists.{some_within}
-use Rattle.ckr_steps.specs.Reading.{IsSourceThere}
+use Rattle.ckr_steps.specs.Inputs.{IsSourceThere}
 use Rattle.ckr_steps.proofs.heads.head_of.Goals as goal
 
 pub head_of_set-requires-clause-stands : goal.head_of_set-requires-clause-stands

@@ -1,7 +1,7 @@
 use Rattle.std.proofs.Common.{ℕ, List, Option, ap, ◌∙◌}
 use Rattle.ckr_base.specs.declared.programs.Heads.{Heads}
 use Rattle.ckr_meaning.specs.States.{first_of}
-use Rattle.ckr_steps.specs.Reading.{head_of, heads_of}
+use Rattle.ckr_steps.specs.Inputs.{head_of, heads_of}
 use Rattle.ckr_steps.proofs.heads.heads_of.Goals as goal
 
 abbrev heads : Option (List ℕ) → Option (List ℕ) → Heads

@@ -2,7 +2,7 @@ use Rattle.std.proofs.Common.{◌<◌, sym, ◌∙◌, ap, subst}
 use Rattle.ckr_entry.specs.declared.point.State.{State}
 use Rattle.ckr_meaning.specs.States.{first_of, second_of}
 use Rattle.ckr_steps.specs.Units.{IsCounted, due_of}
-use Rattle.ckr_steps.proofs.Counted.{open_yet, plain_counted, match_counted}
+use Rattle.ckr_steps.proofs.Counts.{open_yet, plain_counted, match_counted}
 use Rattle.ckr_steps.proofs.units.unit.Goals as goal
 
 pub returns-in-Plain-clause-counted : goal.returns-in-Plain-clause-counted

@@ -1,8 +1,8 @@
 use Rattle.std.proofs.Common.{◌≡◌, Ok, Err}
 use Rattle.std.proofs.lemmas.Result.{IfOk-weaker, IfErr-weaker}
-use Rattle.ckr_volumes.specs.Allotted.{Allotted, Refused}
+use Rattle.ckr_volumes.specs.Allocation.{Allotted, Refused}
 use Rattle.ckr_volumes.specs.Space.{allocated}
-use Rattle.ckr_volumes.proofs.Allotted.{allotted, refused}
+use Rattle.ckr_volumes.proofs.Allocation.{allotted, refused}
 use Rattle.ckr_volumes.proofs.space.allocate.Goals as goal
 
 pub returns-clause-allotted : goal.returns-clause-allotted

@@ -2,7 +2,7 @@ use Rattle.std.proofs.Common.{IsTrue, subst, sym, ◌∙◌, ap}
 use Rattle.std.specs.List.{list_all}
 use Rattle.ckr_volumes.specs.Space.{ends_by}
 use Rattle.ckr_volumes.specs.Places.{bytes_of}
-use Rattle.ckr_volumes.proofs.Allotted.{spread-ends}
+use Rattle.ckr_volumes.proofs.Allocation.{spread-ends}
 use Rattle.ckr_volumes.proofs.space.at_lowest.Goals as goal
 
 pub lowest-requires-clause-inside : goal.lowest-requires-clause-inside

@@ -1,7 +1,7 @@
 use Rattle.std.proofs.Common.{ap, ◌∙◌}
 use Rattle.std.specs.Str.Lines.{strip_carriage_return}
-use Rattle.batch_desk.proofs.Written.{line_halted}
-use Rattle.batch_desk.proofs.Keeping.{handed_within}
+use Rattle.batch_desk.proofs.Calls.Texts.{line_halted}
+use Rattle.batch_desk.proofs.Calls.Stops.{handed_within}
 use Rattle.batch_desk.proofs.flow.Flow.end_line.Goals as goal
 
 pub returns-clause-err : goal.returns-clause-err
@@ -12,5 +12,5 @@ returns-clause-err g c holds =
 pub returns-in_err-write-in-Ok-clause-goes : goal.returns-in_err-write-in-Ok-clause-goes
 returns-in_err-write-in-Ok-clause-goes g c holds =
     let d = g.D.Disk in
-    handed_within d.content d.moment d.left_since d.size c.from_residual.result c.in_err-write-in-Ok.field-0.0 c.args.self.now.session.office.desk c.line.new.self.office.desk c.from_residual.ensures.1
+    handed_within d.content d.moment d.left_since d.size c.from_residual.result c.in_err-write-in-Ok.field-0.0 c.args.self.now.session.clerk.desk c.line.new.self.clerk.desk c.from_residual.ensures.1
     (c.in-Ok.ensures.goes holds).within

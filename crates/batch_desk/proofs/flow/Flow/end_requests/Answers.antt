@@ -1,26 +1,26 @@
 use Rattle.std.proofs.Common.{◌≡◌, ◌==◌, List, true, false, length, ap, subst, refl, arith, OnOk, IfErr}
 use Rattle.std.proofs.lemmas.Grind.{common_steps}
-use Rattle.ckr_desk.specs.Sound.{state_of}
-use Rattle.ckr_statements.specs.Session.{Handed, Session as Standing, handed_with, session_behind}
-use Rattle.batch_desk.specs.Serves.{Serves, HaltsSo, seen}
+use Rattle.ckr_desk.specs.Soundness.{state_of}
+use Rattle.ckr_cards.specs.Session.{Handed, SessionModel as Standing, handed_with, session_behind}
+use Rattle.batch_desk.specs.Service.{Serves, HaltsSo, seen}
 use Rattle.batch_desk.specs.Sessions.{standing_of}
-use Rattle.batch_desk.proofs.Feeds.{handed_on}
-use Rattle.batch_desk.proofs.Finish.{end_requests_of, end_requests_without, served_behind, halted_behind}
-use Rattle.batch_desk.proofs.Halting.{halts_before}
-use Rattle.batch_desk.proofs.Keeping.{goes_then_by, handed_within}
+use Rattle.batch_desk.proofs.Streams.Feeds.{handed_on}
+use Rattle.batch_desk.proofs.Streams.End.{end_requests_of, end_requests_without, served_behind, halted_behind}
+use Rattle.batch_desk.proofs.Service.Halts.{halts_before}
+use Rattle.batch_desk.proofs.Calls.Stops.{goes_then_by, handed_within}
 use Rattle.batch_desk.proofs.flow.Flow.end_requests.Goals as goal
 
 pub returns-then-is_empty-clause-serves : goal.returns-then-is_empty-clause-serves
 returns-then-is_empty-clause-serves g c holds =
     let f = c.args.self.now in
     let none : (length f.partial.items == 0) ≡ true = grind (arith, common_steps, c.is_empty.ensures, c.if-is_empty.true) in
-    subst (λ (xs : List Handed). OnOk c.end.result (Serves (seen g.D.Disk.content f.session.office) (seen g.D.Disk.content c.end.new.self.office) xs c.args.out.now c.end.new.out)) (end_requests_without g.D.Disk.content f none) (c.end.ensures.serves holds)
+    subst (λ (xs : List Handed). OnOk c.end.result (Serves (seen g.D.Disk.content f.session.clerk) (seen g.D.Disk.content c.end.new.self.clerk) xs c.args.out.now c.end.new.out)) (end_requests_without g.D.Disk.content f none) (c.end.ensures.serves holds)
 
 pub returns-then-is_empty-clause-halt : goal.returns-then-is_empty-clause-halt
 returns-then-is_empty-clause-halt g c holds =
     let f = c.args.self.now in
     let none : (length f.partial.items == 0) ≡ true = grind (arith, common_steps, c.is_empty.ensures, c.if-is_empty.true) in
-    subst (λ (xs : List Handed). IfErr c.end.result (λ halt. HaltsSo halt (state_of g.D.Disk.content f.session.office.desk) xs c.args.out.now c.end.new.out)) (end_requests_without g.D.Disk.content f none) (c.end.ensures.halt holds)
+    subst (λ (xs : List Handed). IfErr c.end.result (λ halt. HaltsSo halt (state_of g.D.Disk.content f.session.clerk.desk) xs c.args.out.now c.end.new.out)) (end_requests_without g.D.Disk.content f none) (c.end.ensures.halt holds)
 
 pub returns-in_err-line-clause-halt : goal.returns-in_err-line-clause-halt
 returns-in_err-line-clause-halt g c holds =
@@ -30,8 +30,8 @@ returns-in_err-line-clause-halt g c holds =
     let whole = end_requests_of g.D.Disk.content f line (session_behind (standing_of f.session) line).cards c.deref.ensures.value some refl in
     let halt = c.in_err-line.field-0.0 in
     handed_on c.from_residual.result halt _ c.from_residual.ensures.1
-    (subst (λ (xs : List Handed). HaltsSo halt (state_of g.D.Disk.content f.session.office.desk) xs c.args.out.now c.line.new.out) whole
-    (halts_before halt (state_of g.D.Disk.content f.session.office.desk) (handed_with (standing_of f.session) line) _ c.args.out.now c.line.new.out (c.in_err-line.ensures.halt holds)))
+    (subst (λ (xs : List Handed). HaltsSo halt (state_of g.D.Disk.content f.session.clerk.desk) xs c.args.out.now c.line.new.out) whole
+    (halts_before halt (state_of g.D.Disk.content f.session.clerk.desk) (handed_with (standing_of f.session) line) _ c.args.out.now c.line.new.out (c.in_err-line.ensures.halt holds)))
 
 pub returns-clause-serves : goal.returns-clause-serves
 returns-clause-serves g c holds =
@@ -40,8 +40,8 @@ returns-clause-serves g c holds =
     let o = c.in_ok-line.ensures in
     let some : (length f.partial.items == 0) ≡ false = grind (arith, common_steps, c.is_empty.ensures, c.if-is_empty.false) in
     let whole = end_requests_of g.D.Disk.content f line c.line.new.self.deck.items c.deref.ensures.value some (ap (λ (s : Standing). s.cards) o.standing) in
-    subst (λ (xs : List Handed). OnOk c.end-2.result (Serves (seen g.D.Disk.content f.session.office) (seen g.D.Disk.content c.end-2.new.self.office) xs c.args.out.now c.end-2.new.out)) whole
-    (served_behind c.end-2.result (seen g.D.Disk.content f.session.office) (seen g.D.Disk.content c.line.new.self.office) (seen g.D.Disk.content c.end-2.new.self.office) _ _ c.args.out.now c.line.new.out c.end-2.new.out (o.serves holds) (c.end-2.ensures.serves (o.trusted holds)))
+    subst (λ (xs : List Handed). OnOk c.end-2.result (Serves (seen g.D.Disk.content f.session.clerk) (seen g.D.Disk.content c.end-2.new.self.clerk) xs c.args.out.now c.end-2.new.out)) whole
+    (served_behind c.end-2.result (seen g.D.Disk.content f.session.clerk) (seen g.D.Disk.content c.line.new.self.clerk) (seen g.D.Disk.content c.end-2.new.self.clerk) _ _ c.args.out.now c.line.new.out c.end-2.new.out (o.serves holds) (c.end-2.ensures.serves (o.trusted holds)))
 
 pub returns-clause-halt : goal.returns-clause-halt
 returns-clause-halt g c holds =
@@ -50,17 +50,17 @@ returns-clause-halt g c holds =
     let o = c.in_ok-line.ensures in
     let some : (length f.partial.items == 0) ≡ false = grind (arith, common_steps, c.is_empty.ensures, c.if-is_empty.false) in
     let whole = end_requests_of g.D.Disk.content f line c.line.new.self.deck.items c.deref.ensures.value some (ap (λ (s : Standing). s.cards) o.standing) in
-    subst (λ (xs : List Handed). IfErr c.end-2.result (λ halt. HaltsSo halt (state_of g.D.Disk.content f.session.office.desk) xs c.args.out.now c.end-2.new.out)) whole
-    (halted_behind c.end-2.result (seen g.D.Disk.content f.session.office) (seen g.D.Disk.content c.line.new.self.office) _ _ c.args.out.now c.line.new.out c.end-2.new.out (o.serves holds) (c.end-2.ensures.halt (o.trusted holds)))
+    subst (λ (xs : List Handed). IfErr c.end-2.result (λ halt. HaltsSo halt (state_of g.D.Disk.content f.session.clerk.desk) xs c.args.out.now c.end-2.new.out)) whole
+    (halted_behind c.end-2.result (seen g.D.Disk.content f.session.clerk) (seen g.D.Disk.content c.line.new.self.clerk) _ _ c.args.out.now c.line.new.out c.end-2.new.out (o.serves holds) (c.end-2.ensures.halt (o.trusted holds)))
 
 pub returns-in_err-line-clause-goes : goal.returns-in_err-line-clause-goes
 returns-in_err-line-clause-goes g c holds =
     let d = g.D.Disk in
-    handed_within d.content d.moment d.left_since d.size c.from_residual.result c.in_err-line.field-0.0 c.args.self.now.session.office.desk c.line.new.self.office.desk c.from_residual.ensures.1
+    handed_within d.content d.moment d.left_since d.size c.from_residual.result c.in_err-line.field-0.0 c.args.self.now.session.clerk.desk c.line.new.self.clerk.desk c.from_residual.ensures.1
     (c.in_err-line.ensures.goes holds)
 
 pub returns-clause-goes : goal.returns-clause-goes
 returns-clause-goes g c holds =
     let d = g.D.Disk in
     let o = c.in_ok-line.ensures in
-    goes_then_by d.content d.moment d.left_since d.size c.end-2.result c.args.self.now.session.office.desk c.line.new.self.office.desk c.end-2.new.self.office.desk (o.goes holds) (c.end-2.ensures.goes (o.trusted holds))
+    goes_then_by d.content d.moment d.left_since d.size c.end-2.result c.args.self.now.session.clerk.desk c.line.new.self.clerk.desk c.end-2.new.self.clerk.desk (o.goes holds) (c.end-2.ensures.goes (o.trusted holds))

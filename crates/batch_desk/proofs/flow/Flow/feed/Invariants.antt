@@ -1,20 +1,20 @@
 use Rattle.std.proofs.Common.{◌≡◌, ◌≤◌, ◌+◌, length, take, None}
-use Rattle.ckr_desk.specs.Sound.{IsTrusted}
-use Rattle.batch_desk.specs.Keeping.{Goes}
+use Rattle.ckr_desk.specs.Soundness.{IsTrusted}
+use Rattle.batch_desk.specs.Stops.{Goes}
 use Rattle.batch_desk.specs.Sessions.{HasWholeCards}
 use Rattle.batch_desk.specs.Flows.{Carries}
 use Rattle.batch_desk.proofs.flow.Flow.feed.Given as goal
 
 abbrev pub invariant-loop-byte : goal.invariant-loop-byte
 invariant-loop-byte g l = record {
-  trusted : IsTrusted g.D.Disk.told g.D.Disk.content g.D.Disk.may_leave l.fn.self.session.office.desk → IsTrusted g.D.Disk.told g.D.Disk.content g.D.Disk.may_leave l.self.session.office.desk;
-  goes : IsTrusted g.D.Disk.told g.D.Disk.content g.D.Disk.may_leave l.fn.self.session.office.desk
-      → Goes g.D.Disk.content g.D.Disk.moment g.D.Disk.left_since g.D.Disk.size l.fn.self.session.office.desk l.self.session.office.desk;
-  carries : IsTrusted g.D.Disk.told g.D.Disk.content g.D.Disk.may_leave l.fn.self.session.office.desk
+  trusted : IsTrusted g.D.Disk.told g.D.Disk.content g.D.Disk.may_leave l.fn.self.session.clerk.desk → IsTrusted g.D.Disk.told g.D.Disk.content g.D.Disk.may_leave l.self.session.clerk.desk;
+  goes : IsTrusted g.D.Disk.told g.D.Disk.content g.D.Disk.may_leave l.fn.self.session.clerk.desk
+      → Goes g.D.Disk.content g.D.Disk.moment g.D.Disk.left_since g.D.Disk.size l.fn.self.session.clerk.desk l.self.session.clerk.desk;
+  carries : IsTrusted g.D.Disk.told g.D.Disk.content g.D.Disk.may_leave l.fn.self.session.clerk.desk
       → Carries g.D.Disk.content l.fn.self l.self (take l.byte-index l.piece) (g.K.Sink.written l.fn.sink) (g.K.Sink.written l.sink);
-  is_open : l.self.session.office.desk.store.fault ≡ None;
+  is_open : l.self.session.clerk.desk.store.fault ≡ None;
   few : l.self.session.number + length l.self.partial.items ≤ l.fn.self.session.number + length l.fn.self.partial.items + l.byte-index;
   whole : HasWholeCards l.self.session;
   sink_later : g.K.Sink.faults l.fn.sink ≤ g.K.Sink.faults l.sink;
-  disk_later : g.D.Disk.faults l.fn.self.session.office.desk.store.disk ≤ g.D.Disk.faults l.self.session.office.desk.store.disk;
+  disk_later : g.D.Disk.faults l.fn.self.session.clerk.desk.store.disk ≤ g.D.Disk.faults l.self.session.clerk.desk.store.disk;
 }

@@ -1,28 +1,28 @@
 use Rattle.std.proofs.Common.{◌≡◌, ◌+◌, ◌∙◌, ap, sym, subst, List, ℕ, OnOk, IfErr, ◌++◌}
-use Rattle.ckr_desk.specs.Sound.{state_of}
-use Rattle.ckr_statements.specs.declared.cutter.Line.{Line}
-use Rattle.ckr_statements.specs.Session.{handed_before, handed_alone}
-use Rattle.batch_desk.specs.Serves.{Serves, HaltsSo, seen}
+use Rattle.ckr_desk.specs.Soundness.{state_of}
+use Rattle.ckr_cards.specs.declared.cutter.Line.{Line}
+use Rattle.ckr_cards.specs.Session.{handed_before, handed_alone}
+use Rattle.batch_desk.specs.Service.{Serves, HaltsSo, seen}
 use Rattle.batch_desk.specs.Sessions.{standing_of, cards_left, cards_with}
-use Rattle.batch_desk.proofs.Halting.{serves_on, halts_on, halts_before_on}
+use Rattle.batch_desk.proofs.Service.Halts.{serves_on, halts_on, halts_before_on}
 use Rattle.batch_desk.proofs.Cards.{AreWhole, whole_behind, on_ok}
-use Rattle.batch_desk.proofs.Keeping.{goes_then_by}
+use Rattle.batch_desk.proofs.Calls.Stops.{goes_then_by}
 use Rattle.batch_desk.proofs.session.Session.line.Goals as goal
 
 pub returns-clause-serves : goal.returns-clause-serves
 returns-clause-serves g c holds =
     let s = standing_of c.args.self.now in
-    let both = serves_on c.serve_line.result (seen g.D.Disk.content c.args.self.now.office) (seen g.D.Disk.content c.end_before.new.office) (seen g.D.Disk.content c.serve_line.new.office) _ _ _ _ _
+    let both = serves_on c.serve_line.result (seen g.D.Disk.content c.args.self.now.clerk) (seen g.D.Disk.content c.end_before.new.clerk) (seen g.D.Disk.content c.serve_line.new.clerk) _ _ _ _ _
     (c.in_ok-end_before.ensures.serves holds) (c.serve_line.ensures.serves (c.in_ok-end_before.ensures.trusted holds)) in
-    subst (λ (k : Line). OnOk c.serve_line.result (Serves (seen g.D.Disk.content c.args.self.now.office) (seen g.D.Disk.content c.serve_line.new.office) (handed_before k s.cards ++ handed_alone k s.number c.args.text.now) c.args.out.now c.serve_line.new.out))
+    subst (λ (k : Line). OnOk c.serve_line.result (Serves (seen g.D.Disk.content c.args.self.now.clerk) (seen g.D.Disk.content c.serve_line.new.clerk) (handed_before k s.cards ++ handed_alone k s.number c.args.text.now) c.args.out.now c.serve_line.new.out))
     c.line-kind.ensures.kind both
 
 pub returns-clause-halt : goal.returns-clause-halt
 returns-clause-halt g c holds =
     let s = standing_of c.args.self.now in
-    let both = halts_on c.serve_line.result (seen g.D.Disk.content c.args.self.now.office) (seen g.D.Disk.content c.end_before.new.office) _ _ _ _ _
+    let both = halts_on c.serve_line.result (seen g.D.Disk.content c.args.self.now.clerk) (seen g.D.Disk.content c.end_before.new.clerk) _ _ _ _ _
     (c.in_ok-end_before.ensures.serves holds) (c.serve_line.ensures.halt (c.in_ok-end_before.ensures.trusted holds)) in
-    subst (λ (k : Line). IfErr c.serve_line.result (λ halt. HaltsSo halt (state_of g.D.Disk.content c.args.self.now.office.desk) (handed_before k s.cards ++ handed_alone k s.number c.args.text.now) c.args.out.now c.serve_line.new.out))
+    subst (λ (k : Line). IfErr c.serve_line.result (λ halt. HaltsSo halt (state_of g.D.Disk.content c.args.self.now.clerk.desk) (handed_before k s.cards ++ handed_alone k s.number c.args.text.now) c.args.out.now c.serve_line.new.out))
     c.line-kind.ensures.kind both
 
 pub returns-clause-whole : goal.returns-clause-whole
@@ -39,11 +39,11 @@ returns-clause-whole g c =
 pub returns-in_err-end_before-clause-halt : goal.returns-in_err-end_before-clause-halt
 returns-in_err-end_before-clause-halt g c holds =
     let s = standing_of c.args.self.now in
-    subst (λ (k : Line). IfErr c.from_residual.result (λ halt. HaltsSo halt (state_of g.D.Disk.content c.args.self.now.office.desk) (handed_before k s.cards ++ handed_alone k s.number c.args.text.now) c.args.out.now c.end_before.new.out))
+    subst (λ (k : Line). IfErr c.from_residual.result (λ halt. HaltsSo halt (state_of g.D.Disk.content c.args.self.now.clerk.desk) (handed_before k s.cards ++ handed_alone k s.number c.args.text.now) c.args.out.now c.end_before.new.out))
     c.line-kind.ensures.kind
-    (halts_before_on c.from_residual.result c.in_err-end_before.field-0.0 (state_of g.D.Disk.content c.args.self.now.office.desk) _ _ _ _ c.from_residual.ensures.1 (c.in_err-end_before.ensures.halt holds))
+    (halts_before_on c.from_residual.result c.in_err-end_before.field-0.0 (state_of g.D.Disk.content c.args.self.now.clerk.desk) _ _ _ _ c.from_residual.ensures.1 (c.in_err-end_before.ensures.halt holds))
 
 pub returns-clause-goes : goal.returns-clause-goes
 returns-clause-goes g c holds =
-    goes_then_by g.D.Disk.content g.D.Disk.moment g.D.Disk.left_since g.D.Disk.size c.serve_line.result c.args.self.now.office.desk c.end_before.new.office.desk c.serve_line.new.office.desk
+    goes_then_by g.D.Disk.content g.D.Disk.moment g.D.Disk.left_since g.D.Disk.size c.serve_line.result c.args.self.now.clerk.desk c.end_before.new.clerk.desk c.serve_line.new.clerk.desk
     (c.in_ok-end_before.ensures.goes holds) (c.serve_line.ensures.goes (c.in_ok-end_before.ensures.trusted holds))

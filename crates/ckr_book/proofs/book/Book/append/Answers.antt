@@ -1,5 +1,5 @@
 use Rattle.std.proofs.Common.{◌≡◌, ◌+◌, ◌-◌, List, ℕ, length, ap, sym, ◌∙◌, subst, arith}
-use Rattle.ckr_outside.specs.Within.{within_wider, within_twice}
+use Rattle.ckr_outside.specs.RangeCalls.{within_wider, within_twice}
 use Rattle.ckr_book.specs.Book.{OpenBook, IsOpenOn, records_of}
 use Rattle.ckr_book.proofs.Steps.{staged_since, either_since, the_list, the_gate, now_listed, now_open}
 use Rattle.ckr_book.proofs.book.Book.append.Goals as goal

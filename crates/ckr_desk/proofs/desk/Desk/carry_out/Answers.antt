@@ -1,17 +1,17 @@
 use Rattle.std.proofs.Common.{◌≡◌, ◌≤◌, ◌∙◌, arith, ap, subst, sym, None, IfErr, IfOk, OnOk}
-use Rattle.ckr_jobs.specs.Planning.{IsToldReply}
-use Rattle.ckr_standing.specs.Moving.{event_in}
-use Rattle.ckr_store.specs.State.{IsSound, StoreState}
-use Rattle.ckr_desk.proofs.AskCalled.{if-err, if-err-both, on-ok, on-ok-both}
-use Rattle.ckr_desk.proofs.Before.{as-before, planned-before, same-unchanged, turned-before, turned-not}
-use Rattle.ckr_desk.proofs.Going.{go-after, go-cause, go-fits, go-kept, go-may-fail, go-of-disk, go-reply, go-trusted, go-unready, if-ok, of-disk-stays, ready-if, rests-so, unready-stays}
-use Rattle.ckr_desk.proofs.Left.{now-left, opens-so, same-left}
-use Rattle.ckr_desk.proofs.Looked.{err-is}
-use Rattle.ckr_desk.specs.Calling.{MayFail}
-use Rattle.ckr_desk.specs.Rewriting.{OpensSame}
-use Rattle.ckr_desk.specs.State.{DeskState}
-use Rattle.ckr_desk.specs.Staying.{StaysBy}
-use Rattle.ckr_desk.specs.Working.{HasTurned}
+use Rattle.ckr_desk_memory.specs.Plans.{IsToldReply}
+use Rattle.ckr_desk_refines.specs.Moves.{event_in}
+use Rattle.ckr_desk_store.specs.State.{IsSound, StoreView}
+use Rattle.ckr_desk.proofs.Calls.Requests.{if-err, if-err-both, on-ok, on-ok-both}
+use Rattle.ckr_desk.proofs.Turns.Preparation.{as-before, planned-before, same-unchanged, turned-before, turned-not}
+use Rattle.ckr_desk.proofs.Turns.Plans.{go-after, go-cause, go-fits, go-kept, go-may-fail, go-of-disk, go-reply, go-trusted, go-unready, if-ok, of-disk-stays, ready-if, rests-so, unready-stays}
+use Rattle.ckr_desk.proofs.Calls.Stops.{now-left, opens-so, same-left}
+use Rattle.ckr_desk.proofs.Units.Preparation.{err-is}
+use Rattle.ckr_desk.specs.Requests.{MayFail}
+use Rattle.ckr_desk.specs.Rewrite.{OpensSame}
+use Rattle.ckr_desk.specs.State.{DeskView}
+use Rattle.ckr_desk.specs.NoChange.{StaysBy}
+use Rattle.ckr_desk.specs.Units.{HasTurned}
 use Rattle.ckr_desk.proofs.desk.Desk.carry_out.Goals as goal
 
 pub go_on-requires-clause-ready : goal.go_on-requires-clause-ready
@@ -27,9 +27,9 @@ returns-in_err-ready-in_default g c =
     let rests = rests-so plan c.in_default.not-Work in
     let store = c.ready_for.ensures.store in
     let before = as-before d.content d.may_leave now mid d.told (same-unchanged d.content d.may_leave now mid c.ready_for.ensures.jobs store) in
-    let sized = ap (λ (s : StoreState g.row.D.Denot). d.size s.disk) store in
+    let sized = ap (λ (s : StoreView g.row.D.Denot). d.size s.disk) store in
     let laws = g.met.D.Disk g.world.𝓛 g.world.𝓜 g.world.𝓡 ((λ s x. x), (λ x. x), (λ x. x), λ x. x) in
-    let sound = subst (λ (s : DeskState g.row.D.Denot). IsSound d.content d.may_leave d.size s.store) c.self.view_is c.layout-layout.ensures.sound in
+    let sound = subst (λ (s : DeskView g.row.D.Denot). IsSound d.content d.may_leave d.size s.store) c.self.view_is c.layout-layout.ensures.sound in
     let since = same-left d.moment d.left_since now.store mid.store (λ image. OpensSame d.content d.size now image × d.may_leave now.store.disk image) store
     (now-left d.told d.content d.may_leave d.moment d.left_since d.size now sound c.requires.is_open (laws.only_now now.store.disk)) in
     let error = c.in_err-ready-in_default.field-0.0 in
@@ -43,9 +43,9 @@ returns-in_err-ready-in_default g c =
           (go-unready d.told d.content d.may_leave d.moment d.left_since d.size d.faults now p.trusted turn p.its plan mid error p.planned shape rests cause));
       spelled = subst (λ r. IfOk r IsToldReply) (sym is) tt;
       is_open = subst (λ r. OnOk r (mid.store.fault ≡ None)) (sym is) tt;
-      layout = ap (λ (s : StoreState g.row.D.Denot). s.layout) store;
+      layout = ap (λ (s : StoreView g.row.D.Denot). s.layout) store;
       size = sized;
-      faults = subst (λ (s : StoreState g.row.D.Denot). d.faults now.store.disk ≤ d.faults s.disk) (sym store) (omega arith);
+      faults = subst (λ (s : StoreView g.row.D.Denot). d.faults now.store.disk ≤ d.faults s.disk) (sym store) (omega arith);
       may_fail = subst (λ r. IfErr r (MayFail (d.faults now.store.disk) (d.faults mid.store.disk) now.store.fault)) (sym is) stays.1;
       stays = subst (λ r. IfErr r (StaysBy d.content d.may_leave d.faults now mid)) (sym is) stays.0;
     }
@@ -60,16 +60,16 @@ returns-in_ok-ready-in_default g c =
     let rests = rests-so plan c.in_default.not-Work in
     let store = c.ready_for.ensures.store in
     let before = as-before d.content d.may_leave now mid d.told (same-unchanged d.content d.may_leave now mid c.ready_for.ensures.jobs store) in
-    let sized = ap (λ (s : StoreState g.row.D.Denot). d.size s.disk) store in
+    let sized = ap (λ (s : StoreView g.row.D.Denot). d.size s.disk) store in
     let laws = g.met.D.Disk g.world.𝓛 g.world.𝓜 g.world.𝓡 ((λ s x. x), (λ x. x), (λ x. x), λ x. x) in
-    let sound = subst (λ (s : DeskState g.row.D.Denot). IsSound d.content d.may_leave d.size s.store) c.self.view_is c.layout-layout.ensures.sound in
+    let sound = subst (λ (s : DeskView g.row.D.Denot). IsSound d.content d.may_leave d.size s.store) c.self.view_is c.layout-layout.ensures.sound in
     let since = same-left d.moment d.left_since now.store mid.store (λ image. OpensSame d.content d.size now image × d.may_leave now.store.disk image) store
     (now-left d.told d.content d.may_leave d.moment d.left_since d.size now sound c.requires.is_open (laws.only_now now.store.disk)) in
     let new = c.go_on.new.self in
     let ready = c.in_ok-ready-in_default.ready in
     let made = c.in_ok-ready-in_default.ensures.ready in
-    let sound_then = subst (λ (s : StoreState g.row.D.Denot). IsSound d.content d.may_leave d.size s) (sym store) sound in
-    let opens = opens-so d.told d.content d.may_leave d.moment d.left_since d.size mid sound_then (ap (λ (s : StoreState g.row.D.Denot). s.fault) store ∙ c.requires.is_open) in
+    let sound_then = subst (λ (s : StoreView g.row.D.Denot). IsSound d.content d.may_leave d.size s) (sym store) sound in
+    let opens = opens-so d.told d.content d.may_leave d.moment d.left_since d.size mid sound_then (ap (λ (s : StoreView g.row.D.Denot). s.fault) store ∙ c.requires.is_open) in
     record {
       turned = λ turn p.
           let q = planned-before d.told d.content d.may_leave d.moment d.left_since d.size now mid before sized since turn plan p in
@@ -84,10 +84,10 @@ returns-in_ok-ready-in_default g c =
           });
       spelled = c.go_on.ensures.spelled;
       is_open = c.go_on.ensures.is_open;
-      layout = c.go_on.ensures.layout ∙ ap (λ (s : StoreState g.row.D.Denot). s.layout) store;
+      layout = c.go_on.ensures.layout ∙ ap (λ (s : StoreView g.row.D.Denot). s.layout) store;
       size = c.go_on.ensures.size ∙ sized;
-      faults = subst (λ (s : StoreState g.row.D.Denot). d.faults s.disk ≤ d.faults new.store.disk) store c.go_on.ensures.faults;
-      may_fail = subst (λ (s : StoreState g.row.D.Denot). IfErr c.go_on.result (MayFail (d.faults s.disk) (d.faults new.store.disk) s.fault)) store
+      faults = subst (λ (s : StoreView g.row.D.Denot). d.faults s.disk ≤ d.faults new.store.disk) store c.go_on.ensures.faults;
+      may_fail = subst (λ (s : StoreView g.row.D.Denot). IfErr c.go_on.result (MayFail (d.faults s.disk) (d.faults new.store.disk) s.fault)) store
           (if-err (go-may-fail d.faults mid new plan ready) c.go_on.result c.go_on.ensures.cause);
       stays = if-err-both (λ error not halted. of-disk-stays d.content d.may_leave d.faults now new error (go-of-disk d.faults mid new plan ready error not) halted) c.go_on.result c.go_on.ensures.cause c.go_on.ensures.halted;
     }

@@ -1,16 +1,16 @@
 use Rattle.std.proofs.Common.{◌∷◌, ap, inr, sym, subst, ◌∙◌}
 use Rattle.std.specs.Option.{option_map}
-use Rattle.ckr_jobs.specs.Holding.{AreJobs}
-use Rattle.ckr_jobs.specs.Inside.{step_seen}
-use Rattle.ckr_jobs.specs.Planning.{told_by}
-use Rattle.ckr_jobs.specs.Seen.{running_of}
+use Rattle.ckr_desk_memory.specs.Invariant.{AreJobs}
+use Rattle.ckr_desk_memory.specs.Parts.{step_seen}
+use Rattle.ckr_desk_memory.specs.Plans.{told_by}
+use Rattle.ckr_desk_memory.specs.View.{running_of}
 use Rattle.ckr_outside.specs.Moments.{both_since, in_other_words}
 use Rattle.ckr_points.specs.Rows.{run_of}
-use Rattle.ckr_steps.specs.Writing.{StemsKeeping}
+use Rattle.ckr_steps.specs.Writes.{StemsKeeping}
 use Rattle.ckr_volumes.specs.declared.layout.Layout.{Layout}
-use Rattle.ckr_desk.specs.State.{DeskState}
-use Rattle.ckr_desk.specs.Rewriting.{OpensSame}
-use Rattle.ckr_desk.specs.Working.{IsLeftByUnit}
+use Rattle.ckr_desk.specs.State.{DeskView}
+use Rattle.ckr_desk.specs.Rewrite.{OpensSame}
+use Rattle.ckr_desk.specs.Units.{IsLeftByUnit}
 use Rattle.ckr_desk.proofs.desk.Desk.done_unit.Goals as goal
 
 pub invariant_of-self : goal.invariant_of-self
@@ -26,7 +26,7 @@ invariant_of-self-in_err-worked g c =
 pub returns-in_err-worked-clause-left : goal.returns-in_err-worked-clause-left
 returns-in_err-worked-clause-left g c =
     let d = g.D.Disk in
-    let old : DeskState g.row.D.Denot = record { store = c.self.inside.store; jobs = c.self.inside.jobs } in
+    let old : DeskView g.row.D.Denot = record { store = c.self.inside.store; jobs = c.self.inside.jobs } in
     let on = step_seen c.in-Some.on in
     rw (← c.self.view_is)
     (in_other_words d.moment d.left_since old.store.disk c.unit.new.store.disk
@@ -68,7 +68,7 @@ returns-clause-done g c =
 pub returns-clause-left : goal.returns-clause-left
 returns-clause-left g c =
     let d = g.D.Disk in
-    let old : DeskState g.row.D.Denot = record { store = c.self.inside.store; jobs = c.self.inside.jobs } in
+    let old : DeskView g.row.D.Denot = record { store = c.self.inside.store; jobs = c.self.inside.jobs } in
     let on = step_seen c.in-Some.on in
     rw (← c.self.view_is)
     (in_other_words d.moment d.left_since old.store.disk c.unit.new.store.disk

@@ -1,15 +1,15 @@
 use Rattle.std.proofs.Common.{ap, refl, subst, ◌∙◌}
+use Rattle.std.proofs.lemmas.Bool.{and_from}
 use Rattle.ckr_book.specs.Book.{IsBeforeOrAfter}
-use Rattle.ckr_dispositions.proofs.Colliding.{both}
-use Rattle.ckr_following.proofs.Counted.{counted-may}
-use Rattle.ckr_following.specs.Counting.{may_count}
+use Rattle.ckr_desk_memory.proofs.RewriteCounts.{counted-may}
+use Rattle.ckr_desk_memory.specs.Model.RewriteCounts.{may_count}
 use Rattle.ckr_outside.specs.Disk.{EachSince, SameOutside}
-use Rattle.ckr_store.specs.Opens.{Opens, event_records}
+use Rattle.ckr_desk_store.specs.OpenImages.{Opens, event_records}
 use Rattle.ckr_volumes.specs.declared.layout.Layout.{Layout}
 use Rattle.ckr_volumes.specs.Records.{records_on}
-use Rattle.ckr_desk.proofs.Behind.{records-stay}
-use Rattle.ckr_desk.proofs.Kept.{append-layout, failed-layout, jobs-stay}
-use Rattle.ckr_desk.proofs.Left.{appended-store}
+use Rattle.ckr_desk.proofs.Images.Records.{records-stay}
+use Rattle.ckr_desk.proofs.Layouts.{append-layout, failed-layout, jobs-stay}
+use Rattle.ckr_desk.proofs.Calls.Stops.{appended-store}
 use Rattle.ckr_desk.specs.Calls.{may_follow}
 use Rattle.ckr_desk.proofs.desk.Desk.enter.Goals as goal
 
@@ -38,7 +38,7 @@ returns-in_err-append-clause-left g c =
     let mid = c.sync.new.self in
     rw (← c.self.view_is)
     (appended-store d.told d.content d.may_leave d.moment d.left_since d.size c.args.event.now c.args.deck (record { store = old.store; jobs = old.jobs }) mid c.append.new.self
-    c.in_ok-sync.ensures.kept (both _ _ follows counts) c.layout-layout.ensures.sound.laid
+    c.in_ok-sync.ensures.kept (and_from _ _ follows counts) c.layout-layout.ensures.sound.laid
     (c.sync.ensures.any_moment is_open) c.sync.ensures.only_reads c.sync.ensures.size c.in_ok-sync.ensures.settled
     (subst (λ bytes. EachSince d.moment d.left_since mid.disk c.append.new.self.disk (Opens mid.layout (d.size mid.disk) (IsBeforeOrAfter (event_records mid.layout (d.content mid.disk)) bytes))) (c.deref.ensures.value ∙ c.requires.ready.spelled)
     (c.append.ensures.any_moment (ap (λ s. s.fault) c.in_ok-sync.ensures.kept ∙ is_open))) c.append.ensures.changes)
@@ -53,7 +53,7 @@ returns-clause-left g c =
     let mid = c.sync.new.self in
     rw (← c.self.view_is)
     (appended-store d.told d.content d.may_leave d.moment d.left_since d.size c.args.event.now c.args.deck (record { store = old.store; jobs = old.jobs }) mid c.append.new.self
-    c.in_ok-sync.ensures.kept (both _ _ follows counts) c.layout-layout.ensures.sound.laid
+    c.in_ok-sync.ensures.kept (and_from _ _ follows counts) c.layout-layout.ensures.sound.laid
     (c.sync.ensures.any_moment is_open) c.sync.ensures.only_reads c.sync.ensures.size c.in_ok-sync.ensures.settled
     (subst (λ bytes. EachSince d.moment d.left_since mid.disk c.append.new.self.disk (Opens mid.layout (d.size mid.disk) (IsBeforeOrAfter (event_records mid.layout (d.content mid.disk)) bytes))) (c.deref.ensures.value ∙ c.requires.ready.spelled)
     (c.append.ensures.any_moment (ap (λ s. s.fault) c.in_ok-sync.ensures.kept ∙ is_open))) c.append.ensures.changes)

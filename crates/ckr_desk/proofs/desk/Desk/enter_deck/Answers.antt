@@ -1,10 +1,10 @@
 use Rattle.std.proofs.Common.{sym, subst, arith, Some}
-use Rattle.ckr_jobs.specs.Holding.{IsAnyAccepted}
+use Rattle.ckr_desk_memory.specs.Invariant.{IsAnyAccepted}
 use Rattle.ckr_events.specs.declared.event.Event.TheVariants.{Submitted}
-use Rattle.ckr_store.specs.State.{IsSound}
-use Rattle.ckr_submitting.specs.Cards.{kept_of_stored}
-use Rattle.ckr_desk.proofs.Few.{accepted-row, few-accepted}
-use Rattle.ckr_desk.proofs.Left.{nothing-left}
+use Rattle.ckr_desk_store.specs.State.{IsSound}
+use Rattle.ckr_points_decks.specs.Cards.{kept_of_stored}
+use Rattle.ckr_desk.proofs.Calls.CardCounts.{accepted-row, few-accepted}
+use Rattle.ckr_desk.proofs.Calls.Stops.{nothing-left}
 use Rattle.ckr_desk.proofs.desk.Desk.enter_deck.Goals as goal
 
 pub tell-requires-clause-small : goal.tell-requires-clause-small

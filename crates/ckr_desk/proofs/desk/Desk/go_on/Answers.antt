@@ -1,4 +1,4 @@
-use Rattle.ckr_desk.proofs.LeftBehind.{rewritten-left, told-left}
+use Rattle.ckr_desk.proofs.Turns.Stops.{rewritten-left, told-left}
 use Rattle.ckr_desk.proofs.desk.Desk.go_on.Goals as goal
 
 pub returns-in_err-tell_ready-in-Tell-clause-left : goal.returns-in_err-tell_ready-in-Tell-clause-left

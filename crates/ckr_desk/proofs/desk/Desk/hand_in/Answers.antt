@@ -1,12 +1,12 @@
 use Rattle.std.proofs.Common.{◌≡◌, ◌∙◌, ap, subst, sym, refl, IfErr, IfOk, OnOk, None}
 use Rattle.ckr_outside.specs.Disk.{EachSince}
-use Rattle.ckr_store.specs.Opens.{event_records}
-use Rattle.ckr_store.specs.State.{IsSound}
-use Rattle.ckr_submitting.specs.declared.submission.Submission.{Submission}
-use Rattle.ckr_desk.proofs.AskLeft.{call-left, on-ok-now}
-use Rattle.ckr_desk.specs.Calling.{event_in}
+use Rattle.ckr_desk_store.specs.OpenImages.{event_records}
+use Rattle.ckr_desk_store.specs.State.{IsSound}
+use Rattle.ckr_points_decks.specs.declared.submit.Submission.{Submission}
+use Rattle.ckr_desk.proofs.Calls.RequestStops.{call-left, on-ok-now}
+use Rattle.ckr_desk.specs.Requests.{event_in}
 use Rattle.ckr_desk.specs.Calls.{HasDone, IsLeftByCall, IsSettledBehind, NotDone, with_event}
-use Rattle.ckr_desk.specs.Submitting.{answer_to, call_by, submit_answer, submit_call}
+use Rattle.ckr_desk.specs.Submit.{answer_to, call_by, submit_answer, submit_call}
 use Rattle.ckr_desk.proofs.desk.Desk.hand_in.Goals as goal
 
 pub returns-in-Refused-clause-answer : goal.returns-in-Refused-clause-answer

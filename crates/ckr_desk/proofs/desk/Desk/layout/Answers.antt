@@ -1,6 +1,6 @@
 use Rattle.std.proofs.Common.{subst}
-use Rattle.ckr_store.specs.State.{IsSound}
-use Rattle.ckr_desk.proofs.AskCalled.{none-kept}
+use Rattle.ckr_desk_store.specs.State.{IsSound}
+use Rattle.ckr_desk.proofs.Calls.Requests.{none-kept}
 use Rattle.ckr_desk.proofs.desk.Desk.layout.Goals as goal
 
 pub returns-clause-kept : goal.returns-clause-kept

@@ -1,14 +1,14 @@
 use Rattle.std.proofs.Common.{ap, refl, sym, ◌∙◌}
-use Rattle.ckr_jobs.specs.Inside.{step_seen}
-use Rattle.ckr_jobs.specs.Planning.{told_by}
-use Rattle.ckr_jobs.specs.Seen.{running_of}
-use Rattle.ckr_store.specs.State.{StoreState}
+use Rattle.ckr_desk_memory.specs.Parts.{step_seen}
+use Rattle.ckr_desk_memory.specs.Plans.{told_by}
+use Rattle.ckr_desk_memory.specs.View.{running_of}
+use Rattle.ckr_desk_store.specs.State.{StoreView}
 use Rattle.ckr_volumes.specs.declared.layout.Layout.{Layout}
-use Rattle.ckr_desk.proofs.AskCalled.{if-err}
-use Rattle.ckr_desk.proofs.Codes.{so-coded}
-use Rattle.ckr_desk.proofs.Going.{if-ok}
-use Rattle.ckr_desk.proofs.Looked.{has-foretold, not-foretold}
-use Rattle.ckr_desk.specs.State.{DeskState}
+use Rattle.ckr_desk.proofs.Calls.Requests.{if-err}
+use Rattle.ckr_desk.proofs.Units.Codes.{so-coded}
+use Rattle.ckr_desk.proofs.Turns.Plans.{if-ok}
+use Rattle.ckr_desk.proofs.Units.Preparation.{has-foretold, not-foretold}
+use Rattle.ckr_desk.specs.State.{DeskView}
 use Rattle.ckr_desk.proofs.desk.Desk.look.Goals as goal
 
 pub ahead-requires-clause-counted : goal.ahead-requires-clause-counted
@@ -27,8 +27,8 @@ told-plan-requires-clause-code g c =
 pub returns-clause-foretold : goal.returns-clause-foretold
 returns-clause-foretold g c =
     let d = g.D.Disk in
-    let old : DeskState g.row.D.Denot = record { store = c.self.inside.store; jobs = c.self.inside.jobs } in
-    let mid : DeskState g.row.D.Denot = record { store = c.ahead.new.self; jobs = c.self.inside.jobs } in
+    let old : DeskView g.row.D.Denot = record { store = c.self.inside.store; jobs = c.self.inside.jobs } in
+    let mid : DeskView g.row.D.Denot = record { store = c.ahead.new.self; jobs = c.self.inside.jobs } in
     let on = step_seen c.in-Some.on.now in
     let kept = c.in_ok-worked.ensures.kept in
     if-ok
@@ -37,14 +37,14 @@ returns-clause-foretold g c =
     (sym c.in-Some.ensures.step) (c.in-Some.ensures.runnable c.self.inside.store.layout c.self.invariant).there c.in_ok-worked.ensures.looked
     (λ row own at within.
     c.told-plan.ensures.plan row own at within
-    ∙ ap (λ (l : Layout). told_by l row (running_of c.self.inside.jobs.tables.desk on) c.in_ok-worked.worked) (c.layout.ensures.layout ∙ ap (λ (s : StoreState g.row.D.Denot). s.layout) kept)))
+    ∙ ap (λ (l : Layout). told_by l row (running_of c.self.inside.jobs.tables.desk on) c.in_ok-worked.worked) (c.layout.ensures.layout ∙ ap (λ (s : StoreView g.row.D.Denot). s.layout) kept)))
     c.foretell.result c.foretell.ensures.foretold
 
 pub returns-clause-cause : goal.returns-clause-cause
 returns-clause-cause g c =
     let d = g.D.Disk in
-    let old : DeskState g.row.D.Denot = record { store = c.self.inside.store; jobs = c.self.inside.jobs } in
-    let mid : DeskState g.row.D.Denot = record { store = c.ahead.new.self; jobs = c.self.inside.jobs } in
+    let old : DeskView g.row.D.Denot = record { store = c.self.inside.store; jobs = c.self.inside.jobs } in
+    let mid : DeskView g.row.D.Denot = record { store = c.ahead.new.self; jobs = c.self.inside.jobs } in
     let on = step_seen c.in-Some.on.now in
     let kept = c.in_ok-worked.ensures.kept in
     rw (← c.self.view_is)
@@ -54,5 +54,5 @@ returns-clause-cause g c =
     (sym c.in-Some.ensures.step) (c.in-Some.ensures.runnable c.self.inside.store.layout c.self.invariant).there c.in_ok-worked.ensures.looked
     (λ row own at within.
     c.told-plan.ensures.plan row own at within
-    ∙ ap (λ (l : Layout). told_by l row (running_of c.self.inside.jobs.tables.desk on) c.in_ok-worked.worked) (c.layout.ensures.layout ∙ ap (λ (s : StoreState g.row.D.Denot). s.layout) kept)))
+    ∙ ap (λ (l : Layout). told_by l row (running_of c.self.inside.jobs.tables.desk on) c.in_ok-worked.worked) (c.layout.ensures.layout ∙ ap (λ (s : StoreView g.row.D.Denot). s.layout) kept)))
     c.foretell.result c.foretell.ensures.cause)

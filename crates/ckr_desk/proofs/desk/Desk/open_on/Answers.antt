@@ -1,11 +1,11 @@
 use Rattle.std.proofs.Common.{subst, sym}
 use Rattle.ckr_outside.specs.Disk.{EachSince}
 use Rattle.ckr_outside.specs.Faults.{Rose}
-use Rattle.ckr_store.specs.State.{IsSound}
-use Rattle.ckr_desk.proofs.OpenTrusted.{IsOpened, IsRead, WritesAgain, desk-cause, kept-opening, opened-by, opens-again, opens-desk, trusted-opened}
-use Rattle.ckr_desk.proofs.Replays.{handed_on}
-use Rattle.ckr_desk.specs.Sound.{IsSafe}
-use Rattle.ckr_desk.specs.State.{DeskState}
+use Rattle.ckr_desk_store.specs.State.{IsSound}
+use Rattle.ckr_desk.proofs.Openings.Trust.{IsOpened, IsRead, WritesAgain, desk-cause, kept-opening, opened-by, opens-again, opens-desk, trusted-opened}
+use Rattle.ckr_desk.proofs.Openings.Replay.{handed_on}
+use Rattle.ckr_desk.specs.Soundness.{IsSafe}
+use Rattle.ckr_desk.specs.State.{DeskView}
 use Rattle.ckr_desk.proofs.desk.Desk.open_on.Goals as goal
 
 pub returns-in_err-desk-clause-cause : goal.returns-in_err-desk-clause-cause
@@ -39,7 +39,7 @@ returns-in-Ok-clause-opened g c all =
     }
     in
     let is : IsOpened d.told d.content d.may_leave d.size c.args.disk c.write_again.new.self there.last =
-    opened-by d.told d.content d.may_leave d.size c.args.disk there.desk c.write_again.new.self there.last read wrote (subst (λ (s : DeskState _). IsSound d.content d.may_leave d.size s.store) c.desk.view_is c.layout-layout.ensures.sound)
+    opened-by d.told d.content d.may_leave d.size c.args.disk there.desk c.write_again.new.self there.last read wrote (subst (λ (s : DeskView _). IsSound d.content d.may_leave d.size s.store) c.desk.view_is c.layout-layout.ensures.sound)
     in
     opens-desk d.told d.content d.may_leave d.size c.args.disk c.write_again.new.self there.last all.tells
     (all.sound (d.content c.args.disk) (laws.reads_an_image c.args.disk all.tells)) is (laws.reads_an_image c.write_again.new.self.store.disk all.tells)
@@ -69,7 +69,7 @@ returns-in-Ok-clause-trusted g c all =
     }
     in
     let is : IsOpened d.told d.content d.may_leave d.size c.args.disk c.write_again.new.self there.last =
-    opened-by d.told d.content d.may_leave d.size c.args.disk there.desk c.write_again.new.self there.last read wrote (subst (λ (s : DeskState _). IsSound d.content d.may_leave d.size s.store) c.desk.view_is c.layout-layout.ensures.sound)
+    opened-by d.told d.content d.may_leave d.size c.args.disk there.desk c.write_again.new.self there.last read wrote (subst (λ (s : DeskView _). IsSound d.content d.may_leave d.size s.store) c.desk.view_is c.layout-layout.ensures.sound)
     in
     trusted-opened d.told d.content d.may_leave d.size c.args.disk c.write_again.new.self there.last all.tells
     (all.sound (d.content c.args.disk) (laws.reads_an_image c.args.disk all.tells)) is (laws.reads_an_image c.write_again.new.self.store.disk all.tells)
@@ -99,7 +99,7 @@ returns-in-Ok-clause-events g c all =
     }
     in
     let is : IsOpened d.told d.content d.may_leave d.size c.args.disk c.write_again.new.self there.last =
-    opened-by d.told d.content d.may_leave d.size c.args.disk there.desk c.write_again.new.self there.last read wrote (subst (λ (s : DeskState _). IsSound d.content d.may_leave d.size s.store) c.desk.view_is c.layout-layout.ensures.sound)
+    opened-by d.told d.content d.may_leave d.size c.args.disk there.desk c.write_again.new.self there.last read wrote (subst (λ (s : DeskView _). IsSound d.content d.may_leave d.size s.store) c.desk.view_is c.layout-layout.ensures.sound)
     in
     opens-again d.told d.content d.may_leave d.size c.args.disk c.write_again.new.self there.last all.tells
     (all.sound (d.content c.args.disk) (laws.reads_an_image c.args.disk all.tells)) is (laws.reads_an_image c.write_again.new.self.store.disk all.tells)

@@ -2,11 +2,11 @@ use Rattle.std.proofs.Common.{Some, ap, subst, sym, ◌∙◌}
 use Rattle.std.specs.Option.{option_copied, option_map}
 use Rattle.ckr_library.specs.declared.sets.DataSet.{DataSet}
 use Rattle.ckr_outside.specs.Disk.{EachSince}
-use Rattle.ckr_store.specs.State.{IsSound}
+use Rattle.ckr_desk_store.specs.State.{IsSound}
 use Rattle.ckr_volumes.specs.Records.{records_on}
-use Rattle.ckr_desk.proofs.AskCalled.{none-kept, reading-kept}
-use Rattle.ckr_desk.proofs.AskRecords.{free-stands, of-desk, reading-fails-by, reading-may-fail, reading-stays, state-read, trusted-read}
-use Rattle.ckr_desk.proofs.Replays.{handed_on}
+use Rattle.ckr_desk.proofs.Calls.Requests.{none-kept, reading-kept}
+use Rattle.ckr_desk.proofs.Calls.Records.{free-stands, of-desk, reading-fails-by, reading-may-fail, reading-stays, state-read, trusted-read}
+use Rattle.ckr_desk.proofs.Openings.Replay.{handed_on}
 use Rattle.ckr_desk.proofs.desk.Desk.records.Goals as goal
 
 pub read_all-requires-clause-stands : goal.read_all-requires-clause-stands

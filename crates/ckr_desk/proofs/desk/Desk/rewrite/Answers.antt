@@ -1,6 +1,6 @@
 use Rattle.std.proofs.Common.{length, ap, sym, subst, ◌∙◌, inl, inr}
-use Rattle.ckr_desk.proofs.Written.{cannot-write, differs-so, lacks-most, no-fit, none-there, set-stands, syncing-left, writing-left, written-by}
-use Rattle.ckr_standing.specs.Moving.{IsWritten}
+use Rattle.ckr_desk.proofs.Images.Rewrite.{cannot-write, differs-so, lacks-most, no-fit, none-there, set-stands, syncing-left, writing-left, written-by}
+use Rattle.ckr_desk_refines.specs.Moves.{IsWritten}
 use Rattle.ckr_desk.proofs.desk.Desk.rewrite.Goals as goal
 use Rattle.ckr_desk.proofs.desk.Desk.rewrite.Goals.{then-place-set-via-then-place-set, then-place-set-via-else-place-set+then-bytes-from}
 

@@ -1,6 +1,6 @@
 use Rattle.std.proofs.Common.{subst, sym}
-use Rattle.ckr_standing.specs.Standing.{Stands}
-use Rattle.ckr_desk.specs.Sound.{state_of}
+use Rattle.ckr_desk_refines.specs.Standing.{StandsForDesk}
+use Rattle.ckr_desk.specs.Soundness.{state_of}
 use Rattle.ckr_desk.proofs.desk.Desk.set_at.Goals as goal
 
 pub returns : goal.returns
@@ -8,4 +8,4 @@ returns g c trusted =
     let d = g.D.Disk in
     let now = c.args.self.now in
     c.set_at.ensures now.store.layout (d.content now.store.disk) (state_of d.content now).desk
-    (subst (λ s. Stands now.store.layout s.jobs (d.content now.store.disk) (state_of d.content now).desk) (sym c.self.view_is) trusted.stands)
+    (subst (λ s. StandsForDesk now.store.layout s.jobs (d.content now.store.disk) (state_of d.content now).desk) (sym c.self.view_is) trusted.stands)

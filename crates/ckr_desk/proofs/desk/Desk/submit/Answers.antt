@@ -1,7 +1,7 @@
 use Rattle.std.proofs.Common.{subst}
-use Rattle.ckr_store.specs.State.{IsSound}
-use Rattle.ckr_desk.proofs.AskCalled.{call-cause, call-fits, call-kept, call-may-fail, call-open, call-state, call-stays, call-trusted, if-err, on-ok, on-ok-all, on-ok-both, submit-called}
-use Rattle.ckr_desk.specs.Submitting.{submit_call}
+use Rattle.ckr_desk_store.specs.State.{IsSound}
+use Rattle.ckr_desk.proofs.Calls.Requests.{call-cause, call-fits, call-kept, call-may-fail, call-open, call-state, call-stays, call-trusted, if-err, on-ok, on-ok-all, on-ok-both, submit-called}
+use Rattle.ckr_desk.specs.Submit.{submit_call}
 use Rattle.ckr_desk.proofs.desk.Desk.submit.Goals as goal
 
 pub returns-clause-fits : goal.returns-clause-fits

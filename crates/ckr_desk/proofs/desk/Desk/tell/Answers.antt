@@ -1,12 +1,12 @@
 use Rattle.std.proofs.Common.{◌≡◌, ◌++◌, ◌∷◌, [], subst, OnOk}
 use Rattle.ckr_events.specs.Event.{spelling}
 use Rattle.ckr_outside.specs.Disk.{EachSince}
-use Rattle.ckr_standing.specs.Moving.{HasSameRecords}
-use Rattle.ckr_store.specs.Opens.{event_records}
-use Rattle.ckr_store.specs.State.{IsSound, StoreState}
-use Rattle.ckr_desk.proofs.AskCalled.{if-err, on-ok}
-use Rattle.ckr_desk.proofs.Left.{nothing-left, prepared-cause, prepared-gone, prepared-left, same-left, unready-cause}
-use Rattle.ckr_desk.proofs.Replays.{handed_on}
+use Rattle.ckr_desk_refines.specs.Moves.{HasSameRecords}
+use Rattle.ckr_desk_store.specs.OpenImages.{event_records}
+use Rattle.ckr_desk_store.specs.State.{IsSound, StoreView}
+use Rattle.ckr_desk.proofs.Calls.Requests.{if-err, on-ok}
+use Rattle.ckr_desk.proofs.Calls.Stops.{nothing-left, prepared-cause, prepared-gone, prepared-left, same-left, unready-cause}
+use Rattle.ckr_desk.proofs.Openings.Replay.{handed_on}
 use Rattle.ckr_desk.specs.Calls.{HasGoneOn, IsLeftBy, NotEntered}
 use Rattle.ckr_desk.proofs.desk.Desk.tell.Goals as goal
 
@@ -42,21 +42,21 @@ returns-clause-ok g c =
     on-ok
     (λ gone.
     prepared-gone c.args.event.now c.args.deck now.store now.jobs mid.jobs same.tables same.running same.failed new
-    (subst (λ (s : StoreState g.row.D.Denot). HasGoneOn c.args.event.now c.args.deck (record { store = s; jobs = mid.jobs }) new) c.make_ready.ensures.store gone))
+    (subst (λ (s : StoreView g.row.D.Denot). HasGoneOn c.args.event.now c.args.deck (record { store = s; jobs = mid.jobs }) new) c.make_ready.ensures.store gone))
     c.tell_ready.result c.tell_ready.ensures.ok
 
 pub returns-clause-told : goal.returns-clause-told
 returns-clause-told g c told =
     let d = g.D.Disk in
     let new = c.tell_ready.new.self in
-    subst (λ (s : StoreState g.row.D.Denot). OnOk c.tell_ready.result (event_records s.layout (d.content new.store.disk) ≡ event_records s.layout (d.content s.disk) ++ spelling c.args.event.now ∷ [])) c.make_ready.ensures.store
+    subst (λ (s : StoreView g.row.D.Denot). OnOk c.tell_ready.result (event_records s.layout (d.content new.store.disk) ≡ event_records s.layout (d.content s.disk) ++ spelling c.args.event.now ∷ [])) c.make_ready.ensures.store
     (c.tell_ready.ensures.told told)
 
 pub returns-clause-records : goal.returns-clause-records
 returns-clause-records g c told =
     let d = g.D.Disk in
     let new = c.tell_ready.new.self in
-    subst (λ (s : StoreState g.row.D.Denot). OnOk c.tell_ready.result (HasSameRecords s.layout (d.content s.disk) (d.content new.store.disk))) c.make_ready.ensures.store
+    subst (λ (s : StoreView g.row.D.Denot). OnOk c.tell_ready.result (HasSameRecords s.layout (d.content s.disk) (d.content new.store.disk))) c.make_ready.ensures.store
     (c.tell_ready.ensures.records told)
 
 pub returns-clause-left : goal.returns-clause-left
@@ -66,7 +66,7 @@ returns-clause-left g c is_open =
     let mid = c.make_ready.new.self in
     let new = c.tell_ready.new.self in
     prepared-left c.args.event.now c.args.deck now.store now.jobs mid.jobs c.make_ready.ensures.jobs.tables d.content d.may_leave d.moment d.left_since d.size new.store.disk
-    (subst (λ (s : StoreState g.row.D.Denot). EachSince d.moment d.left_since s.disk new.store.disk (IsLeftBy d.content d.may_leave d.size c.args.event.now c.args.deck (record { store = s; jobs = mid.jobs }))) c.make_ready.ensures.store
+    (subst (λ (s : StoreView g.row.D.Denot). EachSince d.moment d.left_since s.disk new.store.disk (IsLeftBy d.content d.may_leave d.size c.args.event.now c.args.deck (record { store = s; jobs = mid.jobs }))) c.make_ready.ensures.store
     c.tell_ready.ensures.left)
 
 pub returns-clause-cause : goal.returns-clause-cause
@@ -79,5 +79,5 @@ returns-clause-cause g c =
     if-err
     (λ error not.
     prepared-cause c.args.event.now c.args.deck now.store now.jobs mid.jobs same.tables same.running same.failed d.faults new error
-    (subst (λ (s : StoreState g.row.D.Denot). NotEntered d.faults c.args.event.now c.args.deck (record { store = s; jobs = mid.jobs }) new error) c.make_ready.ensures.store not))
+    (subst (λ (s : StoreView g.row.D.Denot). NotEntered d.faults c.args.event.now c.args.deck (record { store = s; jobs = mid.jobs }) new error) c.make_ready.ensures.store not))
     c.tell_ready.result c.tell_ready.ensures.cause

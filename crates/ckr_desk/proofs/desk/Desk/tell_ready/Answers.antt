@@ -1,6 +1,6 @@
 use Rattle.std.proofs.Common.{subst}
-use Rattle.ckr_store.specs.State.{IsSound}
-use Rattle.ckr_desk.proofs.Left.{nothing-left}
+use Rattle.ckr_desk_store.specs.State.{IsSound}
+use Rattle.ckr_desk.proofs.Calls.Stops.{nothing-left}
 use Rattle.ckr_desk.proofs.desk.Desk.tell_ready.Goals as goal
 
 pub returns-then-not-may_follow-clause-left : goal.returns-then-not-may_follow-clause-left

@@ -1,26 +1,26 @@
 use Rattle.std.proofs.Common.{◌∙◌, ap, refl, subst, sym}
-use Rattle.ckr_jobs.specs.Seen.{jobs_of}
-use Rattle.ckr_keeping.specs.Going.{IsTurnOf}
+use Rattle.ckr_desk_memory.specs.View.{jobs_of}
+use Rattle.ckr_desk_turn.specs.Invariant.{IsTurnOf}
 use Rattle.ckr_outside.specs.Moments.{started}
-use Rattle.ckr_store.specs.Opens.{event_records}
-use Rattle.ckr_turns.specs.Planned.{plan_of}
+use Rattle.ckr_desk_store.specs.OpenImages.{event_records}
+use Rattle.ckr_desk_turn.specs.Plans.{plan_of}
 use Rattle.ckr_volumes.specs.declared.layout.Layout.{Layout}
-use Rattle.ckr_desk.proofs.Before.{planned-before, turned-before}
-use Rattle.ckr_desk.proofs.Images.{kept-before}
-use Rattle.ckr_desk.proofs.Left.{now-left, opens-so}
-use Rattle.ckr_desk.proofs.Same.{IsAsBefore}
-use Rattle.ckr_desk.specs.Calling.{spelled}
-use Rattle.ckr_desk.specs.Sound.{HasKept, IsTrusted, state_of}
-use Rattle.ckr_desk.specs.State.{DeskState}
-use Rattle.ckr_desk.specs.Turning.{event_of_turn}
-use Rattle.ckr_desk.specs.Working.{HasTurned, IsPlanned}
+use Rattle.ckr_desk.proofs.Turns.Preparation.{planned-before, turned-before}
+use Rattle.ckr_desk.proofs.Images.Soundness.{kept-before}
+use Rattle.ckr_desk.proofs.Calls.Stops.{now-left, opens-so}
+use Rattle.ckr_desk.proofs.Trust.Sameness.{IsAsBefore}
+use Rattle.ckr_desk.specs.Requests.{spelled}
+use Rattle.ckr_desk.specs.Soundness.{HasKept, IsTrusted, state_of}
+use Rattle.ckr_desk.specs.State.{DeskView}
+use Rattle.ckr_desk.specs.Turn.{event_of_turn}
+use Rattle.ckr_desk.specs.Units.{HasTurned, IsPlanned}
 use Rattle.ckr_desk.proofs.desk.Desk.turn.Given.{Over}
 use Rattle.ckr_desk.proofs.desk.Desk.turn.Goals as goal
 
 pub returns-in_err-plan-clause-kept : goal.returns-in_err-plan-clause-kept
 returns-in_err-plan-clause-kept g c =
     let d = g.D.Disk in
-    let old : DeskState g.row.D.Denot = record { store = c.self.inside.store; jobs = c.self.inside.jobs } in
+    let old : DeskView g.row.D.Denot = record { store = c.self.inside.store; jobs = c.self.inside.jobs } in
     let laws = g.met.D.Disk g.world.𝓛 g.world.𝓜 g.world.𝓡 ((λ s x. x), (λ x. x), (λ x. x), λ x. x) in
     let came = spelled (event_of_turn (state_of d.content old) c.args.turn) in
     rw (← c.self.view_is)
@@ -31,7 +31,7 @@ returns-in_err-plan-clause-kept g c =
     (opens-so d.told d.content d.may_leave d.moment d.left_since d.size old c.layout-layout.ensures.sound is_open image (laws.only_now old.store.disk image left))
     (trusted.committed image (laws.only_now old.store.disk image left))))
 
-abbrev desk_before : (g : Over) (c : goal.After-carry_out g) → DeskState g.row.D.Denot
+abbrev desk_before : (g : Over) (c : goal.After-carry_out g) → DeskView g.row.D.Denot
 desk_before g c = record { store = c.self.inside.store; jobs = c.self.inside.jobs }
 
 -- what the turn has come to, from where the desk stood
@@ -39,8 +39,8 @@ turned-so : (g : Over) (c : goal.After-carry_out g) → IsTrusted g.D.Disk.told 
     → HasTurned g.D.Disk.told g.D.Disk.content g.D.Disk.may_leave g.D.Disk.moment g.D.Disk.left_since g.D.Disk.size c.args.turn (desk_before g c) c.carry_out.new.self c.carry_out.result
 turned-so g c trusted =
     let d = g.D.Disk in
-    let old : DeskState g.row.D.Denot = record { store = c.self.inside.store; jobs = c.self.inside.jobs } in
-    let mid : DeskState g.row.D.Denot = record { store = c.self.inside.store; jobs = c.plan.new.self } in
+    let old : DeskView g.row.D.Denot = record { store = c.self.inside.store; jobs = c.self.inside.jobs } in
+    let mid : DeskView g.row.D.Denot = record { store = c.self.inside.store; jobs = c.plan.new.self } in
     let is : IsAsBefore d.told d.content d.may_leave old mid = record {
       jobs = record { tables = c.plan.ensures.tables; running = c.plan.ensures.running; failed = c.plan.ensures.failed };
       layout = refl;
@@ -53,7 +53,7 @@ turned-so g c trusted =
     let since = now-left d.told d.content d.may_leave d.moment d.left_since d.size old c.layout-layout.ensures.sound (sym c.fault.ensures ∙ c.in_default.is) (laws.only_now old.store.disk) in
     let p : IsPlanned d.told d.content d.may_leave old c.args.turn c.in_ok-plan.plan = record {
       trusted = trusted;
-      its = subst (λ (s : DeskState g.row.D.Denot). IsTurnOf s.store.layout c.args.turn) (sym c.self.view_is) c.requires.initiator;
+      its = subst (λ (s : DeskView g.row.D.Denot). IsTurnOf s.store.layout c.args.turn) (sym c.self.view_is) c.requires.initiator;
       planned = ap (λ (l : Layout). plan_of l (jobs_of c.self.inside.jobs) c.args.turn) (sym c.layout.ensures.layout) ∙ sym c.in_ok-plan.ensures.plan;
     }
     in

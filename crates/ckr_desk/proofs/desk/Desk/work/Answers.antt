@@ -1,10 +1,10 @@
 use Rattle.std.proofs.Common.{sym, subst}
-use Rattle.ckr_turns.specs.declared.plan.Plan.TheVariants.{Work}
-use Rattle.ckr_desk.proofs.Before.{planned-before, turned-before, turned-not}
-use Rattle.ckr_desk.proofs.Left.{reads-left}
-use Rattle.ckr_desk.proofs.Looked.{err-is, look-cause}
-use Rattle.ckr_desk.proofs.Same.{IsAsBefore}
-use Rattle.ckr_desk.specs.Working.{HasTurned}
+use Rattle.ckr_desk_turn.specs.declared.plan.Plan.TheVariants.{Work}
+use Rattle.ckr_desk.proofs.Turns.Preparation.{planned-before, turned-before, turned-not}
+use Rattle.ckr_desk.proofs.Calls.Stops.{reads-left}
+use Rattle.ckr_desk.proofs.Units.Preparation.{err-is, look-cause}
+use Rattle.ckr_desk.proofs.Trust.Sameness.{IsAsBefore}
+use Rattle.ckr_desk.specs.Units.{HasTurned}
 use Rattle.ckr_desk.proofs.desk.Desk.work.Goals as goal
 
 pub returns-in_err-foretold-clause-turned : goal.returns-in_err-foretold-clause-turned

@@ -1,17 +1,17 @@
 use Rattle.std.proofs.Common.{◌∙◌, sym, subst, ap, IfNone}
 use Rattle.ckr_book.specs.Book.{room_of}
 use Rattle.ckr_outside.specs.Moments.{at_the_end}
-use Rattle.ckr_standing.specs.Moving.{event_in}
-use Rattle.ckr_store.specs.State.{StoreState}
-use Rattle.ckr_desk.proofs.Ahead.{never-otherwise}
-use Rattle.ckr_desk.proofs.Done.{done-after, done-cause, done-fits, done-kept, done-reply, done-trusted, unit-cause, unit-keeps}
-use Rattle.ckr_desk.proofs.Looked.{err-is, ready-behind-so}
-use Rattle.ckr_desk.specs.Calling.{spelled}
-use Rattle.ckr_desk.specs.Ready.{IsOtherwise}
-use Rattle.ckr_desk.specs.Sound.{KeepsWithin, state_of}
-use Rattle.ckr_desk.specs.State.{DeskState}
-use Rattle.ckr_desk.specs.Turning.{event_of_turn}
-use Rattle.ckr_desk.specs.Working.{HasTurned, IsLeftByUnit}
+use Rattle.ckr_desk_refines.specs.Moves.{event_in}
+use Rattle.ckr_desk_store.specs.State.{StoreView}
+use Rattle.ckr_desk.proofs.Units.Forecast.{never-otherwise}
+use Rattle.ckr_desk.proofs.Units.Results.{done-after, done-cause, done-fits, done-kept, done-reply, done-trusted, unit-cause, unit-keeps}
+use Rattle.ckr_desk.proofs.Units.Preparation.{err-is, ready-behind-so}
+use Rattle.ckr_desk.specs.Requests.{spelled}
+use Rattle.ckr_desk.specs.Preparation.{IsOtherwise}
+use Rattle.ckr_desk.specs.Soundness.{KeepsWithin, state_of}
+use Rattle.ckr_desk.specs.State.{DeskView}
+use Rattle.ckr_desk.specs.Turn.{event_of_turn}
+use Rattle.ckr_desk.specs.Units.{HasTurned, IsLeftByUnit}
 use Rattle.ckr_desk.proofs.desk.Desk.work_on.Goals as goal
 
 pub returns-in_err-plan-clause-turned : goal.returns-in_err-plan-clause-turned
@@ -31,7 +31,7 @@ returns-in_err-plan-clause-turned g c turn p =
 pub go_on-requires-clause-ready : goal.go_on-requires-clause-ready
 go_on-requires-clause-ready g c κs within =
     let foretold = c.requires.foretold in
-    ready-behind-so c.args.self.now c.done_unit.new.self c.in_ok-plan.ensures.tables (ap (λ (s : StoreState g.row.D.Denot). room_of s.book) c.in_ok-plan.ensures.done.store)
+    ready-behind-so c.args.self.now c.done_unit.new.self c.in_ok-plan.ensures.tables (ap (λ (s : StoreView g.row.D.Denot). room_of s.book) c.in_ok-plan.ensures.done.store)
     (event_in foretold.ahead.plan) c.args.foretold foretold.its (event_in c.in_ok-plan.plan) c.ready_behind-ready.result c.ready_behind-ready.ensures.ready
 
 pub invariant_of-self : goal.invariant_of-self
@@ -83,6 +83,6 @@ returns-in-Err-clause-turned g c turn p =
           never-otherwise d.told d.content d.may_leave d.moment d.left_since d.size now p.trusted turn c.args.run p.planned ahead mid plan done events shape stems c.args.foretold c.requires.foretold.its event is
           (subst (λ r. IfNone r (IsOtherwise c.args.foretold (event_in plan))) none ready.ensures.none))
           new c.in-Err.error c.in-Err.ensures.cause;
-      kept = subst (λ (s : DeskState g.row.D.Denot). KeepsWithin d.content d.moment d.left_since d.size now s (spelled (event_of_turn (state_of d.content now) turn))) (sym c.self-2.view_is)
+      kept = subst (λ (s : DeskView g.row.D.Denot). KeepsWithin d.content d.moment d.left_since d.size now s (spelled (event_of_turn (state_of d.content now) turn))) (sym c.self-2.view_is)
           (done-kept d.told d.content d.may_leave d.moment d.left_since d.size now p.trusted turn c.args.run p.planned mid plan done events shape stems c.done_unit.ensures.size new c.done_unit.ensures.left (c.go_on.ensures.left p.trusted.tells));
     }

@@ -1,7 +1,7 @@
 use Rattle.std.proofs.Common.{ap, ◌∙◌}
 use Rattle.std.specs.Option.{option_map}
 use Rattle.ckr_library.specs.Catalog.{fresh_holding}
-use Rattle.ckr_library.specs.Named.{entry_at}
+use Rattle.ckr_library.specs.NameMaps.{entry_at}
 use Rattle.ckr_library.proofs.Spreads.{spread-inserted}
 use Rattle.ckr_library.proofs.library.Library.insert.Goals as goal
 

@@ -1,7 +1,7 @@
 use Rattle.std.proofs.Common.{ap, ◌∙◌, slice_get}
 use Rattle.std.specs.Option.{option_map}
 use Rattle.ckr_library.specs.declared.shelf.Held.{Held}
-use Rattle.ckr_library.specs.Named.{names_of}
+use Rattle.ckr_library.specs.NameMaps.{names_of}
 use Rattle.ckr_library.proofs.Shelves.{names-items}
 use Rattle.ckr_library.proofs.shelf.Shelf.name_at.Goals as goal
 

@@ -1,7 +1,7 @@
 use Rattle.std.proofs.Common.{refl, sym, ◌∙◌}
 use Rattle.ckr_outside.specs.Images.{content_to, image_to, since_to, remembers_to}
 use Rattle.ckr_outside.specs.declared.changes.Change.TheVariants.{Nothing}
-use Rattle.ckr_outside.proofs.Called.{only_reads}
+use Rattle.ckr_outside.proofs.DiskCalls.{only_reads}
 use Rattle.ckr_outside.proofs.memory_disk.MemDiskDisk.read.Goals as goal
 
 pub invariant_of-self-then-due : goal.invariant_of-self-then-due

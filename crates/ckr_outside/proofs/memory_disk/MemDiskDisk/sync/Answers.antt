@@ -2,7 +2,7 @@ use Rattle.std.proofs.Common.{refl, sym, ◌∙◌, subst}
 use Rattle.ckr_outside.specs.Changes.{IsImage}
 use Rattle.ckr_outside.specs.Images.{content_to, image_to, image_read, since_to, remembers_to}
 use Rattle.ckr_outside.specs.declared.changes.Change.TheVariants.{Nothing, Synced}
-use Rattle.ckr_outside.proofs.Called.{only_reads}
+use Rattle.ckr_outside.proofs.DiskCalls.{only_reads}
 use Rattle.ckr_outside.proofs.memory_disk.MemDiskDisk.sync.Goals as goal
 
 pub invariant_of-self-then-call_is_due : goal.invariant_of-self-then-call_is_due

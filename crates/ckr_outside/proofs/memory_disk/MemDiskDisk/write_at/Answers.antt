@@ -6,7 +6,7 @@ use Rattle.ckr_outside.specs.Changes.{overwritten, content_step}
 use Rattle.ckr_outside.specs.Images.{content_to, image_to, since_to, remembers_to, overwritten_outside}
 use Rattle.ckr_outside.specs.Ranges.{same_outside_itself}
 use Rattle.ckr_outside.specs.declared.changes.Change.TheVariants.{Spoiled, Wrote}
-use Rattle.ckr_outside.proofs.Called.{changes_within}
+use Rattle.ckr_outside.proofs.DiskCalls.{changes_within}
 use Rattle.ckr_outside.proofs.memory_disk.MemDiskDisk.write_at.Goals as goal
 
 pub invariant_of-self-then-call_is_due : goal.invariant_of-self-then-call_is_due

@@ -1,0 +1,4 @@
+pub mod Ends
+pub mod Stops
+pub mod OpenStops
+pub mod Texts

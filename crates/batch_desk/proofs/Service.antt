@@ -1,0 +1,5 @@
+pub mod Answers
+pub mod Ends
+pub mod Halts
+pub mod Order
+pub mod Turns

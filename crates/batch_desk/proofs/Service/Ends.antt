@@ -1,0 +1,51 @@
+-- How a call ends.
+use Rattle.std.proofs.Common.{◌≡◌, ◌≤◌, ℕ, Bool, List, [], ◌++◌, Option, Result, Ok, Err, unwrap_or, sym, subst}
+use Rattle.ckr_desk.specs.Soundness.{IsTrusted, state_of}
+use Rattle.ckr_desk.specs.State.{RoomyDesk, DeskView}
+use Rattle.batch_desk.specs.declared.stop.Stop.{Stop}
+use Rattle.batch_desk.specs.declared.stop.Stop.TheVariants as Stops
+use Rattle.batch_desk.specs.Feeds.{StopCause, StopsAt, Serving, faults_of}
+use Rattle.batch_desk.proofs.Service.Halts.{rose_earlier}
+
+-- the disk's faults are counted from an earlier moment on
+cause_counted : (trusted trusted' : Type 0) (stop : Stop) (a b c d before between now : ℕ) (taken : List ℕ) → before ≤ between → (trusted' → trusted)
+    → StopCause trusted stop (faults_of a b c d between now) taken → StopCause trusted' stop (faults_of a b c d before now) taken
+cause_counted trusted trusted' Stops.Source a b c d before between now taken later holds cause = cause
+cause_counted trusted trusted' Stops.Limit a b c d before between now taken later holds cause = cause
+cause_counted trusted trusted' Stops.Sink a b c d before between now taken later holds cause = cause
+cause_counted trusted trusted' Stops.Memory a b c d before between now taken later holds cause = tt
+cause_counted trusted trusted' Stops.Book a b c d before between now taken later holds cause = tt
+cause_counted trusted trusted' Stops.Disk a b c d before between now taken later holds cause = rose_earlier before between now later cause
+cause_counted trusted trusted' Stops.Misread a b c d before between now taken later holds cause = λ h. cause (holds h)
+
+stops_counted : (stop : Stop) (a b c d before between now : ℕ) (state : RoomyDesk) (taken all : List ℕ) (old new : Option (List ℕ))
+    → StopsAt stop (faults_of a b c d between now) state taken all old new → StopsAt stop (faults_of a b c d before now) state taken all old new
+stops_counted Stops.Source a b c d before between now state taken all old new so = so
+stops_counted _ a b c d before between now state taken all old new so = so
+
+-- the same of a disk that was opened before
+pub serving_from : (trusted trusted' : Type 0) (state : RoomyDesk) (outcome : Result Bool Stop) (a b c d before between now : ℕ) (left rest old new : Option (List ℕ))
+    → before ≤ between → (trusted' → trusted)
+    → Serving trusted state outcome (faults_of a b c d between now) left rest old new → Serving trusted' state outcome (faults_of a b c d before now) left rest old new
+serving_from trusted trusted' state (Ok refused) a b c d before between now left rest old new later holds s = record {
+  all = s.all;
+  given = s.given;
+  end = s.end;
+  few = s.few;
+  answered = λ h. s.answered (holds h);
+}
+serving_from trusted trusted' state (Err stop) a b c d before between now left rest old new later holds s = record {
+  taken = s.taken;
+  given = s.given;
+  cause = cause_counted trusted trusted' stop a b c d before between now s.taken later holds s.cause;
+  stops = λ h. stops_counted stop a b c d before between now state s.taken (s.taken ++ unwrap_or rest []) old new (s.stops (holds h));
+}
+
+-- the same of the desk that was handed in, and of the disk that is handed back
+pub serving_by : {D : Type 0} (told : Type 0) (content : D → List ℕ) (may_leave : D → List ℕ → Type 0) (faults : D → ℕ) (inside desk : DeskView D) (end disk : D) (outcome : Result Bool Stop) (a b c d : ℕ) (left rest old new : Option (List ℕ))
+    → inside ≡ desk → disk ≡ end
+    → Serving (IsTrusted told content may_leave inside) (state_of content inside) outcome (faults_of a b c d (faults inside.store.disk) (faults end)) left rest old new
+    → Serving (IsTrusted told content may_leave desk) (state_of content desk) outcome (faults_of a b c d (faults desk.store.disk) (faults disk)) left rest old new
+serving_by {D = D} told content may_leave faults inside desk end disk outcome a b c d left rest old new is back s =
+    subst (λ (w : DeskView D). Serving (IsTrusted told content may_leave w) (state_of content w) outcome (faults_of a b c d (faults w.store.disk) (faults disk)) left rest old new) is
+    (subst (λ (w : D). Serving (IsTrusted told content may_leave inside) (state_of content inside) outcome (faults_of a b c d (faults inside.store.disk) (faults w)) left rest old new) (sym back) s)

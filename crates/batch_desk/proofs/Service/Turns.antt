@@ -1,0 +1,265 @@
+-- Runs of replies, and turns.
+use Rattle.std.proofs.Common.{◌≡◌, ◌+◌, ◌==◌, ◌&&◌, ℕ, suc, zero, Bool, true, false, cond, List, [], ◌∷◌, ◌++◌, Option, None, Some, bytes_eq, refl, sym, ap, subst, ◌∙◌, append_assoc, append-nil, arith}
+use Rattle.std.specs.List.{flat_map}
+use Rattle.std.proofs.lemmas.Bool.{false≢true}
+use Rattle.std.proofs.lemmas.Bool.Decides.{Decides-eqb}
+use Rattle.std.proofs.lemmas.Grind.{flat_map-append}
+use Rattle.std.proofs.lemmas.Slice.Eq.{bytes_eq-Decides}
+use Rattle.ckr_base.proofs.Bools.{and-first, and-second}
+use Rattle.ckr_desk.specs.Turn.{behind_turn, reply_of, turn_fits}
+use Rattle.ckr_desk.specs.State.{RoomyDesk}
+use Rattle.ckr_desk.specs.Model.Reply.{Reply}
+use Rattle.ckr_desk.specs.Model.Layout.{Layout}
+use Rattle.batch_desk.specs.Texts.{goes_on, is_same_work, work_in, before_runs, run_text, reply_text, runs_of, with_waiting, told_runs, answer_text}
+use Rattle.batch_desk.specs.Calls.{Turned, BrokenOff, plain_turn, turns, after_turns, turns_fit, is_idle}
+use Rattle.batch_desk.specs.declared.stop.Halt.{Halt}
+use Rattle.batch_desk.specs.declared.stop.Halt.TheVariants as Halts
+use Rattle.batch_desk.specs.Turns.{Adds, Turns, FirstTurns, TurnHalt, TurnsHalt}
+
+abbrev Waiting : Type 0
+Waiting = Option (Reply × ℕ)
+
+-- what goes on work goes on by the same work
+same_with : (one two three : Option (ℕ × List ℕ)) → is_same_work two three ≡ true → is_same_work one two ≡ is_same_work one three
+same_with None two three same = refl
+same_with (Some one) None three same = absurd (false≢true same)
+same_with (Some one) (Some two) None same = absurd (false≢true same)
+same_with (Some one) (Some two) (Some three) same =
+    let job : two.0 ≡ three.0 = (Decides-eqb two.0 three.0).0 (and-first (two.0 == three.0) (bytes_eq two.1 three.1) same) in
+    let step : two.1 ≡ three.1 = (bytes_eq-Decides two.1 three.1).0 (and-second (two.0 == three.0) (bytes_eq two.1 three.1) same) in
+    ap (λ (n : ℕ). one.0 == n && bytes_eq one.1 two.1) job ∙ ap (λ (l : List ℕ). one.0 == three.0 && bytes_eq one.1 l) step
+
+-- before_runs on the tests' answers
+joined : (p : Bool) (q : Bool) (a : Reply) (b : Reply) (k : ℕ) (next : Reply × ℕ) (runs : List (Reply × ℕ)) → goes_on a b ≡ p → goes_on b next.0 ≡ q
+    → before_runs a k (before_runs b 1 (next ∷ runs)) ≡ cond p (before_runs b (k + 1) (next ∷ runs)) ((a, k) ∷ before_runs b 1 (next ∷ runs))
+joined p true a b k next runs ep eq =
+    let through : goes_on a next.0 ≡ p = sym (same_with (work_in a) (work_in b) (work_in next.0) eq) ∙ ep in
+    by_first p through
+  where
+    both : (n : ℕ) → before_runs b n (next ∷ runs) ≡ (next.0, n + next.1) ∷ runs
+    both n = ap (λ t. cond t ((next.0, n + next.1) ∷ runs) ((b, n) ∷ next ∷ runs)) eq
+
+    by_first : (p : Bool) → goes_on a next.0 ≡ p → before_runs a k (before_runs b 1 (next ∷ runs)) ≡ cond p (before_runs b (k + 1) (next ∷ runs)) ((a, k) ∷ before_runs b 1 (next ∷ runs))
+    by_first true through =
+        ap (before_runs a k) (both 1)
+        ∙ ap (λ t. cond t ((next.0, k + (1 + next.1)) ∷ runs) ((a, k) ∷ (next.0, 1 + next.1) ∷ runs)) through
+        ∙ ap (λ n. (next.0, n) ∷ runs) (omega arith)
+        ∙ sym (both (k + 1))
+    by_first false through =
+        ap (before_runs a k) (both 1)
+        ∙ ap (λ t. cond t ((next.0, k + (1 + next.1)) ∷ runs) ((a, k) ∷ (next.0, 1 + next.1) ∷ runs)) through
+        ∙ ap (λ l. (a, k) ∷ l) (sym (both 1))
+joined p false a b k next runs ep eq =
+    ap (before_runs a k) (alone 1)
+    ∙ ap (λ t. cond t ((b, k + 1) ∷ next ∷ runs) ((a, k) ∷ (b, 1) ∷ next ∷ runs)) ep
+    ∙ by_first p
+  where
+    alone : (n : ℕ) → before_runs b n (next ∷ runs) ≡ (b, n) ∷ next ∷ runs
+    alone n = ap (λ t. cond t ((next.0, n + next.1) ∷ runs) ((b, n) ∷ next ∷ runs)) eq
+
+    by_first : (p : Bool) → cond p ((b, k + 1) ∷ next ∷ runs) ((a, k) ∷ (b, 1) ∷ next ∷ runs) ≡ cond p (before_runs b (k + 1) (next ∷ runs)) ((a, k) ∷ before_runs b 1 (next ∷ runs))
+    by_first true = sym (alone (k + 1))
+    by_first false = ap (λ l. (a, k) ∷ l) (sym (alone 1))
+
+before_runs-before_runs : (a : Reply) (b : Reply) (k : ℕ) (runs : List (Reply × ℕ))
+    → before_runs a k (before_runs b 1 runs) ≡ cond (goes_on a b) (before_runs b (k + 1) runs) ((a, k) ∷ before_runs b 1 runs)
+before_runs-before_runs a b k [] = refl
+before_runs-before_runs a b k (next ∷ runs) = joined (goes_on a b) (goes_on b next.0) a b k next runs refl refl
+
+module _ (layout : Layout) (initiator : ℕ) where
+  -- ---- a reply comes
+
+  pub adds_first : (reply : Reply) (text : List ℕ) → Adds layout initiator None reply (Some (reply, 1)) text text
+  adds_first reply text = record { ended = []; written = sym (append-nil text); joins = λ runs. refl; waits = λ none. cc }
+
+  pub adds_work : (last reply : Reply) (times : ℕ) (text : List ℕ) → goes_on last reply ≡ true → Adds layout initiator (Some (last, times)) reply (Some (reply, times + 1)) text text
+  adds_work last reply times text both = record {
+    ended = [];
+    written = sym (append-nil text);
+    joins = λ runs.
+        before_runs-before_runs last reply times runs
+        ∙ ap (λ b. cond b (before_runs reply (times + 1) runs) ((last, times) ∷ before_runs reply 1 runs)) both;
+    waits = λ none. cc;
+  }
+
+  pub adds_other : (last reply : Reply) (times : ℕ) (before now : List ℕ) → goes_on last reply ≡ false → now ≡ before ++ reply_text layout initiator last times
+      → Adds layout initiator (Some (last, times)) reply (Some (reply, 1)) before now
+  adds_other last reply times before now not_both written = record {
+    ended = (last, times) ∷ [];
+    written = written ∙ ap (λ t. before ++ t) (sym (append-nil (reply_text layout initiator last times)));
+    joins = λ runs.
+        before_runs-before_runs last reply times runs
+        ∙ ap (λ b. cond b (before_runs reply (times + 1) runs) ((last, times) ∷ before_runs reply 1 runs)) not_both;
+    waits = λ none. cc;
+  }
+
+  pub adds_behind : (waiting : Waiting) (last : Reply) (times : ℕ) (reply : Reply) (waiting' : Waiting) (before now : List ℕ) → waiting ≡ Some (last, times)
+      → Adds layout initiator (Some (last, times)) reply waiting' before now → Adds layout initiator waiting reply waiting' before now
+  adds_behind waiting last times reply waiting' before now is adds = subst (λ (w : Waiting). Adds layout initiator w reply waiting' before now) (sym is) adds
+
+  -- ---- what is told of replies that were broken off
+
+  told_runs-last : (runs : List (Reply × ℕ)) (run : Reply × ℕ) → told_runs (runs ++ run ∷ []) ≡ runs ++ told_runs (run ∷ [])
+  told_runs-last [] run = refl
+  told_runs-last (x ∷ []) run = refl
+  told_runs-last (x ∷ y ∷ xs) run = ap (λ l. x ∷ l) (told_runs-last (y ∷ xs) run)
+
+  told_behind : (ended : List (Reply × ℕ)) (waiting : Waiting) → (waiting ≡ None → ended ≡ []) → told_runs (ended ++ with_waiting waiting []) ≡ ended ++ told_runs (with_waiting waiting [])
+  told_behind ended None none = ap (λ e. told_runs (e ++ [])) (none refl) ∙ ap (λ e. e ++ []) (sym (none refl))
+  told_behind ended (Some run) none = told_runs-last ended (run.0, run.1)
+
+  -- ---- turns
+
+  pub turns_begun : (n : ℕ) (s : RoomyDesk) (text : List ℕ) → Turns layout initiator n n s s None text text
+  turns_begun n s text = record {
+    made = [];
+    ended = [];
+    replies = refl;
+    after = refl;
+    fit = refl;
+    joins = λ rest. refl;
+    written = sym (append-nil text);
+    none = λ is. refl;
+  }
+
+  one_more : (made rest : List Reply) (reply : Reply) → made ++ (reply ∷ rest) ≡ (made ++ reply ∷ []) ++ rest
+  one_more made rest reply = sym (append_assoc made (reply ∷ []) rest)
+
+  joined_behind : (made : List Reply) (ended ended' : List (Reply × ℕ)) (waiting waiting' : Waiting) (reply : Reply)
+      → ((rest : List Reply) → runs_of (made ++ rest) ≡ ended ++ with_waiting waiting (runs_of rest))
+      → ((runs : List (Reply × ℕ)) → with_waiting waiting (before_runs reply 1 runs) ≡ ended' ++ with_waiting waiting' runs)
+      → (rest : List Reply) → runs_of ((made ++ reply ∷ []) ++ rest) ≡ (ended ++ ended') ++ with_waiting waiting' (runs_of rest)
+  joined_behind made ended ended' waiting waiting' reply joins joins' rest =
+      ap runs_of (sym (one_more made rest reply))
+      ∙ joins (reply ∷ rest)
+      ∙ ap (λ l. ended ++ l) (joins' (runs_of rest))
+      ∙ sym (append_assoc ended ended' (with_waiting waiting' (runs_of rest)))
+
+  written_behind : (ended ended' : List (Reply × ℕ)) (before mid now : List ℕ) → mid ≡ before ++ flat_map (run_text layout initiator) ended → now ≡ mid ++ flat_map (run_text layout initiator) ended'
+      → now ≡ before ++ flat_map (run_text layout initiator) (ended ++ ended')
+  written_behind ended ended' before mid now written written' =
+      written' ∙ ap (λ t. t ++ flat_map (run_text layout initiator) ended') written
+      ∙ append_assoc before (flat_map (run_text layout initiator) ended) (flat_map (run_text layout initiator) ended')
+      ∙ ap (λ t. before ++ t) (sym (flat_map-append (run_text layout initiator) ended ended'))
+
+  -- what the next of so many turns brings
+  module _ (s : RoomyDesk) (m : ℕ) where
+    turns-next : turn_fits s (plain_turn initiator) ≡ true → turns initiator (suc m) s ≡ reply_of s (plain_turn initiator) ∷ cond (is_idle (reply_of s (plain_turn initiator))) [] (turns initiator m (behind_turn s (plain_turn initiator)))
+    turns-next fits = ap (λ b. cond b (reply_of s (plain_turn initiator) ∷ cond (is_idle (reply_of s (plain_turn initiator))) [] (turns initiator m (behind_turn s (plain_turn initiator)))) []) fits
+
+    after-next : turn_fits s (plain_turn initiator) ≡ true → after_turns initiator (suc m) s ≡ cond (is_idle (reply_of s (plain_turn initiator))) (behind_turn s (plain_turn initiator)) (after_turns initiator m (behind_turn s (plain_turn initiator)))
+    after-next fits = ap (λ b. cond b (cond (is_idle (reply_of s (plain_turn initiator))) (behind_turn s (plain_turn initiator)) (after_turns initiator m (behind_turn s (plain_turn initiator)))) s) fits
+
+    fit-next : turn_fits s (plain_turn initiator) ≡ true → turns_fit initiator (suc m) s ≡ cond (is_idle (reply_of s (plain_turn initiator))) true (turns_fit initiator m (behind_turn s (plain_turn initiator)))
+    fit-next fits = ap (λ b. cond b (cond (is_idle (reply_of s (plain_turn initiator))) true (turns_fit initiator m (behind_turn s (plain_turn initiator)))) false) fits
+
+    turns-none : turn_fits s (plain_turn initiator) ≡ false → turns initiator (suc m) s ≡ []
+    turns-none full = ap (λ b. cond b (reply_of s (plain_turn initiator) ∷ cond (is_idle (reply_of s (plain_turn initiator))) [] (turns initiator m (behind_turn s (plain_turn initiator)))) []) full
+
+    fit-none : turn_fits s (plain_turn initiator) ≡ false → turns_fit initiator (suc m) s ≡ false
+    fit-none full = ap (λ b. cond b (cond (is_idle (reply_of s (plain_turn initiator))) true (turns_fit initiator m (behind_turn s (plain_turn initiator)))) false) full
+
+  -- one turn more, which isn't idle
+  pub turn_made : (n k m : ℕ) (first s s' : RoomyDesk) (reply : Reply) (waiting waiting' : Waiting) (before mid now : List ℕ) → k ≡ suc m
+      → turn_fits s (plain_turn initiator) ≡ true → reply ≡ reply_of s (plain_turn initiator) → s' ≡ behind_turn s (plain_turn initiator) → is_idle reply ≡ false
+      → Turns layout initiator n k first s waiting before mid → Adds layout initiator waiting reply waiting' mid now → Turns layout initiator n m first s' waiting' before now
+  turn_made n k m first s s' reply waiting waiting' before mid now less fits is behind busy h adds =
+      let idle : is_idle (reply_of s (plain_turn initiator)) ≡ false = ap is_idle (sym is) ∙ busy in
+      record {
+        made = h.made ++ reply ∷ [];
+        ended = h.ended ++ adds.ended;
+        replies = h.replies
+            ∙ ap (λ j. h.made ++ turns initiator j s) less
+            ∙ ap (λ l. h.made ++ l) (turns-next s m fits
+            ∙ ap (λ b. reply_of s (plain_turn initiator) ∷ cond b [] (turns initiator m (behind_turn s (plain_turn initiator)))) idle
+            ∙ ap (λ r. r ∷ turns initiator m (behind_turn s (plain_turn initiator))) (sym is)
+            ∙ ap (λ st. reply ∷ turns initiator m st) (sym behind))
+            ∙ one_more h.made (turns initiator m s') reply;
+        after = h.after ∙ ap (λ j. after_turns initiator j s) less ∙ after-next s m fits
+            ∙ ap (λ b. cond b (behind_turn s (plain_turn initiator)) (after_turns initiator m (behind_turn s (plain_turn initiator)))) idle ∙ ap (after_turns initiator m) (sym behind);
+        fit = h.fit ∙ ap (λ j. turns_fit initiator j s) less ∙ fit-next s m fits
+            ∙ ap (λ b. cond b true (turns_fit initiator m (behind_turn s (plain_turn initiator)))) idle ∙ ap (turns_fit initiator m) (sym behind);
+        joins = joined_behind h.made h.ended adds.ended waiting waiting' reply h.joins adds.joins;
+        written = written_behind h.ended adds.ended before mid now h.written adds.written;
+        none = λ none. absurd (adds.waits none);
+      }
+
+  -- all turns are made whose replies are these
+  pub record AllMade (n : ℕ) (first s : RoomyDesk) (before now : List ℕ) : Type 0 where
+    pub fits : turns_fit initiator n first ≡ true
+    pub text : now ≡ before ++ answer_text (Turned layout initiator (turns initiator n first))
+    pub after : s ≡ after_turns initiator n first
+
+  text_of_all : (made : List Reply) (ended : List (Reply × ℕ)) (waiting : Waiting) (before now final : List ℕ)
+      → ((rest : List Reply) → runs_of (made ++ rest) ≡ ended ++ with_waiting waiting (runs_of rest)) → now ≡ before ++ flat_map (run_text layout initiator) ended
+      → final ≡ now ++ flat_map (run_text layout initiator) (with_waiting waiting []) → final ≡ before ++ flat_map (run_text layout initiator) (runs_of made)
+  text_of_all made ended waiting before now final joins written last =
+      written_behind ended (with_waiting waiting []) before now final written last
+      ∙ ap (λ rs. before ++ flat_map (run_text layout initiator) rs) (sym (joins []) ∙ ap runs_of (append-nil made))
+
+  -- the last one, which is idle
+  pub turn_idle : (n k m : ℕ) (first s s' : RoomyDesk) (reply : Reply) (waiting waiting' : Waiting) (before mid now final : List ℕ) → k ≡ suc m
+      → turn_fits s (plain_turn initiator) ≡ true → reply ≡ reply_of s (plain_turn initiator) → s' ≡ behind_turn s (plain_turn initiator) → is_idle reply ≡ true
+      → Turns layout initiator n k first s waiting before mid → Adds layout initiator waiting reply waiting' mid now → final ≡ now ++ flat_map (run_text layout initiator) (with_waiting waiting' []) → AllMade n first s' before final
+  turn_idle n k m first s s' reply waiting waiting' before mid now final less fits is behind rests h adds last =
+      let idle : is_idle (reply_of s (plain_turn initiator)) ≡ true = ap is_idle (sym is) ∙ rests in
+      let replies : turns initiator n first ≡ h.made ++ reply ∷ [] =
+      h.replies
+      ∙ ap (λ j. h.made ++ turns initiator j s) less
+      ∙ ap (λ l. h.made ++ l) (turns-next s m fits
+      ∙ ap (λ b. reply_of s (plain_turn initiator) ∷ cond b [] (turns initiator m (behind_turn s (plain_turn initiator)))) idle
+      ∙ ap (λ r. r ∷ []) (sym is)) in
+      record {
+        fits = h.fit ∙ ap (λ j. turns_fit initiator j s) less ∙ fit-next s m fits ∙ ap (λ b. cond b true (turns_fit initiator m (behind_turn s (plain_turn initiator)))) idle;
+        text = text_of_all (h.made ++ reply ∷ []) (h.ended ++ adds.ended) waiting' before now final
+            (joined_behind h.made h.ended adds.ended waiting waiting' reply h.joins adds.joins) (written_behind h.ended adds.ended before mid now h.written adds.written) last
+            ∙ ap (λ rs. before ++ flat_map (run_text layout initiator) (runs_of rs)) (sym replies);
+        after = behind ∙ sym (h.after ∙ ap (λ j. after_turns initiator j s) less ∙ after-next s m fits ∙ ap (λ b. cond b (behind_turn s (plain_turn initiator)) (after_turns initiator m (behind_turn s (plain_turn initiator)))) idle);
+      }
+
+  -- as many as were asked for
+  pub turns_made : (n k : ℕ) (first s : RoomyDesk) (waiting : Waiting) (before now final : List ℕ) → k ≡ zero
+      → Turns layout initiator n k first s waiting before now → final ≡ now ++ flat_map (run_text layout initiator) (with_waiting waiting []) → AllMade n first s before final
+  turns_made n k first s waiting before now final none h last =
+      let replies : turns initiator n first ≡ h.made = h.replies ∙ ap (λ j. h.made ++ turns initiator j s) none ∙ append-nil h.made in
+      record {
+        fits = h.fit ∙ ap (λ j. turns_fit initiator j s) none;
+        text = text_of_all h.made h.ended waiting before now final h.joins h.written last ∙ ap (λ rs. before ++ flat_map (run_text layout initiator) (runs_of rs)) (sym replies);
+        after = sym (h.after ∙ ap (λ j. after_turns initiator j s) none);
+      }
+
+  broken_text : (made : List Reply) (ended : List (Reply × ℕ)) (waiting : Waiting) (before now final : List ℕ)
+      → ((rest : List Reply) → runs_of (made ++ rest) ≡ ended ++ with_waiting waiting (runs_of rest)) → (waiting ≡ None → ended ≡ []) → now ≡ before ++ flat_map (run_text layout initiator) ended
+      → final ≡ now ++ flat_map (run_text layout initiator) (told_runs (with_waiting waiting [])) → final ≡ before ++ answer_text (BrokenOff layout initiator made)
+  broken_text made ended waiting before now final joins none written last =
+      written_behind ended (told_runs (with_waiting waiting [])) before now final written last
+      ∙ ap (λ rs. before ++ flat_map (run_text layout initiator) rs) (sym (told_behind ended waiting none) ∙ ap told_runs (sym (joins []) ∙ ap runs_of (append-nil made)))
+
+  -- the book has no room for the next one
+  pub turns_full : (n k m : ℕ) (first s : RoomyDesk) (waiting : Waiting) (before now final : List ℕ) → k ≡ suc m → turn_fits s (plain_turn initiator) ≡ false
+      → Turns layout initiator n k first s waiting before now → final ≡ now ++ flat_map (run_text layout initiator) (told_runs (with_waiting waiting []))
+      → (turns_fit initiator n first ≡ false) × (final ≡ before ++ answer_text (BrokenOff layout initiator (turns initiator n first)))
+  turns_full n k m first s waiting before now final less full h last =
+      let replies : turns initiator n first ≡ h.made = h.replies ∙ ap (λ j. h.made ++ turns initiator j s) less ∙ ap (λ l. h.made ++ l) (turns-none s m full) ∙ append-nil h.made in (
+        h.fit ∙ ap (λ j. turns_fit initiator j s) less ∙ fit-none s m full,
+        broken_text h.made h.ended waiting before now final h.joins h.none h.written last ∙ ap (λ rs. before ++ answer_text (BrokenOff layout initiator rs)) (sym replies),
+      )
+
+  -- the disk failed
+  pub turns_broken : (n k : ℕ) (first s : RoomyDesk) (waiting : Waiting) (before now final : List ℕ)
+      → Turns layout initiator n k first s waiting before now → final ≡ now ++ flat_map (run_text layout initiator) (told_runs (with_waiting waiting [])) → FirstTurns layout initiator n first before final
+  turns_broken n k first s waiting before now final h last = record {
+    replies = h.made;
+    later = turns initiator k s;
+    given = h.replies;
+    told = broken_text h.made h.ended waiting before now final h.joins h.none h.written last;
+  }
+
+  -- why not all turns were made
+  pub turns_halted : (halt : Halt) (n k m : ℕ) (first s : RoomyDesk) (waiting : Waiting) (before now final : List ℕ) → k ≡ suc m
+      → TurnHalt halt initiator s → Turns layout initiator n k first s waiting before now → final ≡ now ++ flat_map (run_text layout initiator) (told_runs (with_waiting waiting []))
+      → TurnsHalt layout initiator halt n first before final
+  turns_halted Halts.Memory n k m first s waiting before now final less why h last = tt
+  turns_halted Halts.Book n k m first s waiting before now final less why h last = turns_full n k m first s waiting before now final less why h last
+  turns_halted Halts.Disk n k m first s waiting before now final less why h last = turns_broken n k first s waiting before now final h last
+  turns_halted Halts.Misread n k m first s waiting before now final less why h last = absurd why

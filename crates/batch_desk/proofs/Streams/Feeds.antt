@@ -1,0 +1,202 @@
+-- Feeding from a source.
+use Rattle.std.proofs.Common.{◌≡◌, ◌+◌, ◌≤◌, ℕ, suc, Bool, false, List, [], ◌++◌, length, take, drop, Option, None, Some, Result, Ok, Err, IfOk, IfErr, IsErrAnd, unwrap_or, refl, sym, ap, subst, ◌∙◌, arith, append_assoc, append-nil, length-append, take-append-drop}
+use Rattle.std.specs.List.{All, slice_split}
+use Rattle.std.specs.Io.KnownBytes.{Consumes, Keeps, IsAtEnd}
+use Rattle.std.proofs.lemmas.List.{take_at, take-take, length-take-le}
+use Rattle.std.proofs.lemmas.List.Elements.{All-nil}
+use Rattle.ckr_base.proofs.KnownBytes.{Appends-nil, Consumes-trans}
+use Rattle.ckr_outside.specs.Faults.{Rose}
+use Rattle.ckr_desk.specs.State.{RoomyDesk}
+use Rattle.batch_desk.specs.declared.flow.Flow.{Flow}
+use Rattle.batch_desk.specs.declared.stop.Stop.{Stop}
+use Rattle.batch_desk.specs.declared.stop.Stop.TheVariants as Stops
+use Rattle.batch_desk.specs.Service.{View, StopsWithin, Caused, seen}
+use Rattle.batch_desk.specs.Stream.{is_line_end, requests_of}
+use Rattle.batch_desk.specs.Flows.{IsBegun, Carries, Breaks, Finishes, FinishBreaks}
+use Rattle.batch_desk.specs.Feeds.{IsServed, IsStopped, StopCause, StopsAt, HasServed, Serving, Faults, faults_of, Feeding, FedAll}
+use Rattle.batch_desk.proofs.Service.Halts.{rose_earlier, cause_earlier, stops_earlier}
+use Rattle.batch_desk.proofs.Service.Order.{Serves-nil}
+use Rattle.batch_desk.proofs.Streams.Texts.{ended_told}
+
+-- ---- known bytes
+
+pub Consumes-nil : (a : Option (List ℕ)) → Consumes a a []
+Consumes-nil None = tt
+Consumes-nil (Some x) = refl
+
+pub Consumes-kept : (a b c : Option (List ℕ)) (xs : List ℕ) → Consumes a b xs → Keeps b c → Consumes a c xs
+Consumes-kept None b c xs p q = tt
+Consumes-kept (Some x) None c xs p q = absurd p
+Consumes-kept (Some x) (Some y) None xs p q = absurd q
+Consumes-kept (Some x) (Some y) (Some z) xs p q = p ∙ ap (λ l. xs ++ l) (sym q)
+
+nothing_left : (rest : Option (List ℕ)) → IsAtEnd rest → unwrap_or rest [] ≡ []
+nothing_left None e = refl
+nothing_left (Some xs) e = e
+
+-- ---- causes
+
+pub stop_cause : (trusted trusted' : Type 0) (stop : Stop) (source source' before between now before' between' now' : ℕ) (taken : List ℕ) → before ≤ between → before' ≤ between' → (trusted' → trusted)
+    → Caused trusted stop between now between' now' → StopCause trusted' stop (faults_of source source' before now before' now') taken
+stop_cause trusted trusted' Stops.Source a b before between now before' between' now' taken later later' holds c = absurd c
+stop_cause trusted trusted' Stops.Limit a b before between now before' between' now' taken later later' holds c = absurd c
+stop_cause trusted trusted' Stops.Sink a b before between now before' between' now' taken later later' holds c = cause_earlier trusted trusted' Stops.Sink before between now before' between' now' later later' holds c
+stop_cause trusted trusted' Stops.Memory a b before between now before' between' now' taken later later' holds c = tt
+stop_cause trusted trusted' Stops.Book a b before between now before' between' now' taken later later' holds c = tt
+stop_cause trusted trusted' Stops.Disk a b before between now before' between' now' taken later later' holds c = cause_earlier trusted trusted' Stops.Disk before between now before' between' now' later later' holds c
+stop_cause trusted trusted' Stops.Misread a b before between now before' between' now' taken later later' holds c = cause_earlier trusted trusted' Stops.Misread before between now before' between' now' later later' holds c
+
+-- a stop within a piece is one at these bytes
+stops_at : (stop : Stop) (faults : Faults) (between : ℕ) (s : RoomyDesk) (taken all : List ℕ) (old new : Option (List ℕ)) → faults.sink_before ≤ between
+    → StopsWithin stop between faults.sink_now s (requests_of all) old new → StopsAt stop faults s taken all old new
+stops_at Stops.Source faults between s taken all old new later so = absurd so
+stops_at Stops.Limit faults between s taken all old new later so = absurd so
+stops_at Stops.Sink faults between s taken all old new later so = so
+stops_at Stops.Memory faults between s taken all old new later so = so
+stops_at Stops.Book faults between s taken all old new later so = stops_earlier Stops.Book faults.sink_before between faults.sink_now s (requests_of all) old new later so
+stops_at Stops.Misread faults between s taken all old new later so = absurd so
+stops_at Stops.Disk faults between s taken all old new later so = stops_earlier Stops.Disk faults.sink_before between faults.sink_now s (requests_of all) old new later so
+
+-- all but the last of m bytes
+pub front_take : (m n : ℕ) (xs : List ℕ) → m ≡ suc n → take n (take m xs) ≡ take n xs
+front_take m n xs e = take-take n m xs (omega arith)
+
+pub front_and_last : (m n : ℕ) (xs : List ℕ) → m ≡ suc n → take m xs ≡ take n xs ++ drop n (take m xs)
+front_and_last m n xs e = sym (ap (λ l. l ++ drop n (take m xs)) (sym (front_take m n xs e)) ∙ take-append-drop n (take m xs))
+
+-- the exit of a `?` that hands the error on
+pub handed_on : {T E : Type 0} (r : Result T E) (error : E) (P : E → Type 0) → IsErrAnd r (λ e. e ≡ error) → P error → IfErr r P
+handed_on (Ok x) error P h p = tt
+handed_on (Err e) error P h p = subst P (sym h) p
+
+module _ {D : Type 0} (content : D → List ℕ) where
+  -- ---- the steps
+
+  pub begun : (trusted : Type 0) (f : Flow D) (left old : Option (List ℕ)) → IsBegun f → Feeding content trusted (seen content f.session.clerk) f 0 left left old old
+  begun trusted f left old b = record {
+    taken = [];
+    given = Consumes-nil left;
+    counted = refl;
+    progress = λ holds. record {
+      parts = [];
+      split = λ rest. ap (λ l. slice_split is_line_end (l ++ rest)) (sym b.partial);
+      waits = subst (All (λ x. is_line_end x ≡ false)) (sym b.partial) (All-nil (λ x. is_line_end x ≡ false));
+      standing = b.standing;
+      text = [];
+      serves = Serves-nil (seen content f.session.clerk) [];
+      written = Appends-nil old;
+    };
+  }
+
+  pub fed : (trusted : Type 0) (first : View) (f g : Flow D) (count : ℕ) (left mid rest old now new : Option (List ℕ)) (piece : List ℕ)
+      → Feeding content trusted first f count left mid old now → Consumes mid rest piece → (trusted → Carries content f g piece now new) → Feeding content trusted first g (count + length piece) left rest old new
+  fed trusted first f g count left mid rest old now new piece h given carries = record {
+    taken = h.taken ++ piece;
+    given = Consumes-trans left mid rest h.taken piece h.given given;
+    counted = length-append h.taken piece ∙ ap (λ n. n + length piece) h.counted;
+    progress = λ holds. carries holds first h.taken old (h.progress holds);
+  }
+
+  -- the serving stopped within a piece
+  pub stopped_within : (trusted here : Type 0) (first : View) (f : Flow D) (count : ℕ) (left mid rest old now new : Option (List ℕ)) (piece served more : List ℕ) (stop : Stop)
+      (source source' before between after before' between' after' : ℕ)
+      → Feeding content trusted first f count left mid old now → Consumes mid rest piece → piece ≡ served ++ more → (trusted → Breaks content stop between after f served now new)
+      → before ≤ between → before' ≤ between' → (trusted → here) → Caused here stop between after between' after'
+      → IsStopped trusted first.state stop (faults_of source source' before after before' after') left rest old new
+  stopped_within trusted here first f count left mid rest old now new piece served more stop source source' before between after before' between' after' h given whole breaks later later' stays cause = record {
+    taken = h.taken ++ piece;
+    given = Consumes-trans left mid rest h.taken piece h.given given;
+    cause = stop_cause here trusted stop source source' before between after before' between' after' (h.taken ++ piece) later later' stays cause;
+    stops = λ holds.
+        (let bytes : (h.taken ++ served) ++ (more ++ unwrap_or rest []) ≡ (h.taken ++ piece) ++ unwrap_or rest [] =
+        sym (append_assoc (h.taken ++ served) more (unwrap_or rest []))
+        ∙ ap (λ l. l ++ unwrap_or rest []) (append_assoc h.taken served more ∙ ap (λ l. h.taken ++ l) (sym whole)) in
+        stops_at stop (faults_of source source' before after before' after') between first.state (h.taken ++ piece) ((h.taken ++ piece) ++ unwrap_or rest []) old new later
+        (subst (λ (l : List ℕ). StopsWithin stop between after first.state (requests_of l) old new) bytes (breaks holds first h.taken old (h.progress holds) (more ++ unwrap_or rest []))));
+  }
+
+  -- the source failed
+  pub stopped_by_source : (trusted : Type 0) (first : View) (f : Flow D) (count : ℕ) (left mid rest old now : Option (List ℕ)) (stop : Stop) (before between after c d c' d' : ℕ)
+      → Feeding content trusted first f count left mid old now → Keeps mid rest → before ≤ between → stop ≡ Stops.Source → Rose between after
+      → IsStopped trusted first.state stop (faults_of before after c d c' d') left rest old now
+  stopped_by_source trusted first f count left mid rest old now stop before between after c d c' d' h kept later e rose =
+      subst (λ (s : Stop). IsStopped trusted first.state s (faults_of before after c d c' d') left rest old now) (sym e)
+      (record {
+        taken = h.taken;
+        given = Consumes-kept left mid rest h.taken h.given kept;
+        cause = rose_earlier before between after later rose;
+        stops = λ holds. ended_told content first h.taken f old now (h.progress holds);
+      })
+
+  -- one byte more than the limit was given
+  pub stopped_by_limit : (trusted : Type 0) (first : View) (f g : Flow D) (count n : ℕ) (left mid rest old now new : Option (List ℕ)) (piece : List ℕ) (faults : Faults)
+      → Feeding content trusted first f count left mid old now → Consumes mid rest piece → length piece ≡ suc n → count + suc n ≡ 16_777_217 → (trusted → Carries content f g (take n piece) now new)
+      → IsStopped trusted first.state Stops.Limit faults left rest old new
+  stopped_by_limit trusted first f g count n left mid rest old now new piece faults h given long all carries =
+      let front : take 16_777_216 (h.taken ++ piece) ≡ h.taken ++ take n piece =
+      ap (take 16_777_216) (ap (λ l. h.taken ++ l) (sym (take-append-drop n piece)) ∙ sym (append_assoc h.taken (take n piece) (drop n piece)))
+      ∙ take_at (h.taken ++ take n piece) (drop n piece) 16_777_216
+      (length-append h.taken (take n piece) ∙ omega (arith, h.counted, length_taken n piece long)) in
+      record {
+        taken = h.taken ++ piece;
+        given = Consumes-trans left mid rest h.taken piece h.given given;
+        cause = length-append h.taken piece ∙ omega (arith, h.counted);
+        stops = λ holds.
+            subst (λ (l : List ℕ). HasServed first.state l old new) (sym front)
+            (ended_told content first (h.taken ++ take n piece) g old new (carries holds first h.taken old (h.progress holds)));
+      }
+    where
+      length_taken : (n : ℕ) (piece : List ℕ) → length piece ≡ suc n → length (take n piece) ≡ n
+      length_taken n piece e = length-take-le n piece (omega arith)
+
+  -- the source is at its end
+  pub fed_all : (trusted : Type 0) (first : View) (f : Flow D) (count : ℕ) (left mid rest old now : Option (List ℕ)) (piece : List ℕ)
+      → Feeding content trusted first f count left mid old now → count ≤ 16_777_216 → Consumes mid rest piece → piece ≡ [] → IsAtEnd rest → FedAll content trusted first f left rest old now
+  fed_all trusted first f count left mid rest old now piece h few given e end = record {
+    all = h.taken;
+    given = subst (Consumes left rest) (ap (λ l. h.taken ++ l) e ∙ append-nil h.taken) (Consumes-trans left mid rest h.taken piece h.given given);
+    end = end;
+    few = omega (arith, h.counted);
+    progress = h.progress;
+  }
+
+  -- ---- the end of the stream
+
+  pub served : (trusted : Type 0) (first : View) (f : Flow D) (refused : Bool) (left rest old mid new : Option (List ℕ)) → first.refused ≡ false
+      → FedAll content trusted first f left rest old mid → (trusted → Finishes content f refused mid new) → IsServed trusted first.state refused left rest old new
+  served trusted first f refused left rest old mid new clean h finishes = record {
+    all = h.all;
+    given = h.given;
+    end = h.end;
+    few = h.few;
+    answered = λ holds.
+        (let done = finishes holds first h.all old clean (h.progress holds) in
+        record { fits = done.0; written = done.1; refusals = done.2 });
+  }
+
+  pub stopped_at_end : (trusted here : Type 0) (first : View) (f : Flow D) (left rest old mid new : Option (List ℕ)) (stop : Stop) (a b before between after before' between' after' : ℕ)
+      → FedAll content trusted first f left rest old mid → (trusted → FinishBreaks content stop between after f mid new) → before ≤ between → before' ≤ between' → (trusted → here) → Caused here stop between after between' after'
+      → IsStopped trusted first.state stop (faults_of a b before after before' after') left rest old new
+  stopped_at_end trusted here first f left rest old mid new stop a b before between after before' between' after' h breaks later later' stays cause = record {
+    taken = h.all;
+    given = h.given;
+    cause = stop_cause here trusted stop a b before between after before' between' after' h.all later later' stays cause;
+    stops = λ holds.
+        stops_at stop (faults_of a b before after before' after') between first.state h.all (h.all ++ unwrap_or rest []) old new later
+        (subst (λ (l : List ℕ). StopsWithin stop between after first.state (requests_of l) old new)
+        (sym (ap (λ l. h.all ++ l) (nothing_left rest h.end) ∙ append-nil h.all)) (breaks holds first h.all old (h.progress holds)));
+  }
+
+  pub serving_on : (trusted here : Type 0) (first : View) (f : Flow D) (r : Result Bool Stop) (left rest old mid new : Option (List ℕ)) (a b before between after before' between' after' : ℕ) → first.refused ≡ false
+      → FedAll content trusted first f left rest old mid → (trusted → IfOk r (λ refused. Finishes content f refused mid new)) → (trusted → IfErr r (λ stop. FinishBreaks content stop between after f mid new))
+      → before ≤ between → before' ≤ between' → (trusted → here) → IfErr r (λ stop. Caused here stop between after between' after') → Serving trusted first.state r (faults_of a b before after before' after') left rest old new
+  serving_on trusted here first f (Ok refused) left rest old mid new a b before between after before' between' after' clean h ok err later later' stays cause =
+      served trusted first f refused left rest old mid new clean h ok
+  serving_on trusted here first f (Err stop) left rest old mid new a b before between after before' between' after' clean h ok err later later' stays cause =
+      stopped_at_end trusted here first f left rest old mid new stop a b before between after before' between' after' h err later later' stays cause
+
+-- the exit of a `?` that hands the stop on, of a whole stream
+pub serving_stopped : (trusted : Type 0) (state : RoomyDesk) (r : Result Bool Stop) (stop : Stop) (faults : Faults) (left rest old new : Option (List ℕ)) → IsErrAnd r (λ s. s ≡ stop)
+    → IsStopped trusted state stop faults left rest old new → Serving trusted state r faults left rest old new
+serving_stopped trusted state (Ok x) stop faults left rest old new h s = absurd h
+serving_stopped trusted state (Err x) stop faults left rest old new h s = subst (λ (w : Stop). IsStopped trusted state w faults left rest old new) (sym h) s

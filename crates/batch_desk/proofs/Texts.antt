@@ -1,0 +1,3 @@
+pub mod CodeNames
+pub mod Lists
+pub mod Pushes

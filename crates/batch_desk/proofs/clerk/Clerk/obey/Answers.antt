@@ -1,0 +1,125 @@
+use Rattle.std.proofs.Common.{◌≡◌, ◌++◌, ◌||◌, true, OnOk, refl, ap, sym, subst, ◌∙◌}
+use Rattle.ckr_base.proofs.Bools.{or-true}
+use Rattle.ckr_desk.specs.Model.Rows.{TablesModel}
+use Rattle.ckr_desk.specs.Requests.{behind_call, call_fits}
+use Rattle.ckr_desk.specs.Soundness.{state_of}
+use Rattle.ckr_desk.specs.Submit.{is_queued, purge_call}
+use Rattle.ckr_desk.specs.Model.Layout.{Layout}
+use Rattle.batch_desk.specs.declared.orders.Order.TheVariants.{Turns, ListOf, Sets, Jobs, Purge, Unknown}
+use Rattle.batch_desk.specs.Orders.{order_of}
+use Rattle.batch_desk.specs.Calls.{JobsListed, is_refusal, lines_of, purge_answer}
+use Rattle.batch_desk.specs.Service.{seen}
+use Rattle.batch_desk.specs.Texts.{answer_text}
+use Rattle.batch_desk.proofs.Service.Answers.{order_served_on, order_kept, tables_in, turns_not_served_on, list_not_served_on, purge_not_served_on}
+use Rattle.batch_desk.proofs.Cards.{on_ok}
+use Rattle.batch_desk.proofs.Calls.Stops.{goes_nowhere, goes_by_to}
+use Rattle.batch_desk.proofs.clerk.Clerk.obey.Goals as goal
+
+-- ---- what is served
+
+pub returns-in-Turns-clause-serves : goal.returns-in-Turns-clause-serves
+returns-in-Turns-clause-serves g c holds =
+    let d = g.D.Disk in
+    let old = c.args.self.now in
+    let line = c.args.text.now in
+    let reads = c.read_order.ensures.value ∙ ap (λ (l : Layout). order_of l.initiators line) c.layout.ensures.layout in
+    order_served_on c.turned.result (seen d.content old) _ c.args.number line (Turns c.in-Turns.initiator c.in-Turns.count) _ _ (sym c.in-Turns.is ∙ reads)
+    (c.turned.ensures.fits holds) (c.turned.ensures.after holds) (on_ok c.turned.result _ (order_kept old.refused _ refl)) (c.turned.ensures.text holds)
+
+pub returns-in-ListOf-clause-serves : goal.returns-in-ListOf-clause-serves
+returns-in-ListOf-clause-serves g c holds =
+    let d = g.D.Disk in
+    let old = c.args.self.now in
+    let line = c.args.text.now in
+    let reads = c.read_order.ensures.value ∙ ap (λ (l : Layout). order_of l.initiators line) c.layout.ensures.layout in
+    order_served_on c.list.result (seen d.content old) (seen d.content c.list.new.self) c.args.number line (ListOf c.in-ListOf.name) _ _ (sym c.in-ListOf.is ∙ reads)
+    (on_ok c.list.result _ refl) (c.list.ensures.state holds) (c.list.ensures.refused holds) (c.list.ensures.text holds)
+
+pub returns-in-Sets-clause-serves : goal.returns-in-Sets-clause-serves
+returns-in-Sets-clause-serves g c holds =
+    let d = g.D.Disk in
+    let old = c.args.self.now in
+    let line = c.args.text.now in
+    let reads = c.read_order.ensures.value ∙ ap (λ (l : Layout). order_of l.initiators line) c.layout.ensures.layout in
+    let e = c.list_sets.ensures in
+    order_served_on c.list_sets.result (seen d.content old) (seen d.content c.list_sets.new.self) c.args.number line Sets _ _ (sym c.in-Sets.is ∙ reads)
+    (on_ok c.list_sets.result _ refl) (on_ok c.list_sets.result _ (ap (λ (o : _). state_of d.content o.desk) e.clerk))
+    (on_ok c.list_sets.result _ (order_kept old.refused _ (ap (λ (o : _). o.refused) e.clerk))) (e.text holds)
+
+pub returns-in-Jobs-clause-serves : goal.returns-in-Jobs-clause-serves
+returns-in-Jobs-clause-serves g c holds =
+    let d = g.D.Disk in
+    let old = c.args.self.now in
+    let line = c.args.text.now in
+    let reads = c.read_order.ensures.value ∙ ap (λ (l : Layout). order_of l.initiators line) c.layout.ensures.layout in
+    let e = c.list_jobs.ensures in
+    order_served_on c.list_jobs.result (seen d.content old) (seen d.content c.list_jobs.new.self) c.args.number line Jobs _ _ (sym c.in-Jobs.is ∙ reads)
+    (on_ok c.list_jobs.result _ refl) (on_ok c.list_jobs.result _ (ap (λ (o : _). state_of d.content o.desk) e.clerk))
+    (on_ok c.list_jobs.result _ (order_kept old.refused _ (ap (λ (o : _). o.refused) e.clerk)))
+    (subst (λ (t : TablesModel). OnOk c.list_jobs.result (c.list_jobs.new.out ≡ c.args.out.now ++ answer_text (JobsListed (lines_of t)))) (tables_in d.told d.content d.may_leave old.desk holds) e.text)
+
+pub returns-in-Purge-clause-serves : goal.returns-in-Purge-clause-serves
+returns-in-Purge-clause-serves g c holds =
+    let d = g.D.Disk in
+    let old = c.args.self.now in
+    let line = c.args.text.now in
+    let job = c.in-Purge.job in
+    let s = state_of d.content old.desk in
+    let reads = c.read_order.ensures.value ∙ ap (λ (l : Layout). order_of l.initiators line) c.layout.ensures.layout in
+    let e = c.purge.ensures in
+    let there = tables_in d.told d.content d.may_leave old.desk holds in
+    order_served_on c.purge.result (seen d.content old) (seen d.content c.purge.new.self) c.args.number line (Purge job) _ _ (sym c.in-Purge.is ∙ reads)
+    (subst (λ (t : TablesModel). OnOk c.purge.result (call_fits s (purge_call t job) ≡ true)) there (e.fits holds))
+    (subst (λ (t : TablesModel). OnOk c.purge.result (state_of d.content c.purge.new.self.desk ≡ behind_call s (purge_call t job))) there (e.after holds))
+    (subst (λ (t : TablesModel). OnOk c.purge.result (c.purge.new.self.refused ≡ (old.refused || is_refusal (purge_answer c.args.number job (is_queued t job))))) there e.refused)
+    (subst (λ (t : TablesModel). OnOk c.purge.result (c.purge.new.out ≡ c.args.out.now ++ answer_text (purge_answer c.args.number job (is_queued t job)))) there e.text)
+
+pub returns-in-Unknown-clause-serves : goal.returns-in-Unknown-clause-serves
+returns-in-Unknown-clause-serves g c holds =
+    let d = g.D.Disk in
+    let old = c.args.self.now in
+    let line = c.args.text.now in
+    let reads = c.read_order.ensures.value ∙ ap (λ (l : Layout). order_of l.initiators line) c.layout.ensures.layout in
+    let e = c.refuse_line.ensures in
+    order_served_on c.refuse_line.result (seen d.content old) (seen d.content c.refuse_line.new.self) c.args.number line Unknown _ _ (sym c.in-Unknown.is ∙ reads)
+    (on_ok c.refuse_line.result _ refl) (on_ok c.refuse_line.result _ (ap (state_of d.content) e.desk))
+    (on_ok c.refuse_line.result _ (e.refused ∙ sym (or-true old.refused))) e.text
+
+-- ---- what isn't
+
+pub returns-in-Turns-clause-halt : goal.returns-in-Turns-clause-halt
+returns-in-Turns-clause-halt g c holds =
+    let reads = c.read_order.ensures.value ∙ ap (λ (l : Layout). order_of l.initiators c.args.text.now) c.layout.ensures.layout in
+    turns_not_served_on (state_of g.D.Disk.content c.args.self.now.desk) c.args.number c.args.text.now _ reads c.turned.result c.in-Turns.initiator c.in-Turns.count _ _ c.in-Turns.is (c.turned.ensures.halt holds)
+
+pub returns-in-ListOf-clause-halt : goal.returns-in-ListOf-clause-halt
+returns-in-ListOf-clause-halt g c holds =
+    let reads = c.read_order.ensures.value ∙ ap (λ (l : Layout). order_of l.initiators c.args.text.now) c.layout.ensures.layout in
+    list_not_served_on (state_of g.D.Disk.content c.args.self.now.desk) c.args.number c.args.text.now _ reads c.list.result _ _ (c.list.ensures.halt holds)
+
+pub returns-in-Purge-clause-halt : goal.returns-in-Purge-clause-halt
+returns-in-Purge-clause-halt g c holds =
+    let d = g.D.Disk in
+    let reads = c.read_order.ensures.value ∙ ap (λ (l : Layout). order_of l.initiators c.args.text.now) c.layout.ensures.layout in
+    purge_not_served_on (state_of d.content c.args.self.now.desk) c.args.number c.args.text.now _ reads c.purge.result c.args.self.now.desk.jobs.tables.desk c.in-Purge.job _ _
+    (tables_in d.told d.content d.may_leave c.args.self.now.desk holds) c.in-Purge.is (c.purge.ensures.halt holds)
+
+-- ---- what a stop leaves
+
+pub returns-in-Unknown-clause-goes : goal.returns-in-Unknown-clause-goes
+returns-in-Unknown-clause-goes g c holds =
+    let d = g.D.Disk in
+    let old = c.args.self.now.desk in
+    goes_by_to d.content d.moment d.left_since d.size c.refuse_line.result old old _ c.refuse_line.ensures.desk (goes_nowhere d.content d.moment d.left_since d.size old (c.layout-layout.ensures.kept c.requires.is_open holds))
+
+pub returns-in-Sets-clause-goes : goal.returns-in-Sets-clause-goes
+returns-in-Sets-clause-goes g c holds =
+    let d = g.D.Disk in
+    let old = c.args.self.now.desk in
+    goes_by_to d.content d.moment d.left_since d.size c.list_sets.result old old _ (ap (λ (o : _). o.desk) c.list_sets.ensures.clerk) (goes_nowhere d.content d.moment d.left_since d.size old (c.layout-layout.ensures.kept c.requires.is_open holds))
+
+pub returns-in-Jobs-clause-goes : goal.returns-in-Jobs-clause-goes
+returns-in-Jobs-clause-goes g c holds =
+    let d = g.D.Disk in
+    let old = c.args.self.now.desk in
+    goes_by_to d.content d.moment d.left_since d.size c.list_jobs.result old old _ (ap (λ (o : _). o.desk) c.list_jobs.ensures.clerk) (goes_nowhere d.content d.moment d.left_since d.size old (c.layout-layout.ensures.kept c.requires.is_open holds))

@@ -1,8 +1,0 @@
-use Rattle.std.proofs.Common.{arith, not}
-use Rattle.std.proofs.lemmas.Grind.{common_steps}
-use Rattle.std.proofs.lemmas.List.Sums.{prefix_len-le-length}
-use Rattle.batch_desk.specs.Orders.{is_space}
-use Rattle.batch_desk.proofs.orders.word_length.Goals as goal
-
-pub returns-in-None-clause-value : goal.returns-in-None-clause-value
-returns-in-None-clause-value c = grind (arith, common_steps, prefix_len-le-length (λ byte. not (is_space byte)) c.args.text.now)

@@ -1,0 +1,110 @@
+-- What serving requests does, and what is left of it where it stops.
+use Rattle.std.specs.Prelude.{◌≡◌, ◌⊎◌, ℕ, Bool, true, false, ◌||◌, List, ◌∷◌, ◌++◌, Option}
+use Rattle.std.specs.List.{flat_map, list_any}
+use Rattle.std.specs.Io.KnownBytes.{Appends}
+use Rattle.ckr_outside.specs.Faults.{Rose}
+use Rattle.ckr_outside.specs.Front.{AppendsFront}
+use Rattle.ckr_desk.specs.Soundness.{state_of}
+use Rattle.ckr_desk.specs.State.{RoomyDesk}
+use Rattle.ckr_desk.specs.Model.Reply.{Reply}
+use Rattle.ckr_cards.specs.Session.{Handed}
+use Rattle.batch_desk.specs.declared.clerk.Clerk.{Clerk}
+use Rattle.batch_desk.specs.declared.stop.Halt.{Halt}
+use Rattle.batch_desk.specs.declared.stop.Halt.TheVariants as Halts
+use Rattle.batch_desk.specs.declared.stop.Stop.{Stop}
+use Rattle.batch_desk.specs.declared.stop.Stop.TheVariants as Stops
+use Rattle.batch_desk.specs.Calls.{calls, after_all, all_fit, replies_of, is_refusal, broken_off}
+use Rattle.batch_desk.specs.Texts.{answer_text}
+
+-- the desk between two calls, and whether a line or a deck was refused
+pub record View : Type 0 where
+  pub state : RoomyDesk
+  pub refused : Bool
+
+abbrev pub seen : {D : Type 0} → (D → List ℕ) → Clerk D → View
+seen content clerk = record { state = state_of content clerk.desk; refused = clerk.refused }
+
+-- the text of what is answered to requests
+abbrev pub text_to : RoomyDesk → List Handed → List ℕ
+text_to state requests = flat_map answer_text (calls state requests)
+
+-- from old to new the requests were served, all of them, and the text grew by what is answered
+pub record Serves (old new : View) (requests : List Handed) (before now : List ℕ) : Type 0 where
+  pub fits : all_fit old.state requests ≡ true
+  pub state : new.state ≡ after_all old.state requests
+  pub refused : new.refused ≡ (old.refused || list_any is_refusal (calls old.state requests))
+  pub text : now ≡ before ++ text_to old.state requests
+
+-- One of the requests was broken off, and the text is that of what was answered before: to the requests before it all, and
+-- of its own replies the first ones.
+pub record BreaksOff (state : RoomyDesk) (requests : List Handed) (text : List ℕ) : Type 0 where
+  pub served : List Handed
+  pub broken : Handed
+  pub more : List Handed
+  pub split : requests ≡ served ++ broken ∷ more
+  pub fits : all_fit state served ≡ true
+  pub replies : List Reply
+  pub later : List Reply
+  pub given : replies_of (after_all state served) broken ≡ replies ++ later
+  pub told : text ≡ text_to state served ++ answer_text (broken_off (after_all state served) broken replies)
+
+-- serving requests stopped, and this is what the text grew by; it isn't told where memory ran out
+abbrev pub HaltsSo : Halt → RoomyDesk → List Handed → List ℕ → List ℕ → Type 0
+HaltsSo Halts.Memory state requests before now = Unit {0}
+HaltsSo Halts.Book state requests before now = (all_fit state requests ≡ false) × (now ≡ before ++ text_to state requests)
+HaltsSo Halts.Disk state requests before now = (text : List ℕ) × (now ≡ before ++ text) × BreaksOff state requests text
+HaltsSo Halts.Misread state requests before now = ⊥
+
+-- only a disk whose faults rose is told to have failed, and only one that isn't trusted to read wrong
+abbrev pub HaltCause : Type 0 → Halt → ℕ → ℕ → Type 0
+HaltCause trusted Halts.Memory before now = Unit {0}
+HaltCause trusted Halts.Book before now = Unit {0}
+HaltCause trusted Halts.Disk before now = Rose before now
+HaltCause trusted Halts.Misread before now = trusted → ⊥
+
+-- nothing is told of a data set whose records weren't listed
+abbrev pub ListHalt : Halt → List ℕ → List ℕ → Type 0
+ListHalt Halts.Memory before now = Unit {0}
+ListHalt Halts.Book before now = ⊥
+ListHalt Halts.Disk before now = now ≡ before
+ListHalt Halts.Misread before now = ⊥
+
+-- nor of a job that wasn't taken from the queue: whether the book has room for the event
+abbrev pub PurgeHalt : Halt → Bool → List ℕ → List ℕ → Type 0
+PurgeHalt Halts.Memory fits before now = Unit {0}
+PurgeHalt Halts.Book fits before now = (fits ≡ false) × (now ≡ before)
+PurgeHalt Halts.Disk fits before now = now ≡ before
+PurgeHalt Halts.Misread fits before now = ⊥
+
+-- ---- what is written then
+
+-- the whole text is written, or the sink failed and a front of it is
+abbrev pub WritesSo : ℕ → ℕ → Option (List ℕ) → Option (List ℕ) → List ℕ → Type 0
+WritesSo before now old new text = Appends old new text ⊎ (Rose before now × AppendsFront old new text)
+
+-- Serving requests stopped, and this is written of their text; the sink's faults are counted before and now.
+abbrev pub StopsWithin : Stop → ℕ → ℕ → RoomyDesk → List Handed → Option (List ℕ) → Option (List ℕ) → Type 0
+StopsWithin Stops.Source before now state requests old new = ⊥
+StopsWithin Stops.Limit before now state requests old new = ⊥
+StopsWithin Stops.Sink before now state requests old new = AppendsFront old new (text_to state requests)
+StopsWithin Stops.Memory before now state requests old new = AppendsFront old new (text_to state requests)
+StopsWithin Stops.Book before now state requests old new = (all_fit state requests ≡ false) × WritesSo before now old new (text_to state requests)
+StopsWithin Stops.Disk before now state requests old new = (text : List ℕ) × BreaksOff state requests text × WritesSo before now old new text
+StopsWithin Stops.Misread before now state requests old new = ⊥
+
+-- why serving requests stopped: the faults of the sink and of the disk are counted before and now
+abbrev pub Caused : Type 0 → Stop → ℕ → ℕ → ℕ → ℕ → Type 0
+Caused trusted Stops.Source sink sink' disk disk' = ⊥
+Caused trusted Stops.Limit sink sink' disk disk' = ⊥
+Caused trusted Stops.Sink sink sink' disk disk' = Rose sink sink'
+Caused trusted Stops.Memory sink sink' disk disk' = Unit {0}
+Caused trusted Stops.Book sink sink' disk disk' = Unit {0}
+Caused trusted Stops.Disk sink sink' disk disk' = Rose disk disk'
+Caused trusted Stops.Misread sink sink' disk disk' = trusted → ⊥
+
+-- what was answered before the serving stopped is written, as far as the sink takes it
+abbrev pub RestWritten : Halt → Stop → ℕ → ℕ → Option (List ℕ) → Option (List ℕ) → List ℕ → Type 0
+RestWritten Halts.Memory stop before now old new text = (stop ≡ Stops.Memory) × (new ≡ old)
+RestWritten Halts.Book stop before now old new text = (stop ≡ Stops.Book) × WritesSo before now old new text
+RestWritten Halts.Disk stop before now old new text = (stop ≡ Stops.Disk) × WritesSo before now old new text
+RestWritten Halts.Misread stop before now old new text = (stop ≡ Stops.Misread) × WritesSo before now old new text

@@ -1,0 +1,58 @@
+-- Turns one after another, and the lines that are told of them.
+use Rattle.std.specs.Prelude.{◌≡◌, ℕ, false, List, [], ◌++◌, Option, None, Some}
+use Rattle.std.specs.List.{flat_map}
+use Rattle.ckr_desk.specs.Model.Plans.{IsToldReply}
+use Rattle.ckr_desk.specs.Turn.{turn_fits}
+use Rattle.ckr_desk.specs.State.{RoomyDesk}
+use Rattle.ckr_desk.specs.Model.Reply.{Reply}
+use Rattle.ckr_desk.specs.Model.Layout.{Layout}
+use Rattle.batch_desk.specs.declared.stop.Halt.{Halt}
+use Rattle.batch_desk.specs.declared.stop.Halt.TheVariants as Halts
+use Rattle.batch_desk.specs.Calls.{BrokenOff, plain_turn, turns, turns_fit, after_turns}
+use Rattle.batch_desk.specs.Texts.{answer_text, run_text, before_runs, runs_of, with_waiting}
+
+-- the replies that wait have texts
+abbrev pub IsToldWaiting : Option (Reply × ℕ) → Type 0
+IsToldWaiting None = Unit {0}
+IsToldWaiting (Some run) = IsToldReply run.0
+
+module _ (layout : Layout) (initiator : ℕ) where
+  -- a reply comes behind those that wait: these runs have ended then, and their lines are written
+  pub record Adds (waiting : Option (Reply × ℕ)) (reply : Reply) (now_waiting : Option (Reply × ℕ)) (before now : List ℕ) : Type 0 where
+    pub ended : List (Reply × ℕ)
+    pub written : now ≡ before ++ flat_map (run_text layout initiator) ended
+    pub joins : (runs : List (Reply × ℕ)) → with_waiting waiting (before_runs reply 1 runs) ≡ ended ++ with_waiting now_waiting runs
+    pub waits : now_waiting ≡ None → ⊥
+
+  -- From one state to another, with so many turns left, some were made: the replies to them, and the runs that have ended.
+  pub record Turns (n m : ℕ) (first state : RoomyDesk) (waiting : Option (Reply × ℕ)) (before now : List ℕ) : Type 0 where
+    pub made : List Reply
+    pub ended : List (Reply × ℕ)
+    pub replies : turns initiator n first ≡ made ++ turns initiator m state
+    pub after : after_turns initiator n first ≡ after_turns initiator m state
+    pub fit : turns_fit initiator n first ≡ turns_fit initiator m state
+    pub joins : (rest : List Reply) → runs_of (made ++ rest) ≡ ended ++ with_waiting waiting (runs_of rest)
+    pub written : now ≡ before ++ flat_map (run_text layout initiator) ended
+    pub none : waiting ≡ None → ended ≡ []
+
+  -- of so many turns the first ones were made, and their replies are told
+  pub record FirstTurns (count : ℕ) (state : RoomyDesk) (before now : List ℕ) : Type 0 where
+    pub replies : List Reply
+    pub later : List Reply
+    pub given : turns initiator count state ≡ replies ++ later
+    pub told : now ≡ before ++ answer_text (BrokenOff layout initiator replies)
+
+  -- what is told where not all of so many turns were made
+  abbrev pub TurnsHalt : Halt → ℕ → RoomyDesk → List ℕ → List ℕ → Type 0
+  TurnsHalt Halts.Memory count state before now = Unit {0}
+  TurnsHalt Halts.Book count state before now =
+      (turns_fit initiator count state ≡ false) × (now ≡ before ++ answer_text (BrokenOff layout initiator (turns initiator count state)))
+  TurnsHalt Halts.Disk count state before now = FirstTurns count state before now
+  TurnsHalt Halts.Misread count state before now = ⊥
+
+-- a turn that wasn't made: whether the book has room for its event
+abbrev pub TurnHalt : Halt → ℕ → RoomyDesk → Type 0
+TurnHalt Halts.Memory initiator state = Unit {0}
+TurnHalt Halts.Book initiator state = turn_fits state (plain_turn initiator) ≡ false
+TurnHalt Halts.Disk initiator state = Unit {0}
+TurnHalt Halts.Misread initiator state = ⊥

@@ -1,0 +1,188 @@
+//! Turns, and the lines for their replies.
+ghost use Rattle.std.specs.Prelude.{◌≡◌, ◌<◌, ◌≤◌, ◌+◌, ◌-◌, ◌^◌, ◌++◌, ◌∷◌, [], OnOk, IfOk, IfErr, Some, None, true};
+ghost use Rattle.std.specs.List.{flat_map};
+ghost use Rattle.ckr_desk.specs.Model.Plans.{IsToldReply};
+ghost use Rattle.ckr_desk.specs.Turn.{behind_turn, reply_of, turn_fits};
+ghost use Rattle.ckr_desk.specs.Soundness.{IsTrusted, state_of};
+ghost use Rattle.batch_desk.specs.Stops.{GoesBy};
+ghost use Rattle.batch_desk.specs.Calls.{Turned, plain_turn, turns, turns_fit, after_turns, is_idle};
+ghost use Rattle.batch_desk.specs.Service.{HaltCause};
+ghost use Rattle.batch_desk.specs.Texts.{answer_text, run_text, goes_on, is_same_work, is_work, work_in, before_runs, with_waiting, waiting_count, told_runs};
+ghost use Rattle.batch_desk.specs.Turns.{Adds, IsToldWaiting, TurnHalt, TurnsHalt};
+
+use crate::report::reply_line;
+use crate::stop::Halt;
+use crate::text::Text;
+use ckr_base::{Name8, NoMemory};
+use ckr_desk::{Desk, DeskError, Layout, Reply, Turn};
+use ckr_outside::Disk;
+
+fn is_work(reply: &Reply) -> bool
+    ensures { result ≡ is_work reply.now }
+{
+    matches!(reply, Reply::Worked { .. })
+}
+
+fn is_idle(reply: &Reply) -> bool
+    ensures { result ≡ is_idle reply.now }
+{
+    matches!(reply, Reply::Idle)
+}
+
+/// Whether a reply tells of work of this step of this job.
+fn is_work_of(job: u32, step: &Name8, reply: &Reply) -> bool
+    ensures { result ≡ is_same_work (Some (job, step.now)) (work_in reply.now) }
+{
+    match reply {
+        Reply::Worked {
+            job: other,
+            step: other_step,
+            ..
+        } => job == *other && step.text() == other_step.text(),
+        _ => false,
+    }
+}
+
+/// Whether one line tells both.
+fn goes_on(last: &Reply, reply: &Reply) -> bool
+    ensures { result ≡ goes_on last.now reply.now }
+{
+    match last {
+        Reply::Worked { job, step, .. } => is_work_of(*job, step, reply),
+        _ => false,
+    }
+}
+
+/// The last replies in a row that one line will tell, and how many they are.
+type Waiting = Option<(Reply, u32)>;
+
+/// Adds a reply to those that wait, behind the lines of those that it doesn't go on.
+fn add(
+    layout: &Layout,
+    initiator: u8,
+    waiting: Waiting,
+    reply: Reply,
+    out: &mut Text,
+) -> Result<Waiting, NoMemory>
+    requires count { waiting_count waiting < 2 ^ 32 - 1 }
+    requires told { IsToldWaiting waiting }
+    requires reply { IsToldReply reply }
+    ensures adds { IfOk result (λ now. Adds layout.now initiator waiting reply now out.old out.new) }
+    ensures count { IfOk result (λ now. waiting_count now ≤ waiting_count waiting + 1) }
+    ensures told { IfOk result (λ now. IsToldWaiting now) }
+{
+    let Some((last, times)) = waiting else {
+        return Ok(Some((reply, 1)));
+    };
+    if goes_on(&last, &reply) {
+        return Ok(Some((reply, times + 1)));
+    }
+    reply_line(layout, initiator, &last, times, out)?;
+    Ok(Some((reply, 1)))
+}
+
+/// The line for the replies that wait, which no other one goes on.
+fn finish(layout: &Layout, initiator: u8, waiting: Waiting, out: &mut Text) -> Result<(), NoMemory>
+    requires { IsToldWaiting waiting }
+    ensures { OnOk result (out.new ≡ out.old ++ flat_map (run_text layout.now initiator) (with_waiting waiting [])) }
+{
+    match waiting {
+        Some((last, times)) => reply_line(layout, initiator, &last, times, out),
+        None => Ok(()),
+    }
+}
+
+/// The same where other replies might have followed: work that isn't known to have ended isn't told.
+fn break_off(
+    layout: &Layout,
+    initiator: u8,
+    waiting: Waiting,
+    out: &mut Text,
+) -> Result<(), NoMemory>
+    requires { IsToldWaiting waiting }
+    ensures { OnOk result (out.new ≡ out.old ++ flat_map (run_text layout.now initiator) (told_runs (with_waiting waiting []))) }
+{
+    match waiting {
+        Some((last, times)) => {
+            if is_work(&last) {
+                return Ok(());
+            }
+            reply_line(layout, initiator, &last, times, out)
+        }
+        None => Ok(()),
+    }
+}
+
+/// One turn of an initiator.
+fn one_turn<D: Disk>(desk: &mut Desk<D>, initiator: u8) -> Result<Reply, Halt>
+    requires above { 1 ≤ initiator }
+    requires below { initiator ≤ desk.old.store.layout.initiators }
+    requires is_open { desk.old.store.fault ≡ None }
+    ensures reply { IsTrusted D.told D.content D.may_leave desk.old → IfOk result (λ reply. reply ≡ reply_of (state_of D.content desk.old) (plain_turn initiator)) }
+    ensures told { IfOk result (λ reply. IsToldReply reply) }
+    ensures fits { IsTrusted D.told D.content D.may_leave desk.old → OnOk result (turn_fits (state_of D.content desk.old) (plain_turn initiator) ≡ true) }
+    ensures after { IsTrusted D.told D.content D.may_leave desk.old → OnOk result (state_of D.content desk.new ≡ behind_turn (state_of D.content desk.old) (plain_turn initiator)) }
+    ensures is_open { OnOk result (desk.new.store.fault ≡ None) }
+    ensures layout { desk.new.store.layout ≡ desk.old.store.layout }
+    ensures trusted { OnOk result (IsTrusted D.told D.content D.may_leave desk.old → IsTrusted D.told D.content D.may_leave desk.new) }
+    ensures goes { IsTrusted D.told D.content D.may_leave desk.old → GoesBy D.content D.moment D.left_since D.size result desk.old desk.new }
+    ensures later { D.faults desk.old.store.disk ≤ D.faults desk.new.store.disk }
+    ensures halt { IsTrusted D.told D.content D.may_leave desk.old → IfErr result (λ halt. TurnHalt halt initiator (state_of D.content desk.old)) }
+    ensures cause { IfErr result (λ halt. HaltCause (IsTrusted D.told D.content D.may_leave desk.old) halt (D.faults desk.old.store.disk) (D.faults desk.new.store.disk)) }
+{
+    let turn = Turn {
+        initiator,
+        fail: None,
+    };
+    match desk.turn(turn) {
+        Ok(reply) => Ok(reply),
+        Err(DeskError::NoMemory) => Err(Halt::Memory),
+        Err(DeskError::BookFull { .. }) => Err(Halt::Book),
+        Err(DeskError::DiskFault) => Err(Halt::Disk),
+        Err(DeskError::Misread) => Err(Halt::Misread),
+        Err(DeskError::Stopped { .. }) => unreachable!(),
+    }
+}
+
+/// At most so many turns of an initiator, up to the first Idle, and their lines.
+pub fn turned<D: Disk>(
+    desk: &mut Desk<D>,
+    initiator: u8,
+    count: u32,
+    out: &mut Text,
+) -> Result<(), Halt>
+    requires few { count ≤ 1_000_000 }
+    requires above { 1 ≤ initiator }
+    requires below { initiator ≤ desk.old.store.layout.initiators }
+    requires is_open { desk.old.store.fault ≡ None }
+    ensures fits { IsTrusted D.told D.content D.may_leave desk.old → OnOk result (turns_fit initiator count (state_of D.content desk.old) ≡ true) }
+    ensures text { IsTrusted D.told D.content D.may_leave desk.old → OnOk result (out.new ≡ out.old ++ answer_text (Turned desk.old.store.layout initiator (turns initiator count (state_of D.content desk.old)))) }
+    ensures after { IsTrusted D.told D.content D.may_leave desk.old → OnOk result (state_of D.content desk.new ≡ after_turns initiator count (state_of D.content desk.old)) }
+    ensures is_open { OnOk result (desk.new.store.fault ≡ None) }
+    ensures trusted { OnOk result (IsTrusted D.told D.content D.may_leave desk.old → IsTrusted D.told D.content D.may_leave desk.new) }
+    ensures goes { IsTrusted D.told D.content D.may_leave desk.old → GoesBy D.content D.moment D.left_since D.size result desk.old desk.new }
+    ensures later { D.faults desk.old.store.disk ≤ D.faults desk.new.store.disk }
+    ensures halt { IsTrusted D.told D.content D.may_leave desk.old → IfErr result (λ halt. TurnsHalt desk.old.store.layout initiator halt count (state_of D.content desk.old) out.old out.new) }
+    ensures cause { IfErr result (λ halt. HaltCause (IsTrusted D.told D.content D.may_leave desk.old) halt (D.faults desk.old.store.disk) (D.faults desk.new.store.disk)) }
+{
+    let _layout = desk.layout();
+    let mut waiting = None;
+    for _ in 0..count {
+        match one_turn(desk, initiator) {
+            Ok(reply) => {
+                let idle = is_idle(&reply);
+                waiting = add(desk.layout(), initiator, waiting, reply, out)?;
+                if idle {
+                    finish(desk.layout(), initiator, waiting, out)?;
+                    return Ok(());
+                }
+            }
+            Err(halt) => {
+                break_off(desk.layout(), initiator, waiting, out)?;
+                return Err(halt);
+            }
+        }
+    }
+    finish(desk.layout(), initiator, waiting, out)?;
+    Ok(())
+}

@@ -1,4 +1,0 @@
-use Rattle.ckr_allocation.proofs.placing.+first_with_room.Given as goal
-
-abbrev pub decreases-first_with_room : goal.decreases-first_with_room
-decreases-first_with_room l = l.count

@@ -1,0 +1,16 @@
+pub mod Statements
+pub mod Fields
+pub mod FieldParts
+pub mod CardPlaces
+pub mod CutLines
+pub mod CutRuns
+pub mod CutLaw
+pub mod Fills
+pub mod ItemGroups
+pub mod Operands
+pub mod StoredCards
+pub mod Sessions
+pub mod DeckLaws
+pub mod Definitions
+pub mod Examples
+pub mod Decks

@@ -1,0 +1,9 @@
+pub mod Tables
+pub mod Card
+pub mod Field
+pub mod Parts
+pub mod Statement
+pub mod Cut
+pub mod CutSteps
+pub mod CutProgress
+pub mod Session

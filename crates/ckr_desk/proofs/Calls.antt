@@ -1,0 +1,6 @@
+pub mod CardCounts
+pub mod Stops
+pub mod Events
+pub mod RequestStops
+pub mod Requests
+pub mod Records

@@ -1,0 +1,211 @@
+-- A call that is one event with its deck, or none, on a trusted disk.
+use Rattle.std.proofs.Common.{◌≡◌, ◌≤◌, ◌<◌, ◌*◌, ◌/◌, ℕ, suc, List, [], ◌∷◌, Bool, true, false, cond, length, refl, ap, sym, ◌∙◌, subst, arith, Option, Some, None, Result, Ok, Err, IfErr, OnOk, nat_le}
+use Rattle.std.proofs.lemmas.Bool.{false≢true, le-leb}
+use Rattle.std.proofs.lemmas.Bool.Decides.{nat_tests}
+use Rattle.ckr_base.proofs.Bools.{and-first}
+use Rattle.ckr_base.proofs.Numbers.{nat_le-beyond}
+use Rattle.ckr_book.specs.Book.{room_of}
+use Rattle.ckr_events.specs.declared.event.Event.TheVariants.{Submitted, Purged}
+use Rattle.ckr_events.specs.Event.{IsEvent}
+use Rattle.ckr_jcl.specs.declared.deck.Job.{Job}
+use Rattle.ckr_desk_memory.proofs.Queue.{run-there}
+use Rattle.ckr_desk_turn.proofs.NextEvents.BetweenSteps.{submitted_comes}
+use Rattle.ckr_outside.specs.Disk.{EachSince}
+use Rattle.ckr_outside.specs.Moments.{in_other_words, started}
+use Rattle.ckr_points.specs.declared.run.RunState.TheVariants.{Queued}
+use Rattle.ckr_points.specs.Follows.{follows, is_in_state}
+use Rattle.ckr_points.specs.Restart.{Decked}
+use Rattle.ckr_points.specs.Rows.{TablesModel}
+use Rattle.ckr_points_invariant.proofs.Holders.Rows.{queued-is}
+use Rattle.ckr_desk_refines.specs.Moves.{HasSameRecords}
+use Rattle.ckr_desk_store.specs.OpenImages.{event_records}
+use Rattle.ckr_desk_store.specs.State.{IsSound, StoreView}
+use Rattle.ckr_points_decks.proofs.KeptCards.{kept_long, submitted_spelled}
+use Rattle.ckr_points_decks.specs.Cards.{kept_of_stored}
+use Rattle.ckr_points_decks.specs.Form.{submission_of}
+use Rattle.ckr_points_decks.specs.declared.submit.Submission.{Submission}
+use Rattle.ckr_points_decks.specs.declared.submit.Submission.TheVariants.{Accepted, Refused}
+use Rattle.ckr_points_tables.specs.Invariant.{is_submittable}
+use Rattle.ckr_volumes.specs.declared.layout.Layout.{Layout}
+use Rattle.ckr_desk.proofs.Turns.Preparation.{same-unchanged}
+use Rattle.ckr_desk.proofs.Calls.Events.{IsCalled, called-deck, called-kept, called-purged, called-state, called-trusted}
+use Rattle.ckr_desk.proofs.Calls.CardCounts.{accepted-deck, few-accepted}
+use Rattle.ckr_desk.proofs.Images.Soundness.{kept-before}
+use Rattle.ckr_desk.proofs.Calls.Stops.{opens-so}
+use Rattle.ckr_desk.specs.declared.error.DeskError.{DeskError}
+use Rattle.ckr_desk.specs.declared.error.DeskError.TheVariants.{NoMemory, DiskFault, BookFull, Stopped, Misread}
+use Rattle.ckr_desk.specs.Requests.{FailsBy, MayFail, behind_call, call_fits, event_in, spelled}
+use Rattle.ckr_desk.specs.Calls.{HasDone, IsLeftByCall, IsSettledBehind, NotDone, may_follow, with_event}
+use Rattle.ckr_desk.specs.Soundness.{HasKept, IsTrusted, KeepsWithin, state_of}
+use Rattle.ckr_desk.specs.State.{DeskView, need_of}
+use Rattle.ckr_desk.specs.NoChange.{StaysBy}
+use Rattle.ckr_desk.specs.Submit.{call_by, entered, is_queued, number_for, purge_call, submit_call}
+
+-- ---- of each answer
+
+pub if-err : {T E : Type 0} {P Q : E → Type 0} → ((error : E) → P error → Q error) → (result : Result T E) → IfErr result P → IfErr result Q
+if-err of (Ok x) is = tt
+if-err of (Err error) is = of error is
+
+pub if-err-both : {T E : Type 0} {A B C : E → Type 0} → ((error : E) → A error → B error → C error) → (result : Result T E) → IfErr result A → IfErr result B → IfErr result C
+if-err-both of (Ok x) is also = tt
+if-err-both of (Err error) is also = of error is also
+
+pub on-ok : {T E : Type 0} {P Q : Type 0} → (P → Q) → (result : Result T E) → OnOk result P → OnOk result Q
+on-ok of (Ok x) is = of is
+on-ok of (Err error) is = tt
+
+pub on-ok-both : {T E : Type 0} {P Q R : Type 0} → (P → Q → R) → (result : Result T E) → OnOk result P → OnOk result Q → OnOk result R
+on-ok-both of (Ok x) is also = of is also
+on-ok-both of (Err error) is also = tt
+
+pub on-ok-all : {T E : Type 0} {A B C P R : Type 0} → (A → B → C → P → R) → (result : Result T E) → OnOk result A → OnOk result B → OnOk result C → OnOk result P → OnOk result R
+on-ok-all of (Ok x) a b c d = of a b c d
+on-ok-all of (Err error) a b c d = tt
+
+-- ---- on any disk
+
+module _ {D : Type 0} (faults : D → ℕ) (old new : DeskView D) where
+  pub call-may-fail : (call : Option Decked) (error : DeskError) → NotDone faults call old new error → MayFail (faults old.store.disk) (faults new.store.disk) old.store.fault error
+  call-may-fail None NoMemory not = tt
+  call-may-fail None DiskFault not = absurd not
+  call-may-fail None (BookFull need room) not = tt
+  call-may-fail None (Stopped fault) not = not.0
+  call-may-fail None Misread not = tt
+  call-may-fail (Some call) NoMemory not = tt
+  call-may-fail (Some call) DiskFault not = not.0.0
+  call-may-fail (Some call) (BookFull need room) not = tt
+  call-may-fail (Some call) (Stopped fault) not = not.0
+  call-may-fail (Some call) Misread not = tt
+
+  pub call-stays : (content : D → List ℕ) (may_leave : D → List ℕ → Type 0) (call : Option Decked) (error : DeskError) → NotDone faults call old new error → StaysBy content may_leave faults old new error
+  call-stays content may_leave None NoMemory not = same-unchanged content may_leave old new not.jobs not.store
+  call-stays content may_leave None DiskFault not = absurd not
+  call-stays content may_leave None (BookFull need room) not = absurd not
+  call-stays content may_leave None (Stopped fault) not = same-unchanged content may_leave old new not.1.jobs not.1.store
+  call-stays content may_leave None Misread not = tt
+  call-stays content may_leave (Some call) NoMemory not = same-unchanged content may_leave old new not.jobs not.store
+  call-stays content may_leave (Some call) DiskFault not = ap (λ (s : StoreView D). s.fault) not.0.1
+  call-stays content may_leave (Some call) (BookFull need room) not = same-unchanged content may_leave old new not.3.jobs not.3.store
+  call-stays content may_leave (Some call) (Stopped fault) not = same-unchanged content may_leave old new not.1.jobs not.1.store
+  call-stays content may_leave (Some call) Misread not = tt
+
+  pub call-open : (call : Option Decked) → HasDone call old new → old.store.fault ≡ None → new.store.fault ≡ None
+  call-open None done is_open = ap (λ (s : DeskView D). s.store.fault) done ∙ is_open
+  call-open (Some call) done is_open = done.is_open ∙ is_open
+
+-- ---- on a trusted disk
+
+module _ {D : Type 0} (told : Type 0) (content : D → List ℕ) (may_leave : D → List ℕ → Type 0) (size : D → ℕ)
+    (old : DeskView D) (trusted : IsTrusted told content may_leave old) where
+  abbrev layout : Layout
+  layout = old.store.layout
+
+  abbrev before : List (List ℕ)
+  before = event_records old.store.layout (content old.store.disk)
+
+  -- the event of the call follows, and what is to be known of it
+  abbrev pub IsCalledSo : Option Decked → Type 0
+  IsCalledSo None = Unit {0}
+  IsCalledSo (Some call) = (may_follow call.0 call.1 old ≡ true) × IsCalled told content may_leave size old trusted call.0 call.1
+
+  pub call-cause : (faults : D → ℕ) (new : DeskView D) (call : Option Decked) → IsCalledSo call → (error : DeskError) → NotDone faults call old new error → FailsBy (call_fits (state_of content old) call) error
+  unfolding call_fits
+  call-cause faults new None its NoMemory not = tt
+  call-cause faults new None its DiskFault not = tt
+  call-cause faults new None its (BookFull need room) not = absurd not
+  call-cause faults new None its (Stopped fault) not = tt
+  call-cause faults new None its Misread not = absurd not
+  call-cause faults new (Some call) its NoMemory not = tt
+  call-cause faults new (Some call) its DiskFault not = tt
+  call-cause faults new (Some call) its (BookFull need room) not =
+      nat_le-beyond (need_of call.0) (room_of old.store.book) (subst (λ n. room_of old.store.book < n) not.0 (subst (λ n. n < need) not.1 not.2))
+  call-cause faults new (Some call) its (Stopped fault) not = tt
+  call-cause faults new (Some call) its Misread not = absurd (false≢true (sym not.0 ∙ its.0))
+
+  module _ (new : DeskView D) (same : new.store.layout ≡ old.store.layout) where
+    pub call-fits : (call : Option Decked) → IsCalledSo call → HasDone call old new → call_fits (state_of content old) call ≡ true
+    unfolding call_fits
+    call-fits None its done = refl
+    call-fits (Some call) its done = le-leb (need_of call.0) (room_of old.store.book) done.fits
+
+    pub call-state : (call : Option Decked) → IsCalledSo call → HasDone call old new
+        → event_records layout (content new.store.disk) ≡ with_event before call
+        → HasSameRecords layout (content old.store.disk) (content new.store.disk) → IsSettledBehind content may_leave (event_in call) new
+        → state_of content new ≡ behind_call (state_of content old) call
+    unfolding behind_call
+    call-state None its done events records settled = ap (state_of content) done
+    call-state (Some call) its done events records settled = called-state told content may_leave size old trusted call.0 call.1 its.1 new same done events records settled
+
+    pub call-trusted : (call : Option Decked) → IsCalledSo call → HasDone call old new
+        → event_records layout (content new.store.disk) ≡ with_event before call
+        → HasSameRecords layout (content old.store.disk) (content new.store.disk) → IsSettledBehind content may_leave (event_in call) new
+        → IsTrusted told content may_leave new
+    call-trusted None its done events records settled = subst (IsTrusted told content may_leave) (sym done) trusted
+    call-trusted (Some call) its done events records settled = called-trusted told content may_leave size old trusted call.0 call.1 its.1 new same done events records settled
+
+  module _ (moment : D → ℕ) (left_since : D → ℕ → List ℕ → Type 0) (sound : IsSound content may_leave size old.store) (is_open : old.store.fault ≡ None) where
+    -- an image of before
+    pub kept-now : (image : List ℕ) → may_leave old.store.disk image → HasKept layout (size old.store.disk) before [] image
+    kept-now image may = kept-before told content may_leave size old trusted [] image (opens-so told content may_leave moment left_since size old sound is_open image may) (trusted.committed image may)
+
+    image-kept : (call : Option Decked) → IsCalledSo call → (image : List ℕ) → IsLeftByCall content may_leave size call old image → HasKept layout (size old.store.disk) before (spelled (event_in call)) image
+    image-kept None its image left = kept-now image left
+    image-kept (Some call) its image left = called-kept told content may_leave size old trusted call.0 call.1 its.1 image left
+
+    pub call-kept : (new : DeskView D) (call : Option Decked) → IsCalledSo call → EachSince moment left_since old.store.disk new.store.disk (IsLeftByCall content may_leave size call old)
+        → KeepsWithin content moment left_since size old new (spelled (event_in call))
+    call-kept new call its left =
+        in_other_words moment left_since old.store.disk new.store.disk (IsLeftByCall content may_leave size call old) (HasKept layout (size old.store.disk) before (spelled (event_in call))) left (image-kept call its)
+
+    -- nothing was done
+    pub none-kept : ((image : List ℕ) → left_since old.store.disk (moment old.store.disk) image → may_leave old.store.disk image) → KeepsWithin content moment left_since size old old []
+    none-kept only = started moment left_since old.store.disk (HasKept layout (size old.store.disk) before []) (λ image left. kept-now image (only image left))
+
+    pub reading-kept : (new : DeskView D) → EachSince moment left_since old.store.disk new.store.disk (may_leave old.store.disk) → KeepsWithin content moment left_since size old new []
+    reading-kept new reads = in_other_words moment left_since old.store.disk new.store.disk (may_leave old.store.disk) (HasKept layout (size old.store.disk) before []) reads kept-now
+
+  -- ---- a deck that is submitted
+
+  is-small : (number : ℕ) (deck : Job) → is_submittable number deck ≡ true → number ≤ 9999999
+  is-small number deck fits = grind (arith, nat_tests, and-first (nat_le number 9999999) _ (and-first _ _ (and-first _ _ fits)))
+
+  deck-follows : (kept : List ℕ) (count : ℕ) (deck : Job) → 1 ≤ count → length kept ≡ 80 * count → may_follow (Submitted (suc (length old.jobs.tables.desk.runs)) kept) (Some deck) old ≡ true
+  deck-follows [] count deck some long = absurd (let none : ⊥ = omega (arith, some, long) in none)
+  deck-follows (first ∷ rest) count deck some long =
+      subst (λ (t : TablesModel). follows layout t (Submitted (suc (length t.runs)) (first ∷ rest)) (Some deck) ≡ true) (sym trusted.stands.tables)
+      (and-first _ _ (submitted_comes (state_of content old).desk first rest deck))
+
+  module _ (cards : List ℕ) (some : 81 ≤ length cards) where
+    numbered : (deck : Job) → submission_of cards ≡ Accepted deck → (fits : Bool) → is_submittable (suc (length old.jobs.tables.desk.runs)) deck ≡ fits
+        → IsCalledSo (entered cards deck (cond fits (Some (suc (length old.jobs.tables.desk.runs))) None))
+    numbered deck is false fits = tt
+    numbered deck is true fits =
+        let its = accepted-deck cards deck is in
+        let few = few-accepted cards deck is in
+        let long = kept_long cards in
+        let number = is-small (suc (length old.jobs.tables.desk.runs)) deck fits in
+        let told_so = submitted_spelled (suc (length old.jobs.tables.desk.runs)) (kept_of_stored cards) (length cards / 81) (omega (arith, number)) (omega (arith, some)) long (omega (arith, few)) in (
+          deck-follows (kept_of_stored cards) (length cards / 81) deck (omega (arith, some)) long,
+          called-deck told content may_leave size old trusted cards deck some its.0 its.1 fits told_so.event,
+        )
+
+    submitted : (submission : Submission) → submission_of cards ≡ submission → IsCalledSo (call_by old.jobs.tables.desk cards submission)
+    unfolding number_for
+    submitted (Refused number card) is = tt
+    submitted (Accepted deck) is = numbered deck is (is_submittable (suc (length old.jobs.tables.desk.runs)) deck) refl
+
+    pub submit-called : IsCalledSo (submit_call old.jobs.tables.desk cards)
+    unfolding submit_call
+    submit-called = submitted (submission_of cards) refl
+
+  -- ---- a run that is purged
+
+  purged : (job : ℕ) → IsEvent (Purged job) → (queued : Bool) → is_queued old.jobs.tables.desk job ≡ queued → IsCalledSo (cond queued (Some (Purged job, None)) None)
+  purged job is_event false is = tt
+  purged job is_event true is =
+      let there = run-there old.jobs.tables.desk job (is_in_state Queued) is in
+      (is, called-purged told content may_leave size old trusted job there.0 there.1 (queued-is there.0.state there.2) is_event)
+
+  pub purge-called : (job : ℕ) → IsEvent (Purged job) → IsCalledSo (purge_call old.jobs.tables.desk job)
+  purge-called job is_event = purged job is_event (is_queued old.jobs.tables.desk job) refl

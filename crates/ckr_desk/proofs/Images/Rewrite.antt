@@ -1,0 +1,144 @@
+-- A record that is written in place, and an image of a stop meanwhile.
+use Rattle.std.proofs.Common.{◌≡◌, ◌≢◌, ◌≤◌, ◌<◌, ◌+◌, ◌⊎◌, ℕ, List, length, IsTrue, inr, sym, ap, subst, ◌∙◌, ⊎_elim, arith, refl, Option, Some, None}
+use Rattle.std.specs.Option.{option_map}
+use Rattle.std.proofs.lemmas.Option.{same_Some}
+use Rattle.ckr_base.proofs.Options.{some-not-none}
+use Rattle.arrayvec.specs.ArrayVec.{ArrayVec}
+use Rattle.ckr_events.specs.declared.event.Event.{Event}
+use Rattle.ckr_events.specs.declared.event.Event.TheVariants.{Rewritten}
+use Rattle.ckr_desk_memory.specs.Rewrite.{updated_by}
+use Rattle.ckr_library.specs.declared.sets.DataSet.{DataSet}
+use Rattle.ckr_library.specs.Catalog.{Catalog, Holding, set_of}
+use Rattle.ckr_library.specs.NameMaps.{EachEntry, Name, Named, entry_at}
+use Rattle.ckr_library.proofs.Named.{at-viewed, each-at}
+use Rattle.ckr_outside.specs.Disk.{EachSince, Only, SameOutside, StemsFrom}
+use Rattle.ckr_outside.specs.Moments.{and_then, at_the_end, both_since, in_other_words}
+use Rattle.ckr_outside.specs.Ranges.{part_before, part_behind}
+use Rattle.ckr_points.specs.Rows.{RunRow, TableSet, TablesModel, holding_of, run_of}
+use Rattle.ckr_desk_refines.specs.Moves.{DiffersAt, IsWritten}
+use Rattle.ckr_points_tables.specs.View.{seen_by}
+use Rattle.ckr_volumes.specs.declared.layout.Layout.{Layout}
+use Rattle.ckr_volumes.specs.Addresses.{addresses_apart, addresses_of_two_apart}
+use Rattle.ckr_volumes.specs.Lists.{same_records}
+use Rattle.ckr_volumes.specs.Places.{address_of}
+use Rattle.ckr_volumes.specs.Records.{record_at, records_on}
+use Rattle.ckr_volumes.specs.Layouts.{StandsIn, is_laid_out, lie_apart}
+use Rattle.ckr_desk.specs.State.{DeskView}
+use Rattle.ckr_desk.specs.Rewrite.{CannotWrite, CannotWriteIn, DoesNotFit, IsLackingBy, IsWrittenBy, LacksAtMost, OpensSame}
+
+module _ (layout : Layout) (laid : IsTrue (is_laid_out layout)) (set : DataSet) (stands : StandsIn layout set) (place : ℕ) (within : place < set.space)
+    (old new : List ℕ) (same : SameOutside (address_of layout set place) set.lrecl old new) where
+  at-another : (at : ℕ) → at < set.space → at ≢ place → record_at new layout set at ≡ record_at old layout set at
+  at-another at less differ =
+      ⊎_elim
+      (λ (behind : address_of layout set place + set.lrecl ≤ address_of layout set at). part_behind (address_of layout set at) set.lrecl (address_of layout set place) set.lrecl old new behind same)
+      (λ (before : address_of layout set at + set.lrecl ≤ address_of layout set place). part_before (address_of layout set at) set.lrecl (address_of layout set place) set.lrecl old new before same)
+      (addresses_apart layout laid set stands place at within less (λ is. differ (sym is)))
+
+  of-another : (other : DataSet) → StandsIn layout other → IsTrue (lie_apart set other) → (n : ℕ) → n ≤ other.space → records_on new layout other n ≡ records_on old layout other n
+  of-another other there apart n fits =
+      same_records old new layout other n
+      (λ at less.
+      ⊎_elim
+      (λ (behind : address_of layout set place + set.lrecl ≤ address_of layout other at). part_behind (address_of layout other at) other.lrecl (address_of layout set place) set.lrecl old new behind same)
+      (λ (before : address_of layout other at + other.lrecl ≤ address_of layout set place). part_before (address_of layout other at) other.lrecl (address_of layout set place) set.lrecl old new before same)
+      (addresses_of_two_apart layout laid set other stands there apart place at within (omega (arith, less, fits))))
+
+  pub differs-so : DiffersAt layout set place old new
+  differs-so = record { records = at-another; others = of-another }
+
+-- the data set of a name in the library is that of the tables
+pub set-so : (catalog : Catalog) (sets : Named TableSet) (name : Name) (found : DataSet) (table : TableSet) → catalog.sets ≡ seen_by holding_of sets
+    → set_of catalog name ≡ Some found → entry_at sets name ≡ Some table → found ≡ table.set
+set-so catalog sets name found table seen is at =
+    same_Some found table.set
+    (sym is
+    ∙ ap (λ all. option_map (λ (held : Holding). held.set) (entry_at all name)) seen
+    ∙ ap (option_map (λ (held : Holding). held.set)) (at-viewed holding_of sets name ∙ ap (option_map holding_of) at))
+
+-- what the library has under a name, the tables have
+pub record IsInTables (sets : Named TableSet) (name : Name) (found : DataSet) : Type 0 where
+  pub table : TableSet
+  pub at : entry_at sets name ≡ Some table
+  pub same : found ≡ table.set
+
+pub in-tables : (catalog : Catalog) (sets : Named TableSet) (name : Name) (found : DataSet) → catalog.sets ≡ seen_by holding_of sets → set_of catalog name ≡ Some found → IsInTables sets name found
+in-tables catalog sets name found seen is = by (entry_at sets name) refl
+  where
+    its : (entry : Option TableSet) → entry_at sets name ≡ entry → set_of catalog name ≡ option_map (λ (held : Holding). held.set) (option_map holding_of entry)
+    its entry at =
+        ap (λ all. option_map (λ (held : Holding). held.set) (entry_at all name)) seen
+        ∙ ap (option_map (λ (held : Holding). held.set)) (at-viewed holding_of sets name ∙ ap (option_map holding_of) at)
+
+    by : (entry : Option TableSet) → entry_at sets name ≡ entry → IsInTables sets name found
+    by None at = absurd (some-not-none found (sym is ∙ its None at))
+    by (Some table) at = record { table = table; at = at; same = same_Some found table.set (sym is ∙ its (Some table) at) }
+
+pub set-stands : (layout : Layout) (catalog : Catalog) (sets : Named TableSet) (name : Name) (found : DataSet) → catalog.sets ≡ seen_by holding_of sets → set_of catalog name ≡ Some found
+    → EachEntry (λ (table : TableSet). StandsIn layout table.set) sets → StandsIn layout found
+set-stands layout catalog sets name found seen is stand =
+    let there = in-tables catalog sets name found seen is in
+    subst (StandsIn layout) (sym there.same) (each-at (λ (table : TableSet). StandsIn layout table.set) sets stand name there.table there.at)
+
+pub none-there : (catalog : Catalog) (sets : Named TableSet) (name : Name) (place : ℕ) (image : List ℕ) → catalog.sets ≡ seen_by holding_of sets → set_of catalog name ≡ None → DoesNotFit place image (entry_at sets name)
+none-there catalog sets name place image seen is = by (entry_at sets name) refl
+  where
+    by : (entry : Option TableSet) → entry_at sets name ≡ entry → DoesNotFit place image entry
+    by None at = tt
+    by (Some table) at =
+        absurd (some-not-none table.set
+        (sym
+        (sym is
+        ∙ ap (λ all. option_map (λ (held : Holding). held.set) (entry_at all name)) seen
+        ∙ ap (option_map (λ (held : Holding). held.set)) (at-viewed holding_of sets name ∙ ap (option_map holding_of) at))))
+
+pub no-fit : (catalog : Catalog) (sets : Named TableSet) (name : Name) (found : DataSet) (place : ℕ) (image : List ℕ) → catalog.sets ≡ seen_by holding_of sets → set_of catalog name ≡ Some found
+    → (found.space ≤ place) ⊎ (length image ≡ found.lrecl → ⊥) → DoesNotFit place image (entry_at sets name)
+no-fit catalog sets name found place image seen is not =
+    let there = in-tables catalog sets name found seen is in
+    subst (DoesNotFit place image) (sym there.at)
+    (subst (λ (s : DataSet). (s.space ≤ place) ⊎ (length image ≡ s.lrecl → ⊥)) there.same not)
+
+-- ---- by the event
+
+pub cannot-write : (tables : TablesModel) (job taken writes place : ℕ) (lengths : ArrayVec ℕ) (image : List ℕ) (event : Event) (name : Name) → event ≡ Rewritten job taken writes lengths place image
+    → ((row : RunRow) → run_of tables job ≡ Some row → updated_by row ≡ Some name) → DoesNotFit place image (entry_at tables.sets name) → CannotWrite event tables
+cannot-write tables job taken writes place lengths image event name is updated not =
+    subst (λ e. CannotWrite e tables) (sym is) (λ row at. subst (CannotWriteIn tables place image) (sym (updated row at)) not)
+
+module _ (layout : Layout) (tables : TablesModel) (job taken writes place : ℕ) (lengths : ArrayVec ℕ) (image : List ℕ) (event : Event) (is : event ≡ Rewritten job taken writes lengths place image)
+    (name : Name) (updated : (row : RunRow) → run_of tables job ≡ Some row → updated_by row ≡ Some name)
+    (catalog : Catalog) (seen : catalog.sets ≡ seen_by holding_of tables.sets) (found : DataSet) (there : set_of catalog name ≡ Some found) where
+  found-is : (row : RunRow) (its : Name) (table : TableSet) → run_of tables job ≡ Some row → updated_by row ≡ Some its → entry_at tables.sets its ≡ Some table → found ≡ table.set
+  found-is row its table at is_updated entry =
+      set-so catalog tables.sets name found table seen there
+      (ap (entry_at tables.sets) (same_Some name its (sym (updated row at) ∙ is_updated)) ∙ entry)
+
+  pub written-by : (before after : List ℕ) → IsWritten layout found place image before after → IsWrittenBy layout tables event before after
+  written-by before after written =
+      subst (λ e. IsWrittenBy layout tables e before after) (sym is)
+      (λ row its table at is_updated entry. subst (λ (s : DataSet). IsWritten layout s place image before after) (found-is row its table at is_updated entry) written)
+
+  pub lacks-most : (before after : List ℕ) → DiffersAt layout found place before after → LacksAtMost layout tables event before after
+  lacks-most before after differs =
+      subst (λ e. LacksAtMost layout tables e before after) (sym is)
+      (λ row its table at is_updated entry. subst (λ (s : DataSet). DiffersAt layout s place before after) (found-is row its table at is_updated entry) differs)
+
+module _ {D : Type 0} (content : D → List ℕ) (may_leave : D → List ℕ → Type 0) (moment : D → ℕ) (left_since : D → ℕ → List ℕ → Type 0) (size : D → ℕ)
+    (event : Event) (old : DeskView D) (only : Only (content old.store.disk) (may_leave old.store.disk)) where
+  -- while a range is written whose other bytes tell what is lacked
+  pub writing-left : (new : D) (at n : ℕ) → EachSince moment left_since old.store.disk new (OpensSame content size old) → EachSince moment left_since old.store.disk new (StemsFrom (may_leave old.store.disk) at n)
+      → ((image : List ℕ) → SameOutside at n (content old.store.disk) image → LacksAtMost old.store.layout old.jobs.tables.desk event (content old.store.disk) image)
+      → EachSince moment left_since old.store.disk new (IsLackingBy content size event old)
+  writing-left new at n opens stems lacks =
+      in_other_words moment left_since old.store.disk new (λ image. OpensSame content size old image × StemsFrom (may_leave old.store.disk) at n image) (IsLackingBy content size event old)
+      (both_since moment left_since old.store.disk new (OpensSame content size old) (StemsFrom (may_leave old.store.disk) at n) opens stems)
+      (λ image both. (both.0, inr (lacks image (subst (λ bytes. SameOutside at n bytes image) (only both.1.0 both.1.1) both.1.2))))
+
+  -- and while what was written is synced
+  pub syncing-left : (mid new : D) → EachSince moment left_since old.store.disk mid (IsLackingBy content size event old)
+      → ((t : ℕ) (image : List ℕ) → t ≤ moment mid → may_leave mid image → left_since mid t image)
+      → EachSince moment left_since mid new (may_leave mid) → EachSince moment left_since old.store.disk new (IsLackingBy content size event old)
+  syncing-left mid new written counts reads =
+      and_then moment left_since old.store.disk mid new (IsLackingBy content size event old) (may_leave mid) (IsLackingBy content size event old) written reads
+      (λ image lacks. lacks) (λ image now. at_the_end moment may_leave left_since old.store.disk mid (IsLackingBy content size event old) written counts image now)

@@ -1,0 +1,86 @@
+-- A desk whose disk is trusted, behind an event that was kept.
+use Rattle.std.proofs.Common.{◌≡◌, ◌++◌, ℕ, List, [], ◌∷◌, true, refl, ap, sym, ◌∙◌, subst, Some, Ok}
+use Rattle.ckr_events.specs.declared.event.Event.{Event}
+use Rattle.ckr_events.specs.Event.{IsEvent, spelling}
+use Rattle.ckr_desk_memory.specs.Replay.{deck_of, goes_on}
+use Rattle.ckr_desk_turn.specs.Invariant.{IsDesk}
+use Rattle.ckr_desk_refines.specs.Commits.{HasCommitted}
+use Rattle.ckr_outside.specs.Disk.{Only}
+use Rattle.ckr_points.specs.Office.{office_after}
+use Rattle.ckr_points.specs.Restart.{Decked, after_event}
+use Rattle.ckr_points.specs.Rows.{no_tables}
+use Rattle.ckr_desk_refines.specs.RewriteRecord.{HasLast, last_event}
+use Rattle.ckr_desk_refines.specs.Standing.{StandsForDesk, desk_seen}
+use Rattle.ckr_desk_refines.proofs.Standing.DeskView.{desk-so}
+use Rattle.ckr_desk_store.specs.OpenImages.{event_records}
+use Rattle.ckr_desk_turn.specs.Desk.{DeskModel}
+use Rattle.ckr_volumes.specs.declared.layout.Layout.{Layout}
+use Rattle.ckr_desk.proofs.Images.NextEvent.{events-more, office-grown, opens-grown, replayed-so}
+use Rattle.ckr_desk.specs.Opening.{behind_records}
+use Rattle.ckr_desk.specs.Soundness.{IsTrusted, events_in, last_on, office_on, state_of}
+use Rattle.ckr_desk.specs.State.{DeskView}
+
+-- the last of events
+last-more : (events : List Decked) (decked : Decked) → last_event (events ++ decked ∷ []) ≡ Some decked.0
+last-more [] decked = refl
+last-more (first ∷ []) decked = refl
+last-more (first ∷ next ∷ rest) decked = last-more (next ∷ rest) decked
+
+pub last-grown : (layout : Layout) (old new : List ℕ) (event : Event) → IsEvent event → event_records layout new ≡ event_records layout old ++ spelling event ∷ [] → last_on layout new ≡ Some event
+unfolding last_on
+last-grown layout old new event is grown =
+    ap (λ records. last_event (events_in records)) grown
+    ∙ ap last_event (events-more (event_records layout old) event is)
+    ∙ last-more (events_in (event_records layout old)) (event, deck_of event)
+
+module _ {D : Type 0} (told : Type 0) (content : D → List ℕ) (may_leave : D → List ℕ → Type 0) where
+  -- an event that may come to a trusted desk, and the desk of the events behind it
+  pub record IsComing (event : Event) (old : DeskView D) (desk : DeskModel) : Type 0 where
+    pub is_event : IsEvent event
+    pub goes : goes_on old.store.layout old.jobs.tables.desk event (deck_of event) ≡ true
+    pub office : desk.office ≡ office_after (event, deck_of event) (office_on old.store.layout (content old.store.disk))
+    pub layout_is : desk.layout ≡ old.store.layout
+    pub is_desk : IsDesk desk
+    pub last : HasLast desk.office (Some event)
+
+  -- it was kept, and the jobs in memory stand for the desk of the events behind it
+  pub record IsBehind (event : Event) (old new : DeskView D) (desk : DeskModel) : Type 0 where
+    pub layout : new.store.layout ≡ old.store.layout
+    pub events : event_records old.store.layout (content new.store.disk) ≡ event_records old.store.layout (content old.store.disk) ++ spelling event ∷ []
+    pub tables : new.jobs.tables.desk ≡ after_event event (deck_of event) old.jobs.tables.desk
+    pub stands : StandsForDesk old.store.layout new.jobs (content new.store.disk) desk
+    pub settled : Only (content new.store.disk) (may_leave new.store.disk)
+
+  module _ (event : Event) (old new : DeskView D) (desk : DeskModel) (coming : IsComing event old desk) (is : IsBehind event old new desk) where
+    abbrev layout : Layout
+    layout = old.store.layout
+
+    office-so : office_on layout (content new.store.disk) ≡ desk.office
+    office-so = office-grown layout (content old.store.disk) (content new.store.disk) event coming.is_event is.events ∙ sym coming.office
+
+    -- the desk of the events is what is seen in memory
+    pub desk-behind : desk ≡ (state_of content new).desk
+    desk-behind =
+        desk-so layout new.jobs (content new.store.disk) desk is.stands
+        ∙ ap (λ o. desk_seen layout o new.jobs) (sym office-so)
+        ∙ ap (λ l. desk_seen l (office_on l (content new.store.disk)) new.jobs) (sym is.layout)
+
+    pub trusted-behind : IsTrusted told content may_leave old → IsTrusted told content may_leave new
+    trusted-behind trusted = record {
+      tells = trusted.tells;
+      opens = subst (λ l. behind_records l no_tables 0 (event_records l (content new.store.disk)) ≡ Ok new.jobs.tables.desk) (sym is.layout)
+          (ap (λ records. behind_records layout no_tables 0 records) is.events
+          ∙ opens-grown layout (event_records layout (content old.store.disk)) old.jobs.tables.desk (after_event event (deck_of event) old.jobs.tables.desk) event trusted.opens coming.is_event
+          (replayed-so layout old.jobs.tables.desk event coming.goes)
+          ∙ ap Ok (sym is.tables));
+      stands = subst (λ d. StandsForDesk new.store.layout new.jobs (content new.store.disk) d) desk-behind
+          (subst (λ l. StandsForDesk l new.jobs (content new.store.disk) desk) (sym is.layout) is.stands);
+      last = subst (λ l. HasLast (office_on l (content new.store.disk)) (last_on l (content new.store.disk))) (sym is.layout)
+          (subst (λ o. HasLast o (last_on layout (content new.store.disk))) (sym office-so)
+          (subst (λ e. HasLast desk.office e) (sym (last-grown layout (content old.store.disk) (content new.store.disk) event coming.is_event is.events)) coming.last));
+      committed = λ image may.
+          subst (λ l. HasCommitted l (office_on l (content new.store.disk)) image) (sym is.layout)
+          (subst (λ o. HasCommitted layout o image) (sym office-so)
+          (subst (λ bytes. HasCommitted layout desk.office bytes) (sym (is.settled image may))
+          (subst (λ l. HasCommitted l desk.office (content new.store.disk)) is.stands.layout_is is.stands.committed)));
+    }

@@ -1,0 +1,70 @@
+-- A desk that is the same to its callers is trusted as before.
+use Rattle.std.proofs.Common.{◌≡◌, ℕ, List, ap, sym, ◌∙◌, subst, Ok, map}
+use Rattle.ckr_book.specs.Book.{room_of}
+use Rattle.ckr_desk_memory.specs.View.{JobsView, RunningStepView}
+use Rattle.ckr_desk_refines.specs.Commits.{HasCommitted}
+use Rattle.ckr_points.specs.Rows.{no_tables}
+use Rattle.ckr_desk_refines.specs.RewriteRecord.{HasLast}
+use Rattle.ckr_desk_refines.specs.Standing.{AllStand, StandsForDesk, step_on}
+use Rattle.ckr_desk_store.specs.OpenImages.{event_records}
+use Rattle.ckr_desk_turn.specs.Desk.{DeskModel}
+use Rattle.ckr_volumes.specs.declared.layout.Layout.{Layout}
+use Rattle.ckr_desk.specs.Opening.{behind_records}
+use Rattle.ckr_desk.specs.Soundness.{IsTrusted, last_on, office_on, state_of}
+use Rattle.ckr_desk.specs.State.{RoomyDesk, DeskView}
+
+-- what is seen of the jobs in memory, but for their room
+pub record AreSame (old new : JobsView) : Type 0 where
+  pub tables : new.tables.desk ≡ old.tables.desk
+  pub running : new.running ≡ old.running
+  pub failed : new.failed ≡ old.failed
+
+pub stands-same : (layout : Layout) (old new : JobsView) (image : List ℕ) (desk : DeskModel) → AreSame old new → StandsForDesk layout old image desk → StandsForDesk layout new image desk
+stands-same layout old new image desk same stands = record {
+  layout_is = stands.layout_is;
+  is_desk = stands.is_desk;
+  tables = same.tables ∙ stands.tables;
+  failed = same.failed ∙ stands.failed;
+  running = subst (λ (r : List RunningStepView). AllStand desk.layout desk.office image r desk.running) (sym same.running) stands.running;
+  differ_so = stands.differ_so;
+  committed = stands.committed;
+}
+
+module _ {D : Type 0} (told : Type 0) (content : D → List ℕ) (may_leave : D → List ℕ → Type 0) where
+  -- the disk reads the same, and leaves nothing else
+  pub record IsAsBefore (old new : DeskView D) : Type 0 where
+    pub jobs : AreSame old.jobs new.jobs
+    pub layout : new.store.layout ≡ old.store.layout
+    pub room : room_of new.store.book ≡ room_of old.store.book
+    pub reads : content new.store.disk ≡ content old.store.disk
+    pub none_new : (image : List ℕ) → may_leave new.store.disk image → may_leave old.store.disk image
+
+  module _ (old new : DeskView D) (is : IsAsBefore old new) where
+    pub state-same : state_of content new ≡ state_of content old
+    state-same =
+        ap (λ l. state_with l (content new.store.disk) new.jobs.running new.jobs.failed (room_of new.store.book)) is.layout
+        ∙ ap (λ bytes. state_with old.store.layout bytes new.jobs.running new.jobs.failed (room_of new.store.book)) is.reads
+        ∙ ap (λ running. state_with old.store.layout (content old.store.disk) running new.jobs.failed (room_of new.store.book)) is.jobs.running
+        ∙ ap (λ failed. state_with old.store.layout (content old.store.disk) old.jobs.running failed (room_of new.store.book)) is.jobs.failed
+        ∙ ap (state_with old.store.layout (content old.store.disk) old.jobs.running old.jobs.failed) is.room
+      where
+        state_with : Layout → List ℕ → List RunningStepView → List ℕ → ℕ → RoomyDesk
+        state_with layout bytes running failed room = record { desk = record { layout = layout; office = office_on layout bytes; running = map step_on running; failed = failed }; room = room }
+
+    pub trusted-same : IsTrusted told content may_leave old → IsTrusted told content may_leave new
+    trusted-same trusted = record {
+      tells = trusted.tells;
+      opens = subst (λ l. behind_records l no_tables 0 (event_records l (content new.store.disk)) ≡ Ok new.jobs.tables.desk) (sym is.layout)
+          (subst (λ bytes. behind_records old.store.layout no_tables 0 (event_records old.store.layout bytes) ≡ Ok new.jobs.tables.desk) (sym is.reads)
+          (trusted.opens ∙ ap Ok (sym is.jobs.tables)));
+      stands = subst (λ (s : RoomyDesk). StandsForDesk new.store.layout new.jobs (content new.store.disk) s.desk) (sym state-same)
+          (subst (λ l. StandsForDesk l new.jobs (content new.store.disk) (state_of content old).desk) (sym is.layout)
+          (subst (λ bytes. StandsForDesk old.store.layout new.jobs bytes (state_of content old).desk) (sym is.reads)
+          (stands-same old.store.layout old.jobs new.jobs (content old.store.disk) (state_of content old).desk is.jobs trusted.stands)));
+      last = subst (λ l. HasLast (office_on l (content new.store.disk)) (last_on l (content new.store.disk))) (sym is.layout)
+          (subst (λ bytes. HasLast (office_on old.store.layout bytes) (last_on old.store.layout bytes)) (sym is.reads) trusted.last);
+      committed = λ image may.
+          subst (λ l. HasCommitted l (office_on l (content new.store.disk)) image) (sym is.layout)
+          (subst (λ bytes. HasCommitted old.store.layout (office_on old.store.layout bytes) image) (sym is.reads)
+          (trusted.committed image (is.none_new image may)));
+    }

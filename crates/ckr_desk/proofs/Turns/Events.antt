@@ -1,0 +1,174 @@
+-- A turn that tells an event without a unit: the desk behind it, and what a stop leaves.
+use Rattle.std.proofs.Common.{◌≡◌, ◌+◌, ◌-◌, ℕ, List, [], ◌∷◌, Bool, true, false, length, refl, ap, sym, ◌∙◌, subst, ⊎_elim, arith, Some, None}
+use Rattle.std.proofs.lemmas.Bool.{and_from, le-leb}
+use Rattle.ckr_base.proofs.Bools.{and-first}
+use Rattle.ckr_base.proofs.Options.{some-not-none}
+use Rattle.ckr_book.specs.Book.{IsBeforeOrAfter, room_of}
+use Rattle.ckr_events.specs.declared.event.Event.{Event}
+use Rattle.ckr_events.specs.declared.event.Event.TheVariants.{Submitted, Rewritten}
+use Rattle.ckr_events.specs.Event.{IsSmall, spelling}
+use Rattle.ckr_desk_memory.specs.Replay.{deck_of, goes_on, is_run_by}
+use Rattle.ckr_desk_memory.specs.View.{jobs_of}
+use Rattle.ckr_desk_turn.proofs.Turns.Initiator.{turn-keeps}
+use Rattle.ckr_desk_turn.specs.NextEvents.{EventComes}
+use Rattle.ckr_desk_turn.specs.Invariant.{IsDesk, IsTurnOf}
+use Rattle.ckr_points.specs.Follows.{follows}
+use Rattle.ckr_points.specs.Office.{office_after}
+use Rattle.ckr_points.specs.Restart.{after_event}
+use Rattle.ckr_desk_refines.proofs.Standing.Plans.{plans-so}
+use Rattle.ckr_desk_refines.specs.RewriteRecord.{RewriteRecord, rewrite_of}
+use Rattle.ckr_desk_refines.specs.Moves.{HasSameRecords}
+use Rattle.ckr_desk_store.specs.OpenImages.{Opens, event_records}
+use Rattle.ckr_points_tables.specs.Invariant.{is_plain_event}
+use Rattle.ckr_desk_refines.proofs.Events.Commits.{committed-moves}
+use Rattle.ckr_desk_refines.proofs.Events.Turns.{told-committed, told-stands}
+use Rattle.ckr_desk_turn.specs.declared.plan.Plan.{Plan}
+use Rattle.ckr_desk_turn.specs.declared.plan.Plan.TheVariants.{Tell}
+use Rattle.ckr_desk_turn.specs.declared.reply.Reply.{Reply}
+use Rattle.ckr_desk_turn.specs.declared.reply.Turn.{Turn}
+use Rattle.ckr_desk_turn.specs.Desk.{DeskModel, TurnDone, behind, carried_out, turn_of, jobs_of as jobs_of_desk}
+use Rattle.ckr_desk_turn.specs.Plans.{plan_of}
+use Rattle.ckr_desk_turn.specs.Spelling.{IsSpelled}
+use Rattle.ckr_volumes.specs.declared.layout.Layout.{Layout}
+use Rattle.ckr_desk.proofs.Images.NextEvent.{deck-none}
+use Rattle.ckr_desk.proofs.Images.Soundness.{again-so, kept-before, kept-behind}
+use Rattle.ckr_desk.proofs.Turns.PlainEvents.{IsQuietPlan, is_quiet, plan-quiet, quiet-plain}
+use Rattle.ckr_desk.proofs.Trust.Events.{IsBehind, IsComing, desk-behind}
+use Rattle.ckr_desk.specs.Requests.{has_room, room_behind}
+use Rattle.ckr_desk.specs.Calls.{HasGoneOn, IsLeftBy, IsSettledBehind, may_follow, may_keep}
+use Rattle.ckr_desk.specs.Rewrite.{CannotWrite, IsWrittenBy, LacksAtMost, OpensSame}
+use Rattle.ckr_desk.specs.Turn.{behind_turn, event_of_turn, turn_fits}
+use Rattle.ckr_desk.specs.Units.{HasGoneBehind, HasWrittenBehind, IsLeftBehind}
+use Rattle.ckr_desk.specs.Soundness.{HasKept, IsTrusted, office_on, state_of}
+use Rattle.ckr_desk.specs.State.{RoomyDesk, DeskView, need_of}
+
+-- an event that isn't Rewritten tells no record, and is no submission
+quiet-rewrites : (event : Event) → is_quiet event ≡ true → (tables : _) → rewrite_of tables event ≡ None
+quiet-rewrites (Rewritten job taken writes lengths place image) quiet tables = absurd (subst (λ (b : Bool). elim b as (λ _. Type 0) [ true ↦ ⊥ | false ↦ Unit {0} ]) quiet tt)
+quiet-rewrites _ quiet tables = refl
+
+quiet-written : (event : Event) → is_quiet event ≡ true → (layout : Layout) (tables : _) (before after : List ℕ) → IsWrittenBy layout tables event before after → after ≡ before
+quiet-written (Rewritten job taken writes lengths place image) quiet layout tables before after is = absurd (subst (λ (b : Bool). elim b as (λ _. Type 0) [ true ↦ ⊥ | false ↦ Unit {0} ]) quiet tt)
+quiet-written _ quiet layout tables before after is = is
+
+quiet-lacks : (event : Event) → is_quiet event ≡ true → (layout : Layout) (tables : _) (before after : List ℕ) → LacksAtMost layout tables event before after → ⊥
+quiet-lacks (Rewritten job taken writes lengths place image) quiet layout tables before after lacks = absurd (subst (λ (b : Bool). elim b as (λ _. Type 0) [ true ↦ ⊥ | false ↦ Unit {0} ]) quiet tt)
+quiet-lacks _ quiet layout tables before after lacks = lacks
+
+pub quiet-cannot : (event : Event) → is_quiet event ≡ true → (tables : _) → CannotWrite event tables → ⊥
+quiet-cannot (Rewritten job taken writes lengths place image) quiet tables cannot = absurd (subst (λ (b : Bool). elim b as (λ _. Type 0) [ true ↦ ⊥ | false ↦ Unit {0} ]) quiet tt)
+quiet-cannot _ quiet tables cannot = cannot
+
+-- one of a plain run runs no deck
+pub small-runs : (event : Event) → IsSmall event → is_run_by event None ≡ true
+small-runs (Submitted job cards) small = absurd small
+small-runs _ small = refl
+
+module _ {D : Type 0} (told : Type 0) (content : D → List ℕ) (may_leave : D → List ℕ → Type 0) (size : D → ℕ)
+    (old : DeskView D) (trusted : IsTrusted told content may_leave old) (turn : Turn) (its : IsTurnOf old.store.layout turn) where
+  abbrev layout : Layout
+  layout = old.store.layout
+
+  abbrev desk : DeskModel
+  desk = (state_of content old).desk
+
+  -- the plan by the jobs in memory is that of the desk
+  pub plans-desk : plan_of layout (jobs_of old.jobs) turn ≡ plan_of desk.layout (jobs_of_desk desk) turn
+  plans-desk = plans-so layout old.jobs (content old.store.disk) desk turn trusted.stands
+
+  pub turned : (plan : Plan) → plan_of layout (jobs_of old.jobs) turn ≡ plan → turn_of desk turn ≡ carried_out plan desk
+  unfolding turn_of
+  turned plan is = ap (λ p. carried_out p desk) (sym plans-desk ∙ is)
+
+  module _ (reply : Reply) (event : Event) (planned : plan_of layout (jobs_of old.jobs) turn ≡ Tell reply event) (shape : IsSpelled event) where
+    pub quiet-so : is_quiet event ≡ true
+    quiet-so = subst IsQuietPlan planned (plan-quiet layout (jobs_of old.jobs) turn)
+
+    none : deck_of event ≡ None
+    none = deck-none event shape.small
+
+    rewrites-none : (tables : _) (rewrite : RewriteRecord) → rewrite_of tables event ≡ Some rewrite → ⊥
+    rewrites-none tables rewrite is = some-not-none rewrite (sym is ∙ quiet-rewrites event quiet-so tables)
+
+    at-desk : plan_of desk.layout (jobs_of_desk desk) turn ≡ Tell reply event
+    at-desk = sym plans-desk ∙ planned
+
+    kept-so : IsDesk (behind event None desk)
+    kept-so = subst (λ (done : TurnDone). IsDesk done.desk) (turned (Tell reply event) planned) (turn-keeps desk turn trusted.stands.is_desk its.above its.below).kept
+
+    pub coming-turn : may_keep event None old ≡ true → IsComing told content may_leave event old (behind event None desk)
+    coming-turn might = record {
+      is_event = shape.event;
+      goes = subst (λ d. goes_on layout old.jobs.tables.desk event d ≡ true) (sym none)
+          (and_from (is_plain_event event) _ (quiet-plain event quiet-so)
+          (and_from (is_run_by event None) _ (small-runs event shape.small) might));
+      office = ap (λ d. office_after (event, d) (office_on layout (content old.store.disk))) (sym none);
+      layout_is = refl;
+      is_desk = kept-so;
+      last = λ rewrite is. absurd (rewrites-none (behind event None desk).office.tables rewrite is);
+    }
+
+    pub behind-turn-so : (new : DeskView D) → new.store.layout ≡ layout → told → HasGoneBehind told content (Some event) old new → IsSettledBehind content may_leave (Some event) new
+        → IsBehind told content may_leave event old new (behind event None desk)
+    behind-turn-so new same tells gone settled =
+        let written : HasWrittenBehind content event old new = gone.1 tells in
+        let same_bytes : content new.store.disk ≡ written.told_on = quiet-written event quiet-so layout new.jobs.tables.desk written.told_on (content new.store.disk) written.written in
+        record {
+          layout = same;
+          events = written.events;
+          tables = gone.0.moved.tables ∙ ap (λ d. after_event event d old.jobs.tables.desk) (sym none);
+          stands = told-stands layout old.jobs new.jobs (content old.store.disk) (content new.store.disk) desk turn reply event trusted.stands its at-desk gone.0.moved
+              (subst (λ bytes. HasSameRecords layout (content old.store.disk) bytes) (sym same_bytes) written.same);
+          settled = settled;
+        }
+
+    fits-so : (new : DeskView D) → HasGoneOn event None old new → has_room (room_of old.store.book) (Some event) ≡ true
+    fits-so new gone = le-leb (need_of event) (room_of old.store.book) gone.fits
+
+    pub event-so : event_of_turn (state_of content old) turn ≡ Some event
+    unfolding event_of_turn
+    event-so = ap (λ (done : TurnDone). done.event) (turned (Tell reply event) planned)
+
+    pub turn-fits-so : (new : DeskView D) → HasGoneOn event None old new → turn_fits (state_of content old) turn ≡ true
+    unfolding turn_fits
+    turn-fits-so new gone = ap (has_room (room_of old.store.book)) event-so ∙ fits-so new gone
+
+    pub state-behind : (new : DeskView D) → may_keep event None old ≡ true → HasGoneOn event None old new → IsBehind told content may_leave event old new (behind event None desk) → state_of content new ≡ behind_turn (state_of content old) turn
+    unfolding behind_turn
+    state-behind new might gone is =
+        ap (λ (d : DeskModel). state_as d (room_of new.store.book)) (sym (desk-behind told content may_leave event old new (behind event None desk) (coming-turn might) is))
+        ∙ ap (state_as (behind event None desk)) (let e : room_of new.store.book ≡ room_of old.store.book - (length (spelling event) + 5) = omega (arith, gone.room) in e)
+        ∙ ap (λ e. state_as (behind event None desk) (room_behind (room_of old.store.book) e)) (sym event-so)
+        ∙ ap (λ (done : TurnDone). state_as done.desk (room_behind (room_of old.store.book) (event_of_turn (state_of content old) turn))) (sym (turned (Tell reply event) planned))
+      where
+        state_as : DeskModel → ℕ → RoomyDesk
+        state_as d room = record { desk = d; room = room }
+
+    -- ---- what a stop leaves
+
+    pub image-kept : (image : List ℕ) → IsLeftBehind content may_leave size (Some event) old image
+        → HasKept layout (size old.store.disk) (event_records layout (content old.store.disk)) (spelling event ∷ []) image
+    image-kept image left = ⊎_elim
+        (λ (by : IsLeftBy content may_leave size event None old image). ⊎_elim
+        (λ (was : OpensSame content size old image × may_leave old.store.disk image). kept-before told content may_leave size old trusted (spelling event ∷ []) image was.0 (trusted.committed image was.1))
+        (λ (now : (may_keep event None old ≡ true) × Opens layout (size old.store.disk) (IsBeforeOrAfter (event_records layout (content old.store.disk)) (spelling event)) image × HasSameRecords layout (content old.store.disk) image).
+        ⊎_elim
+        (λ same. kept-before told content may_leave size old trusted (spelling event ∷ []) image (record { head = now.1.head; list = same; closed = now.1.closed })
+        (committed-moves layout (office_on layout (content old.store.disk)) (content old.store.disk) image trusted.stands.is_desk.kept now.2 trusted.stands.committed))
+        (λ more. kept-behind told content may_leave size old trusted event (behind event None desk) (coming-turn now.0) image (record { head = now.1.head; list = more; closed = now.1.closed })
+        (again-so layout (behind event None desk).office (Some event) image (coming-turn now.0).last
+        (told-committed layout old.jobs (content old.store.disk) desk turn reply event trusted.stands its at-desk image now.2)))
+        now.1.list)
+        by)
+        (λ lacks. absurd (quiet-lacks event quiet-so layout _ lacks.told_on image lacks.lacks))
+        left
+
+    -- ---- it may come
+
+    comes : EventComes desk (Some event)
+    comes = subst (λ (done : TurnDone). EventComes desk done.event) (turned (Tell reply event) planned) (turn-keeps desk turn trusted.stands.is_desk its.above its.below).comes
+
+    pub follows-so : may_follow event None old ≡ true
+    follows-so =
+        ap (λ tables. follows layout tables event None) trusted.stands.tables
+        ∙ and-first (follows layout desk.office.tables event None) _ comes.may

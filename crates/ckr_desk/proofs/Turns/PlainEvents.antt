@@ -1,0 +1,103 @@
+-- What a turn tells is a plain event.
+use Rattle.std.proofs.Common.{◌≡◌, ℕ, Bool, true, false, List, refl, Option, Some, None, Result, Ok, Err}
+use Rattle.std.specs.Option.{option_map_or}
+use Rattle.ckr_points_library.specs.declared.cause.Refusal.{Refusal}
+use Rattle.ckr_base.specs.declared.code.Code.{Code}
+use Rattle.ckr_events.specs.declared.event.Event.{Event}
+use Rattle.ckr_events.specs.declared.event.Event.TheVariants.{Submitted, Rewritten}
+use Rattle.ckr_events.specs.declared.event.Made.{Made}
+use Rattle.ckr_desk_memory.specs.Plans.{told_by}
+use Rattle.ckr_meaning.specs.EffectiveJob.{OwnedStep}
+use Rattle.ckr_meaning.specs.declared.place.Place.{Place}
+use Rattle.ckr_meaning.specs.declared.place.Place.TheVariants.{Before, Opened, Within}
+use Rattle.ckr_points.specs.Restart.{place_of}
+use Rattle.ckr_points.specs.Rows.{RunRow, step_of_run}
+use Rattle.ckr_steps.specs.declared.step_run.Worked.{Worked}
+use Rattle.ckr_steps.specs.declared.step_run.Worked.TheVariants.{Went, Rewrite, Abend}
+use Rattle.ckr_points_tables.specs.Invariant.{is_plain_event}
+use Rattle.ckr_desk_turn.specs.declared.plan.Plan.{Plan}
+use Rattle.ckr_desk_turn.specs.declared.plan.Plan.TheVariants.{Rest, Tell, Work}
+use Rattle.ckr_desk_turn.specs.declared.reply.Turn.{Turn}
+use Rattle.ckr_desk_turn.specs.Allocation.{allocation_of}
+use Rattle.ckr_desk_turn.specs.Select.{next_run, run_on_initiator}
+use Rattle.ckr_desk_turn.specs.Jobs.{TurnJobs, TurnStep, is_failed, running_in}
+use Rattle.ckr_desk_turn.specs.Plans.{between_plan, chosen_plan, fail_plan, free_plan, is_within, placed_plan, plan_of, run_plan, running_plan, start_plan}
+use Rattle.ckr_volumes.specs.declared.layout.Layout.{Layout}
+
+-- the event of a plan, if it has one, is plain and rewrites nothing
+abbrev pub is_quiet : Event → Bool
+is_quiet (Rewritten job taken writes lengths place image) = false
+is_quiet (Submitted job cards) = false
+is_quiet event = is_plain_event event
+
+abbrev pub IsQuietPlan : Plan → Type 0
+IsQuietPlan (Rest reply) = Unit {0}
+IsQuietPlan (Tell reply event) = is_quiet event ≡ true
+IsQuietPlan (Work job) = Unit {0}
+
+either-quiet : (r : Result (List Made) Refusal) (f : Refusal → Plan) (g : List Made → Plan) → ((x : Refusal) → IsQuietPlan (f x)) → ((x : List Made) → IsQuietPlan (g x))
+    → IsQuietPlan (elim r as (λ _. Plan) [ Err refusal ↦ f refusal | Ok items ↦ g items ])
+either-quiet (Err refusal) f g first second = first refusal
+either-quiet (Ok items) f g first second = second items
+
+any-quiet : {X : Type 0} (o : Option X) (f : X → Plan) (none : Plan) → IsQuietPlan none → ((x : X) → IsQuietPlan (f x)) → IsQuietPlan (option_map_or f o none)
+any-quiet None f none first second = first
+any-quiet (Some x) f none first second = second x
+
+some-quiet : {X : Type 0} (o : Option X) (none : Plan) (f : X → Plan) → IsQuietPlan none → ((x : X) → IsQuietPlan (f x)) → IsQuietPlan (elim o as (λ _. Plan) [ None ↦ none | Some x ↦ f x ])
+some-quiet None none f first second = first
+some-quiet (Some x) none f first second = second x
+
+if-quiet : (b : Bool) (one two : Plan) → IsQuietPlan one → IsQuietPlan two → IsQuietPlan (elim b as (λ _. Plan) [ true ↦ one | false ↦ two ])
+if-quiet true one two first second = first
+if-quiet false one two first second = second
+
+module _ (layout : Layout) (jobs : TurnJobs) where
+  start-quiet : (row : RunRow) (owned : OwnedStep) (number : ℕ) → IsQuietPlan (start_plan layout jobs row owned number)
+  start-quiet row owned number = either-quiet (allocation_of layout row owned number jobs.tables) _ _ (λ refusal. refl) (λ items. refl)
+
+  between-quiet : (row : RunRow) (number : ℕ) → IsQuietPlan (between_plan layout jobs row number)
+  between-quiet row number = some-quiet (step_of_run row number) _ _ refl (λ owned. start-quiet row owned number)
+
+  running-quiet : (row : RunRow) (number : ℕ) (step : TurnStep) → IsQuietPlan (running_plan row number step)
+  running-quiet row number step = some-quiet step.finished _ _ tt (λ rc. refl)
+
+  placed-quiet : (row : RunRow) (place : Place) → IsQuietPlan (placed_plan layout jobs row place)
+  placed-quiet row (Before number) = between-quiet row number
+  placed-quiet row (Opened number) = between-quiet row number
+  placed-quiet row (Within number writes) = any-quiet (running_in jobs row.number) (running_plan row number) _ tt (running-quiet row number)
+
+  fail-quiet : (row : RunRow) (fail : Option Code) → IsQuietPlan (fail_plan layout jobs row fail)
+  fail-quiet row None = placed-quiet row (place_of row)
+  fail-quiet row (Some code) = if-quiet (is_within (place_of row)) _ _ refl tt
+
+  run-quiet : (fail : Option Code) (row : RunRow) → IsQuietPlan (run_plan layout jobs fail row)
+  run-quiet fail row = if-quiet (is_failed jobs row.number) _ _ refl (fail-quiet row fail)
+
+  chosen-quiet : (initiator : ℕ) (row : RunRow) → IsQuietPlan (chosen_plan layout jobs initiator row)
+  chosen-quiet initiator row = some-quiet row.code _ _ refl (λ code. refl)
+
+  free-quiet : (initiator : ℕ) (fail : Option Code) → IsQuietPlan (free_plan layout jobs initiator fail)
+  free-quiet initiator (Some code) = tt
+  free-quiet initiator None = any-quiet (next_run jobs.tables) (chosen_plan layout jobs initiator) _ tt (chosen-quiet initiator)
+
+  pub plan-quiet : (turn : Turn) → IsQuietPlan (plan_of layout jobs turn)
+  unfolding plan_of
+  plan-quiet turn = any-quiet (run_on_initiator jobs.tables turn.initiator) (run_plan layout jobs turn.fail) _ (free-quiet turn.initiator turn.fail) (run-quiet turn.fail)
+
+-- so is what it tells of a unit, but for a rewrite
+abbrev pub IsPlainPlan : Plan → Type 0
+IsPlainPlan (Rest reply) = Unit {0}
+IsPlainPlan (Tell reply event) = is_plain_event event ≡ true
+IsPlainPlan (Work job) = Unit {0}
+
+pub told-plain : (layout : Layout) (row : RunRow) (step : TurnStep) (worked : Worked) → IsPlainPlan (told_by layout row step worked)
+told-plain layout row step (Went taken) = tt
+told-plain layout row step (Rewrite place image taken) = refl
+told-plain layout row step (Abend code) = refl
+
+-- and what is quiet is plain
+pub quiet-plain : (event : Event) → is_quiet event ≡ true → is_plain_event event ≡ true
+quiet-plain (Submitted job cards) quiet = refl
+quiet-plain (Rewritten job taken writes lengths place image) quiet = refl
+quiet-plain _ quiet = quiet

@@ -1,0 +1,204 @@
+-- A turn that is no unit, from the desk as it stood.
+use Rattle.std.proofs.Common.{◌≡◌, ◌<◌, [], ℕ, List, Bool, true, false, refl, ap, sym, ◌∙◌, subst, ⊎_elim, arith, Option, Some, None, Result, Ok, Err, IfOk, nat_le}
+use Rattle.std.proofs.lemmas.Bool.{leb-true, true≢false}
+use Rattle.ckr_book.specs.Book.{room_of}
+use Rattle.ckr_events.specs.declared.event.Event.{Event}
+use Rattle.ckr_desk_memory.specs.Plans.{IsSpelledPlan}
+use Rattle.ckr_desk_memory.specs.View.{jobs_of}
+use Rattle.ckr_desk_turn.specs.Invariant.{IsTurnOf}
+use Rattle.ckr_outside.specs.Disk.{EachSince}
+use Rattle.ckr_outside.specs.Moments.{in_other_words}
+use Rattle.ckr_desk_refines.specs.Moves.{event_in, reply_in}
+use Rattle.ckr_desk_store.specs.OpenImages.{event_records}
+use Rattle.ckr_desk_turn.specs.declared.plan.Plan.{Plan}
+use Rattle.ckr_desk_turn.specs.declared.plan.Plan.TheVariants.{Rest, Tell, Work}
+use Rattle.ckr_desk_turn.specs.declared.reply.Reply.{Reply}
+use Rattle.ckr_desk_turn.specs.declared.reply.Turn.{Turn}
+use Rattle.ckr_desk_turn.specs.Desk.{TurnDone}
+use Rattle.ckr_desk_turn.specs.Plans.{plan_of}
+use Rattle.ckr_desk.proofs.Turns.Preparation.{same-unchanged}
+use Rattle.ckr_desk.proofs.Images.Soundness.{kept-before}
+use Rattle.ckr_desk.proofs.Turns.PlainEvents.{quiet-plain}
+use Rattle.ckr_desk.proofs.Trust.Events.{trusted-behind}
+use Rattle.ckr_desk.proofs.Turns.Events.{behind-turn-so, coming-turn, event-so, follows-so, image-kept, quiet-cannot, quiet-so, state-behind, turn-fits-so, turned}
+use Rattle.ckr_desk.specs.declared.error.DeskError.{DeskError}
+use Rattle.ckr_desk.specs.declared.error.DeskError.TheVariants.{NoMemory, DiskFault, BookFull, Stopped, Misread}
+use Rattle.ckr_desk.specs.Requests.{FailsBy, MayFail, has_room, room_behind, spelled}
+use Rattle.ckr_desk.specs.Calls.{IsSettledBehind}
+use Rattle.ckr_desk.specs.declared.preparation.Ready.{Ready}
+use Rattle.ckr_desk.specs.Preparation.{IsReadyFor, IsReadyIf, NotReadyFor}
+use Rattle.ckr_desk.specs.Rewrite.{OpensSame}
+use Rattle.ckr_desk.specs.NoChange.{HasHalted, IsOfDisk, StaysBy}
+use Rattle.ckr_desk.specs.Turn.{behind_turn, event_of_turn, reply_of, turn_fits}
+use Rattle.ckr_desk.specs.Units.{HasGoneBehind, IsLeftBehind, NotBehind}
+use Rattle.ckr_desk.specs.Soundness.{HasKept, IsTrusted, KeepsWithin, state_of}
+use Rattle.ckr_desk.specs.State.{RoomyDesk, DeskView, need_of}
+
+abbrev pub is_work : Plan → Bool
+is_work (Rest reply) = false
+is_work (Tell reply event) = false
+is_work (Work job) = true
+
+-- a plan that is no unit
+pub rests-so : (plan : Plan) → ((job : ℕ) → plan ≡ Work job → ⊥) → is_work plan ≡ false
+rests-so (Rest reply) is_none = refl
+rests-so (Tell reply event) is_none = refl
+rests-so (Work job) is_none = absurd (is_none job refl)
+
+-- what holds of an answer, holds in other words
+pub if-ok : {T E : Type 0} {P Q : T → Type 0} → ((x : T) → P x → Q x) → (result : Result T E) → IfOk result P → IfOk result Q
+if-ok of (Ok x) is = of x is
+if-ok of (Err error) is = tt
+
+-- why it wasn't done, on any disk
+pub go-may-fail : {D : Type 0} (faults : D → ℕ) (old new : DeskView D) (plan : Plan) (ready : Option Ready) (error : DeskError) → NotBehind faults plan ready old new error
+    → MayFail (faults old.store.disk) (faults new.store.disk) old.store.fault error
+go-may-fail faults old new (Rest reply) ready error not = absurd not
+go-may-fail faults old new (Tell reply event) ready NoMemory not = absurd not
+go-may-fail faults old new (Tell reply event) ready DiskFault not = not
+go-may-fail faults old new (Tell reply event) ready (BookFull need room) not = absurd not
+go-may-fail faults old new (Tell reply event) ready (Stopped fault) not = absurd not
+go-may-fail faults old new (Tell reply event) ready Misread not = tt
+go-may-fail faults old new (Work job) ready error not = subst (MayFail (faults old.store.disk) (faults new.store.disk) old.store.fault) (sym not) tt
+
+-- only the disk fails then
+pub go-of-disk : {D : Type 0} (faults : D → ℕ) (old new : DeskView D) (plan : Plan) (ready : Option Ready) (error : DeskError) → NotBehind faults plan ready old new error → IsOfDisk error
+go-of-disk faults old new (Rest reply) ready error not = absurd not
+go-of-disk faults old new (Tell reply event) ready NoMemory not = absurd not
+go-of-disk faults old new (Tell reply event) ready DiskFault not = tt
+go-of-disk faults old new (Tell reply event) ready (BookFull need room) not = absurd not
+go-of-disk faults old new (Tell reply event) ready (Stopped fault) not = absurd not
+go-of-disk faults old new (Tell reply event) ready Misread not = tt
+go-of-disk faults old new (Work job) ready error not = subst IsOfDisk (sym not) tt
+
+pub of-disk-stays : {D : Type 0} (content : D → List ℕ) (may_leave : D → List ℕ → Type 0) (faults : D → ℕ) (old new : DeskView D) (error : DeskError) → IsOfDisk error → HasHalted faults new.store error → StaysBy content may_leave faults old new error
+of-disk-stays content may_leave faults old new NoMemory is halted = absurd is
+of-disk-stays content may_leave faults old new DiskFault is halted = halted
+of-disk-stays content may_leave faults old new (BookFull need room) is halted = absurd is
+of-disk-stays content may_leave faults old new (Stopped fault) is halted = absurd is
+of-disk-stays content may_leave faults old new Misread is halted = tt
+
+-- what isn't ready leaves all as it was
+pub unready-stays : {D : Type 0} (content : D → List ℕ) (may_leave : D → List ℕ → Type 0) (faults : D → ℕ) (old new : DeskView D) (event : Option Event) (error : DeskError) → NotReadyFor event old new error
+    → StaysBy content may_leave faults old new error × MayFail (faults old.store.disk) (faults new.store.disk) old.store.fault error
+unready-stays content may_leave faults old new None error not = absurd not
+unready-stays content may_leave faults old new (Some event) NoMemory not = (same-unchanged content may_leave old new not.jobs not.store, tt)
+unready-stays content may_leave faults old new (Some event) DiskFault not = absurd not
+unready-stays content may_leave faults old new (Some event) (BookFull need room) not = (same-unchanged content may_leave old new not.3.jobs not.3.store, tt)
+unready-stays content may_leave faults old new (Some event) (Stopped fault) not = absurd not
+unready-stays content may_leave faults old new (Some event) Misread not = absurd not
+
+-- what is ready is ready if it is told
+pub ready-if : {D : Type 0} (event : Option Event) (desk : DeskView D) (ready : Option Ready) → IsReadyFor event desk ready → IsReadyIf event desk ready
+ready-if None desk ready is = tt
+ready-if (Some event) desk None is = absurd is
+ready-if (Some event) desk (Some ready) is = is
+
+abbrev state_with : RoomyDesk → Option Event → Bool
+state_with state event = has_room state.room event
+
+module _ {D : Type 0} (told : Type 0) (content : D → List ℕ) (may_leave : D → List ℕ → Type 0) (moment : D → ℕ) (left_since : D → ℕ → List ℕ → Type 0) (size faults : D → ℕ)
+    (old : DeskView D) (trusted : IsTrusted told content may_leave old) (turn : Turn) (its : IsTurnOf old.store.layout turn) where
+  abbrev state : RoomyDesk
+  state = state_of content old
+
+  pub go-reply : (plan : Plan) → plan_of old.store.layout (jobs_of old.jobs) turn ≡ plan → is_work plan ≡ false → reply_in plan ≡ reply_of state turn
+  unfolding reply_of
+  go-reply (Rest reply) is rests = sym (ap (λ (done : TurnDone). done.reply) (turned told content may_leave size old trusted turn its (Rest reply) is))
+  go-reply (Tell reply event) is rests = sym (ap (λ (done : TurnDone). done.reply) (turned told content may_leave size old trusted turn its (Tell reply event) is))
+  go-reply (Work job) is rests = absurd (true≢false rests)
+
+  rest-event : (reply : Reply) → plan_of old.store.layout (jobs_of old.jobs) turn ≡ Rest reply → event_of_turn state turn ≡ None
+  unfolding event_of_turn
+  rest-event reply is = ap (λ (done : TurnDone). done.event) (turned told content may_leave size old trusted turn its (Rest reply) is)
+
+  pub go-event : (plan : Plan) → plan_of old.store.layout (jobs_of old.jobs) turn ≡ plan → IsSpelledPlan plan → is_work plan ≡ false → event_in plan ≡ event_of_turn state turn
+  go-event (Rest reply) is shape rests = sym (rest-event reply is)
+  go-event (Tell reply event) is shape rests = sym (event-so told content may_leave size old trusted turn its reply event is shape.0)
+  go-event (Work job) is shape rests = absurd (true≢false rests)
+
+  pub go-fits : (plan : Plan) (new : DeskView D) → plan_of old.store.layout (jobs_of old.jobs) turn ≡ plan → IsSpelledPlan plan → is_work plan ≡ false → HasGoneBehind told content (event_in plan) old new → turn_fits state turn ≡ true
+  unfolding turn_fits
+  go-fits (Rest reply) new is shape rests gone = ap (state_with state) (rest-event reply is)
+  go-fits (Tell reply event) new is shape rests gone = turn-fits-so told content may_leave size old trusted turn its reply event is shape.0 new gone.0
+  go-fits (Work job) new is shape rests gone = absurd (true≢false rests)
+
+  rest-state : (reply : Reply) → plan_of old.store.layout (jobs_of old.jobs) turn ≡ Rest reply → state ≡ behind_turn state turn
+  unfolding behind_turn event_of_turn
+  rest-state reply is =
+      sym (ap (λ (done : TurnDone). record { desk = done.desk; room = room_behind state.room done.event }) (turned told content may_leave size old trusted turn its (Rest reply) is))
+
+  pub go-after : (plan : Plan) (new : DeskView D) → plan_of old.store.layout (jobs_of old.jobs) turn ≡ plan → IsSpelledPlan plan → is_work plan ≡ false → new.store.layout ≡ old.store.layout
+      → HasGoneBehind told content (event_in plan) old new → IsSettledBehind content may_leave (event_in plan) new → state_of content new ≡ behind_turn state turn
+  go-after (Rest reply) new is shape rests same gone settled = ap (λ s. state_of content s) gone ∙ rest-state reply is
+  go-after (Tell reply event) new is shape rests same gone settled =
+      state-behind told content may_leave size old trusted turn its reply event is shape.0 new gone.0.might gone.0
+      (behind-turn-so told content may_leave size old trusted turn its reply event is shape.0 new same trusted.tells gone settled)
+  go-after (Work job) new is shape rests same gone settled = absurd (true≢false rests)
+
+  pub go-trusted : (plan : Plan) (new : DeskView D) → plan_of old.store.layout (jobs_of old.jobs) turn ≡ plan → IsSpelledPlan plan → is_work plan ≡ false → new.store.layout ≡ old.store.layout
+      → HasGoneBehind told content (event_in plan) old new → IsSettledBehind content may_leave (event_in plan) new → IsTrusted told content may_leave new
+  go-trusted (Rest reply) new is shape rests same gone settled = subst (IsTrusted told content may_leave) (sym gone) trusted
+  go-trusted (Tell reply event) new is shape rests same gone settled =
+      trusted-behind told content may_leave event old new _ (coming-turn told content may_leave size old trusted turn its reply event is shape.0 gone.0.might)
+      (behind-turn-so told content may_leave size old trusted turn its reply event is shape.0 new same trusted.tells gone settled) trusted
+  go-trusted (Work job) new is shape rests same gone settled = absurd (true≢false rests)
+
+  -- what a stop leaves
+  image-left : (plan : Plan) → plan_of old.store.layout (jobs_of old.jobs) turn ≡ plan → IsSpelledPlan plan → is_work plan ≡ false
+      → ((image : List ℕ) → may_leave old.store.disk image → OpensSame content size old image)
+      → (image : List ℕ) → IsLeftBehind content may_leave size (event_in plan) old image → HasKept old.store.layout (size old.store.disk) (event_records old.store.layout (content old.store.disk)) (spelled (event_in plan)) image
+  image-left (Rest reply) is shape rests opens image left = kept-before told content may_leave size old trusted [] image (opens image left) (trusted.committed image left)
+  image-left (Tell reply event) is shape rests opens image left = image-kept told content may_leave size old trusted turn its reply event is shape.0 image left
+  image-left (Work job) is shape rests opens image left = absurd (true≢false rests)
+
+  pub go-kept : (plan : Plan) (new : DeskView D) → plan_of old.store.layout (jobs_of old.jobs) turn ≡ plan → IsSpelledPlan plan → is_work plan ≡ false
+      → ((image : List ℕ) → may_leave old.store.disk image → OpensSame content size old image)
+      → EachSince moment left_since old.store.disk new.store.disk (IsLeftBehind content may_leave size (event_in plan) old)
+      → KeepsWithin content moment left_since size old new (spelled (event_of_turn state turn))
+  go-kept plan new is shape rests opens left =
+      subst (λ e. KeepsWithin content moment left_since size old new (spelled e)) (go-event plan is shape rests)
+      (in_other_words moment left_since old.store.disk new.store.disk (IsLeftBehind content may_leave size (event_in plan) old)
+      (HasKept old.store.layout (size old.store.disk) (event_records old.store.layout (content old.store.disk)) (spelled (event_in plan))) left
+      (image-left plan is shape rests opens))
+
+  -- ---- why it wasn't done
+
+  rests-room : (event : Event) (need room : ℕ) → need ≡ need_of event → room ≡ room_of old.store.book → room < need → has_room (room_of old.store.book) (Some event) ≡ false
+  rests-room event need room needed there less = by (nat_le (need_of event) (room_of old.store.book)) refl
+    where
+      by : (b : Bool) → nat_le (need_of event) (room_of old.store.book) ≡ b → nat_le (need_of event) (room_of old.store.book) ≡ false
+      by false is = is
+      by true is = absurd (omega (arith, leb-true (need_of event) (room_of old.store.book) is, needed, there, less))
+
+  -- its event isn't ready
+  pub go-unready : (plan : Plan) (new : DeskView D) (error : DeskError) → plan_of old.store.layout (jobs_of old.jobs) turn ≡ plan → IsSpelledPlan plan → is_work plan ≡ false
+      → NotReadyFor (event_in plan) old new error → FailsBy (turn_fits state turn) error
+  unfolding turn_fits
+  go-unready (Rest reply) new error is shape rests not = absurd not
+  go-unready (Tell reply event) new NoMemory is shape rests not = tt
+  go-unready (Tell reply event) new DiskFault is shape rests not = absurd not
+  go-unready (Tell reply event) new (BookFull need room) is shape rests not =
+      ap (state_with state) (event-so told content may_leave size old trusted turn its reply event is shape.0) ∙ rests-room event need room not.0 not.1 not.2
+  go-unready (Tell reply event) new (Stopped fault) is shape rests not = absurd not
+  go-unready (Tell reply event) new Misread is shape rests not = absurd not
+  go-unready (Work job) new error is shape rests not = absurd (true≢false rests)
+
+  pub go-cause : (plan : Plan) (ready : Option Ready) (new : DeskView D) (error : DeskError) → plan_of old.store.layout (jobs_of old.jobs) turn ≡ plan → IsSpelledPlan plan → is_work plan ≡ false
+      → IsReadyFor (event_in plan) old ready → NotBehind faults plan ready old new error → FailsBy (turn_fits state turn) error
+  go-cause (Rest reply) ready new error is shape rests made not = absurd not
+  go-cause (Tell reply event) ready new NoMemory is shape rests made not = absurd not
+  go-cause (Tell reply event) ready new DiskFault is shape rests made not = tt
+  go-cause (Tell reply event) ready new (BookFull need room) is shape rests made not = absurd not
+  go-cause (Tell reply event) ready new (Stopped fault) is shape rests made not = absurd not
+  go-cause (Tell reply event) ready new Misread is shape rests made not = ⊎_elim
+      (λ (none : ready ≡ None). let never : ⊥ = subst (IsReadyFor (Some event) old) none made in never)
+      (λ some. ⊎_elim
+      (λ plain. true≢false (sym (quiet-plain event (quiet-so told content may_leave size old trusted turn its reply event is shape.0)) ∙ plain))
+      (λ more. ⊎_elim
+      (λ unfollowed. true≢false (sym (follows-so told content may_leave size old trusted turn its reply event is shape.0) ∙ unfollowed))
+      (λ cannot. quiet-cannot event (quiet-so told content may_leave size old trusted turn its reply event is shape.0) _ cannot)
+      more)
+      some)
+      not
+  go-cause (Work job) ready new error is shape rests made not = absurd (true≢false rests)

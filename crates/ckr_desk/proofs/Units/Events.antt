@@ -1,0 +1,276 @@
+-- What the event of a unit brings about, where its step ends with a code or rewrites a record.
+use Rattle.std.proofs.Common.{◌≡◌, ◌≤◌, ◌<◌, ℕ, List, length, refl, ap, sym, ◌∙◌, subst, ⊎_elim, arith, slice_set, Option, Some, None}
+use Rattle.std.specs.Prelude.{IsTrue}
+use Rattle.std.specs.Option.{option_map_or}
+use Rattle.arrayvec.specs.ArrayVec.{ArrayVec}
+use Rattle.ckr_base.specs.declared.code.Code.{Code}
+use Rattle.ckr_base.proofs.Options.{some-not-none}
+use Rattle.ckr_base.proofs.Sequences.{length-fitted}
+use Rattle.ckr_events.specs.declared.event.Ending.TheVariants.{Coded}
+use Rattle.ckr_events.specs.declared.event.Event.{Event}
+use Rattle.ckr_events.specs.declared.event.Event.TheVariants.{Ended}
+use Rattle.ckr_desk_memory.specs.View.{JobsView, RunningStepView}
+use Rattle.ckr_desk_memory.specs.Rewrite.{updated_by, updated_in}
+use Rattle.ckr_desk_turn.proofs.Units.AnyUnit.{work-keeps}
+use Rattle.ckr_desk_turn.specs.NextEvents.{Comes, EventComes}
+use Rattle.ckr_desk_turn.specs.Invariant.{IsDesk}
+use Rattle.ckr_desk_refines.specs.Commits.{HasCommitted}
+use Rattle.ckr_library.specs.declared.sets.DataSet.{DataSet}
+use Rattle.ckr_library.specs.NameMaps.{Name}
+use Rattle.ckr_meaning.specs.EffectiveJob.{Effective, OwnedStep}
+use Rattle.ckr_outside.specs.Disk.{part}
+use Rattle.ckr_points.specs.Payload.{writes_in}
+use Rattle.ckr_points.specs.Office.{Office, office_after}
+use Rattle.ckr_points.specs.Restart.{after_event, place_of}
+use Rattle.ckr_points.specs.Rows.{RunRow, TableSet, TablesModel, run_of}
+use Rattle.ckr_desk_refines.proofs.Rewrites.LastRecord.{again-then, record-then}
+use Rattle.ckr_desk_refines.proofs.Rewrites.Requests.{IsAsked, event as event_told, event-is, is-asked, office-is, then, work-is}
+use Rattle.ckr_desk_refines.proofs.Rewrites.Office.{IsThere, IsTheirs, next, next-at, own-table}
+use Rattle.ckr_desk_refines.proofs.Rewrites.OwnStep.{goes-in-place, same-job, stored, updated-shown}
+use Rattle.ckr_desk_refines.proofs.Rewrites.Desk.{stands-then}
+use Rattle.ckr_desk_refines.proofs.Rewrites.Masters.{by-role}
+use Rattle.ckr_desk_refines.specs.Rewrite.{AsksToRewrite}
+use Rattle.ckr_points_invariant.proofs.Steps.Commits.{formed_step}
+use Rattle.ckr_points_invariant.specs.Invariant.{step_now}
+use Rattle.ckr_desk_refines.specs.RewriteRecord.{HasCommittedAgain, HasLast}
+use Rattle.ckr_desk_refines.specs.Moves.{DiffersAt, HasSameRecords, HaveMoved, IsWritten}
+use Rattle.ckr_desk_refines.specs.Standing.{StandsForDesk}
+use Rattle.ckr_steps.specs.declared.files.Files.{Files}
+use Rattle.ckr_steps.specs.declared.files.RecordSource.TheVariants.{InSet}
+use Rattle.ckr_steps.specs.declared.step_run.Worked.{Worked}
+use Rattle.ckr_steps.specs.declared.step_run.Worked.TheVariants.{Abend, Rewrite}
+use Rattle.ckr_steps.specs.Writes.{IsShown}
+use Rattle.ckr_desk_refines.proofs.Events.Turns.{code-committed, code-stands}
+use Rattle.ckr_desk_turn.specs.declared.reply.Turn.{Turn}
+use Rattle.ckr_desk_turn.specs.Desk.{DeskModel, TurnDone, behind, work_of}
+use Rattle.ckr_volumes.specs.declared.layout.Layout.{Layout}
+use Rattle.ckr_volumes.specs.Places.{StretchModel, address_of, stretches_of, stretches_of_parts}
+use Rattle.ckr_volumes.specs.Records.{record_at}
+use Rattle.ckr_volumes.specs.SamePlaces.{SamePlaces, same_address, same_places}
+use Rattle.ckr_volumes.specs.Layouts.{lie_apart, lists_apart}
+use Rattle.ckr_desk_refines.proofs.Units.Desk.{pair, progress-at, unclosed, work-kept}
+use Rattle.ckr_desk_refines.proofs.Units.Codes.{coded-behind, coded-but, coded-within}
+use Rattle.ckr_desk_refines.specs.Unit.{IsPutBack, StandsBehindUnit}
+use Rattle.ckr_desk.proofs.Images.Soundness.{again-so}
+use Rattle.ckr_desk.specs.Rewrite.{CannotWrite, CannotWriteIn, DoesNotFit, IsWrittenBy, LacksAtMost}
+
+-- the event of a unit may come; the desk behind it, the jobs in memory that stand for it, and what an image of a stop has
+pub record Ensues (put : JobsView) (after : List ℕ) (desk : DeskModel) (run : ℕ) (event : Event) : Type 0 where
+  pub comes : Comes desk event
+  pub is_desk : IsDesk (work_of run desk).desk
+  pub layout_is : (work_of run desk).desk.layout ≡ desk.layout
+  pub office : (work_of run desk).desk.office ≡ office_after (event, None) desk.office
+  pub last : HasLast (work_of run desk).desk.office (Some event)
+  pub can : CannotWrite event (after_event event None desk.office.tables) → ⊥
+  pub stands : (later : JobsView) → HaveMoved event None put later → (told written : List ℕ) → HasSameRecords desk.layout after told
+      → IsWrittenBy desk.layout (after_event event None desk.office.tables) event told written → StandsForDesk desk.layout later written (work_of run desk).desk
+  pub same : (stopped : List ℕ) → HasSameRecords desk.layout after stopped → HasCommittedAgain desk.layout (work_of run desk).desk.office (Some event) stopped
+  pub lacking : (told stopped : List ℕ) → HasSameRecords desk.layout after told → LacksAtMost desk.layout (after_event event None desk.office.tables) event told stopped
+      → HasCommittedAgain desk.layout (work_of run desk).desk.office (Some event) stopped
+
+-- ---- data sets in the same places
+
+turned-places : (one two : DataSet) → SamePlaces one two → SamePlaces two one
+turned-places one two same = record { parts = sym same.parts; lrecl = sym same.lrecl }
+
+apart-there : (one two other : DataSet) → SamePlaces one two → IsTrue (lie_apart one other) → IsTrue (lie_apart two other)
+apart-there one two other same apart =
+    ap (λ (stretches : List StretchModel). lists_apart two.lrecl other.lrecl stretches (stretches_of other)) (ap stretches_of_parts same.parts)
+    ∙ ap (λ (lrecl : ℕ). lists_apart lrecl other.lrecl (stretches_of one) (stretches_of other)) same.lrecl
+    ∙ apart
+
+same-record : (image : List ℕ) (layout : Layout) (one other : DataSet) → SamePlaces one other → (at : ℕ) → record_at image layout other at ≡ record_at image layout one at
+same-record image layout one other same at =
+    ap (λ (n : ℕ). part n other.lrecl image) (same_address layout one other same at)
+    ∙ ap (λ (lrecl : ℕ). part (address_of layout one at) lrecl image) same.lrecl
+
+written-there : (layout : Layout) (one other : DataSet) (place : ℕ) (bytes before after : List ℕ) → SamePlaces one other → other.space ≡ one.space → IsWritten layout one place bytes before after → IsWritten layout other place bytes before after
+written-there layout one other place bytes before after same space wrote = record {
+  written = λ n le.
+      same_places after layout one other same n
+      ∙ wrote.written n (subst (λ (s : ℕ). n ≤ s) space le)
+      ∙ ap (λ (records : List (List ℕ)). slice_set records place bytes) (sym (same_places before layout one other same n));
+  others = λ third stands apart n le. wrote.others third stands (apart-there other one third (turned-places one other same) apart) n le;
+}
+
+differs-there : (layout : Layout) (one other : DataSet) (place : ℕ) (told image : List ℕ) → SamePlaces one other → other.space ≡ one.space → DiffersAt layout one place told image → DiffersAt layout other place told image
+differs-there layout one other place told image same space differs = record {
+  records = λ at less apart.
+      same-record image layout one other same at
+      ∙ differs.records at (subst (λ (s : ℕ). at < s) space less) apart
+      ∙ sym (same-record told layout one other same at);
+  others = λ third stands apart n le. differs.others third stands (apart-there other one third (turned-places one other same) apart) n le;
+}
+
+-- an image differs from itself at no place
+differs-nowhere : (layout : Layout) (set : DataSet) (place : ℕ) (image : List ℕ) → DiffersAt layout set place image image
+differs-nowhere layout set place image = record { records = λ at less apart. refl; others = λ other stands apart n le. refl }
+
+-- ---- the unit's event comes
+
+module _ (old : JobsView) (before after : List ℕ) (desk : DeskModel) (turn : Turn) (run : ℕ) (on moved : RunningStepView) (worked : Worked) (unit : StandsBehindUnit desk.layout old before after desk turn run on moved worked) where
+  comes-so : (event : Event) → (work_of run desk).event ≡ Some event → Comes desk event
+  comes-so event is =
+      subst (EventComes desk) is
+      (work-keeps desk unit.stands.is_desk run (pair desk.layout old before after desk turn run on moved worked unit).step.progress
+      (progress-at desk.layout old before after desk turn run on moved worked unit) (unclosed desk.layout old before after desk turn run on moved worked unit)).comes
+
+-- ---- the step ends with a code
+
+module _ (old : JobsView) (before after : List ℕ) (desk : DeskModel) (turn : Turn) (run : ℕ) (on moved : RunningStepView) (code : Code) (unit : StandsBehindUnit desk.layout old before after desk turn run on moved (Abend code))
+    (put : JobsView) (back : IsPutBack run moved old put) (rule : ℕ) (lengths : ArrayVec ℕ) where
+  abbrev ended : Event
+  ended = Ended run (Coded code rule moved.step.writes lengths)
+
+  module _ (is : (work_of run desk).event ≡ Some ended) where
+    desk-then : (work_of run desk).desk ≡ behind ended None desk
+    desk-then = coded-behind desk.layout old before after desk turn run on moved code unit ended is
+
+    kept-then : IsDesk (work_of run desk).desk
+    kept-then = work-kept desk.layout old before after desk turn run on moved (Abend code) unit
+
+    comes-then : Comes desk ended
+    comes-then = comes-so old before after desk turn run on moved (Abend code) unit ended is
+
+    last-then : HasLast (work_of run desk).desk.office (Some ended)
+    last-then rewrite told = absurd (some-not-none rewrite (sym told))
+
+    stands-so : (later : JobsView) → HaveMoved ended None put later → (told written : List ℕ) → HasSameRecords desk.layout after told → written ≡ told → StandsForDesk desk.layout later written (work_of run desk).desk
+    stands-so later goes told written same wrote =
+        subst (StandsForDesk desk.layout later written) (sym desk-then)
+        (code-stands desk.layout put later after written desk run rule moved.step.writes code lengths
+        (coded-but desk.layout old before after desk turn run on moved code unit put back) comes-then (subst IsDesk desk-then kept-then)
+        (coded-within desk.layout old before after desk turn run on moved code unit) goes
+        (subst (HasSameRecords desk.layout after) (sym wrote) same))
+
+    same-so : (stopped : List ℕ) → HasSameRecords desk.layout after stopped → HasCommittedAgain desk.layout (work_of run desk).desk.office (Some ended) stopped
+    same-so stopped same =
+        again-so desk.layout (work_of run desk).desk.office (Some ended) stopped last-then
+        (subst (λ (d : DeskModel). HasCommitted desk.layout d.office stopped) (sym desk-then)
+        (code-committed desk.layout put after desk run rule moved.step.writes code lengths
+        (coded-but desk.layout old before after desk turn run on moved code unit put back) comes-then (subst IsDesk desk-then kept-then)
+        (coded-within desk.layout old before after desk turn run on moved code unit) stopped same))
+
+    pub ended-ensues : Ensues put after desk run ended
+    ended-ensues = record {
+      comes = comes-then;
+      is_desk = kept-then;
+      layout_is = ap (λ (d : DeskModel). d.layout) desk-then;
+      office = ap (λ (d : DeskModel). d.office) desk-then;
+      last = last-then;
+      can = λ never. never;
+      stands = stands-so;
+      same = same-so;
+      lacking = λ told stopped same never. absurd never;
+    }
+
+-- ---- the step rewrites a record
+
+module _ (old : JobsView) (before after : List ℕ) (desk : DeskModel) (turn : Turn) (run : ℕ) (on moved : RunningStepView) (place : ℕ) (image : List ℕ) (taken : ℕ) (unit : StandsBehindUnit desk.layout old before after desk turn run on moved (Rewrite place image taken)) where
+  asks : AsksToRewrite desk.layout old before after desk turn run on moved place image taken
+  asks = record { stands = unit.stands; planned = unit.planned; found = unit.found; run = unit.same_run; did = unit.did; goes = unit.goes; keeps = unit.keeps }
+
+  is_desk : IsDesk desk
+  is_desk = unit.stands.is_desk
+
+  asked : IsAsked before after desk run on moved place image taken
+  asked = is-asked old before after desk turn run on moved place image taken asks
+
+  abbrev office_then : Office
+  office_then = then before after desk is_desk run on moved place image taken asked
+
+  abbrev event_then : Event
+  event_then = event_told before after desk is_desk run on moved place image taken asked
+
+  abbrev name : Name
+  name = asked.rewrite.name
+
+  -- the data set in memory that is updated
+  shown : IsShown (Unit {0}) after desk.layout asked.rewrite.rewritten moved.sets name
+  shown = updated-shown desk is_desk before on asked.step asked.led after moved taken place image asked.rewrite asked.same asked.stood
+
+  first-is : moved.step.files.first ≡ InSet name
+  first-is = ap (λ (files : Files). files.first) asked.rewrite.stands.files ∙ asked.rewrite.updates
+
+  place-below : place < shown.set.space
+  place-below =
+      let less : place < shown.set.length = subst (λ n. place < n) (sym shown.shows.length) asked.rewrite.below in
+      let fit : shown.set.length ≤ shown.set.space = ((stored desk is_desk before on asked.step asked.led after moved taken place image asked.rewrite asked.same asked.stood).stands name shown.set shown.is).length_fits in
+      omega (arith, less, fit)
+
+  image-long : length image ≡ shown.set.lrecl
+  image-long = ap length asked.rewrite.fits ∙ length-fitted asked.rewrite.write.image asked.rewrite.rewritten.lrecl ∙ sym shown.shows.lrecl
+
+  -- the row behind the event
+  abbrev row_then : RunRow
+  row_then = next desk before on asked.step asked.led moved.step.writes moved.sets asked.same
+
+  row-at : run_of office_then.tables asked.led.row.number ≡ Some row_then
+  row-at = ap (run_of office_then.tables) asked.led.numbered ∙ next-at desk before on asked.step asked.led moved.step.writes moved.sets asked.same
+
+  updates-so : updated_by row_then ≡ Some name
+  updates-so =
+      ap (λ (o : Option OwnedStep). option_map_or (updated_in row_then) o None) asked.led.running.found
+      ∙ subst (λ (job : Effective). updated_in (record row_then { job = job }) asked.led.owned ≡ Some name)
+      (same-job desk is_desk before on asked.step asked.led after moved taken place image asked.rewrite asked.same asked.stood)
+      (by-role _ place name
+      (formed_step desk.layout desk.office asked.step.run asked.led.row asked.led.leg asked.led.owned (step_now asked.led.row) (writes_in (place_of asked.led.row)) is_desk.kept.events asked.led.running)
+      asked.rewrite.program
+      (goes-in-place desk is_desk before on asked.step asked.led after moved taken place image asked.rewrite asked.same asked.stood))
+
+  -- its data set is that in memory
+  table-there : IsThere (IsTheirs shown.set) office_then.tables.sets name
+  table-there = own-table desk before on asked.step asked.led moved.step.writes moved.sets asked.same name shown.set shown.is
+
+  abbrev table : TableSet
+  table = table-there.0
+
+  -- ---- by the tables behind the event
+
+  cannot-not : CannotWrite event_then office_then.tables → ⊥
+  cannot-not cannot =
+      let its : DoesNotFit place image (Some table) =
+      subst (DoesNotFit place image) table-there.1 (subst (CannotWriteIn office_then.tables place image) updates-so (cannot row_then row-at)) in
+      ⊎_elim
+      (λ (outside : table.set.space ≤ place). let same : shown.set.space ≡ table.set.space = table-there.2.lies.space in let less : place < shown.set.space = place-below in absurd (omega (arith, outside, same, less)))
+      (λ (long : length image ≡ table.set.lrecl → ⊥). long (image-long ∙ table-there.2.lies.places.lrecl))
+      its
+
+  written-then : (told written : List ℕ) → IsWrittenBy desk.layout office_then.tables event_then told written → IsWritten desk.layout shown.set place image told written
+  written-then told written wrote =
+      written-there desk.layout table.set shown.set place image told written table-there.2.lies.places table-there.2.lies.space (wrote row_then name table row-at updates-so table-there.1)
+
+  differs-then : (told stopped : List ℕ) → LacksAtMost desk.layout office_then.tables event_then told stopped → DiffersAt desk.layout shown.set place told stopped
+  differs-then told stopped lacks =
+      differs-there desk.layout table.set shown.set place told stopped table-there.2.lies.places table-there.2.lies.space (lacks row_then name table row-at updates-so table-there.1)
+
+  module _ (put : JobsView) (back : IsPutBack run moved old put) (event : Event) (is : (work_of run desk).event ≡ Some event) where
+    event-so : event_then ≡ event
+    event-so = event-is before after desk is_desk run on moved place image taken asked event is
+
+    tables-so : after_event event_then None desk.office.tables ≡ office_then.tables
+    tables-so = ap (λ (office : Office). office.tables) (office-is before after desk is_desk run on moved place image taken asked)
+
+    -- what is said by the event that is told, and by the tables behind it
+    by-event : (P : Event → TablesModel → Type 0) → P event (after_event event None desk.office.tables) → P event_then office_then.tables
+    by-event P holds = subst (P event_then) tables-so (subst (λ (e : Event). P e (after_event e None desk.office.tables)) (sym event-so) holds)
+
+    pub rewrite-ensues : Ensues put after desk run event
+    rewrite-ensues = record {
+      comes = comes-so old before after desk turn run on moved (Rewrite place image taken) unit event is;
+      is_desk = work-kept desk.layout old before after desk turn run on moved (Rewrite place image taken) unit;
+      layout_is = ap (λ (d : TurnDone). d.desk.layout) (work-is before after desk is_desk run on moved place image taken asked);
+      office = ap (λ (d : TurnDone). d.desk.office) (work-is before after desk is_desk run on moved place image taken asked) ∙ ap (λ (e : Event). office_after (e, None) desk.office) event-so;
+      last = λ rewrite told. record-then old before after desk turn run on moved place image taken asks event is rewrite told;
+      can = λ cannot. cannot-not (by-event CannotWrite cannot);
+      stands = λ later goes told written same wrote.
+          stands-then desk.layout old before after desk turn run on moved place image taken asks put later
+          (record { tables = back.tables; failed = back.failed; running = back.running }) event is goes told written same name shown.set first-is shown.is
+          (written-then told written (by-event (λ e tables. IsWrittenBy desk.layout tables e told written) wrote));
+      same = λ stopped same.
+          again-then old before after desk turn run on moved place image taken asks event is stopped stopped same name shown.set first-is shown.is
+          (differs-nowhere desk.layout shown.set place stopped);
+      lacking = λ told stopped same lacks.
+          again-then old before after desk turn run on moved place image taken asks event is told stopped same name shown.set first-is shown.is
+          (differs-then told stopped (by-event (λ e tables. LacksAtMost desk.layout tables e told stopped) lacks));
+    }

@@ -1,0 +1,20 @@
+-- The definitions below this crate that its clauses cite, handed on to the crates above: the model of the events, and what a desk answers.
+pub use Rattle.ckr_desk_memory.specs.Plans
+pub use Rattle.ckr_desk_refines.specs.Listing
+pub use Rattle.ckr_desk_refines.specs.declared.data_sets.Listed
+pub use Rattle.ckr_desk_store.specs.OpenImages
+pub use Rattle.ckr_desk_turn.specs.declared.reply.Chkpt
+pub use Rattle.ckr_desk_turn.specs.declared.reply.How
+pub use Rattle.ckr_desk_turn.specs.declared.reply.Reply
+pub use Rattle.ckr_desk_turn.specs.declared.reply.Submitted
+pub use Rattle.ckr_desk_turn.specs.declared.reply.Turn
+pub use Rattle.ckr_points.specs.Rows
+pub use Rattle.ckr_points.specs.declared.denial.Denial
+pub use Rattle.ckr_points.specs.declared.denial.Seen
+pub use Rattle.ckr_points.specs.declared.run.Run
+pub use Rattle.ckr_points.specs.declared.run.RunState
+pub use Rattle.ckr_points_library.specs.declared.cause.Cause
+pub use Rattle.ckr_points_tables.specs.View
+pub use Rattle.ckr_rules.specs.declared.cases.Rule
+pub use Rattle.ckr_volumes.specs.declared.layout.Layout
+pub use Rattle.ckr_volumes.specs.declared.layout.Volume

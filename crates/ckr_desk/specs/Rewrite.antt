@@ -1,0 +1,59 @@
+-- A record written again in its place, and what a stop within it leaves.
+use Rattle.std.specs.Prelude.{◌≡◌, ◌≤◌, ◌⊎◌, ℕ, List, length, Option, Some, None}
+use Rattle.ckr_events.specs.declared.event.Event.{Event}
+use Rattle.ckr_events.specs.declared.event.Event.TheVariants.{Rewritten}
+use Rattle.ckr_desk_memory.specs.Rewrite.{updated_by}
+use Rattle.ckr_library.specs.NameMaps.{Name, entry_at}
+use Rattle.ckr_outside.specs.Faults.{Rose}
+use Rattle.ckr_points.specs.Rows.{RunRow, TableSet, TablesModel, run_of}
+use Rattle.ckr_desk_refines.specs.Moves.{DiffersAt, IsWritten}
+use Rattle.ckr_desk_store.specs.OpenImages.{event_records, Opens}
+use Rattle.ckr_volumes.specs.declared.layout.Layout.{Layout}
+use Rattle.ckr_desk.specs.declared.error.DeskError.{DeskError}
+use Rattle.ckr_desk.specs.declared.error.DeskError.TheVariants.{DiskFault, Misread}
+use Rattle.ckr_desk.specs.State.{DeskView}
+
+-- the disk opens with the same events
+abbrev pub OpensSame : {D : Type 0} → (D → List ℕ) → (D → ℕ) → DeskView D → List ℕ → Type 0
+OpensSame content size old image =
+    Opens old.store.layout (size old.store.disk) (λ records. records ≡ event_records old.store.layout (content old.store.disk)) image
+
+-- the image lacks at most the record that an event tells, by the tables behind it
+abbrev pub LacksAtMost : Layout → TablesModel → Event → List ℕ → List ℕ → Type 0
+LacksAtMost layout tables (Rewritten job taken writes lengths place image) before after =
+    (row : RunRow) (name : Name) (table : TableSet) → run_of tables job ≡ Some row → updated_by row ≡ Some name → entry_at tables.sets name ≡ Some table
+    → DiffersAt layout table.set place before after
+LacksAtMost layout tables _ before after = ⊥
+
+-- an image of a stop while the record is written that an event tells, by the tables behind it
+abbrev pub IsLackingBy : {D : Type 0} → (D → List ℕ) → (D → ℕ) → Event → DeskView D → List ℕ → Type 0
+IsLackingBy content size event old image =
+    OpensSame content size old image
+    × ((image ≡ content old.store.disk) ⊎ LacksAtMost old.store.layout old.jobs.tables.desk event (content old.store.disk) image)
+
+-- the record that an event tells is written, by the tables behind it
+abbrev pub IsWrittenBy : Layout → TablesModel → Event → List ℕ → List ℕ → Type 0
+IsWrittenBy layout tables (Rewritten job taken writes lengths place image) before after =
+    (row : RunRow) (name : Name) (table : TableSet) → run_of tables job ≡ Some row → updated_by row ≡ Some name → entry_at tables.sets name ≡ Some table
+    → IsWritten layout table.set place image before after
+IsWrittenBy layout tables _ before after = after ≡ before
+
+-- a record that an event tells can't be written by these tables: nothing is updated, or it doesn't fit
+abbrev pub DoesNotFit : ℕ → List ℕ → Option TableSet → Type 0
+DoesNotFit place image None = Unit {0}
+DoesNotFit place image (Some table) = (table.set.space ≤ place) ⊎ (length image ≡ table.set.lrecl → ⊥)
+
+abbrev pub CannotWriteIn : TablesModel → ℕ → List ℕ → Option Name → Type 0
+CannotWriteIn tables place image None = Unit {0}
+CannotWriteIn tables place image (Some name) = DoesNotFit place image (entry_at tables.sets name)
+
+abbrev pub CannotWrite : Event → TablesModel → Type 0
+CannotWrite (Rewritten job taken writes lengths place image) tables =
+    (row : RunRow) → run_of tables job ≡ Some row → CannotWriteIn tables place image (updated_by row)
+CannotWrite _ tables = ⊥
+
+-- why the record that an event tells wasn't written, by the tables behind it
+abbrev pub NotWritten : ℕ → ℕ → Event → TablesModel → DeskError → Type 0
+NotWritten before now event tables DiskFault = Rose before now
+NotWritten before now event tables Misread = CannotWrite event tables
+NotWritten before now event tables _ = ⊥

@@ -1,0 +1,153 @@
+-- A unit of a running step, and what goes on behind what a turn comes to, on any disk.
+use Rattle.std.specs.Prelude.{◌≡◌, ◌⊎◌, ◌++◌, ◌∷◌, [], ℕ, Bool, true, false, List, find, IfErr, IfOk, OnOk, Option, Some, None, Result}
+use Rattle.ckr_base.specs.declared.programs.NextDue.{NextDue}
+use Rattle.ckr_base.specs.declared.programs.NextDue.TheVariants as Dues
+use Rattle.ckr_events.specs.declared.event.Event.{Event}
+use Rattle.ckr_events.specs.Event.{spelling}
+use Rattle.ckr_desk_memory.specs.EventChanges.{is_of_run, without_first}
+use Rattle.ckr_desk_memory.specs.Plans.{told_by}
+use Rattle.ckr_desk_memory.specs.View.{RunningStepView, jobs_of, running_of}
+use Rattle.ckr_meaning.specs.EffectiveJob.{OwnedStep}
+use Rattle.ckr_meaning.specs.StepRun.{StepStart}
+use Rattle.ckr_points.specs.Restart.{after_event, place_of, step_in}
+use Rattle.ckr_outside.specs.Faults.{Rose}
+use Rattle.ckr_points.specs.Rows.{RunRow, TablesModel, run_of, step_of_run}
+use Rattle.ckr_desk_refines.specs.Moves.{HasSameRecords}
+use Rattle.ckr_steps.specs.declared.step_run.Worked.{Worked}
+use Rattle.ckr_steps.specs.Places.{GoesOn, ShowsWithin, IsStepPlace}
+use Rattle.ckr_steps.specs.StepUnit.{HasWorked}
+use Rattle.ckr_steps.specs.Units.{due_of}
+use Rattle.ckr_steps.specs.Writes.{ChangesKeeping, StemsKeeping}
+use Rattle.ckr_desk_store.specs.OpenImages.{event_records, Opens}
+use Rattle.ckr_points_tables.specs.Invariant.{is_plain_event}
+use Rattle.ckr_desk_turn.specs.Invariant.{IsTurnOf}
+use Rattle.ckr_desk_turn.specs.declared.plan.Plan.{Plan}
+use Rattle.ckr_desk_turn.specs.declared.plan.Plan.TheVariants.{Rest, Tell, Work}
+use Rattle.ckr_desk_turn.specs.declared.reply.Reply.{Reply}
+use Rattle.ckr_desk_turn.specs.declared.reply.Turn.{Turn}
+use Rattle.ckr_desk_turn.specs.Plans.{plan_of}
+use Rattle.ckr_volumes.specs.declared.layout.Layout.{Layout}
+use Rattle.ckr_desk.specs.declared.error.DeskError.{DeskError}
+use Rattle.ckr_desk.specs.declared.error.DeskError.TheVariants.{DiskFault, Misread}
+use Rattle.ckr_desk.specs.Calls.{HasGoneOn, IsLeftBy, may_follow, may_keep}
+use Rattle.ckr_desk.specs.Soundness.{IsTrusted, KeepsWithin, state_of}
+use Rattle.ckr_desk.specs.State.{DeskView}
+use Rattle.ckr_desk.specs.Rewrite.{CannotWrite, IsWrittenBy, LacksAtMost, OpensSame}
+use Rattle.ckr_desk.specs.Requests.{FailsBy, spelled}
+use Rattle.ckr_desk.specs.Turn.{behind_turn, event_of_turn, reply_of, turn_fits}
+use Rattle.ckr_desk.specs.declared.preparation.Ready.{Ready}
+
+abbrev pub is_unit : NextDue → Bool
+is_unit Dues.Unit = true
+is_unit Dues.Checkpoint = false
+is_unit Dues.Cancel = false
+is_unit (Dues.Finished rc) = false
+
+-- the plan is what the turn tells of the unit, where its run is within a step of its deck
+abbrev pub IsToldOf : Layout → TablesModel → RunningStepView → Worked → Plan → Type 0
+IsToldOf layout tables moved worked plan =
+    (row : RunRow) (own : OwnedStep) → run_of tables moved.run ≡ Some row → step_of_run row (step_in (place_of row)) ≡ Some own
+    → plan ≡ told_by layout row (running_of tables moved) worked
+
+module _ {D : Type 0} (told : Type 0) (content : D → List ℕ) (may_leave : D → List ℕ → Type 0) (moment : D → ℕ) (left_since : D → ℕ → List ℕ → Type 0) where
+  -- One unit of the running step of a run was done, and the step stands before the others. The plan is what the turn tells of it.
+  pub record HasDoneUnit (run : ℕ) (old new : DeskView D) (plan : Plan) : Type 0 where
+    pub on : RunningStepView
+    pub moved : RunningStepView
+    pub worked : Worked
+    pub found : find (is_of_run run) old.jobs.running ≡ Some on
+    pub same_run : moved.run ≡ on.run
+    pub did : HasWorked told (content old.store.disk) (content new.store.disk) old.store.layout on.step moved.step on.sets moved.sets worked
+    pub goes : told → (start : StepStart) (taken : ℕ) → IsStepPlace start taken false on.step on.sets
+        → ShowsWithin told (content old.store.disk) old.store.layout start on.step.writes on.sets
+        → GoesOn told (content new.store.disk) old.store.layout start taken on.step moved.step moved.sets worked
+    pub keeps : ChangesKeeping told content may_leave moment left_since old.store.layout on.sets old.store.disk new.store.disk
+    pub tables : new.jobs.tables.desk ≡ old.jobs.tables.desk
+    pub failed : new.jobs.failed ≡ old.jobs.failed
+    pub running : new.jobs.running ≡ moved ∷ without_first run old.jobs.running
+    pub store : new.store ≡ record old.store { disk = new.store.disk }
+    pub planned : IsToldOf old.store.layout old.jobs.tables.desk moved worked plan
+
+-- why a unit wasn't done: the disk failed, or none is due
+abbrev pub NotUnit : ℕ → ℕ → Bool → DeskError → Type 0
+NotUnit before now due DiskFault = Rose before now
+NotUnit before now due Misread = due ≡ false
+NotUnit before now due _ = ⊥
+
+-- the same of the running step of a run, if it has one
+abbrev pub NoUnitIn : ℕ → ℕ → Option RunningStepView → DeskError → Type 0
+NoUnitIn before now None error = error ≡ Misread
+NoUnitIn before now (Some on) error = NotUnit before now (is_unit (due_of on.step.parm on.step.state)) error
+
+abbrev pub NoUnit : ℕ → ℕ → ℕ → List RunningStepView → DeskError → Type 0
+NoUnit before now run running error = NoUnitIn before now (find (is_of_run run) running) error
+
+-- ---- what a stop leaves
+
+-- an image that a unit of the running step of a run may have made
+abbrev pub StemsFromUnit : {D : Type 0} → (D → List ℕ → Type 0) → ℕ → DeskView D → List ℕ → Type 0
+StemsFromUnit may_leave run old image =
+    (on : RunningStepView) × (find (is_of_run run) old.jobs.running ≡ Some on) × StemsKeeping old.store.layout on.sets (may_leave old.store.disk) image
+
+-- an image of a stop within a unit
+abbrev pub IsLeftByUnit : {D : Type 0} → (D → List ℕ) → (D → List ℕ → Type 0) → (D → ℕ) → ℕ → DeskView D → List ℕ → Type 0
+IsLeftByUnit content may_leave size run old image =
+    OpensSame content size old image × (may_leave old.store.disk image ⊎ StemsFromUnit may_leave run old image)
+
+-- the same with the event, which came before
+pub record IsLeftRewriting {D : Type 0} (content : D → List ℕ) (size : D → ℕ) (event : Event) (old : DeskView D) (image : List ℕ) : Type 0 where
+  pub might : may_keep event None old ≡ true
+  pub opens : Opens old.store.layout (size old.store.disk) (λ records. records ≡ event_records old.store.layout (content old.store.disk) ++ spelling event ∷ []) image
+  pub told_on : List ℕ
+  pub same : HasSameRecords old.store.layout (content old.store.disk) told_on
+  pub lacks : LacksAtMost old.store.layout (after_event event None old.jobs.tables.desk) event told_on image
+
+-- an image of a stop while a turn goes on behind what it comes to
+abbrev pub IsLeftBehind : {D : Type 0} → (D → List ℕ) → (D → List ℕ → Type 0) → (D → ℕ) → Option Event → DeskView D → List ℕ → Type 0
+IsLeftBehind content may_leave size None old image = may_leave old.store.disk image
+IsLeftBehind content may_leave size (Some event) old image =
+    IsLeftBy content may_leave size event None old image ⊎ IsLeftRewriting content size event old image
+
+-- ---- behind what a turn comes to
+
+-- the event is in the book, and its record, if it tells one, is written
+pub record HasWrittenBehind {D : Type 0} (content : D → List ℕ) (event : Event) (old new : DeskView D) : Type 0 where
+  pub events : event_records old.store.layout (content new.store.disk) ≡ event_records old.store.layout (content old.store.disk) ++ spelling event ∷ []
+  pub told_on : List ℕ
+  pub same : HasSameRecords old.store.layout (content old.store.disk) told_on
+  pub written : IsWrittenBy old.store.layout new.jobs.tables.desk event told_on (content new.store.disk)
+
+-- what a turn comes to is done
+abbrev pub HasGoneBehind : {D : Type 0} → Type 0 → (D → List ℕ) → Option Event → DeskView D → DeskView D → Type 0
+HasGoneBehind told content None old new = new ≡ old
+HasGoneBehind told content (Some event) old new = HasGoneOn event None old new × (told → HasWrittenBehind content event old new)
+
+-- why what a turn comes to wasn't done, where its event was ready, or wasn't
+abbrev pub NotTold : {D : Type 0} → (D → ℕ) → Event → Option Ready → DeskView D → DeskView D → DeskError → Type 0
+NotTold faults event ready old new DiskFault = Rose (faults old.store.disk) (faults new.store.disk)
+NotTold faults event ready old new Misread =
+    (ready ≡ None) ⊎ ((is_plain_event event ≡ false) ⊎ ((may_follow event None old ≡ false) ⊎ CannotWrite event (after_event event None old.jobs.tables.desk)))
+NotTold faults event ready old new _ = ⊥
+
+abbrev pub NotBehind : {D : Type 0} → (D → ℕ) → Plan → Option Ready → DeskView D → DeskView D → DeskError → Type 0
+NotBehind faults (Rest reply) ready old new error = ⊥
+NotBehind faults (Tell reply event) ready old new error = NotTold faults event ready old new error
+NotBehind faults (Work job) ready old new error = error ≡ Misread
+
+-- ---- a turn
+
+-- the desk is trusted, and this is what the turn comes to
+pub record IsPlanned {D : Type 0} (told : Type 0) (content : D → List ℕ) (may_leave : D → List ℕ → Type 0) (desk : DeskView D) (turn : Turn) (plan : Plan) : Type 0 where
+  pub trusted : IsTrusted told content may_leave desk
+  pub its : IsTurnOf desk.store.layout turn
+  pub planned : plan_of desk.store.layout (jobs_of desk.jobs) turn ≡ plan
+
+-- What a turn has come to on a trusted disk: the reply, the desk behind it, why it wasn't done, and what a stop within it leaves.
+pub record HasTurned {D : Type 0} (told : Type 0) (content : D → List ℕ) (may_leave : D → List ℕ → Type 0) (moment : D → ℕ) (left_since : D → ℕ → List ℕ → Type 0) (size : D → ℕ)
+    (turn : Turn) (old new : DeskView D) (result : Result Reply DeskError) : Type 0 where
+  pub reply : IfOk result (λ reply. reply ≡ reply_of (state_of content old) turn)
+  pub fits : OnOk result (turn_fits (state_of content old) turn ≡ true)
+  pub after : OnOk result (state_of content new ≡ behind_turn (state_of content old) turn)
+  pub trusted : OnOk result (IsTrusted told content may_leave new)
+  pub cause : IfErr result (FailsBy (turn_fits (state_of content old) turn))
+  pub kept : KeepsWithin content moment left_since size old new (spelled (event_of_turn (state_of content old) turn))

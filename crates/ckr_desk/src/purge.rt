@@ -1,0 +1,72 @@
+//! A run that is purged: it is taken from the queue.
+ghost use Rattle.std.specs.Prelude.{◌≡◌, ◌≤◌, Err, IfErr, IfOk, IfSome, OnOk, None, true};
+ghost use Rattle.ckr_outside.specs.Disk.{EachSince};
+ghost use Rattle.ckr_desk_refines.specs.Moves.{HasSameRecords};
+ghost use Rattle.ckr_desk_store.specs.OpenImages.{event_records};
+ghost use Rattle.ckr_desk.specs.Calls.{HasDone, IsLeftByCall, IsSettledBehind, NotDone, with_event};
+ghost use Rattle.ckr_desk.specs.Requests.{FailsBy, MayFail, behind_call, call_fits, event_in, spelled};
+ghost use Rattle.ckr_desk.specs.Soundness.{IsTrusted, KeepsWithin, state_of};
+ghost use Rattle.ckr_desk.specs.NoChange.{StaysBy};
+ghost use Rattle.ckr_desk.specs.Submit.{is_queued, purge_call};
+
+use crate::{Desk, DeskError};
+use ckr_desk_memory::purged_follows;
+use ckr_desk_turn::purged_event;
+use ckr_outside::Disk;
+
+impl<D: Disk> Desk<D> {
+    /// Takes a run from the queue. False exactly where there is no such run, or it doesn't wait in the queue; nothing changes then.
+    ///
+    /// `NoMemory`. `BookFull`: exactly where the event needs more than the room of the book, both in bytes, and there was memory. Nothing has
+    /// changed after these two. `DiskFault`: only where the disk's faults rose in this call; then the desk has stopped. `Stopped`: exactly
+    /// where it had stopped before. `Misread`: never on a disk that reads what was written (this project's profile).
+    pub fn purge(&mut self, job: u32) -> Result<bool, DeskError>
+        ensures answer { IfOk result (λ gone. gone ≡ is_queued self.old.jobs.tables.desk job) }
+        ensures fits { IsTrusted D.told D.content D.may_leave self.old → OnOk result (call_fits (state_of D.content self.old) (purge_call self.old.jobs.tables.desk job) ≡ true) }
+        ensures after { IsTrusted D.told D.content D.may_leave self.old → OnOk result (state_of D.content self.new ≡ behind_call (state_of D.content self.old) (purge_call self.old.jobs.tables.desk job)) }
+        ensures trusted { IsTrusted D.told D.content D.may_leave self.old → OnOk result (IsTrusted D.told D.content D.may_leave self.new) }
+        ensures is_open { OnOk result (self.new.store.fault ≡ None) }
+        ensures layout { self.new.store.layout ≡ self.old.store.layout }
+        ensures size { D.size self.new.store.disk ≡ D.size self.old.store.disk }
+        ensures faults { D.faults self.old.store.disk ≤ D.faults self.new.store.disk }
+        ensures stopped { IfSome self.old.store.fault (λ fault. result ≡ Err (DeskError.Stopped fault)) }
+        ensures may_fail { IfErr result (MayFail (D.faults self.old.store.disk) (D.faults self.new.store.disk) self.old.store.fault) }
+        ensures cause { IsTrusted D.told D.content D.may_leave self.old → IfErr result (FailsBy (call_fits (state_of D.content self.old) (purge_call self.old.jobs.tables.desk job))) }
+        ensures stays { IfErr result (StaysBy D.content D.may_leave D.faults self.old self.new) }
+
+        // A stop at any moment leaves a sound image with the events before the call, or with its one event too.
+        ensures kept { self.old.store.fault ≡ None → IsTrusted D.told D.content D.may_leave self.old
+            → KeepsWithin D.content D.moment D.left_since D.size self.old self.new (spelled (event_in (purge_call self.old.jobs.tables.desk job))) }
+    {
+        let _layout = self.store.layout();
+        self.take_out(job)
+    }
+
+    /// Takes a run from the queue. False exactly where there is no such run, or it doesn't wait in the queue; nothing changes then.
+    ///
+    /// The errors are those of `tell`; without an event only `Stopped` comes (this project's profile).
+    pub(crate) fn take_out(&mut self, job: u32) -> Result<bool, DeskError>
+        ensures answer { IfOk result (λ gone. gone ≡ is_queued self.old.jobs.tables.desk job) }
+        ensures done { OnOk result (HasDone (purge_call self.old.jobs.tables.desk job) self.old self.new) }
+        ensures told { D.told → OnOk result (event_records self.old.store.layout (D.content self.new.store.disk)
+            ≡ with_event (event_records self.old.store.layout (D.content self.old.store.disk)) (purge_call self.old.jobs.tables.desk job)) }
+        ensures records { D.told → OnOk result (HasSameRecords self.old.store.layout (D.content self.old.store.disk) (D.content self.new.store.disk)) }
+        ensures settled { OnOk result (IsSettledBehind D.content D.may_leave (event_in (purge_call self.old.jobs.tables.desk job)) self.new) }
+        ensures left { self.old.store.fault ≡ None → EachSince D.moment D.left_since self.old.store.disk self.new.store.disk (IsLeftByCall D.content D.may_leave D.size (purge_call self.old.jobs.tables.desk job) self.old) }
+        ensures layout { self.new.store.layout ≡ self.old.store.layout }
+        ensures size { D.size self.new.store.disk ≡ D.size self.old.store.disk }
+        ensures faults { D.faults self.old.store.disk ≤ D.faults self.new.store.disk }
+        ensures is_open { OnOk result (self.old.store.fault ≡ None) }
+        ensures stopped { IfSome self.old.store.fault (λ fault. result ≡ Err (DeskError.Stopped fault)) }
+        ensures cause { IfErr result (NotDone D.faults (purge_call self.old.jobs.tables.desk job) self.old self.new) }
+    {
+        if let Some(fault) = self.store.fault() {
+            return Err(DeskError::Stopped { fault });
+        }
+        if !purged_follows(self.jobs.tables(), job) {
+            return Ok(false);
+        }
+        self.tell(&purged_event(job), None)?;
+        Ok(true)
+    }
+}

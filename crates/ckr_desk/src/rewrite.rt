@@ -1,0 +1,53 @@
+//! The record that an event tells of.
+ghost use Rattle.std.specs.Prelude.{◌≡◌, ◌≤◌, IfErr, OnOk, None};
+ghost use Rattle.ckr_outside.specs.Disk.{EachSince, Only};
+ghost use Rattle.ckr_desk_store.specs.OpenImages.{event_records};
+ghost use Rattle.ckr_desk.specs.Calls.{HasSameJobs};
+ghost use Rattle.ckr_desk.specs.Rewrite.{IsLackingBy, IsWrittenBy, NotWritten};
+ghost use Rattle.ckr_desk.specs.NoChange.{HasHalted};
+
+use crate::{Desk, DeskError};
+use ckr_events::Event;
+use ckr_outside::Disk;
+
+impl<D: Disk> Desk<D> {
+    /// The record that an event tells of is written, for good, if it tells of one.
+    pub(crate) fn rewrite(&mut self, event: &Event) -> Result<(), DeskError>
+        requires is_open { self.old.store.fault ≡ None }
+        ensures written { D.told → OnOk result (IsWrittenBy self.old.store.layout self.old.jobs.tables.desk event.now (D.content self.old.store.disk) (D.content self.new.store.disk)) }
+        ensures settled { Only (D.content self.old.store.disk) (D.may_leave self.old.store.disk) → OnOk result (Only (D.content self.new.store.disk) (D.may_leave self.new.store.disk)) }
+        ensures left { Only (D.content self.old.store.disk) (D.may_leave self.old.store.disk)
+            → EachSince D.moment D.left_since self.old.store.disk self.new.store.disk (IsLackingBy D.content D.size event.now self.old) }
+        ensures events { D.told → event_records self.old.store.layout (D.content self.new.store.disk) ≡ event_records self.old.store.layout (D.content self.old.store.disk) }
+        ensures jobs { HasSameJobs self.old self.new }
+        ensures kept { OnOk result (self.new.store ≡ record self.old.store { disk = self.new.store.disk }) }
+        ensures layout { self.new.store.layout ≡ self.old.store.layout }
+        ensures size { D.size self.new.store.disk ≡ D.size self.old.store.disk }
+        ensures faults { D.faults self.old.store.disk ≤ D.faults self.new.store.disk }
+        ensures cause { IfErr result (NotWritten (D.faults self.old.store.disk) (D.faults self.new.store.disk) event.now self.old.jobs.tables.desk) }
+        ensures halted { IfErr result (HasHalted D.faults self.new.store) }
+    {
+        let _layout = self.store.layout();
+        let Event::Rewritten {
+            job,
+            place,
+            image,
+            ..
+        } = event
+        else {
+            return Ok(());
+        };
+        let Some(name) = self.jobs.updated(*job) else {
+            return Err(DeskError::Misread);
+        };
+        let Some(set) = self.jobs.library().get(&name) else {
+            return Err(DeskError::Misread);
+        };
+        if *place >= set.space || image.bytes().len() != usize::from(set.lrecl) {
+            return Err(DeskError::Misread);
+        }
+        self.store.write_record(set, *place, image)?;
+        self.store.sync()?;
+        Ok(())
+    }
+}

@@ -1,0 +1,154 @@
+//! Decks that are submitted.
+ghost use Rattle.std.specs.Prelude.{◌≡◌, ◌≤◌, ◌<◌, ◌*◌, ◌%◌, ◌++◌, ◌∷◌, [], Err, IfErr, IfOk, IfSome, MatchOption, None, OnOk, Some, length, true};
+ghost use Rattle.ckr_events.specs.declared.event.Event.TheVariants as Events;
+ghost use Rattle.ckr_events.specs.Event.{spelling};
+ghost use Rattle.ckr_outside.specs.Disk.{EachSince, Only};
+ghost use Rattle.ckr_desk_refines.specs.Moves.{HasSameRecords};
+ghost use Rattle.ckr_points_decks.specs.Cards.{kept_of_stored};
+ghost use Rattle.ckr_points_tables.specs.Invariant.{IsAnySubmittable};
+ghost use Rattle.ckr_desk_store.specs.OpenImages.{event_records};
+ghost use Rattle.ckr_points_decks.specs.Form.{submission_of};
+ghost use Rattle.ckr_points_decks.specs.declared.submit.Submission.TheVariants as Decks;
+ghost use Rattle.ckr_desk.specs.NoChange.{StaysBy};
+ghost use Rattle.ckr_desk.specs.Requests.{FailsBy, MayFail, behind_call, call_fits, event_in, spelled};
+ghost use Rattle.ckr_desk.specs.Soundness.{IsTrusted, KeepsWithin, state_of};
+ghost use Rattle.ckr_desk.specs.Calls.{HasDone, HasGoneOn, IsLeftBy, IsLeftByCall, IsSettledBehind, NotDone, NotKept, with_event};
+ghost use Rattle.ckr_desk.specs.Submit.{answer_to, call_by, number_for, submit_answer, submit_call};
+
+use crate::{Desk, DeskError};
+use ckr_desk_turn::Submitted;
+use ckr_jcl::Job;
+use ckr_outside::Disk;
+use ckr_points_decks::{Submission, submission_of, submitted_event};
+use ckr_points_tables::is_submittable;
+
+impl<D: Disk> Desk<D> {
+    /// The number that a deck's job gets, which is the next one. `None` exactly where the deck may not be submitted under it: an accepted
+    /// deck may, if the number has at most seven digits (this project's profile).
+    fn number_for(&self, job: &Job) -> Option<u32>
+        ensures number { result ≡ number_for self.now.jobs.tables.desk job.now }
+        ensures fits { MatchOption result (Unit {0}) (λ number. IsAnySubmittable number (Some job.now)) }
+    {
+        let number = self.jobs.runs().len() as u32 + 1;
+        if is_submittable(number, job) {
+            Some(number)
+        } else {
+            None
+        }
+    }
+
+    /// Keeps a deck that is accepted as the job of the next number.
+    fn enter_deck(&mut self, cards: &[u8], number: u32, job: Job) -> Result<(), DeskError>
+        requires some { 81 ≤ length cards.now }
+        requires few { length cards.now < 81 * 4294967295 }
+        requires accepted { submission_of cards.now ≡ Decks.Accepted job }
+        requires fits { IsAnySubmittable number (Some job) }
+        ensures done { OnOk result (HasGoneOn (Events.Submitted number (kept_of_stored cards.now)) (Some job) self.old self.new) }
+        ensures told { D.told → OnOk result (event_records self.old.store.layout (D.content self.new.store.disk)
+            ≡ event_records self.old.store.layout (D.content self.old.store.disk) ++ spelling (Events.Submitted number (kept_of_stored cards.now)) ∷ []) }
+        ensures records { D.told → OnOk result (HasSameRecords self.old.store.layout (D.content self.old.store.disk) (D.content self.new.store.disk)) }
+        ensures settled { OnOk result (Only (D.content self.new.store.disk) (D.may_leave self.new.store.disk)) }
+        ensures left { self.old.store.fault ≡ None → EachSince D.moment D.left_since self.old.store.disk self.new.store.disk (IsLeftBy D.content D.may_leave D.size (Events.Submitted number (kept_of_stored cards.now)) (Some job) self.old) }
+        ensures layout { self.new.store.layout ≡ self.old.store.layout }
+        ensures size { D.size self.new.store.disk ≡ D.size self.old.store.disk }
+        ensures faults { D.faults self.old.store.disk ≤ D.faults self.new.store.disk }
+        ensures cause { IfErr result (NotKept D.faults (Events.Submitted number (kept_of_stored cards.now)) (Some job) self.old self.new) }
+    {
+        let _layout = self.store.layout();
+        let event = submitted_event(self.alloc, number, cards)?;
+        self.tell(&event, Some(job))
+    }
+
+    /// Keeps a deck that is accepted, if its job's number has seven digits at most.
+    fn accept(&mut self, cards: &[u8], job: Job) -> Result<Submitted, DeskError>
+        requires some { 81 ≤ length cards.now }
+        requires few { length cards.now < 81 * 4294967295 }
+        requires accepted { submission_of cards.now ≡ Decks.Accepted job }
+        ensures answer { IfOk result (λ answer. answer ≡ answer_to self.old.jobs.tables.desk (Decks.Accepted job)) }
+        ensures done { OnOk result (HasDone (call_by self.old.jobs.tables.desk cards.now (Decks.Accepted job)) self.old self.new) }
+        ensures told { D.told → OnOk result (event_records self.old.store.layout (D.content self.new.store.disk)
+            ≡ with_event (event_records self.old.store.layout (D.content self.old.store.disk)) (call_by self.old.jobs.tables.desk cards.now (Decks.Accepted job))) }
+        ensures records { D.told → OnOk result (HasSameRecords self.old.store.layout (D.content self.old.store.disk) (D.content self.new.store.disk)) }
+        ensures settled { OnOk result (IsSettledBehind D.content D.may_leave (event_in (call_by self.old.jobs.tables.desk cards.now (Decks.Accepted job))) self.new) }
+        ensures left { self.old.store.fault ≡ None → EachSince D.moment D.left_since self.old.store.disk self.new.store.disk (IsLeftByCall D.content D.may_leave D.size (call_by self.old.jobs.tables.desk cards.now (Decks.Accepted job)) self.old) }
+        ensures layout { self.new.store.layout ≡ self.old.store.layout }
+        ensures size { D.size self.new.store.disk ≡ D.size self.old.store.disk }
+        ensures faults { D.faults self.old.store.disk ≤ D.faults self.new.store.disk }
+        ensures cause { IfErr result (NotDone D.faults (call_by self.old.jobs.tables.desk cards.now (Decks.Accepted job)) self.old self.new) }
+    {
+        let Some(number) = self.number_for(&job) else {
+            return Ok(Submitted::Refused { number: 0, card: 1 });
+        };
+        self.enter_deck(cards, number, job)?;
+        Ok(Submitted::Job(number))
+    }
+
+    /// Submits the cards of a deck, of 81 bytes each: 80 columns, and 1 where the line was longer. There is at least one
+    /// card, and there are fewer than 4,294,967,295.
+    ///
+    /// `Refused`: exactly where the deck is refused by the rules J01 to J24; and with number 0 at card 1 exactly where the
+    /// deck is accepted, and the desk doesn't run its form, or its job would be the 10,000,000th. Nothing changes then.
+    ///
+    /// The errors are those of `tell`; without an event only `NoMemory` and `Stopped` come (this project's profile).
+    pub(crate) fn hand_in(&mut self, cards: &[u8]) -> Result<Submitted, DeskError>
+        requires whole { length cards.now % 81 ≡ 0 }
+        requires some { 81 ≤ length cards.now }
+        requires few { length cards.now < 81 * 4294967295 }
+        ensures answer { IfOk result (λ answer. answer ≡ submit_answer self.old.jobs.tables.desk cards.now) }
+        ensures done { OnOk result (HasDone (submit_call self.old.jobs.tables.desk cards.now) self.old self.new) }
+        ensures told { D.told → OnOk result (event_records self.old.store.layout (D.content self.new.store.disk)
+            ≡ with_event (event_records self.old.store.layout (D.content self.old.store.disk)) (submit_call self.old.jobs.tables.desk cards.now)) }
+        ensures records { D.told → OnOk result (HasSameRecords self.old.store.layout (D.content self.old.store.disk) (D.content self.new.store.disk)) }
+        ensures settled { OnOk result (IsSettledBehind D.content D.may_leave (event_in (submit_call self.old.jobs.tables.desk cards.now)) self.new) }
+        ensures left { self.old.store.fault ≡ None → EachSince D.moment D.left_since self.old.store.disk self.new.store.disk (IsLeftByCall D.content D.may_leave D.size (submit_call self.old.jobs.tables.desk cards.now) self.old) }
+        ensures layout { self.new.store.layout ≡ self.old.store.layout }
+        ensures size { D.size self.new.store.disk ≡ D.size self.old.store.disk }
+        ensures faults { D.faults self.old.store.disk ≤ D.faults self.new.store.disk }
+        ensures is_open { OnOk result (self.old.store.fault ≡ None) }
+        ensures stopped { IfSome self.old.store.fault (λ fault. result ≡ Err (DeskError.Stopped fault)) }
+        ensures cause { IfErr result (NotDone D.faults (submit_call self.old.jobs.tables.desk cards.now) self.old self.new) }
+    {
+        let _layout = self.store.layout();
+        if let Some(fault) = self.store.fault() {
+            return Err(DeskError::Stopped { fault });
+        }
+        match submission_of(self.alloc, cards)? {
+            Submission::Refused { number, card } => Ok(Submitted::Refused { number, card }),
+            Submission::Accepted(job) => self.accept(cards, job),
+        }
+    }
+
+    /// Submits the cards of a deck, of 81 bytes each: 80 columns, and 1 where the line was longer. There is at least one
+    /// card, and there are fewer than 4,294,967,295.
+    ///
+    /// `Refused`: exactly where the deck is refused by the rules J01 to J24; and with number 0 at card 1 exactly where the
+    /// deck is accepted, and the desk doesn't run its form, or its job would be the 10,000,000th. Nothing changes then.
+    ///
+    /// `NoMemory`. `BookFull`: exactly where the event of the deck needs more than the room of the book, both in bytes, and there was memory.
+    /// Nothing has changed after these two. `DiskFault`: only where the disk's faults rose in this call; then the desk has stopped. `Stopped`:
+    /// exactly where it had stopped before. `Misread`: never on a disk that reads what was written (this project's profile).
+    pub fn submit(&mut self, cards: &[u8]) -> Result<Submitted, DeskError>
+        requires whole { length cards.now % 81 ≡ 0 }
+        requires some { 81 ≤ length cards.now }
+        requires few { length cards.now < 81 * 4294967295 }
+        ensures answer { IfOk result (λ answer. answer ≡ submit_answer self.old.jobs.tables.desk cards.now) }
+        ensures fits { IsTrusted D.told D.content D.may_leave self.old → OnOk result (call_fits (state_of D.content self.old) (submit_call self.old.jobs.tables.desk cards.now) ≡ true) }
+        ensures after { IsTrusted D.told D.content D.may_leave self.old → OnOk result (state_of D.content self.new ≡ behind_call (state_of D.content self.old) (submit_call self.old.jobs.tables.desk cards.now)) }
+        ensures trusted { IsTrusted D.told D.content D.may_leave self.old → OnOk result (IsTrusted D.told D.content D.may_leave self.new) }
+        ensures is_open { OnOk result (self.new.store.fault ≡ None) }
+        ensures layout { self.new.store.layout ≡ self.old.store.layout }
+        ensures size { D.size self.new.store.disk ≡ D.size self.old.store.disk }
+        ensures faults { D.faults self.old.store.disk ≤ D.faults self.new.store.disk }
+        ensures stopped { IfSome self.old.store.fault (λ fault. result ≡ Err (DeskError.Stopped fault)) }
+        ensures may_fail { IfErr result (MayFail (D.faults self.old.store.disk) (D.faults self.new.store.disk) self.old.store.fault) }
+        ensures cause { IsTrusted D.told D.content D.may_leave self.old → IfErr result (FailsBy (call_fits (state_of D.content self.old) (submit_call self.old.jobs.tables.desk cards.now))) }
+        ensures stays { IfErr result (StaysBy D.content D.may_leave D.faults self.old self.new) }
+
+        // A stop at any moment leaves a sound image with the events before the call, or with its one event too.
+        ensures kept { self.old.store.fault ≡ None → IsTrusted D.told D.content D.may_leave self.old
+            → KeepsWithin D.content D.moment D.left_since D.size self.old self.new (spelled (event_in (submit_call self.old.jobs.tables.desk cards.now))) }
+    {
+        let _layout = self.store.layout();
+        self.hand_in(cards)
+    }
+}

@@ -1,0 +1,1 @@
+-- Bytes that a source gives piece by piece.

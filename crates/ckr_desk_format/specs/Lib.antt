@@ -1,0 +1,5 @@
+pub mod Streams
+pub mod Texts
+pub mod Formats
+pub mod Cards
+pub mod Installation

@@ -1,0 +1,14 @@
+pub use Rattle.ckr_points_follows.proofs.RewriteCounts
+pub mod FoundRuns
+pub mod Plans
+pub mod RuleCases
+pub mod FailedRuns
+pub mod RecordCounts
+pub mod Invariant
+pub mod Extents
+pub mod Queue
+pub mod Replays
+pub mod Runs
+pub mod SetCopies
+pub mod Starts
+pub mod RunningSteps

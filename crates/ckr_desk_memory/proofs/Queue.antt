@@ -1,0 +1,201 @@
+-- The queue of the tables' runs goes on by an event that follows.
+use Rattle.std.proofs.Common.{◌≡◌, ◌+◌, ◌==◌, ◌≤◌, ◌&&◌, ◌||◌, nat_le, ℕ, zero, suc, Bool, true, false, not, cond, IsTrue, List, [], ◌∷◌, ◌++◌, find, length, refl, ap, sym, ◌∙◌, subst, Option, None, Some, arith, slice_get, slice_set}
+use Rattle.std.proofs.lemmas.Option.{same_Some}
+use Rattle.std.proofs.lemmas.Bool.{false≢true}
+use Rattle.std.proofs.lemmas.Bool.Decides.{nat_tests}
+use Rattle.std.specs.List.{filter_map, list_any}
+use Rattle.std.specs.Option.{is_some, option_map, option_map_or}
+use Rattle.ckr_base.proofs.Bools.{and-first, and-second, or-cases}
+use Rattle.ckr_base.proofs.Numbers.{equal-true}
+use Rattle.ckr_uses.specs.Uses.{uses_of}
+use Rattle.ckr_events.specs.declared.event.Event.{Event}
+use Rattle.ckr_events.specs.declared.event.Event.TheVariants.{Submitted, Selected, Denied, Started, Rewritten, StepEnded, Held, Released, Ended, Purged}
+use Rattle.ckr_events.specs.declared.event.Ending.{Ending}
+use Rattle.ckr_events.specs.declared.event.Ending.TheVariants.{Completed, Coded, Allocation}
+use Rattle.ckr_jcl.specs.declared.deck.Job.{Job}
+use Rattle.ckr_meaning.specs.EffectiveJob.{OwnedStep}
+use Rattle.ckr_volumes.specs.declared.layout.Layout.{Layout}
+use Rattle.ckr_points_library.specs.Commit.{output_names}
+use Rattle.ckr_points.specs.declared.run.RunState.{RunState}
+use Rattle.ckr_points.specs.declared.run.RunState.TheVariants as Runs
+use Rattle.ckr_points.specs.Follows.{are_lengths, ended_follows, follows, is_free, is_in_state, is_running, is_within, lengths_follow, may_hold, own_step, selected_follows, state_number}
+use Rattle.ckr_points.specs.Restart.{after_event, place_of, step_in}
+use Rattle.ckr_points.specs.Rows.{RunRow, TablesModel, run_of, step_of_run}
+use Rattle.ckr_queue.specs.declared.entry.QueueEntry.{QueueEntry}
+use Rattle.ckr_queue.specs.declared.entry.QueueState.{QueueState}
+use Rattle.ckr_queue.specs.declared.entry.QueueState.TheVariants as InQueue
+use Rattle.ckr_queue.specs.Queue.{has_names, is_in, is_of, is_queued, keeps_out, may_take, passes, starts, state_of}
+use Rattle.ckr_points_invariant.proofs.Holders.Rows.{queued-is}
+use Rattle.ckr_points_tables.specs.Invariant.{is_plain_event}
+use Rattle.ckr_desk_turn.specs.Queue.{AreNumbered, entry_of, entry_with, queue_behind, queue_of, queue_state}
+use Rattle.ckr_desk_turn.proofs.Queue.Events as behind
+use Rattle.ckr_desk_turn.proofs.Queue.Changes.{added, first_in, joined, other_number, own_number}
+use Rattle.ckr_desk_turn.proofs.Queue.Select.{let_in}
+use Rattle.ckr_desk_memory.proofs.Extents.{tested}
+use Rattle.ckr_desk_memory.specs.EventChanges.{MayQueue}
+
+-- ---- a run in the queue
+
+-- an entry of another number is passed by
+passed_by : (n : ℕ) (row : RunRow) (state : Option QueueState) (entries : List QueueEntry) → (row.number == n) ≡ false → find (is_of n) (joined state row entries) ≡ find (is_of n) entries
+passed_by n row None entries other = refl
+passed_by n row (Some state) entries other = ap (λ b. cond b (Some (entry_with row state)) (find (is_of n) entries)) other
+
+found_at : (rows : List RunRow) (from place : ℕ) (row : RunRow) (state : QueueState) → AreNumbered from rows → slice_get rows place ≡ Some row → queue_state row.state ≡ Some state
+    → find (is_of (from + place)) (filter_map entry_of rows) ≡ Some (entry_with row state)
+found_at [] from place row state numbered at is = cc
+found_at (first ∷ rows) from zero row state numbered at is =
+    let same = same_Some _ _ at in
+    ap (find (is_of (from + zero))) (first_in first rows (Some state) (ap (λ (r : RunRow). queue_state r.state) same ∙ is))
+    ∙ ap (λ b. cond b (Some (entry_with first state)) (find (is_of (from + zero)) (filter_map entry_of rows))) (own_number first (from + zero) (omega (arith, numbered.0)))
+    ∙ ap (λ (r : RunRow). Some (entry_with r state)) same
+found_at (first ∷ rows) from (suc place) row state numbered at is =
+    passed_by (from + suc place) first (queue_state first.state) (filter_map entry_of rows) (other_number from place first (from + suc place) numbered.0 (omega arith))
+    ∙ ap (λ n. find (is_of n) (filter_map entry_of rows)) (omega arith)
+    ∙ found_at rows (suc from) place row state numbered.1 at is
+
+-- the entry of a run that is in the queue
+pub found-run : (tables : TablesModel) (job : ℕ) (row : RunRow) (state : QueueState) → AreNumbered 1 tables.runs → run_of tables job ≡ Some row → queue_state row.state ≡ Some state
+    → find (is_of job) (queue_of tables) ≡ Some (entry_with row state)
+found-run tables zero row state numbered at is = cc
+found-run tables (suc place) row state numbered at is =
+    ap (λ n. find (is_of n) (queue_of tables)) (omega arith) ∙ found_at tables.runs 1 place row state numbered at is
+
+-- a number behind the last one isn't there
+none_at : (rows : List RunRow) (from n : ℕ) → AreNumbered from rows → from + length rows ≤ n → find (is_of n) (filter_map entry_of rows) ≡ None
+none_at [] from n numbered beyond = refl
+none_at (first ∷ rows) from n numbered beyond =
+    passed_by n first (queue_state first.state) (filter_map entry_of rows) (grind (arith, nat_tests, numbered.0)) ∙ none_at rows (suc from) n numbered.1 (omega arith)
+
+pub none-behind : (tables : TablesModel) (job : ℕ) → AreNumbered 1 tables.runs → job ≡ suc (length tables.runs) → state_of job (queue_of tables) ≡ None
+none-behind tables job numbered is = ap (option_map (λ (entry : QueueEntry). entry.state)) (none_at tables.runs 1 job numbered (omega arith))
+
+-- ---- states by their numbers
+
+on_is : (state : RunState) → (state_number state == 2) ≡ true → state ≡ Runs.On
+on_is Runs.Queued e = absurd (false≢true e)
+on_is Runs.On e = refl
+on_is Runs.Held e = absurd (false≢true e)
+on_is Runs.Released e = absurd (false≢true e)
+on_is Runs.Ended e = absurd (false≢true e)
+on_is Runs.Denied e = absurd (false≢true e)
+on_is Runs.Purged e = absurd (false≢true e)
+
+released_is : (state : RunState) → (state_number state == 4) ≡ true → state ≡ Runs.Released
+released_is Runs.Queued e = absurd (false≢true e)
+released_is Runs.On e = absurd (false≢true e)
+released_is Runs.Held e = absurd (false≢true e)
+released_is Runs.Released e = refl
+released_is Runs.Ended e = absurd (false≢true e)
+released_is Runs.Denied e = absurd (false≢true e)
+released_is Runs.Purged e = absurd (false≢true e)
+
+-- a run with its names
+record HasEntry (row : RunRow) : Type 0 where
+  state : QueueState
+  is : queue_state row.state ≡ Some state
+  names : has_names state ≡ true
+
+has_entry_on : (row : RunRow) → is_in_state Runs.On row ≡ true → HasEntry row
+has_entry_on row e = record { state = InQueue.Selected; is = ap queue_state (on_is row.state e); names = refl }
+
+has_entry_released : (row : RunRow) → is_in_state Runs.Released row ≡ true → HasEntry row
+has_entry_released row e = record { state = InQueue.Released; is = ap queue_state (released_is row.state e); names = refl }
+
+ends_with_names : (tables : TablesModel) (row : RunRow) (ending : Ending) → ended_follows tables row ending ≡ true → HasEntry row
+ends_with_names tables row Completed e = has_entry_on row (and-first (is_in_state Runs.On row) _ (and-first _ _ e))
+ends_with_names tables row (Coded code rule writes lengths) e =
+    or-cases (is_running row) (is_in_state Runs.Released row) (and-first (is_running row || is_in_state Runs.Released row) _ e)
+    (λ running. has_entry_on row (and-first (is_in_state Runs.On row) _ running)) (has_entry_released row)
+ends_with_names tables row (Allocation dd cause first second) e = has_entry_on row (and-first (is_in_state Runs.On row) _ e)
+
+pub step-there : (found : Option OwnedStep) (test : OwnedStep → Bool) → option_map_or test found false ≡ true → (owned : OwnedStep) × (found ≡ Some owned)
+step-there None test e = absurd (false≢true e)
+step-there (Some owned) test e = (owned, refl)
+
+pub run-there : (tables : TablesModel) (job : ℕ) (test : RunRow → Bool) → option_map_or test (run_of tables job) false ≡ true → (row : RunRow) × (run_of tables job ≡ Some row) × (test row ≡ true)
+run-there tables job test e = by (run_of tables job) refl e
+  where
+    by : (found : Option RunRow) → run_of tables job ≡ found → option_map_or test found false ≡ true → (row : RunRow) × (run_of tables job ≡ Some row) × (test row ≡ true)
+    by None at e = absurd (false≢true e)
+    by (Some row) at e = (row, at, e)
+
+-- ---- what an event asks of the queue
+
+module _ (layout : Layout) (tables : TablesModel) (numbered : AreNumbered 1 tables.runs) where
+  taken : (job initiator earlier step : ℕ) (id : Option (List ℕ)) (row : RunRow) → run_of tables job ≡ Some row → selected_follows layout tables initiator earlier step id row ≡ true → IsTrue (may_take job (queue_of tables))
+  taken job initiator earlier step id row at e =
+      let asked = and-first (is_in_state Runs.Queued row && is_free layout tables initiator && may_hold tables row) _ e in
+      let queued = queued-is row.state (and-first (is_in_state Runs.Queued row) _ (and-first (is_in_state Runs.Queued row && is_free layout tables initiator) _ asked)) in
+      ap (starts (queue_of tables)) (found-run tables job row InQueue.Queued numbered at (ap queue_state queued))
+      ∙ let_in row InQueue.Queued tables.runs
+      ∙ and-second (is_in_state Runs.Queued row && is_free layout tables initiator) (may_hold tables row) asked
+
+  in_state : (test : QueueState → Bool) (job : ℕ) (row : RunRow) (state : QueueState) → run_of tables job ≡ Some row → queue_state row.state ≡ Some state → test state ≡ true → is_in test job (queue_of tables) ≡ true
+  in_state test job row state at is holds =
+      ap (λ (found : Option QueueEntry). passes test (option_map (λ (entry : QueueEntry). entry.state) found)) (found-run tables job row state numbered at is) ∙ holds
+
+  may : (event : Event) (deck : Option Job) → is_plain_event event ≡ true → follows layout tables event deck ≡ true → MayQueue event (queue_of tables)
+  may (Submitted job cards) deck plain e = none-behind tables job numbered (equal-true job (suc (length tables.runs)) (and-first _ _ (and-first _ (is_some deck) e)))
+  may (Selected job initiator earlier step id) deck plain e =
+      let there = run-there tables job (selected_follows layout tables initiator earlier step id) e in
+      taken job initiator earlier step id there.0 there.1 there.2
+  may (Ended job ending) deck plain e =
+      let there = run-there tables job (λ row. ended_follows tables row ending) e in
+      let entry = ends_with_names tables there.0 ending there.2 in
+      in_state has_names job there.0 entry.state there.1 entry.is entry.names
+  may (Purged job) deck plain e =
+      let there = run-there tables job (is_in_state Runs.Queued) e in
+      in_state is_queued job there.0 InQueue.Queued there.1 (ap queue_state (queued-is there.0.state there.2)) refl
+  may _ deck plain e = tt
+
+  -- ---- the queue behind it
+
+  abbrev Behind : Event → Option Job → Type 0
+  Behind event deck = queue_of (after_event event deck tables) ≡ queue_behind event deck (queue_of tables)
+
+  submitted_so : (job : ℕ) (cards : List ℕ) (deck : Option Job) → job ≡ suc (length tables.runs) → Behind (Submitted job cards) deck
+  submitted_so job cards None is = refl
+  submitted_so job cards (Some deck) is =
+      subst (λ n. Behind (Submitted n cards) (Some deck)) (sym is ∙ refl) (subst (λ n. Behind (Submitted n cards) (Some deck)) (omega arith) (added tables.runs 1 deck numbered))
+
+  selected_so : (job initiator earlier step : ℕ) (id : Option (List ℕ)) (deck : Option Job) → earlier ≡ 0 → follows layout tables (Selected job initiator earlier step id) deck ≡ true → Behind (Selected job initiator earlier step id) deck
+  selected_so job initiator earlier step id deck is e =
+      let there = run-there tables job (selected_follows layout tables initiator earlier step id) e in
+      let asked = and-first (is_in_state Runs.Queued there.0 && is_free layout tables initiator && may_hold tables there.0) _ there.2 in
+      let queued = queued-is there.0.state (and-first (is_in_state Runs.Queued there.0) _ (and-first (is_in_state Runs.Queued there.0 && is_free layout tables initiator) _ asked)) in
+      subst (λ n. Behind (Selected job initiator n step id) deck) (sym is) (behind.selected tables job initiator step id deck there.0 numbered there.1 queued)
+
+  ended_so : (job : ℕ) (ending : Ending) (deck : Option Job) (row : RunRow) → run_of tables job ≡ Some row → ended_follows tables row ending ≡ true → Behind (Ended job ending) deck
+  ended_so job Completed deck row at e =
+      let entry = ends_with_names tables row Completed e in
+      behind.completed tables job deck row entry.state numbered at entry.is
+  ended_so job (Coded code rule writes lengths) deck row at e =
+      let entry = ends_with_names tables row (Coded code rule writes lengths) e in
+      let owned = step-there (step_of_run row (step_in (place_of row))) (λ owned. are_lengths tables.sets (output_names row.job.root owned) lengths.items) (and-second (is_running row || is_in_state Runs.Released row) _ e) in
+      behind.coded tables job code rule writes lengths deck row owned.0 entry.state numbered at owned.1 entry.is
+  ended_so job (Allocation dd cause first second) deck row at e =
+      let entry = ends_with_names tables row (Allocation dd cause first second) e in
+      let owned = step-there (own_step row) (λ owned. nat_le 1 dd && nat_le dd (length owned.step.dds)) (and-second (is_in_state Runs.On row) _ e) in
+      behind.refused tables job dd cause first second deck row owned.0 entry.state numbered at owned.1 entry.is
+
+  queue_so : (event : Event) (deck : Option Job) → is_plain_event event ≡ true → follows layout tables event deck ≡ true → Behind event deck
+  queue_so (Submitted job cards) deck plain e = submitted_so job cards deck (equal-true job (suc (length tables.runs)) (and-first _ _ (and-first _ (is_some deck) e)))
+  queue_so (Selected job initiator earlier step id) deck plain e = selected_so job initiator earlier step id deck (equal-true earlier 0 plain) e
+  queue_so (Started job step items) deck plain e = behind.started tables job step items deck numbered
+  queue_so (Rewritten job t writes lengths place image) deck plain e = behind.rewritten tables job t writes place lengths image deck numbered
+  queue_so (StepEnded job step rc writes lengths) deck plain e = behind.step_ended tables job step rc writes lengths deck numbered
+  queue_so (Ended job ending) deck plain e =
+      let there = run-there tables job (λ row. ended_follows tables row ending) e in
+      ended_so job ending deck there.0 there.1 there.2
+  queue_so (Purged job) deck plain e =
+      let there = run-there tables job (is_in_state Runs.Queued) e in
+      behind.purged tables job deck there.0 numbered there.1 (queued-is there.0.state there.2)
+  queue_so _ deck plain e = absurd (false≢true plain)
+
+pub may-queue : (layout : Layout) (tables : TablesModel) (event : Event) (deck : Option Job) → AreNumbered 1 tables.runs → is_plain_event event ≡ true → follows layout tables event deck ≡ true → MayQueue event (queue_of tables)
+may-queue layout tables event deck numbered plain e = may layout tables numbered event deck plain e
+
+pub queue-behind : (layout : Layout) (tables : TablesModel) (event : Event) (deck : Option Job) → AreNumbered 1 tables.runs → is_plain_event event ≡ true → follows layout tables event deck ≡ true
+    → queue_of (after_event event deck tables) ≡ queue_behind event deck (queue_of tables)
+queue-behind layout tables event deck numbered plain e = queue_so layout tables numbered event deck plain e

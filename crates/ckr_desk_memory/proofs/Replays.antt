@@ -1,0 +1,109 @@
+-- An event that is read again goes on as it did.
+use Rattle.std.proofs.Common.{◌≡◌, ◌&&◌, ℕ, Bool, true, false, cond, nat_le, IsTrue, List, length, refl, ap, sym, ◌∙◌, subst, Option, None, Some, Result, Ok, Err}
+use Rattle.std.proofs.lemmas.Bool.{false≢true}
+use Rattle.std.specs.List.{AllByRecursion}
+use Rattle.std.proofs.lemmas.Option.{same_Some}
+use Rattle.ckr_base.proofs.Bools.{and-first, and-second}
+use Rattle.ckr_base.proofs.Options.{some-not-none}
+use Rattle.ckr_events.specs.declared.event.Event.{Event}
+use Rattle.ckr_events.specs.declared.event.Event.TheVariants.{Submitted}
+use Rattle.ckr_points_follows.specs.RewriteCounts.{may_count}
+use Rattle.ckr_points_follows.proofs.RewriteCounts.{counted-may}
+use Rattle.ckr_jcl.specs.declared.deck.Job.{Job}
+use Rattle.ckr_jcl_decks.specs.Parts.Fault.{Fault}
+use Rattle.ckr_jcl_decks.specs.Deck.{stored_deck}
+use Rattle.ckr_volumes.specs.declared.layout.Layout.{Layout}
+use Rattle.ckr_points.specs.Follows.{follows}
+use Rattle.ckr_points.specs.Restart.{after_event}
+use Rattle.ckr_points.specs.Rows.{TablesModel}
+use Rattle.ckr_points.specs.Soundness.{AreLaidOut}
+use Rattle.ckr_points_decks.specs.Cards.{job_in, kept_deck, stored_of_kept}
+use Rattle.ckr_points_decks.specs.Form.{is_run}
+use Rattle.ckr_points_tables.specs.Invariant.{MayCount, MayFollow, MaySubmit, is_plain_event, is_submittable}
+use Rattle.ckr_desk_turn.specs.Queue.{AreNumbered}
+use Rattle.ckr_desk_memory.specs.Invariant.{AreJobs, IsAcceptedDeck, IsAcceptedRow, IsAnyAccepted, IsPlacedRow, IsRunnable}
+use Rattle.ckr_desk_memory.specs.Replay.{deck_of, goes_on, is_run_as, is_run_by, replayed}
+use Rattle.ckr_desk_memory.specs.View.{JobsView, RunningStepView}
+use Rattle.ckr_desk_memory.proofs.Invariant.{accepted-behind, placed-behind}
+use Rattle.ckr_desk_memory.proofs.Extents.{laid-behind}
+
+-- ---- where it goes on
+
+pub replayed-some : (layout : Layout) (tables : TablesModel) (event : Event) → goes_on layout tables event (deck_of event) ≡ true → replayed layout tables event ≡ Some (after_event event (deck_of event) tables)
+unfolding replayed
+replayed-some layout tables event e = ap (λ b. cond b (Some (after_event event (deck_of event) tables)) None) e
+
+pub replayed-none : (layout : Layout) (tables : TablesModel) (event : Event) → goes_on layout tables event (deck_of event) ≡ false → replayed layout tables event ≡ None
+unfolding replayed
+replayed-none layout tables event e = ap (λ b. cond b (Some (after_event event (deck_of event) tables)) None) e
+
+may_submit : (event : Event) (deck : Option Job) → is_run_by event deck ≡ true → MaySubmit event deck
+may_submit (Submitted job cards) None e = tt
+may_submit (Submitted job cards) (Some deck) e = and-second (is_run deck) (is_submittable job deck) e
+may_submit _ deck e = tt
+
+-- what an event that goes on has
+pub record GoesOnWith (layout : Layout) (tables : TablesModel) (event : Event) (deck : Option Job) : Type 0 where
+  pub plain : is_plain_event event ≡ true
+  pub follow : follows layout tables event deck ≡ true
+  pub submits : MaySubmit event deck
+  pub run : is_run_by event deck ≡ true
+  pub count : MayCount event tables.sets
+
+pub goes-on-with : (layout : Layout) (tables : TablesModel) (event : Event) (deck : Option Job) → goes_on layout tables event deck ≡ true → GoesOnWith layout tables event deck
+goes-on-with layout tables event deck e =
+    let others = and-second (is_plain_event event) _ e in
+    let run = and-first (is_run_by event deck) _ others in
+    let last = and-second (is_run_by event deck) _ others in
+    record {
+      plain = and-first (is_plain_event event) _ e;
+      follow = and-first (follows layout tables event deck) (may_count event tables.sets) last;
+      submits = may_submit event deck run;
+      run = run;
+      count = counted-may event tables.sets (and-second (follows layout tables event deck) (may_count event tables.sets) last);
+    }
+
+-- ---- the deck that is read again
+
+read_again : (cards : List ℕ) (deck : Job) → kept_deck cards ≡ Some deck → stored_deck (stored_of_kept cards) ≡ Ok deck
+unfolding kept_deck
+read_again cards deck is = by (nat_le 80 (length cards)) (stored_deck (stored_of_kept cards)) is
+  where
+    by : (long : Bool) (read : Result Job Fault) → cond long (job_in read) None ≡ Some deck → read ≡ Ok deck
+    by false read is = absurd (some-not-none deck (sym is))
+    by true (Err fault) is = absurd (some-not-none deck (sym is))
+    by true (Ok job) is = ap Ok (same_Some job deck is)
+
+deck_accepted : (job : ℕ) (cards : List ℕ) (found : Option Job) → kept_deck cards ≡ found → is_run_as job found ≡ true → IsAcceptedDeck job found
+deck_accepted job cards None is e = tt
+deck_accepted job cards (Some deck) is e = record {
+  cards = stored_of_kept cards;
+  accepted = read_again cards deck is;
+  is_run = and-first (is_run deck) (is_submittable job deck) e;
+  plain = refl;
+}
+
+any_accepted : (event : Event) → is_run_by event (deck_of event) ≡ true → IsAnyAccepted event (deck_of event)
+any_accepted (Submitted job cards) e = deck_accepted job cards (kept_deck cards) refl e
+any_accepted _ e = tt
+
+-- ---- what holds of the jobs
+
+pub jobs-same : (layout : Layout) (old new : JobsView) → new.tables.desk ≡ old.tables.desk → new.running ≡ old.running → AreJobs layout old → AreJobs layout new
+jobs-same layout old new tables running are = record {
+  laid = subst (λ (t : TablesModel). AreLaidOut layout t.sets) (sym tables) are.laid;
+  rows = subst (λ (t : TablesModel). AllByRecursion IsAcceptedRow t.runs) (sym tables) are.rows;
+  placed = subst (λ (t : TablesModel). AllByRecursion IsPlacedRow t.runs) (sym tables) are.placed;
+  running = subst (AllByRecursion (IsRunnable layout)) (sym running) are.running;
+}
+
+pub jobs-replayed : (layout : Layout) (old new : JobsView) (event : Event) → AreNumbered 1 old.tables.desk.runs → goes_on layout old.tables.desk event (deck_of event) ≡ true → new.tables.desk ≡ after_event event (deck_of event) old.tables.desk → new.running ≡ old.running
+    → AreJobs layout old → AreJobs layout new
+jobs-replayed layout old new event numbered goes tables running are =
+    let its = goes-on-with layout old.tables.desk event (deck_of event) goes in
+    record {
+      laid = subst (λ (t : TablesModel). AreLaidOut layout t.sets) (sym tables) (laid-behind layout old.tables.desk are.laid event (deck_of event) its.plain its.follow);
+      rows = subst (λ (t : TablesModel). AllByRecursion IsAcceptedRow t.runs) (sym tables) (accepted-behind old.tables.desk event (deck_of event) numbered its.plain (any_accepted event its.run) are.rows);
+      placed = subst (λ (t : TablesModel). AllByRecursion IsPlacedRow t.runs) (sym tables) (placed-behind old.tables.desk event (deck_of event) its.plain are.placed);
+      running = subst (AllByRecursion (IsRunnable layout)) (sym running) are.running;
+    }

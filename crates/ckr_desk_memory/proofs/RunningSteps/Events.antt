@@ -1,0 +1,140 @@
+-- The running steps go on by an event.
+use Rattle.std.proofs.Common.{◌≡◌, ◌≤◌, ◌<◌, ◌&&◌, ℕ, zero, suc, Bool, true, false, List, [], map, length, refl, ap, sym, ◌∙◌, subst, Option, None, Some, arith, slice_get}
+use Rattle.std.proofs.lemmas.Option.{same_Some, slice_get-map, slice_get_within}
+use Rattle.std.specs.List.{AllByRecursion}
+use Rattle.std.specs.Option.{option_map}
+use Rattle.ckr_base.proofs.Bools.{and-second}
+use Rattle.ckr_base.proofs.Options.{some-not-none}
+use Rattle.arrayvec.specs.ArrayVec.{ArrayVec}
+use Rattle.ckr_events.specs.declared.event.Event.{Event}
+use Rattle.ckr_events.specs.declared.event.Event.TheVariants.{Started, StepEnded, Ended}
+use Rattle.ckr_events.specs.declared.event.Made.{Made}
+use Rattle.ckr_jcl.specs.declared.deck.Job.{Job}
+use Rattle.ckr_meaning.specs.EffectiveJob.{OwnedStep, flaws_in, placed_in, stamp_of, step_at}
+use Rattle.ckr_volumes.specs.declared.layout.Layout.{Layout}
+use Rattle.ckr_points.specs.declared.run.RunState.TheVariants.{On}
+use Rattle.ckr_points.specs.Follows.{are_items, follows, is_empty, is_in_state, may_start, started_follows}
+use Rattle.ckr_points.specs.Restart.{after_event, place_of}
+use Rattle.ckr_points.specs.Rows.{RunRow, TablesModel, holding_of, run_of, standing_of, step_of_run, table_ways}
+use Rattle.ckr_points.specs.Soundness.{AreLaidOut}
+use Rattle.ckr_steps.specs.StepUnit.{AreCounted}
+use Rattle.ckr_points_tables.specs.Invariant.{is_plain_event}
+use Rattle.ckr_points_tables.specs.View.{seen_by}
+use Rattle.ckr_desk_turn.specs.Queue.{AreNumbered}
+use Rattle.ckr_desk_memory.specs.declared.jobs.RunningStep.{RunningStep}
+use Rattle.ckr_desk_memory.specs.RunningSteps.{GoesOn, MayRun}
+use Rattle.ckr_desk_memory.specs.Invariant.{AreJobs, IsAcceptedRow, IsAnyAccepted, IsPlacedRow, IsRunnable}
+use Rattle.ckr_desk_memory.specs.Preparation.{HasStarted, HasStep}
+use Rattle.ckr_desk_memory.specs.View.{JobsView, RunningStepView}
+use Rattle.ckr_desk_memory.proofs.Invariant.{accepted-behind, all-filtered, numbered-behind, placed-behind}
+use Rattle.ckr_desk_memory.proofs.Extents.{laid-behind}
+use Rattle.ckr_desk_memory.proofs.Queue.{run-there, step-there}
+use Rattle.ckr_desk_memory.proofs.Runs.{Kind, kind_of, runs-stay}
+use Rattle.ckr_desk_memory.proofs.Starts.Sets.{is-runnable}
+use Rattle.ckr_desk_memory.proofs.SetCopies.{all-fit}
+
+-- ---- a row in other tables whose runs are the same
+
+record IsSameRow (tables : TablesModel) (job : ℕ) (row : RunRow) : Type 0 where
+  next : RunRow
+  at : run_of tables job ≡ Some next
+  same : kind_of next ≡ kind_of row
+
+same_row_in : (one other : TablesModel) → map kind_of one.runs ≡ map kind_of other.runs → (job : ℕ) (row : RunRow) → run_of other job ≡ Some row → IsSameRow one job row
+same_row_in one other same zero row at = absurd (some-not-none row (sym at))
+same_row_in one other same (suc place) row at =
+    by (slice_get one.runs place) refl
+    (sym (slice_get-map kind_of one.runs place) ∙ ap (λ (ks : List Kind). slice_get ks place) same ∙ slice_get-map kind_of other.runs place ∙ ap (option_map kind_of) at)
+  where
+    by : (found : Option RunRow) → slice_get one.runs place ≡ found → option_map kind_of found ≡ Some (kind_of row) → IsSameRow one (suc place) row
+    by None at is = absurd (some-not-none (kind_of row) (sym is))
+    by (Some next) at is = record { next = next; at = at; same = same_Some (kind_of next) (kind_of row) is }
+
+same_step : (one other : RunRow) (step : ℕ) (owned : OwnedStep) → kind_of one ≡ kind_of other → step_of_run other step ≡ Some owned → step_of_run one step ≡ Some owned
+same_step one other step owned same at = ap (λ (k : Kind). step_at k.2 step) same ∙ at
+
+-- the step that was prepared is that of the tables behind the event too
+step_behind : (one other : TablesModel) → map kind_of one.runs ≡ map kind_of other.runs → (job step : ℕ) (begun : Option RunningStep) → HasStep other job step begun → HasStep one job step begun
+step_behind one other same job step begun has = λ row owned at there.
+    let its = same_row_in other one (sym same) job row at in
+    has its.next owned its.at (same_step its.next row step owned its.same there)
+
+row_within : (tables : TablesModel) (job : ℕ) (row : RunRow) → run_of tables job ≡ Some row → job ≤ length tables.runs
+row_within tables zero row at = absurd (some-not-none row (sym at))
+row_within tables (suc place) row at = let within = slice_get_within tables.runs place row at in omega arith
+
+started_step : (layout : Layout) (tables : TablesModel) (step : ℕ) (items : List Made) (row : RunRow) → started_follows layout tables step items row ≡ true → (owned : OwnedStep) × (step_of_run row step ≡ Some owned)
+started_step layout tables step items row follow =
+    step-there (step_of_run row step)
+    (λ owned.
+    let placed = placed_in table_ways (standing_of row tables) row.job.root owned in
+    may_start step (place_of row) && is_empty (flaws_in placed) && are_items layout (stamp_of owned step) tables.sets placed items)
+    (and-second (is_in_state On row) _ follow)
+
+-- ---- what an event asks of the running steps
+
+module _ (layout : Layout) (old : TablesModel) (numbered : AreNumbered 1 old.runs) (rows : AllByRecursion IsAcceptedRow old.runs) (laid : AreLaidOut layout old.sets) where
+  started_may : (job step : ℕ) (items : ArrayVec Made) (deck : Option Job) (begun : Option RunningStep) (room : ℕ) → follows layout old (Started job step items) deck ≡ true → length old.runs ≤ 9999999 → HasStep old job step begun → 0 < room
+      → MayRun (Started job step items) (after_event (Started job step items) deck old) begun room
+  started_may job step items deck begun room follow few has some =
+      let there = run-there old job (started_follows layout old step items.items) follow in
+      let within = row_within old job there.0 there.1 in
+      let same = runs-stay old numbered (Started job step items) deck refl refl in
+      record {
+        few = omega arith;
+        prepared = step_behind (after_event (Started job step items) deck old) old same job step begun has;
+        rows = accepted-behind old (Started job step items) deck numbered refl tt rows;
+        numbered = numbered-behind layout old (Started job step items) deck refl follow numbered;
+        fit = all-fit layout (after_event (Started job step items) deck old).sets (seen_by holding_of (after_event (Started job step items) deck old).sets) (laid-behind layout old laid (Started job step items) deck refl follow) refl;
+        some = some;
+      }
+
+  may : (event : Event) (deck : Option Job) (begun : Option RunningStep) (jobs : JobsView) → jobs.tables.desk ≡ old → is_plain_event event ≡ true → follows layout old event deck ≡ true → length old.runs ≤ 9999999 → HasStarted event jobs begun → MayRun event (after_event event deck old) begun jobs.running_room
+  may (Started job step items) deck begun jobs is plain follow few has =
+      started_may job step items deck begun jobs.running_room follow few (subst (λ t. HasStep t job step begun) is has.step) has.room
+  may _ deck begun jobs is plain follow few has = tt
+
+  -- ---- the running steps behind it can go on
+
+  started_runnable : (job step : ℕ) (items : ArrayVec Made) (deck : Option Job) (begun : Option RunningStep) (before now : List RunningStepView) → follows layout old (Started job step items) deck ≡ true → HasStep old job step begun
+      → GoesOn (Started job step items) (after_event (Started job step items) deck old) before now → AllByRecursion (IsRunnable layout) before → AllByRecursion (IsRunnable layout) now
+  started_runnable job step items deck begun before now follow has goes all =
+      let there = run-there old job (started_follows layout old step items.items) follow in
+      let after : TablesModel = after_event (Started job step items) deck old in
+      let owned = started_step layout old step items.items there.0 there.2 in
+      let next = same_row_in after old (runs-stay old numbered (Started job step items) deck refl refl) job there.0 there.1 in
+      let new = goes next.next owned.0 next.at (same_step next.next there.0 step owned.0 next.same owned.1) in
+      let prepared = has there.0 owned.0 there.1 owned.1 in
+      subst (AllByRecursion (IsRunnable layout)) (sym new.first) (
+        is-runnable layout old job step items deck there.0 owned.0 new.on numbered rows there.1 owned.1 there.2 (laid-behind layout old laid (Started job step items) deck refl follow) new.step
+            (subst AreCounted (prepared.2.step ∙ sym new.step) prepared.2.counted) new.sets,
+        all-filtered (IsRunnable layout) _ before all,
+      )
+
+  runnable : (event : Event) (deck : Option Job) (begun : Option RunningStep) (jobs : JobsView) (before now : List RunningStepView) → jobs.tables.desk ≡ old → follows layout old event deck ≡ true → HasStarted event jobs begun
+      → GoesOn event (after_event event deck old) before now → AllByRecursion (IsRunnable layout) before → AllByRecursion (IsRunnable layout) now
+  runnable (Started job step items) deck begun jobs before now is follow has goes all = started_runnable job step items deck begun before now follow (subst (λ t. HasStep t job step begun) is has.step) goes all
+  runnable (StepEnded job step rc writes lengths) deck begun jobs before now is follow has goes all = subst (AllByRecursion (IsRunnable layout)) (sym goes) (all-filtered (IsRunnable layout) _ before all)
+  runnable (Ended job ending) deck begun jobs before now is follow has goes all = subst (AllByRecursion (IsRunnable layout)) (sym goes) (all-filtered (IsRunnable layout) _ before all)
+  runnable _ deck begun jobs before now is follow has goes all = subst (AllByRecursion (IsRunnable layout)) (sym goes) all
+
+-- ---- all of the jobs
+
+-- what holds of the jobs holds behind an event that follows
+pub jobs-behind : (layout : Layout) (old new : JobsView) (event : Event) (deck : Option Job) (begun : Option RunningStep) → AreNumbered 1 old.tables.desk.runs → is_plain_event event ≡ true → IsAnyAccepted event deck → follows layout old.tables.desk event deck ≡ true
+    → HasStarted event old begun → new.tables.desk ≡ after_event event deck old.tables.desk → GoesOn event new.tables.desk old.running new.running → AreJobs layout old → AreJobs layout new
+jobs-behind layout old new event deck begun numbered plain is follow has tables goes are = record {
+  laid = subst (λ (t : TablesModel). AreLaidOut layout t.sets) (sym tables) (laid-behind layout old.tables.desk are.laid event deck plain follow);
+  rows = subst (λ (t : TablesModel). AllByRecursion IsAcceptedRow t.runs) (sym tables) (accepted-behind old.tables.desk event deck numbered plain is are.rows);
+  placed = subst (λ (t : TablesModel). AllByRecursion IsPlacedRow t.runs) (sym tables) (placed-behind old.tables.desk event deck plain are.placed);
+  running =
+      runnable layout old.tables.desk numbered are.rows are.laid event deck begun old old.running new.running refl follow has
+      (subst (λ (t : TablesModel). GoesOn event t old.running new.running) tables goes) are.running;
+}
+
+-- the step that is prepared may start, by the tables behind the event
+pub may-run : (layout : Layout) (seen : JobsView) (event : Event) (deck : Option Job) (begun : Option RunningStep) (after : TablesModel) → AreNumbered 1 seen.tables.desk.runs → length seen.tables.desk.runs ≤ 9999999 → AreJobs layout seen → is_plain_event event ≡ true
+    → follows layout seen.tables.desk event deck ≡ true → HasStarted event seen begun → after ≡ after_event event deck seen.tables.desk → MayRun event after begun seen.running_room
+may-run layout seen event deck begun after numbered few are plain follow has is =
+    subst (λ (t : TablesModel). MayRun event t begun seen.running_room) (sym is)
+    (may layout seen.tables.desk numbered are.rows are.laid event deck begun seen refl plain follow few has)

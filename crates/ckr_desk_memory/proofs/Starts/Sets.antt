@@ -1,0 +1,160 @@
+-- A step that has started can go on: its data sets are there, and stand apart.
+use Rattle.std.proofs.Common.{◌≡◌, ◌≤◌, ◌&&◌, ℕ, zero, suc, Bool, true, false, cond, List, [], ◌∷◌, find, map, length, refl, ap, sym, ◌∙◌, subst, Option, None, Some, arith, slice_get}
+use Rattle.std.specs.Prelude.{option_and_then}
+use Rattle.std.proofs.lemmas.Bool.{false≢true}
+use Rattle.std.specs.List.{AllByRecursion}
+use Rattle.std.specs.Option.{is_some, option_map, option_map_or}
+use Rattle.std.proofs.lemmas.Option.{same_Some}
+use Rattle.ckr_base.proofs.Bools.{and-first, and-second}
+use Rattle.ckr_base.proofs.Options.{some-not-none}
+use Rattle.ckr_base.proofs.Sequences.{find-holds}
+use Rattle.arrayvec.specs.ArrayVec.{ArrayVec}
+use Rattle.ckr_uses.specs.SetNames.{library_name}
+use Rattle.ckr_uses.specs.Uses.{are_distinct}
+use Rattle.ckr_events.specs.declared.event.Event.TheVariants.{Started}
+use Rattle.ckr_events.specs.declared.event.Made.{Made}
+use Rattle.ckr_jcl.specs.declared.deck.Dd.{Dd}
+use Rattle.ckr_jcl.specs.declared.deck.Job.{Job}
+use Rattle.ckr_jcl.specs.declared.deck.Origin.{Origin}
+use Rattle.ckr_jcl.specs.declared.deck.Origin.TheVariants.{InStream}
+use Rattle.ckr_jcl.specs.declared.deck.Step.{Step}
+use Rattle.ckr_library.specs.declared.sets.DataSet.{DataSet}
+use Rattle.ckr_library.specs.Catalog.{Catalog, set_of}
+use Rattle.ckr_library.specs.NameMaps.{Name, Named, entry_at, same_name}
+use Rattle.ckr_meaning.specs.Allotments.{DdAllotment}
+use Rattle.ckr_meaning.specs.EffectiveJob.{Effective, OwnedStep, flaws_in, is_among, names_of, owned_by, placed_in, plain_job, stamp_of, step_at}
+use Rattle.ckr_meaning.specs.StepRun.{StepStart, input_names}
+use Rattle.ckr_volumes.specs.declared.layout.Layout.{Layout}
+use Rattle.ckr_points.specs.Tables.{after_started}
+use Rattle.ckr_points.specs.Follows.{are_items, is_empty, is_in_state, may_start, started_follows}
+use Rattle.ckr_points.specs.declared.run.RunState.TheVariants.{On}
+use Rattle.ckr_points.specs.Restart.{after_event, place_of}
+use Rattle.ckr_points.specs.Rows.{RunRow, TableSet, TablesModel, run_of, standing_of, step_of_run, table_ways}
+use Rattle.ckr_points.specs.Soundness.{AreLaidOut}
+use Rattle.ckr_steps.specs.declared.files.RecordSource.{RecordSource}
+use Rattle.ckr_steps.specs.declared.step_run.StepRun.{StepRun}
+use Rattle.ckr_steps.specs.Files.{dd_in, files_of, input_dd, source_by, source_in}
+use Rattle.ckr_steps.specs.Inputs.{AreThere}
+use Rattle.ckr_steps.specs.Places.{HasFewCards, files_at}
+use Rattle.ckr_steps.specs.StepUnit.{AreCounted}
+use Rattle.ckr_points_decks.specs.DeckLimits.{HasNamesOnce}
+use Rattle.ckr_points_decks.proofs.JobForm.{steps_once}
+use Rattle.ckr_desk_turn.specs.Queue.{AreNumbered}
+use Rattle.ckr_desk_turn.proofs.Queue.Events.{run_number}
+use Rattle.ckr_desk_memory.specs.Invariant.{IsAcceptedRow, IsRunnable}
+use Rattle.ckr_desk_memory.specs.View.{RunningStepView, begun}
+use Rattle.ckr_desk_memory.specs.Start.{HasNew, set_in_tables}
+use Rattle.ckr_desk_memory.proofs.Starts.Steps.{row-among, step-among}
+use Rattle.ckr_desk_memory.proofs.RecordCounts.{HasFew, IsStepFew, steps-few}
+use Rattle.ckr_desk_memory.proofs.Extents.{tested-step}
+use Rattle.ckr_desk_memory.proofs.Starts.Names.{names-there}
+use Rattle.ckr_desk_memory.proofs.SetCopies.{are-stored}
+use Rattle.ckr_desk_memory.proofs.Starts.ProgramSets.{are-there}
+
+-- ---- the records in the deck are few
+
+source_few : (origin : Origin) (name : Option Name) → HasFew 100000 origin → HasFewCards (source_by origin name)
+source_few (InStream cards) name few = omega arith
+source_few _ None few = tt
+source_few _ (Some name) few = tt
+
+few_in : (root owner : ℕ) (step : Step) (dd : Option Dd) → ((one : Dd) → dd ≡ Some one → HasFew 100000 one.origin) → HasFewCards (source_in root owner step dd)
+few_in root owner step None few = tt
+few_in root owner step (Some one) few = source_few one.origin (library_name one root owner step.name) (few one refl)
+
+few_of_input : (root owner : ℕ) (step : Step) (input : ℕ) → IsStepFew 100000 step → HasFewCards (source_in root owner step (input_dd step input))
+few_of_input root owner step input few = few_in root owner step (input_dd step input) (by (slice_get (input_names step.program) input))
+  where
+    by : (name : Option Name) (one : Dd) → option_and_then (dd_in step) name ≡ Some one → HasFew 100000 one.origin
+    by None one is = absurd (some-not-none one (sym is))
+    by (Some name) one is = find-holds (λ (dd : Dd). HasFew 100000 dd.origin) (λ dd. same_name name dd.name) step.dds one few is
+
+-- ---- a run's step, by its deck
+
+-- a step of a run that is accepted, which owns it
+record IsOwn (job : ℕ) (row : RunRow) (owned : OwnedStep) : Type 0 where
+  root : row.job.root ≡ job
+  owner : owned.owner ≡ job
+  few : IsStepFew 100000 owned.step
+  distinct : are_distinct (names_of job owned) ≡ true
+
+owner_is : (run : ℕ) (deck : Job) (step : ℕ) (owned : OwnedStep) → step_at (plain_job run deck) step ≡ Some owned → owned.owner ≡ run
+owner_is run deck zero owned at = absurd (some-not-none owned (sym at))
+owner_is run deck (suc place) owned at = each deck.steps place at
+  where
+    each : (steps : List Step) (place : ℕ) → slice_get (map (owned_by run deck) steps) place ≡ Some owned → owned.owner ≡ run
+    each [] place at = absurd (some-not-none owned (sym at))
+    each (first ∷ steps) zero at = sym (ap (λ (o : OwnedStep). o.owner) (same_Some _ _ at))
+    each (first ∷ steps) (suc place) at = each steps place at
+
+is_own : (tables : TablesModel) (job step : ℕ) (row : RunRow) (owned : OwnedStep) → AreNumbered 1 tables.runs → AllByRecursion IsAcceptedRow tables.runs → run_of tables job ≡ Some row → step_of_run row step ≡ Some owned → IsOwn job row owned
+is_own tables job step row owned numbered rows at there =
+    let accepted = row-among IsAcceptedRow tables job row rows at in
+    let number = run_number tables job row numbered at in
+    let found : step_at (plain_job row.number row.deck) step ≡ Some owned = ap (λ (j : Effective). step_at j step) (sym accepted.plain) ∙ there in
+    let owner = owner_is row.number row.deck step owned found ∙ number in
+    record {
+      root = ap (λ (j : Effective). j.root) accepted.plain ∙ number;
+      owner = owner;
+      few = step-among (IsStepFew 100000) row.number row.deck step owned (steps-few accepted.cards row.deck accepted.accepted) found;
+      distinct =
+          step-among HasNamesOnce row.number row.deck step owned (steps_once accepted.cards row.deck accepted.accepted) found job owned.owner owned.tests;
+    }
+
+-- ---- behind the start
+
+behind_start : (tables : TablesModel) (job step : ℕ) (items : ArrayVec Made) (deck : Option Job) (row : RunRow) (owned : OwnedStep) → run_of tables job ≡ Some row → step_of_run row step ≡ Some owned
+    → after_event (Started job step items) deck tables ≡ after_started row owned step items.items tables
+behind_start tables job step items deck row owned at there =
+    ap (λ found. option_map_or (λ row. option_map_or (λ owned. after_started row owned step items.items tables) (step_of_run row step) tables) found tables) at
+    ∙ ap (λ found. option_map_or (λ owned. after_started row owned step items.items tables) found tables) there
+
+no_flaws : (layout : Layout) (tables : TablesModel) (step : ℕ) (items : List Made) (row : RunRow) (owned : OwnedStep) → started_follows layout tables step items row ≡ true → step_of_run row step ≡ Some owned
+    → is_empty (flaws_in (placed_in table_ways (standing_of row tables) row.job.root owned)) ≡ true
+no_flaws layout tables step items row owned follow there =
+    let placed : OwnedStep → List DdAllotment = λ owned. placed_in table_ways (standing_of row tables) row.job.root owned in
+    let asked : OwnedStep → Bool = λ owned. may_start step (place_of row) && is_empty (flaws_in (placed owned)) && are_items layout (stamp_of owned step) tables.sets (placed owned) items in
+    and-second (may_start step (place_of row)) _
+    (and-first _ (are_items layout (stamp_of owned step) tables.sets (placed owned) items) (tested-step (step_of_run row step) asked (and-second (is_in_state On row) _ follow) owned there))
+
+set_there : (tables : Named TableSet) (name : Name) → is_some (entry_at tables name) ≡ true → (set : DataSet) × (set_in_tables tables name ≡ Some set)
+set_there tables name has = by (entry_at tables name) has
+  where
+    by : (entry : Option TableSet) → is_some entry ≡ true → (set : DataSet) × (option_map (λ (table : TableSet). table.set) entry ≡ Some set)
+    by None has = absurd (false≢true has)
+    by (Some table) has = (table.set, refl)
+
+few_first : (job : ℕ) (owned : OwnedStep) → IsStepFew 100000 owned.step → HasFewCards (files_of job owned.owner owned.step).first
+unfolding files_of
+few_first job owned few = few_of_input job owned.owner owned.step 0 few
+
+few_second : (job : ℕ) (owned : OwnedStep) → IsStepFew 100000 owned.step → HasFewCards (files_of job owned.owner owned.step).second
+unfolding files_of
+few_second job owned few = few_of_input job owned.owner owned.step 1 few
+
+-- a step that has started can go on
+pub is-runnable : (layout : Layout) (tables : TablesModel) (job step : ℕ) (items : ArrayVec Made) (deck : Option Job) (row : RunRow) (owned : OwnedStep) (on : RunningStepView) → AreNumbered 1 tables.runs → AllByRecursion IsAcceptedRow tables.runs
+    → run_of tables job ≡ Some row → step_of_run row step ≡ Some owned → started_follows layout tables step items.items row ≡ true → AreLaidOut layout (after_event (Started job step items) deck tables).sets
+    → on.step ≡ begun job owned.step → AreCounted on.step
+    → ((name : Name) → set_of on.sets name ≡ cond (is_among (names_of job owned) name) (set_in_tables (after_event (Started job step items) deck tables).sets name) None)
+    → IsRunnable layout on
+is-runnable layout tables job step items deck row owned on numbered rows at there follow laid is counted has =
+    let own = is_own tables job step row owned numbered rows at there in
+    let after : Named TableSet = (after_event (Started job step items) deck tables).sets in
+    let start : StepStart = record { root = job; owned = owned; number = step; standing = record { sets = []; passed = [] }; earlier = [] } in
+    let names : (name : Name) → is_among (names_of job owned) name ≡ true → (set : DataSet) × (set_of on.sets name ≡ Some set) =
+    λ name among.
+    let kept = subst (λ (t : TablesModel). is_some (entry_at t.sets name) ≡ true) (sym (behind_start tables job step items deck row owned at there))
+    (names-there tables row owned step items.items (no_flaws layout tables step items.items row owned follow there) name (ap (λ n. is_among (names_of n owned) name) own.root ∙ among)) in
+    let set = set_there after name kept in
+    (set.0, has name ∙ ap (λ b. cond b (set_in_tables after name) None) among ∙ set.1) in
+    let first : HasFewCards (files_at start).first = few_first job owned own.few in
+    let second : HasFewCards (files_at start).second = few_second job owned own.few in
+    record {
+      stored = are-stored layout after on.sets (is_among (names_of job owned)) laid has;
+      there =
+          subst (λ files. AreThere files on.sets)
+          (ap (λ n. files_of job n owned.step) own.owner ∙ sym (ap (λ (s : StepRun). s.files) is))
+          (are-there start on.sets names own.distinct first second);
+      counted = counted;
+    }

@@ -1,0 +1,31 @@
+use Rattle.std.proofs.Common.{ap, sym, ◌∙◌, map, arith, subst, ◌-◌, vec_len, vec_capacity}
+use Rattle.ckr_desk_memory.specs.RunningSteps.{GoesOn, MayRun}
+use Rattle.ckr_desk_memory.specs.Parts.{step_seen}
+use Rattle.ckr_desk_memory.proofs.Invariant.{seen-without}
+use Rattle.ckr_desk_memory.proofs.event.keep_running.Goals as goal
+
+pub start_step-requires : goal.start_step-requires
+start_step-requires c =
+    let may = subst (λ event. MayRun event c.args.tables.now.desk c.args.begun (vec_capacity c.args.running.now - vec_len c.args.running.now)) c.in-Started.is c.requires in
+    record {
+      job = may.few;
+      begun = may.prepared;
+      rows = may.rows;
+      numbered = may.numbered;
+      fit = may.fit;
+      room = omega (arith, may.some);
+    }
+
+pub returns-in-Started : goal.returns-in-Started
+returns-in-Started c =
+    subst (λ event. GoesOn event c.args.tables.now.desk (map step_seen c.args.running.now.items) (map step_seen c.start_step.new.running.items)) (sym c.in-Started.is) c.start_step.ensures
+
+pub returns-in-StepEnded : goal.returns-in-StepEnded
+returns-in-StepEnded c =
+    subst (λ event. GoesOn event c.args.tables.now.desk (map step_seen c.args.running.now.items) (map step_seen c.leave.new.running.items)) (sym c.in-StepEnded.is)
+    (ap (map step_seen) c.leave.ensures.items ∙ seen-without c.in-StepEnded.job c.args.running.now.items)
+
+pub returns-in-Ended : goal.returns-in-Ended
+returns-in-Ended c =
+    subst (λ event. GoesOn event c.args.tables.now.desk (map step_seen c.args.running.now.items) (map step_seen c.leave-in-Ended.new.running.items)) (sym c.in-Ended.is)
+    (ap (map step_seen) c.leave-in-Ended.ensures.items ∙ seen-without c.in-Ended.job c.args.running.now.items)

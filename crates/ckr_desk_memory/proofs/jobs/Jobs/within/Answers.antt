@@ -1,0 +1,42 @@
+use Rattle.std.proofs.Common.{◌≡◌, ◌==◌, ap, sym, ◌∙◌, inl, inr, Some}
+use Rattle.ckr_base.proofs.Numbers.{equal-true}
+use Rattle.ckr_points.specs.Restart.{place_of, step_in}
+use Rattle.ckr_desk_memory.specs.Parts.{step_seen}
+use Rattle.ckr_desk_memory.specs.Plans.{row_for, HasCounts}
+use Rattle.ckr_desk_memory.specs.View.{RunningStepView, finished_by}
+use Rattle.ckr_desk_memory.proofs.FoundRuns.{find-is}
+use Rattle.ckr_desk_memory.proofs.Plans.{within-ends, within-none, within-works}
+use Rattle.ckr_desk_memory.proofs.jobs.Jobs.within.Goals as goal
+
+pub returns-in_default-clause-plan : goal.returns-in_default-clause-plan
+returns-in_default-clause-plan c =
+    within-none c.args.self.now c.args.job c.args.table.now c.requires.known (step_in (place_of (row_for c.args.job c.args.table.now))) c.in_default.ensures
+
+pub step_ended-requires-clause-counted : goal.step_ended-requires-clause-counted
+step_ended-requires-clause-counted c =
+    (find-is HasCounts (λ (on : RunningStepView). on.run == c.args.job) c.args.self.now.running (step_seen c.in-Some.on.now) c.requires.counted (sym c.in-Some.ensures)).holds
+
+pub returns-in-Finished-clause-plan : goal.returns-in-Finished-clause-plan
+returns-in-Finished-clause-plan c =
+    let on = step_seen c.in-Some.on.now in
+    let is = find-is HasCounts (λ (step : RunningStepView). step.run == c.args.job) c.args.self.now.running on c.requires.counted (sym c.in-Some.ensures) in
+    c.step_ended.ensures.plan
+    ∙ within-ends c.args.self.now c.args.job c.args.table.now c.requires.known (step_in (place_of (row_for c.args.job c.args.table.now))) on (equal-true on.run c.args.job is.passes) c.in-Some.ensures
+    c.in-Finished.rc (ap finished_by (sym c.due.ensures.due ∙ c.in-Finished.is))
+
+pub returns-in-Unit : goal.returns-in-Unit
+returns-in-Unit c =
+    let works = within-works c.args.self.now c.args.job c.args.table.now c.requires.known (step_in (place_of (row_for c.args.job c.args.table.now))) (step_seen c.in-Some.on.now) c.in-Some.ensures in
+    record {
+      plan =
+          works
+          (elim c.in-Unit.is [
+            | inl due ↦ ap finished_by (sym c.due.ensures.due ∙ due)
+            | inr other ↦
+                elim other [
+                  | inl due ↦ ap finished_by (sym c.due.ensures.due ∙ due)
+                  | inr due ↦ ap finished_by (sym c.due.ensures.due ∙ due)
+                ]
+          ]);
+      spelled = tt;
+    }

@@ -1,0 +1,67 @@
+-- What holds of the jobs in memory, whatever the disk reads.
+use Rattle.std.specs.Prelude.{◌≡◌, ℕ, true, IsSome, List, Ok, Option, None, Some}
+use Rattle.std.specs.List.{AllByRecursion}
+use Rattle.ckr_events.specs.declared.event.Event.{Event}
+use Rattle.ckr_events.specs.declared.event.Event.TheVariants.{Submitted}
+use Rattle.ckr_jcl.specs.declared.deck.Job.{Job}
+use Rattle.ckr_jcl_decks.specs.Deck.{stored_deck}
+use Rattle.ckr_meaning.specs.EffectiveJob.{Effective, plain_job, step_at}
+use Rattle.ckr_meaning.specs.declared.place.Place.{Place}
+use Rattle.ckr_meaning.specs.declared.place.Place.TheVariants.{Before, Opened, Within}
+use Rattle.ckr_points.specs.Tables.{queued_run}
+use Rattle.ckr_points.specs.Follows.{follows}
+use Rattle.ckr_points.specs.Rows.{RunRow}
+use Rattle.ckr_points.specs.Soundness.{AreLaidOut}
+use Rattle.ckr_steps.specs.Inputs.{AreStored, AreThere}
+use Rattle.ckr_steps.specs.StepUnit.{AreCounted}
+use Rattle.ckr_points_decks.specs.Form.{is_run}
+use Rattle.ckr_volumes.specs.declared.layout.Layout.{Layout}
+use Rattle.ckr_desk_memory.specs.Plans.{IsAnyCode}
+use Rattle.ckr_desk_memory.specs.View.{JobsView, RunningStepView}
+
+-- a run of a deck that was accepted, of a form that the desk runs
+pub record IsAcceptedRow (row : RunRow) : Type 0 where
+  pub cards : List ℕ
+  pub accepted : stored_deck cards ≡ Ok row.deck
+  pub is_run : is_run row.deck ≡ true
+  pub plain : row.job ≡ plain_job row.number row.deck
+
+abbrev pub IsAcceptedDeck : ℕ → Option Job → Type 0
+IsAcceptedDeck job None = Unit {0}
+IsAcceptedDeck job (Some deck) = IsAcceptedRow (queued_run job deck)
+
+-- a deck that an event submits is such a one
+abbrev pub IsAnyAccepted : Event → Option Job → Type 0
+IsAnyAccepted (Submitted job cards) deck = IsAcceptedDeck job deck
+IsAnyAccepted _ deck = Unit {0}
+
+-- a run within a step has that step
+abbrev pub IsPlaceOf : Effective → Place → Type 0
+IsPlaceOf job (Before step) = Unit {0}
+IsPlaceOf job (Opened step) = Unit {0}
+IsPlaceOf job (Within step writes) = IsSome (step_at job step)
+
+abbrev pub IsAnyPlaceOf : Effective → Option Place → Type 0
+IsAnyPlaceOf job None = Unit {0}
+IsAnyPlaceOf job (Some place) = IsPlaceOf job place
+
+-- so it is with this run, and its code, if it has one, has a spelling
+pub record IsPlacedRow (row : RunRow) : Type 0 where
+  pub place : IsAnyPlaceOf row.job row.place
+  pub code : IsAnyCode row.code
+
+-- the data sets of a running step are there, and stand apart in the layout; its numbers are in their ranges
+pub record IsRunnable (layout : Layout) (on : RunningStepView) : Type 0 where
+  pub stored : AreStored layout on.sets
+  pub there : AreThere on.step.files on.sets
+  pub counted : AreCounted on.step
+
+pub record AreJobs (layout : Layout) (jobs : JobsView) : Type 0 where
+  pub laid : AreLaidOut layout jobs.tables.desk.sets
+  pub rows : AllByRecursion IsAcceptedRow jobs.tables.desk.runs
+  pub placed : AllByRecursion IsPlacedRow jobs.tables.desk.runs
+  pub running : AllByRecursion (IsRunnable layout) jobs.running
+
+-- in a layout where the jobs are so, an event follows
+abbrev pub MayGoOn : JobsView → Event → Option Job → Type 0
+MayGoOn jobs event deck = (layout : Layout) × AreJobs layout jobs × (follows layout jobs.tables.desk event deck ≡ true)

@@ -1,0 +1,11 @@
+pub mod EventChanges
+pub mod RunningSteps
+pub mod Invariant
+pub mod Parts
+pub mod Plans
+pub mod Preparation
+pub mod Replay
+pub mod View
+pub mod Start
+pub mod Rewrite
+pub mod Model

@@ -1,0 +1,29 @@
+-- How the parts of the jobs in memory are seen, and what holds of them: the runs are numbered, and the queue is that of the tables.
+use Rattle.std.specs.Prelude.{◌≡◌, ◌≤◌, ◌-◌, List, length, map, vec_len, vec_capacity}
+use Rattle.ckr_queue.specs.declared.entry.QueueEntry.{QueueEntry}
+use Rattle.ckr_points.specs.Rows.{TablesModel}
+use Rattle.ckr_desk_turn.specs.Queue.{AreNumbered, queue_of}
+use Rattle.ckr_desk_memory.specs.declared.jobs.Jobs.TheInside.{Inside}
+use Rattle.ckr_desk_memory.specs.declared.jobs.RunningStep.{RunningStep}
+use Rattle.ckr_desk_memory.specs.View.{JobsView, RunningStepView}
+
+abbrev pub step_seen : RunningStep → RunningStepView
+step_seen on = record { run = on.run; step = on.step; sets = on.sets }
+
+abbrev pub jobs_seen : Inside → JobsView
+jobs_seen a = record {
+  tables = a.tables;
+  running = map step_seen a.running.items;
+  failed = a.failed.items;
+  queue_room = a.queue.room;
+  running_room = vec_capacity a.running - vec_len a.running;
+}
+
+-- the runs are numbered, with seven digits at most, and the queue is that of the tables
+pub record AreQueued (desk : TablesModel) (queue : List QueueEntry) : Type 0 where
+  pub numbered : AreNumbered 1 desk.runs
+  pub few : length desk.runs ≤ 9999999
+  pub same : queue ≡ queue_of desk
+
+abbrev pub IsKept : Inside → Type 0
+IsKept a = AreQueued a.tables.desk a.queue.entries

@@ -1,0 +1,108 @@
+-- What a turn comes to, by the jobs in memory.
+use Rattle.std.specs.Prelude.{◌≡◌, ◌≤◌, ℕ, Bool, true, false, IsSome, [], Option, None, Some, pred, slice_get}
+use Rattle.std.specs.List.{AllByRecursion}
+use Rattle.ckr_base.specs.declared.code.Code.{Code}
+use Rattle.ckr_events.specs.declared.event.Event.TheVariants.{Rewritten as RewrittenEvent}
+use Rattle.ckr_meaning.specs.EffectiveJob.{OwnedStep, plain_job}
+use Rattle.ckr_meaning.specs.declared.place.Place.{Place}
+use Rattle.ckr_meaning.specs.declared.place.Place.TheVariants.{Before, Opened, Within}
+use Rattle.ckr_points.specs.declared.run.RunState.TheVariants.{On}
+use Rattle.ckr_points.specs.Rows.{RunRow, TablesModel, run_of, step_of_run}
+use Rattle.ckr_steps.specs.declared.step_run.Worked.{Worked}
+use Rattle.ckr_steps.specs.declared.step_run.Worked.TheVariants.{Went, Rewrite, Abend}
+use Rattle.ckr_steps.specs.StepUnit.{AreCounted}
+use Rattle.ckr_points_decks.specs.DeckLimits.{FitsAllocation, IsWithinLimits}
+use Rattle.ckr_points_tables.specs.declared.run_table.RunTable.{RunTable}
+use Rattle.ckr_points_tables.specs.Invariant.{HasRoom}
+use Rattle.ckr_points_tables.specs.View.{RoomyTables, facts_in, facts_of, row_with}
+use Rattle.ckr_desk_turn.specs.declared.plan.Plan.{Plan}
+use Rattle.ckr_desk_turn.specs.declared.plan.Plan.TheVariants.{Rest, Tell, Work}
+use Rattle.ckr_desk_turn.specs.declared.reply.How.{How}
+use Rattle.ckr_desk_turn.specs.declared.reply.How.TheVariants.{Completed, Abended, Allocation}
+use Rattle.ckr_desk_turn.specs.declared.reply.Reply.{Reply}
+use Rattle.ckr_desk_turn.specs.declared.reply.Reply.TheVariants.{JobEnded, Worked as WorkedReply}
+use Rattle.ckr_desk_turn.specs.Codes.{CodePlaceModel as ReachedByTurn, code_plan, running_reached}
+use Rattle.ckr_desk_turn.specs.Jobs.{TurnStep, step_name_of}
+use Rattle.ckr_desk_turn.specs.Spelling.{IsCode, IsSpelled}
+use Rattle.ckr_volumes.specs.declared.layout.Layout.{Layout}
+use Rattle.ckr_desk_memory.specs.declared.run_code.CodePlace.{CodePlace}
+use Rattle.ckr_desk_memory.specs.View.{RunningStepView}
+
+-- a run by its number and by what the tables keep of it; a plan asks no more of its line
+abbrev pub row_for : ℕ → RunTable → RunRow
+row_for number table = row_with (record { number = number; name = []; state = On; initiator = None }) (facts_of table)
+
+-- the tables have this run, of a deck that was accepted
+pub record IsKnown (tables : TablesModel) (number : ℕ) (table : RunTable) : Type 0 where
+  pub row : RunRow
+  pub found : run_of tables number ≡ Some row
+  pub numbered : row.number ≡ number
+  pub facts : facts_in row ≡ facts_of table
+  pub plain : row.job ≡ plain_job number row.deck
+  pub few : number ≤ 9999999
+  pub within : AllByRecursion IsWithinLimits table.job.steps
+  pub fit : AllByRecursion FitsAllocation table.job.steps
+
+-- a DD of a step of a run, by their numbers from 1
+pub record HasDd (tables : TablesModel) (number step dd : ℕ) : Type 0 where
+  pub row : RunRow
+  pub own : OwnedStep
+  pub found : run_of tables number ≡ Some row
+  pub step_is : step_of_run row step ≡ Some own
+  pub there : IsSome (slice_get own.step.dds (pred dd))
+
+-- the numbers of a running step are in their ranges
+abbrev pub HasCounts : RunningStepView → Type 0
+HasCounts on = AreCounted on.step
+
+-- the step that a run is to start at its place, where it didn't fail and no code is given
+abbrev pub next_step : Bool → Option Code → Place → Option ℕ
+next_step true fail place = None
+next_step false (Some code) place = None
+next_step false None (Before number) = Some number
+next_step false None (Opened number) = Some number
+next_step false None (Within number writes) = None
+
+abbrev pub reached_seen : CodePlace → ReachedByTurn
+reached_seen reached = record { writes = reached.writes; lengths = reached.lengths.items }
+
+-- the code, if there is one, has a spelling
+abbrev pub IsAnyCode : Option Code → Type 0
+IsAnyCode None = Unit {0}
+IsAnyCode (Some code) = IsCode code
+
+-- the code that a reply tells, if there is one, has a spelling
+abbrev pub HasCode : How → Type 0
+HasCode Completed = Unit {0}
+HasCode (Abended code rule) = IsCode code
+HasCode (Allocation step dd cause) = Unit {0}
+
+abbrev pub IsToldReply : Reply → Type 0
+IsToldReply (JobEnded job how) = HasCode how
+IsToldReply _ = Unit {0}
+
+-- the event of a plan, if there is one, has a spelling, and so has the code of its reply
+abbrev pub IsSpelledPlan : Plan → Type 0
+IsSpelledPlan (Rest reply) = IsToldReply reply
+IsSpelledPlan (Tell reply event) = IsSpelled event × IsToldReply reply
+IsSpelledPlan (Work job) = Unit {0}
+
+-- there is room for it
+abbrev pub HasPlanRoom : RoomyTables → Plan → Type 0
+HasPlanRoom tables (Rest reply) = Unit {0}
+HasPlanRoom tables (Tell reply event) = HasRoom tables event
+HasPlanRoom tables (Work job) = Unit {0}
+
+-- the code with which a unit ends, if it ends its step, has a spelling
+abbrev pub IsWorkedCode : Worked → Type 0
+IsWorkedCode (Went taken) = Unit {0}
+IsWorkedCode (Rewrite place image taken) = Unit {0}
+IsWorkedCode (Abend code) = IsCode code
+
+-- what a turn tells of a unit that was done, with the running step behind it
+abbrev pub told_by : Layout → RunRow → TurnStep → Worked → Plan
+told_by layout row step (Went taken) = Rest (WorkedReply row.number (step_name_of row) step.taken)
+told_by layout row step (Rewrite place image taken) =
+    Tell (WorkedReply row.number (step_name_of row) step.taken)
+    (RewrittenEvent row.number step.taken step.writes (record { items = step.lengths }) place image)
+told_by layout row step (Abend code) = code_plan layout row code (running_reached step)

@@ -1,0 +1,67 @@
+-- The jobs of a desk in memory, and what a turn sees of them.
+use Rattle.std.specs.Prelude.{ℕ, List, [], map, Option, None, Some}
+use Rattle.std.specs.Option.{option_map_or}
+use Rattle.ckr_points_library.specs.Commit.{output_names}
+use Rattle.ckr_base.specs.declared.programs.NextDue.{NextDue}
+use Rattle.ckr_base.specs.declared.programs.NextDue.TheVariants.{Unit as OneUnit, Checkpoint, Cancel, Finished}
+use Rattle.ckr_jcl.specs.declared.deck.Step.{Step}
+use Rattle.ckr_library.specs.Catalog.{Catalog, Holding}
+use Rattle.ckr_library.specs.NameMaps.{Name, Named, entry_at}
+use Rattle.ckr_meaning.specs.EffectiveJob.{OwnedStep}
+use Rattle.ckr_points.specs.Restart.{place_of, step_in}
+use Rattle.ckr_points.specs.Rows.{RunRow, TablesModel, run_of, step_of_run}
+use Rattle.ckr_steps.specs.declared.step_run.StepRun.{StepRun}
+use Rattle.ckr_steps.specs.Files.{files_of}
+use Rattle.ckr_steps.specs.Units.{due_of, first_state, taken_of}
+use Rattle.ckr_points_tables.specs.View.{RoomyTables}
+use Rattle.ckr_desk_turn.specs.Jobs.{TurnJobs, TurnStep}
+
+-- a running step: its run, its program, and its data sets with the lengths that they have by now
+pub record RunningStepView : Type 0 where
+  pub run : ℕ
+  pub step : StepRun
+  pub sets : Catalog
+
+-- a step of a run that owns it, at its beginning
+abbrev pub begun : ℕ → Step → StepRun
+begun job step = record { state = first_state step.program; parm = step.parm; files = files_of job job step; writes = 0 }
+
+-- The tables with their room, the running steps, and the runs that were running when the system failed. So many more runs fit in the queue, and
+-- so many more steps among the running ones, with no memory taken.
+pub record JobsView : Type 0 where
+  pub tables : RoomyTables
+  pub running : List RunningStepView
+  pub failed : List ℕ
+  pub queue_room : ℕ
+  pub running_room : ℕ
+
+-- ---- a running step as a turn sees it
+
+abbrev pub finished_by : NextDue → Option ℕ
+finished_by OneUnit = None
+finished_by Checkpoint = None
+finished_by Cancel = None
+finished_by (Finished rc) = Some rc
+
+abbrev pub length_in : Named Holding → Name → ℕ
+length_in sets name = option_map_or (λ (holding : Holding). holding.set.length) (entry_at sets name) 0
+
+-- the lengths of its outputs, in the order of their DDs
+abbrev pub lengths_in : Named Holding → ℕ → OwnedStep → List ℕ
+lengths_in sets root owned = map (length_in sets) (output_names root owned)
+
+abbrev pub lengths_of_row : Named Holding → RunRow → List ℕ
+lengths_of_row sets row = option_map_or (lengths_in sets row.job.root) (step_of_run row (step_in (place_of row))) []
+
+abbrev pub running_of : TablesModel → RunningStepView → TurnStep
+running_of tables on = record {
+  run = on.run;
+  taken = taken_of on.step.state;
+  writes = on.step.writes;
+  finished = finished_by (due_of on.step.parm on.step.state);
+  lengths = option_map_or (lengths_of_row on.sets.sets) (run_of tables on.run) [];
+}
+
+-- the jobs as a turn sees them
+unfoldable pub jobs_of : JobsView → TurnJobs
+jobs_of jobs = record { tables = jobs.tables.desk; running = map (running_of jobs.tables.desk) jobs.running; failed = jobs.failed }

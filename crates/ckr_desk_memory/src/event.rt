@@ -1,0 +1,144 @@
+//! The jobs go on by an event that was written.
+ghost use Rattle.std.specs.Prelude.{◌≡◌, ◌-◌, ◌<◌, ◌≤◌, ◌==◌, true, false, not, filter, length, map, None, Option, IsTrue, vec_len, vec_capacity};
+ghost use Rattle.ckr_jcl.specs.declared.deck.Job.{Job as JobOfDeck};
+ghost use Rattle.ckr_desk_memory.specs.EventChanges.{HasUses, MayQueue};
+ghost use Rattle.ckr_desk_memory.specs.RunningSteps.{GoesOn, MayRun};
+ghost use Rattle.ckr_desk_memory.specs.Invariant.{AreJobs, IsAnyAccepted, MayGoOn};
+ghost use Rattle.ckr_desk_memory.specs.Parts.{step_seen};
+ghost use Rattle.ckr_desk_memory.specs.Preparation.{HasQueueRoom, IsPrepared};
+ghost use Rattle.ckr_desk_memory.specs.declared.jobs.RunningStep.{RunningStep as StepOnIt};
+ghost use Rattle.ckr_points.specs.Follows.{follows};
+ghost use Rattle.ckr_points.specs.Restart.{after_event};
+ghost use Rattle.ckr_queue.specs.Queue.{queued, state_of, with_entry};
+ghost use Rattle.ckr_points_tables.specs.Invariant.{is_plain_event, HasRoom, MayCount, MayFollow, MaySubmit};
+ghost use Rattle.ckr_desk_turn.specs.Desk.{failed_behind};
+ghost use Rattle.ckr_desk_turn.specs.Queue.{queue_behind, AreNumbered};
+ghost use Rattle.ckr_volumes.specs.declared.layout.Layout.{Layout as LayoutOfDisk};
+
+use crate::start::start_step;
+use crate::{Jobs, Prepared, RunningStep};
+use ckr_events::Event;
+use ckr_jcl::Job;
+use ckr_points_tables::Tables;
+use ckr_queue::Queue;
+use ckr_uses::Uses;
+
+/// A run is queued, for which there is room.
+fn queue_run(queue: &mut Queue, number: u32, uses: Uses)
+    requires absent { state_of number queue.old.entries ≡ None }
+    requires room { 0 < queue.old.room }
+    ensures { queue.new.entries ≡ with_entry (queued number uses) queue.old.entries }
+{
+    match queue.submit(number, uses) {
+        Ok(()) => {}
+        Err(_) => unreachable!(),
+    }
+}
+
+/// The queue goes on by a plain event that follows. The uses are those of a deck that is submitted, and there is room for it.
+fn keep_queue(queue: &mut Queue, event: &Event, uses: Option<Uses>)
+    requires plain { IsTrue (is_plain_event event.now) }
+    requires may { MayQueue event.now queue.old.entries }
+    requires room { HasQueueRoom event.now queue.old.room }
+    ensures { (deck : Option JobOfDeck) → HasUses event.now deck uses → queue.new.entries ≡ queue_behind event.now deck queue.old.entries }
+{
+    match event {
+        Event::Submitted { job, .. } => {
+            if let Some(uses) = uses {
+                queue_run(queue, *job, uses);
+            }
+        }
+        Event::Selected { job, .. } => queue.take(*job),
+        Event::Ended { job, .. } => queue.end(*job),
+        Event::Purged { job } => {
+            queue.purge(*job);
+        }
+        _ => {}
+    }
+}
+
+/// The running steps of a run go.
+pub(crate) fn leave(running: &mut Vec<RunningStep>, run: u32)
+    ensures items { running.new.items ≡ filter (λ (on : StepOnIt). not (on.run == run)) running.old.items }
+    ensures bound { vec_len running.new ≤ vec_len running.old }
+    ensures capacity { vec_capacity running.new ≡ vec_capacity running.old }
+{
+    running.retain(|on| on.run != run);
+}
+
+/// A run isn't marked any more.
+fn unmark(failed: &mut Vec<u32>, run: u32)
+    ensures { failed.new.items ≡ filter (λ number. not (number == run)) failed.old.items }
+{
+    failed.retain(|number| *number != run);
+}
+
+/// The running steps behind a plain event, by the tables behind it. The step that starts is at its beginning, and there is room for it.
+fn keep_running(
+    event: &Event,
+    begun: Option<RunningStep>,
+    tables: &Tables,
+    running: &mut Vec<RunningStep>,
+)
+    requires { MayRun event.now tables.now.desk begun (vec_capacity running.old - vec_len running.old) }
+    ensures { GoesOn event.now tables.now.desk (map step_seen running.old.items) (map step_seen running.new.items) }
+{
+    match event {
+        Event::Started { job, step, .. } => start_step(*job, *step, begun, tables, running),
+        Event::StepEnded { job, .. } => leave(running, *job),
+        Event::Ended { job, .. } => leave(running, *job),
+        _ => {}
+    }
+}
+
+/// The runs that were running when the system failed, behind an event.
+fn keep_failed(failed: &mut Vec<u32>, event: &Event)
+    ensures { failed.new.items ≡ failed_behind event.now failed.old.items }
+{
+    if let Event::Ended { job, .. } = event {
+        unmark(failed, *job);
+    }
+}
+
+impl Jobs {
+    /// Goes on by a plain event that follows, with the memory that `prepare` took for it. A deck is given exactly where the event is
+    /// Submitted and its cards are a deck, and it is that deck, accepted and of a form that the desk runs. It takes no memory, and
+    /// doesn't fail (this project's profile).
+    pub fn keep(&mut self, event: &Event, deck: Option<Job>, prepared: Prepared)
+        requires plain { IsTrue (is_plain_event event.now) }
+        requires follows { MayGoOn self.old event.now deck }
+        requires deck { MaySubmit event.now deck }
+        requires accepted { IsAnyAccepted event.now deck }
+        requires count { MayCount event.now self.old.tables.desk.sets }
+        requires prepared { IsPrepared self.old event.now deck prepared }
+        ensures tables { self.new.tables.desk ≡ after_event event.now deck self.old.tables.desk }
+        ensures running { GoesOn event.now self.new.tables.desk self.old.running self.new.running }
+        ensures failed { self.new.failed ≡ failed_behind event.now self.old.failed }
+        ensures jobs { (layout : LayoutOfDisk) → AreJobs layout self.old → follows layout self.old.tables.desk event.now deck ≡ true → AreJobs layout self.new }
+    {
+        self.go_on(event, deck, prepared.uses);
+        keep_running(event, prepared.step, &self.tables, &mut self.running);
+        keep_failed(&mut self.failed, event);
+    }
+
+    /// The tables go on by a plain event that follows, and the queue with them. There is room for the event, and the uses are those
+    /// of the deck that it submits. It takes no memory, and doesn't fail.
+    pub(crate) fn go_on(&mut self, event: &Event, deck: Option<Job>, uses: Option<Uses>)
+        requires plain { IsTrue (is_plain_event event.now) }
+        requires follows { MayFollow self.old.tables.desk event.now deck }
+        requires deck { MaySubmit event.now deck }
+        requires count { MayCount event.now self.old.tables.desk.sets }
+        requires tables { HasRoom self.old.tables event.now }
+        requires queue { HasQueueRoom event.now self.old.queue_room }
+        requires uses { HasUses event.now deck uses }
+        ensures tables { self.new.tables.desk ≡ after_event event.now deck self.old.tables.desk }
+        ensures running { self.new.running ≡ self.old.running }
+        ensures failed { self.new.failed ≡ self.old.failed }
+        ensures room { self.new.running_room ≡ self.old.running_room }
+        ensures numbered { AreNumbered 1 self.old.tables.desk.runs }
+        ensures few { length self.old.tables.desk.runs ≤ 9999999 }
+    {
+        self.tables.apply(event, deck);
+        keep_queue(&mut self.queue, event, uses);
+    }
+}

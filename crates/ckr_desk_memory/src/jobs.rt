@@ -1,0 +1,93 @@
+//! The jobs of a desk in memory.
+ghost use Rattle.std.specs.Prelude.{◌≡◌, ◌≤◌, [], length, map};
+ghost use Rattle.ckr_points.specs.Rows.{no_tables, holding_of};
+ghost use Rattle.ckr_points_tables.specs.View.{line_of, seen_by, table_of};
+ghost use Rattle.ckr_desk_memory.specs.Parts.{step_seen};
+
+use ckr_library::Library;
+use ckr_points::Run;
+use ckr_points_tables::Tables;
+use ckr_queue::Queue;
+use ckr_steps::StepRun;
+use std::alloc::Global;
+use std::marker::Model;
+
+/// A running step.
+#[derive(Drop)]
+pub struct RunningStep {
+    /// The number of its run.
+    pub run: u32,
+    pub step: StepRun,
+    /// Its data sets, with the lengths that they have by now; the tables keep those that are committed.
+    pub sets: Library,
+}
+
+/// The jobs of a desk in memory: the tables that its events brought about, which run is next, the running steps, and the runs
+/// that were running when the system failed.
+#[derive(Drop)]
+pub struct Jobs {
+    pub(crate) alloc: Global,
+    pub(crate) tables: Tables,
+    pub(crate) queue: Queue,
+    pub(crate) running: Vec<RunningStep>,
+    pub(crate) failed: Vec<u32>,
+}
+
+impl Model for Jobs {
+    ghost use Rattle.ckr_desk_memory.specs.View.{JobsView};
+
+    ghost Value = { JobsView };
+
+    ghost use Rattle.ckr_desk_memory.specs.Parts.{jobs_seen, IsKept};
+
+    ghost view = { jobs_seen };
+
+    ghost invariant = { IsKept };
+}
+
+impl Jobs {
+    /// The jobs of no events. It takes no memory.
+    pub fn new(alloc: Global) -> Jobs
+        ensures tables { result.tables.desk ≡ no_tables }
+        ensures running { result.running ≡ [] }
+        ensures failed { result.failed ≡ [] }
+    {
+        Jobs {
+            alloc,
+            tables: Tables::new(alloc),
+            queue: Queue::new(alloc),
+            running: Vec::new(alloc),
+            failed: Vec::new(alloc),
+        }
+    }
+
+    /// The tables.
+    pub fn tables(&self) -> &Tables
+        ensures { result.now ≡ self.now.tables }
+    {
+        &self.tables
+    }
+
+    /// The data sets, with the lengths that are committed.
+    pub fn library(&self) -> &Library
+        ensures sets { result.now.sets ≡ seen_by holding_of self.now.tables.desk.sets }
+        ensures seen { seen_by table_of result.now.sets ≡ self.now.tables.desk.sets }
+    {
+        self.tables.library()
+    }
+
+    /// The lines of the runs, in the order of their numbers.
+    pub fn runs(&self) -> &[Run]
+        ensures lines { result.now ≡ map line_of self.now.tables.desk.runs }
+        ensures few { length self.now.tables.desk.runs ≤ 9999999 }
+    {
+        self.tables.runs()
+    }
+
+    /// The running steps, each with its own data sets.
+    pub fn running(&self) -> &[RunningStep]
+        ensures { map step_seen result.now ≡ self.now.running }
+    {
+        self.running.as_slice()
+    }
+}

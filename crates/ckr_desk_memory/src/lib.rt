@@ -1,0 +1,24 @@
+//! The jobs of a desk in memory: the tables, the queue, and the running steps, each with its data sets.
+#![tactic(auto)]
+
+mod event;
+mod found_run;
+mod jobs;
+mod opening;
+mod plan;
+mod preparation;
+mod replay;
+mod rewrite;
+mod run_code;
+mod set_copy;
+mod start;
+mod unit_reply;
+mod unit_step;
+
+pub use jobs::{Jobs, RunningStep};
+pub use preparation::Prepared;
+pub use set_copy::copy_of_set;
+
+// What the desk asks of the tables beside the jobs.
+pub use ckr_points_follows::{follows, may_count, purged_follows};
+pub use ckr_points_tables::Tables;

@@ -1,0 +1,63 @@
+//! The jobs behind the opening of the desk.
+ghost use Rattle.std.specs.Prelude.{◌≡◌, Some, IfOk, OnErr, OnOk, filter, map};
+ghost use Rattle.ckr_desk_memory.specs.EventChanges.{failed_in};
+ghost use Rattle.ckr_points.specs.Restart.{place_of};
+ghost use Rattle.ckr_points.specs.Rows.{run_of, RunRow as RowOfRun};
+ghost use Rattle.ckr_points_tables.specs.View.{line_of};
+ghost use Rattle.ckr_desk_turn.specs.Desk.{is_running};
+ghost use Rattle.ckr_desk_turn.specs.Plans.{is_within};
+ghost use Rattle.ckr_desk_turn.specs.Queue.{AreNumbered};
+
+use crate::Jobs;
+use ckr_base::NoMemory;
+use ckr_meaning::Place;
+use ckr_points::Run;
+use ckr_points_tables::Tables;
+use std::alloc::Global;
+
+/// Whether a run is within a step.
+fn is_within(tables: &Tables, job: u32) -> bool
+    ensures { (row : RowOfRun) → run_of tables.now.desk job ≡ Some row → result ≡ is_within (place_of row) }
+{
+    match tables.run(job) {
+        Some(table) => matches!(table.place, Some(Place::Within(_, _))),
+        None => false,
+    }
+}
+
+/// Whether a run on an initiator is within a step.
+fn is_running(tables: &Tables, line: &Run) -> bool
+    ensures { (row : RowOfRun) → run_of tables.now.desk row.number ≡ Some row → line.now ≡ line_of row → result ≡ is_running row }
+{
+    line.initiator.is_some() && is_within(tables, line.number)
+}
+
+/// The numbers of the runs that are within a step.
+fn running_runs(alloc: Global, tables: &Tables) -> Result<Vec<u32>, NoMemory>
+    requires { AreNumbered 1 tables.now.desk.runs }
+    ensures { IfOk result (λ running. running.items ≡ failed_in tables.now.desk) }
+{
+    let mut running = Vec::new(alloc);
+    for line in tables.runs() {
+        if is_running(tables, line) {
+            running.push(line.number)?;
+        }
+    }
+    Ok(running)
+}
+
+impl Jobs {
+    /// The desk is opened, with no step running: the runs that are within a step were running when the system failed.
+    ///
+    /// `NoMemory`: nothing has changed.
+    pub fn open(&mut self) -> Result<(), NoMemory>
+        ensures ok { OnOk result (self.new.failed ≡ failed_in self.old.tables.desk) }
+        ensures err { OnErr result (self.new.failed ≡ self.old.failed) }
+        ensures tables { self.new.tables ≡ self.old.tables }
+        ensures running { self.new.running ≡ self.old.running }
+    {
+        let failed = running_runs(self.alloc, &self.tables)?;
+        self.failed = failed;
+        Ok(())
+    }
+}

@@ -1,0 +1,299 @@
+//! What a turn comes to.
+ghost use Rattle.std.specs.Prelude.{◌≡◌, ◌≤◌, IfOk, IsSome, OnOk, None, Some, length};
+ghost use Rattle.std.specs.List.{AllByRecursion};
+ghost use Rattle.std.specs.Option.{option_map_or};
+ghost use Rattle.ckr_events.specs.declared.event.Event.TheVariants.{StepEnded as StepEndedEvent};
+ghost use Rattle.ckr_desk_memory.specs.Invariant.{AreJobs, IsAcceptedRow};
+ghost use Rattle.ckr_desk_memory.specs.Plans.{next_step, row_for, HasCounts, HasDd, HasPlanRoom, IsAnyCode, IsKnown, IsSpelledPlan};
+ghost use Rattle.ckr_desk_memory.specs.View.{jobs_of, lengths_of_row};
+ghost use Rattle.ckr_meaning.specs.EffectiveJob.{OwnedStep};
+ghost use Rattle.ckr_points.specs.Follows.{own_step};
+ghost use Rattle.ckr_points.specs.Restart.{place_of as place_of_row, step_in as step_in_place};
+ghost use Rattle.ckr_points.specs.Rows.{run_of, step_of_run, RunRow};
+ghost use Rattle.ckr_steps.specs.StepUnit.{AreCounted};
+ghost use Rattle.ckr_points_decks.specs.DeckLimits.{IsWithinLimits};
+ghost use Rattle.ckr_desk_turn.specs.Codes.{code_plan, reached_by};
+ghost use Rattle.ckr_desk_turn.specs.Jobs.{is_failed, running_in, step_name_of};
+ghost use Rattle.ckr_desk_turn.specs.Plans.{allocation_ended, between_plan, chosen_plan, fail_plan, free_plan, plan_of, run_plan, running_plan};
+ghost use Rattle.ckr_desk_turn.specs.Spelling.{IsCode};
+
+use crate::run_code::{code_plan, lengths_of, place_of};
+use crate::{Jobs, RunningStep};
+use ckr_base::{Code, Name8, NextDue, NoMemory};
+use ckr_desk_turn::{
+    How, Plan, Reply, Turn, allocation_event, completed_event, selected_event, started_event,
+    step_ended_event,
+};
+use ckr_meaning::Place;
+use ckr_points::step_in;
+use ckr_points_library::Refusal;
+use ckr_points_tables::{RunTable, step_at};
+use ckr_queue::Selection;
+use ckr_volumes::Layout;
+
+/// The code of a run that was running when the system failed.
+const SYSTEM_FAILURE: Code = Code::System(0x2F3);
+
+/// A running step has ended with this return code. Its run is within that step.
+fn step_ended(on: &RunningStep, run: u32, table: &RunTable, rc: u16) -> Plan
+    requires run { run ≤ 9999999 }
+    requires there { IsSome (own_step (row_for run table.now)) }
+    requires within { AllByRecursion IsWithinLimits table.now.job.steps }
+    requires counted { AreCounted on.now.step }
+    ensures plan { let row = row_for run table.now in result ≡ Plan.Tell (Reply.StepEnded run (step_name_of row) rc) (StepEndedEvent run (step_in_place (place_of_row row)) rc on.now.step.writes (record { items = lengths_of_row on.now.sets.sets row })) }
+    ensures spelled { IsSpelledPlan result }
+{
+    let number = step_in(place_of(table));
+    let Some(own) = step_at(&table.job, number) else {
+        unreachable!()
+    };
+    Plan::Tell {
+        reply: Reply::StepEnded {
+            job: run,
+            step: own.name.copied(),
+            rc,
+        },
+        event: step_ended_event(
+            run,
+            number,
+            rc,
+            on.step.progress().writes,
+            lengths_of(&on.sets, run, table),
+        ),
+    }
+}
+
+impl Jobs {
+    /// What a turn of an initiator comes to. Nothing has changed behind it, in either case, and there is room for the event that it
+    /// tells, if it tells one. A system failure comes first, then a code that is given, which is at most 4095 (IBM GC28-6708; the
+    /// order is this project's profile).
+    ///
+    /// `NoMemory`: there may be no room for the event, or none to find the place of what a step makes.
+    pub fn plan(&mut self, layout: &Layout, turn: Turn) -> Result<Plan, NoMemory>
+        requires few { length layout.now.volumes.items ≤ 32 }
+        requires code { IsAnyCode turn.fail }
+        requires jobs { AreJobs layout.now self.old }
+        ensures plan { IfOk result (λ plan. plan ≡ plan_of layout.now (jobs_of self.old) turn) }
+        ensures spelled { IfOk result IsSpelledPlan }
+        ensures tables { self.new.tables.desk ≡ self.old.tables.desk }
+        ensures running { self.new.running ≡ self.old.running }
+        ensures failed { self.new.failed ≡ self.old.failed }
+        ensures jobs { AreJobs layout.now self.new }
+        ensures room { IfOk result (HasPlanRoom self.new.tables) }
+    {
+        let plan = self.planned(layout, turn)?;
+        self.room_for(&plan)?;
+        Ok(plan)
+    }
+
+    /// Takes the memory for the event of a plan, if it tells one.
+    fn room_for(&mut self, plan: &Plan) -> Result<(), NoMemory>
+        ensures tables { self.new.tables.desk ≡ self.old.tables.desk }
+        ensures running { self.new.running ≡ self.old.running }
+        ensures failed { self.new.failed ≡ self.old.failed }
+        ensures room { OnOk result (HasPlanRoom self.new.tables plan.now) }
+    {
+        match plan {
+            Plan::Tell { event, .. } => self.tables.make_room(event),
+            Plan::Rest(_) | Plan::Work { .. } => Ok(()),
+        }
+    }
+
+    /// What a turn comes to, before there is room for its event.
+    fn planned(&mut self, layout: &Layout, turn: Turn) -> Result<Plan, NoMemory>
+        requires few { length layout.now.volumes.items ≤ 32 }
+        requires code { IsAnyCode turn.fail }
+        requires jobs { AreJobs layout.now self.old }
+        ensures plan { IfOk result (λ plan. plan ≡ plan_of layout.now (jobs_of self.old) turn) }
+        ensures spelled { IfOk result IsSpelledPlan }
+        ensures tables { self.new.tables.desk ≡ self.old.tables.desk }
+        ensures running { self.new.running ≡ self.old.running }
+        ensures failed { self.new.failed ≡ self.old.failed }
+    {
+        match self.tables.on_initiator(turn.initiator) {
+            Some(job) => self.run_plan(layout, job, turn.fail),
+            None => Ok(self.free_plan(layout, turn.initiator, turn.fail)),
+        }
+    }
+
+    /// The same for an initiator that has a run.
+    fn run_plan(&mut self, layout: &Layout, job: u32, fail: Option<Code>) -> Result<Plan, NoMemory>
+        requires few { length layout.now.volumes.items ≤ 32 }
+        requires code { IsAnyCode fail }
+        requires jobs { AreJobs layout.now self.old }
+        ensures plan { (row : RunRow) → run_of self.old.tables.desk job ≡ Some row → IfOk result (λ plan. plan ≡ run_plan layout.now (jobs_of self.old) fail row) }
+        ensures spelled { IfOk result IsSpelledPlan }
+        ensures tables { self.new.tables.desk ≡ self.old.tables.desk }
+        ensures running { self.new.running ≡ self.old.running }
+        ensures failed { self.new.failed ≡ self.old.failed }
+    {
+        match self.next_step(job, fail) {
+            Some(number) => self.between(layout, job, number),
+            None => Ok(self.settled(layout, job, fail)),
+        }
+    }
+
+    /// The step that a run on an initiator is to start: the one that it is before, where it didn't fail and no code is given.
+    fn next_step(&self, job: u32, fail: Option<Code>) -> Option<u8>
+        requires { AllByRecursion IsAcceptedRow self.now.tables.desk.runs }
+        ensures { (row : RunRow) → run_of self.now.tables.desk job ≡ Some row → result ≡ next_step (is_failed (jobs_of self.now) row.number) fail (place_of_row row) }
+    {
+        let table = self.known(job)?;
+        if self.is_marked(job) {
+            return None;
+        }
+        if fail.is_some() {
+            return None;
+        }
+        match place_of(table) {
+            Place::Before(number) | Place::Opened(number) => Some(number),
+            Place::Within(_, _) => None,
+        }
+    }
+
+    /// The same for a run that is to start no step.
+    fn settled(&self, layout: &Layout, job: u32, fail: Option<Code>) -> Plan
+        requires code { IsAnyCode fail }
+        requires jobs { AreJobs layout.now self.now }
+        requires next { (row : RunRow) → run_of self.now.tables.desk job ≡ Some row → next_step (is_failed (jobs_of self.now) row.number) fail (place_of_row row) ≡ None }
+        ensures plan { (row : RunRow) → run_of self.now.tables.desk job ≡ Some row → result ≡ run_plan layout.now (jobs_of self.now) fail row }
+        ensures spelled { IsSpelledPlan result }
+    {
+        let Some(table) = self.known(job) else {
+            return Plan::Rest(Reply::Idle);
+        };
+        if self.is_marked(job) {
+            return self.coded(layout, job, table, SYSTEM_FAILURE);
+        }
+        match fail {
+            Some(code) => self.failing(layout, job, table, code),
+            None => self.within(job, table),
+        }
+    }
+
+    /// A code is given for a run: that of its running step, if it is within one.
+    fn failing(&self, layout: &Layout, job: u32, table: &RunTable, code: Code) -> Plan
+        requires code { IsCode code }
+        requires known { IsKnown self.now.tables.desk job table.now }
+        requires counted { AllByRecursion HasCounts self.now.running }
+        ensures plan { result ≡ fail_plan layout.now (jobs_of self.now) (row_for job table.now) (Some code) }
+        ensures spelled { IsSpelledPlan result }
+    {
+        match place_of(table) {
+            Place::Within(_, _) => self.coded(layout, job, table, code),
+            Place::Before(_) | Place::Opened(_) => Plan::Rest(Reply::NothingToFail),
+        }
+    }
+
+    /// A run has a code, and ends with it.
+    fn coded(&self, layout: &Layout, job: u32, table: &RunTable, code: Code) -> Plan
+        requires code { IsCode code }
+        requires known { IsKnown self.now.tables.desk job table.now }
+        requires counted { AllByRecursion HasCounts self.now.running }
+        ensures plan { let row = row_for job table.now in result ≡ code_plan layout.now row code (reached_by (jobs_of self.now) row) }
+        ensures spelled { IsSpelledPlan result }
+    {
+        code_plan(layout, job, table, code, self.reached(job, table))
+    }
+
+    /// A run that is within a step works on, or the step ends where its closing unit is done.
+    fn within(&self, job: u32, table: &RunTable) -> Plan
+        requires known { IsKnown self.now.tables.desk job table.now }
+        requires there { IsSome (own_step (row_for job table.now)) }
+        requires counted { AllByRecursion HasCounts self.now.running }
+        ensures plan { let row = row_for job table.now in result ≡ option_map_or (running_plan row (step_in_place (place_of_row row))) (running_in (jobs_of self.now) job) (Plan.Rest Reply.Idle) }
+        ensures spelled { IsSpelledPlan result }
+    {
+        let Some(on) = self.running_in(job) else {
+            return Plan::Rest(Reply::Idle);
+        };
+        match on.step.due() {
+            NextDue::Finished(rc) => step_ended(on, job, table, rc),
+            NextDue::Unit | NextDue::Checkpoint | NextDue::Cancel => Plan::Work { job },
+        }
+    }
+
+    /// A run that is before a step starts it, or ends where no step is left.
+    fn between(&mut self, layout: &Layout, job: u32, number: u8) -> Result<Plan, NoMemory>
+        requires few { length layout.now.volumes.items ≤ 32 }
+        requires jobs { AreJobs layout.now self.old }
+        ensures plan { (row : RunRow) → run_of self.old.tables.desk job ≡ Some row → IfOk result (λ plan. plan ≡ between_plan layout.now (jobs_of self.old) row number) }
+        ensures spelled { IfOk result IsSpelledPlan }
+        ensures tables { self.new.tables.desk ≡ self.old.tables.desk }
+        ensures running { self.new.running ≡ self.old.running }
+        ensures failed { self.new.failed ≡ self.old.failed }
+    {
+        let Some(name) = self.step_name(job, number) else {
+            return Ok(Plan::Tell {
+                reply: Reply::JobEnded {
+                    job,
+                    how: How::Completed,
+                },
+                event: completed_event(job),
+            });
+        };
+        match self.tables.allocate(layout, job, number)? {
+            Ok(made) => Ok(Plan::Tell {
+                reply: Reply::Started { job, step: name },
+                event: started_event(job, number, made),
+            }),
+            Err(refusal) => Ok(self.refused(job, number, name, refusal)),
+        }
+    }
+
+    /// A DD of the step that a run is before can't be allocated, and the run ends.
+    fn refused(&self, job: u32, number: u8, name: Name8, refusal: Refusal) -> Plan
+        requires rows { AllByRecursion IsAcceptedRow self.now.tables.desk.runs }
+        requires dd { HasDd self.now.tables.desk job number refusal.dd }
+        ensures plan { (row : RunRow) (own : OwnedStep) → run_of self.now.tables.desk job ≡ Some row → step_of_run row number ≡ Some own → row.number ≡ job → name ≡ own.step.name → result ≡ allocation_ended row own refusal.dd refusal.cause }
+        ensures spelled { IsSpelledPlan result }
+    {
+        let Some(dd) = self.dd_name(job, number, refusal.dd) else {
+            unreachable!()
+        };
+        Plan::Tell {
+            reply: Reply::JobEnded {
+                job,
+                how: How::Allocation {
+                    step: name,
+                    dd,
+                    cause: refusal.cause,
+                },
+            },
+            event: allocation_event(job, refusal.dd, refusal.cause),
+        }
+    }
+
+    /// An initiator has no run: one may come to it.
+    fn free_plan(&self, layout: &Layout, initiator: u8, fail: Option<Code>) -> Plan
+        requires jobs { AreJobs layout.now self.now }
+        ensures plan { result ≡ free_plan layout.now (jobs_of self.now) initiator fail }
+        ensures spelled { IsSpelledPlan result }
+    {
+        if fail.is_some() {
+            return Plan::Rest(Reply::NothingToFail);
+        }
+        match self.queue.select() {
+            Selection::Idle => Plan::Rest(Reply::Idle),
+            Selection::Job(job) => self.chosen(layout, initiator, job),
+        }
+    }
+
+    /// A run comes to an initiator. One that was released goes on with the code that it was held with.
+    fn chosen(&self, layout: &Layout, initiator: u8, job: u32) -> Plan
+        requires jobs { AreJobs layout.now self.now }
+        ensures plan { (row : RunRow) → run_of self.now.tables.desk job ≡ Some row → result ≡ chosen_plan layout.now (jobs_of self.now) initiator row }
+        ensures spelled { IsSpelledPlan result }
+    {
+        let Some(table) = self.known(job) else {
+            return Plan::Rest(Reply::Idle);
+        };
+        match table.code {
+            None => Plan::Tell {
+                reply: Reply::Selected { job },
+                event: selected_event(job, initiator),
+            },
+            Some(code) => self.coded(layout, job, table, code),
+        }
+    }
+}

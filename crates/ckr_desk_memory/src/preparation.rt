@@ -1,0 +1,122 @@
+//! Memory for an event, before it is written.
+ghost use Rattle.std.specs.Prelude.{◌≡◌, ◌≤◌, ◌<◌, IfOk, OnOk};
+ghost use Rattle.std.specs.List.{AllByRecursion};
+ghost use Rattle.std.specs.Option.{option_copied};
+ghost use Rattle.ckr_desk_memory.specs.EventChanges.{AreUsesOf, HasUses};
+ghost use Rattle.ckr_desk_memory.specs.Invariant.{AreJobs, IsAcceptedRow};
+ghost use Rattle.ckr_desk_memory.specs.Preparation.{HasQueueRoom, HasStarting, HasStep, IsBegun, IsPrepared};
+ghost use Rattle.ckr_programs.specs.Ranges.{IsInRange};
+ghost use Rattle.ckr_points_tables.specs.Invariant.{HasRoom, IsAnySubmittable, MaySubmit};
+ghost use Rattle.ckr_volumes.specs.declared.layout.Layout.{Layout as LayoutOfDisk};
+
+use crate::{Jobs, RunningStep};
+use ckr_base::NoMemory;
+use ckr_events::Event;
+use ckr_jcl::{Job, Step};
+use ckr_library::Library;
+use ckr_points_tables::step_at;
+use ckr_steps::StepRun;
+use ckr_uses::{Uses, uses_of};
+use std::alloc::Global;
+
+/// The memory for an event: the uses of a deck that is submitted, and the step that starts.
+#[derive(Drop)]
+pub struct Prepared {
+    pub(crate) uses: Option<Uses>,
+    pub(crate) step: Option<RunningStep>,
+}
+
+/// The uses of a deck that is submitted under a number, if one is.
+fn uses_for(alloc: Global, number: u32, deck: Option<&Job>) -> Result<Option<Uses>, NoMemory>
+    requires { IsAnySubmittable number (option_copied deck) }
+    ensures { IfOk result (AreUsesOf number (option_copied deck.entry)) }
+{
+    match deck {
+        Some(job) => Ok(Some(uses_of(alloc, number, job)?)),
+        None => Ok(None),
+    }
+}
+
+/// A step that starts, with room for its data sets.
+fn begin_step(alloc: Global, job: u32, step: &Step) -> Result<RunningStep, NoMemory>
+    requires job { job ≤ 9999999 }
+    requires parm { IsInRange step.now.parm }
+    ensures { IfOk result (IsBegun job step.now) }
+{
+    let begun = StepRun::begin(alloc, step, job, job)?;
+    let mut sets = Library::new(alloc);
+    sets.reserve(16)?;
+    Ok(RunningStep {
+        run: job,
+        step: begun,
+        sets,
+    })
+}
+
+impl Jobs {
+    /// The step of this number of a run, at its beginning. None where there is no such step.
+    fn begun(&self, job: u32, step: u8) -> Result<Option<RunningStep>, NoMemory>
+        requires { AllByRecursion IsAcceptedRow self.now.tables.desk.runs }
+        ensures { IfOk result (HasStep self.now.tables.desk job step) }
+    {
+        let Some(table) = self.tables.run(job) else {
+            return Ok(None);
+        };
+        match step_at(&table.job, step) {
+            Some(own) => Ok(Some(begin_step(self.alloc, job, own)?)),
+            None => Ok(None),
+        }
+    }
+
+    /// Takes the memory for an event, so that `keep` takes none and doesn't fail. A deck is given exactly where the event is
+    /// Submitted and its cards are a deck, and it is that deck. What the jobs are stays the same in either case.
+    ///
+    /// `NoMemory`: there may be none for the event.
+    pub fn prepare(&mut self, event: &Event, deck: Option<&Job>) -> Result<Prepared, NoMemory>
+        requires rows { AllByRecursion IsAcceptedRow self.old.tables.desk.runs }
+        requires deck { MaySubmit event.now (option_copied deck) }
+        ensures desk { self.new.tables.desk ≡ self.old.tables.desk }
+        ensures running { self.new.running ≡ self.old.running }
+        ensures failed { self.new.failed ≡ self.old.failed }
+        ensures jobs { (layout : LayoutOfDisk) → AreJobs layout self.old → AreJobs layout self.new }
+        ensures ok { IfOk result (IsPrepared self.new event.now (option_copied deck.entry)) }
+    {
+        let uses = self.make_room(event, deck)?;
+        match event {
+            Event::Started { job, step, .. } => {
+                self.running.reserve(1)?;
+                let step = self.begun(*job, *step)?;
+                Ok(Prepared { uses, step })
+            }
+            _ => Ok(Prepared { uses, step: None }),
+        }
+    }
+
+    /// Room for an event on the tables and in the queue, and the uses of the deck that it submits, if it submits one. What the jobs
+    /// are stays the same in either case.
+    ///
+    /// `NoMemory`: there may be none for the event.
+    pub(crate) fn make_room(
+        &mut self,
+        event: &Event,
+        deck: Option<&Job>,
+    ) -> Result<Option<Uses>, NoMemory>
+        requires { MaySubmit event.now (option_copied deck) }
+        ensures desk { self.new.tables.desk ≡ self.old.tables.desk }
+        ensures running { self.new.running ≡ self.old.running }
+        ensures failed { self.new.failed ≡ self.old.failed }
+        ensures jobs { (layout : LayoutOfDisk) → AreJobs layout self.old → AreJobs layout self.new }
+        ensures tables { OnOk result (HasRoom self.new.tables event.now) }
+        ensures queue { OnOk result (HasQueueRoom event.now self.new.queue_room) }
+        ensures uses { IfOk result (HasUses event.now (option_copied deck.entry)) }
+    {
+        self.tables.make_room(event)?;
+        match event {
+            Event::Submitted { job, .. } => {
+                self.queue.reserve(1)?;
+                uses_for(self.alloc, *job, deck)
+            }
+            _ => Ok(None),
+        }
+    }
+}

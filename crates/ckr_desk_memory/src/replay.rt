@@ -1,0 +1,94 @@
+//! The jobs go on by the events of the desk as they are read again.
+ghost use Rattle.std.specs.Prelude.{◌≡◌, IfOk, IsTrue, OnErr, OnOk, unwrap_or};
+ghost use Rattle.std.specs.Option.{is_some};
+ghost use Rattle.ckr_desk_memory.specs.Invariant.{AreJobs};
+ghost use Rattle.ckr_desk_memory.specs.Replay.{deck_of, goes_on, is_run_as, is_run_by, replayed, HasFewCards};
+ghost use Rattle.ckr_points.specs.Follows.{follows};
+ghost use Rattle.ckr_points_tables.specs.Invariant.{is_plain_event};
+
+use crate::Jobs;
+use ckr_base::NoMemory;
+use ckr_events::Event;
+use ckr_jcl::Job;
+use ckr_points_decks::{is_run, job_of_kept};
+use ckr_points_follows::{follows, may_count};
+use ckr_points_tables::{Tables, is_plain, is_submittable};
+use ckr_volumes::Layout;
+use std::alloc::Global;
+
+/// The deck of the cards that an event keeps.
+fn deck_of(alloc: Global, event: &Event) -> Result<Option<Job>, NoMemory>
+    requires { HasFewCards event.now }
+    ensures { IfOk result (λ deck. deck ≡ deck_of event.now) }
+{
+    match event {
+        Event::Submitted { cards, .. } => job_of_kept(alloc, cards.as_slice()),
+        _ => Ok(None),
+    }
+}
+
+/// Whether a deck is of a form that the desk runs, and may be submitted under a number.
+fn is_run_as(job: u32, deck: &Option<Job>) -> bool
+    ensures { result ≡ is_run_as job deck.now }
+{
+    match deck {
+        Some(deck) => is_run(deck) && is_submittable(job, deck),
+        None => false,
+    }
+}
+
+/// Whether an event submits such a deck, or none at all.
+fn is_run_by(event: &Event, deck: &Option<Job>) -> bool
+    ensures { result ≡ is_run_by event.now deck.now }
+{
+    match event {
+        Event::Submitted { job, .. } => is_run_as(*job, deck),
+        _ => true,
+    }
+}
+
+/// Whether a plain event follows, with the deck that it submits.
+fn follows_with(tables: &Tables, layout: &Layout, event: &Event, deck: &Option<Job>) -> bool
+    requires { IsTrue (is_plain_event event.now) }
+    ensures { result ≡ follows layout.now tables.now.desk event.now deck.now }
+{
+    match deck {
+        Some(deck) => follows(tables, layout, event, Some(deck)),
+        None => follows(tables, layout, event, None),
+    }
+}
+
+/// Whether an event follows in what the desk runs, with the deck that it submits.
+fn goes_on(tables: &Tables, layout: &Layout, event: &Event, deck: &Option<Job>) -> bool
+    ensures { result ≡ goes_on layout.now tables.now.desk event.now deck.now }
+{
+    is_plain(event)
+        && is_run_by(event, deck)
+        && follows_with(tables, layout, event, deck)
+        && may_count(tables, event)
+}
+
+impl Jobs {
+    /// Goes on by an event of the desk that is read again, and starts no step. False exactly where it doesn't follow in what the desk
+    /// runs by now: it is no plain event, or its cards are no deck of a form that the desk runs, or it doesn't follow, or its rewrite
+    /// can't be counted; then the jobs are as before. An event keeps at most 3,355,443 cards (this project's profile).
+    ///
+    /// `NoMemory`: the jobs are as before.
+    pub fn replay(&mut self, layout: &Layout, event: &Event) -> Result<bool, NoMemory>
+        requires { HasFewCards event.now }
+        ensures answer { IfOk result (λ goes. goes ≡ is_some (replayed layout.now self.old.tables.desk event.now)) }
+        ensures ok { OnOk result (self.new.tables.desk ≡ unwrap_or (replayed layout.now self.old.tables.desk event.now) self.old.tables.desk) }
+        ensures err { OnErr result (self.new.tables.desk ≡ self.old.tables.desk) }
+        ensures running { self.new.running ≡ self.old.running }
+        ensures failed { self.new.failed ≡ self.old.failed }
+        ensures jobs { AreJobs layout.now self.old → AreJobs layout.now self.new }
+    {
+        let deck = deck_of(self.alloc, event)?;
+        if !goes_on(&self.tables, layout, event, &deck) {
+            return Ok(false);
+        }
+        let uses = self.make_room(event, deck.as_ref())?;
+        self.go_on(event, deck, uses);
+        Ok(true)
+    }
+}

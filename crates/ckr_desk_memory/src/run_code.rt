@@ -1,0 +1,186 @@
+//! A run that has a code: how far it has come, and the rule by which it isn't restarted.
+ghost use Rattle.std.specs.Prelude.{◌≡◌, ◌≤◌, false, [], ℕ, length};
+ghost use Rattle.std.specs.List.{list_any, AllByRecursion};
+ghost use Rattle.ckr_base.specs.CodeText.{same_code};
+ghost use Rattle.ckr_points_library.specs.Holdings.{owned};
+ghost use Rattle.ckr_events.specs.Format.{length_list};
+ghost use Rattle.ckr_desk_memory.specs.Plans.{reached_seen, row_for, IsSpelledPlan};
+ghost use Rattle.ckr_desk_memory.specs.View.{length_in, lengths_in, lengths_of_row};
+ghost use Rattle.ckr_points.specs.RuleCases.{auto_case, rd_in_effect, since_point, since_start};
+ghost use Rattle.ckr_points.specs.Restart.{place_of as place_of_row, step_in as step_in_place};
+ghost use Rattle.ckr_rules.specs.RuleTables.{is_rnc, rule_number};
+ghost use Rattle.ckr_points_decks.specs.DeckLimits.{IsWithinLimits};
+ghost use Rattle.ckr_desk_turn.specs.Codes.{code_plan, rule_for};
+ghost use Rattle.ckr_desk_turn.specs.Spelling.{IsCode};
+
+use arrayvec::ArrayVec;
+use ckr_base::{Code, DsName};
+use ckr_desk_turn::{How, Plan, Reply, coded_event};
+use ckr_jcl::{Rd, Step};
+use ckr_library::Library;
+use ckr_meaning::Place;
+use ckr_points::step_in;
+use ckr_points_library::output_name;
+use ckr_points_tables::{RunTable, place_now, point_at, step_at};
+use ckr_rules::{AutoCase, Rule, Verdict, automatic};
+use ckr_volumes::Layout;
+
+/// How far a run has come.
+#[derive(Drop)]
+pub(crate) struct CodePlace {
+    /// The writes of its step.
+    pub(crate) writes: u32,
+    /// The lengths of its step's outputs, in records, in the order of the DDs.
+    pub(crate) lengths: ArrayVec<u32, 16>,
+}
+
+/// Where a run is: before its first step where it wasn't selected yet.
+pub(crate) fn place_of(table: &RunTable) -> Place
+    ensures { (run : ℕ) → result ≡ place_of_row (row_for run table.now) }
+{
+    place_now(table)
+}
+
+/// The length of a data set, and 0 where it isn't there.
+fn length_in(sets: &Library, name: &DsName) -> u32
+    ensures { result ≡ length_in sets.now.sets name.now }
+{
+    match sets.get(name) {
+        Some(set) => set.length,
+        None => 0,
+    }
+}
+
+/// The lengths of a step's outputs, in the order of the DDs.
+fn lengths_in(sets: &Library, run: u32, step: &Step) -> ArrayVec<u32, 16>
+    requires run { run ≤ 9999999 }
+    requires few { length step.now.dds ≤ 16 }
+    ensures lengths { result.items ≡ lengths_in sets.now.sets run (owned step.now run []) }
+    ensures fits { length_list.fits result.items }
+{
+    let mut lengths = ArrayVec::new();
+    for dd in step.dds.as_slice() {
+        if let Some(name) = output_name(dd, run, run, step) {
+            lengths.push(length_in(sets, &name));
+        }
+    }
+    lengths
+}
+
+/// Those of the step that a run is before or in; none where there is no such step.
+pub(crate) fn lengths_of(sets: &Library, run: u32, table: &RunTable) -> ArrayVec<u32, 16>
+    requires run { run ≤ 9999999 }
+    requires within { AllByRecursion IsWithinLimits table.now.job.steps }
+    ensures lengths { result.items ≡ lengths_of_row sets.now.sets (row_for run table.now) }
+    ensures fits { length_list.fits result.items }
+{
+    match step_at(&table.job, step_in(place_of(table))) {
+        Some(step) => lengths_in(sets, run, step),
+        None => ArrayVec::new(),
+    }
+}
+
+/// The RD in effect in a step: that of the JOB, else that of the step.
+fn rd_of(table: &RunTable, step: u8) -> Option<Rd>
+    ensures { (run : ℕ) → result ≡ rd_in_effect (row_for run table.now) step }
+{
+    if table.job.rd.is_some() {
+        return table.job.rd;
+    }
+    match table
+        .job
+        .steps
+        .as_slice()
+        .get(step.saturating_sub(1) as usize)
+    {
+        Some(own) => own.rd,
+        None => None,
+    }
+}
+
+/// The restarts at the start of a step, and whether a record was rewritten in place since.
+fn since_start(table: &RunTable, step: u8) -> (u8, bool)
+    ensures { (run : ℕ) → record { restarts = result.0; rewritten = result.1 } ≡ since_start (row_for run table.now) step }
+{
+    match point_at(table.points.as_slice(), step) {
+        Some(point) => (point.restarts, point.rewritten),
+        None => (0, false),
+    }
+}
+
+/// RD is RNC.
+fn is_rnc(rd: Option<Rd>) -> bool
+    ensures { result ≡ is_rnc rd }
+{
+    matches!(rd, Some(Rd::Rnc))
+}
+
+/// The same at the point to which an automatic restart would go back.
+fn since_point(table: &RunTable, step: u8) -> (u8, bool)
+    ensures { (run : ℕ) → record { restarts = result.0; rewritten = result.1 } ≡ since_point (row_for run table.now) step }
+{
+    if is_rnc(rd_of(table, step)) {
+        return since_start(table, step);
+    }
+    match &table.in_effect {
+        Some(effect) => (effect.restarts, effect.rewritten),
+        None => since_start(table, step),
+    }
+}
+
+/// Whether a code is among those after which a restart is permitted.
+fn is_eligible(eligible: &[Code], code: Code) -> bool
+    ensures { result ≡ list_any (same_code code) eligible.now }
+{
+    eligible.iter().any(|other| code.is_same(other))
+}
+
+/// What an automatic restart of a run after a code is judged by; no operator is asked.
+fn auto_case(layout: &Layout, table: &RunTable, code: Code) -> AutoCase
+    ensures { (run : ℕ) → let row = row_for run table.now in result ≡ auto_case row (step_in_place (place_of_row row)) layout.now.eligible.items code false }
+{
+    let step = step_in(place_of(table));
+    let (restarts, rewritten) = since_point(table, step);
+    AutoCase {
+        rd: rd_of(table, step),
+        checkpoint: table.in_effect.is_some(),
+        eligible: is_eligible(layout.eligible.as_slice(), code),
+        rewritten,
+        restarts,
+        refused: false,
+    }
+}
+
+/// The rule by which a run isn't restarted after a code: one of A1 to A6.
+fn rule_for(layout: &Layout, table: &RunTable, code: Code) -> Rule
+    ensures rule { (run : ℕ) → result ≡ rule_for layout.now (row_for run table.now) code }
+    ensures low { rule_number result ≤ 6 }
+{
+    match automatic(&auto_case(layout, table, code)) {
+        Verdict::Denied(rule) => rule,
+        Verdict::Step | Verdict::Checkpoint => Rule::A6,
+    }
+}
+
+/// A run ends with a code, by the rule that denies a restart.
+pub(crate) fn code_plan(
+    layout: &Layout,
+    run: u32,
+    table: &RunTable,
+    code: Code,
+    reached: CodePlace,
+) -> Plan
+    requires code { IsCode code }
+    requires lengths { length_list.fits reached.lengths.items }
+    ensures plan { result ≡ code_plan layout.now (row_for run table.now) code (reached_seen reached) }
+    ensures spelled { IsSpelledPlan result }
+{
+    let rule = rule_for(layout, table, code);
+    Plan::Tell {
+        reply: Reply::JobEnded {
+            job: run,
+            how: How::Abended { code, rule },
+        },
+        event: coded_event(run, code, rule, reached.writes, reached.lengths),
+    }
+}

@@ -1,0 +1,13 @@
+pub mod Stamps
+pub mod Places
+pub mod Commits
+pub mod StepEnd
+pub mod OtherSets
+pub mod Office
+pub mod Events
+pub mod Start
+pub mod Fellows
+pub mod Extents
+pub mod Rewrite
+pub mod SharedSets
+pub mod Units

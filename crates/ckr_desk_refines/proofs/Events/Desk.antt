@@ -1,0 +1,155 @@
+-- What each event of a turn brings about is committed, and the jobs in memory stand for the desk behind it.
+use Rattle.std.proofs.Common.{◌≡◌, ℕ, true, not, List, refl, ap, sym, ◌∙◌, subst, Option, Some, None}
+use Rattle.std.proofs.lemmas.Bool.{and_from}
+use Rattle.arrayvec.specs.ArrayVec.{ArrayVec}
+use Rattle.ckr_base.specs.declared.code.Code.{Code}
+use Rattle.ckr_events.specs.declared.event.Ending.{Ending}
+use Rattle.ckr_events.specs.declared.event.Ending.TheVariants.{Allocation, Coded, Completed}
+use Rattle.ckr_events.specs.declared.event.Event.{Event}
+use Rattle.ckr_events.specs.declared.event.Event.TheVariants.{Ended, Selected, Started}
+use Rattle.ckr_events.specs.declared.event.Made.{Made}
+use Rattle.ckr_jcl.specs.declared.deck.Job.{Job}
+use Rattle.ckr_desk_memory.specs.EventChanges.{without_run}
+use Rattle.ckr_desk_memory.specs.View.{JobsView}
+use Rattle.ckr_desk_memory.specs.Start.{HasNew}
+use Rattle.ckr_desk_turn.specs.NextEvents.{Comes}
+use Rattle.ckr_desk_turn.specs.Invariant.{IsDesk, IsGoing}
+use Rattle.ckr_desk_turn.proofs.RunningSteps.{going-within}
+use Rattle.ckr_desk_refines.specs.Commits.{HasCommitted, HasWithinRun}
+use Rattle.ckr_desk_refines.specs.SharedSets.{LeavesOthers}
+use Rattle.ckr_desk_refines.proofs.Durable.Events.{coded-stays, completed-stays, refused-stays, step-ended-stays}
+use Rattle.ckr_desk_refines.proofs.Durable.Fellows.{others-coded, others-completed, others-refused, others-started, others-step-ended}
+use Rattle.ckr_desk_refines.proofs.Durable.Start.{selected-stays, started-stays}
+use Rattle.ckr_meaning.specs.EffectiveJob.{OwnedStep}
+use Rattle.ckr_points.specs.Office.{office_after}
+use Rattle.ckr_points.specs.Restart.{after_event, step_in}
+use Rattle.ckr_points.specs.Rows.{TablesModel, run_of, step_of_run}
+use Rattle.ckr_desk_refines.specs.Moves.{HasSameRecords, HaveMoved}
+use Rattle.ckr_desk_refines.specs.Standing.{AllStand, StandsForDesk, differ, seen_without, steps_without}
+use Rattle.ckr_desk_turn.specs.Desk.{DeskModel, at_first, behind, failed_behind, running_behind}
+use Rattle.ckr_volumes.specs.declared.layout.Layout.{Layout}
+use Rattle.ckr_desk_refines.proofs.Events.OtherSteps.{all-stand, left-differ, left-none, left-stand, rest-stand}
+use Rattle.ckr_desk_refines.proofs.Events.Plans.{OfEach}
+use Rattle.ckr_desk_refines.proofs.Events.OtherRows.{Enters, LeavesRuns, ended-leaves, selected-enters, started-leaves, step_ended-leaves}
+use Rattle.ckr_desk_refines.proofs.Events.Start.{new-stand, started-place}
+
+-- ---- what is committed
+
+-- an event has come, and what it brings about is committed on the image
+abbrev pub IsCommitted : DeskModel → List ℕ → Event → Type 0
+IsCommitted desk image event = Comes desk event → IsDesk (behind event None desk) → HasCommitted desk.layout (behind event None desk).office image
+
+pub coded-committed : (desk : DeskModel) → IsDesk desk → (image : List ℕ) → HasCommitted desk.layout desk.office image → (job rule writes : ℕ) (code : Code) (lengths : ArrayVec ℕ) → HasWithinRun desk.layout desk.office job writes image → IsCommitted desk image (Ended job (Coded code rule writes lengths))
+coded-committed desk is image had job rule writes code lengths has comes later =
+    coded-stays desk.layout desk.office image job rule writes code lengths None is.kept comes.may comes.carried later.kept had has
+
+pub each-committed : (desk : DeskModel) → IsDesk desk → (image : List ℕ) → HasCommitted desk.layout desk.office image → OfEach desk image (IsCommitted desk image)
+each-committed desk is image had = record {
+  selected = λ job initiator comes later. selected-stays desk.layout desk.office image job initiator 0 None None is.kept comes.may later.kept had;
+  started = λ job step items comes later. started-stays desk.layout desk.office image job step items None is.kept comes.may comes.carried later.kept had;
+  step_ended = λ job step rc writes lengths has comes later. step-ended-stays desk.layout desk.office image job step rc writes lengths None is.kept comes.may comes.carried later.kept had has;
+  completed = λ job comes later. completed-stays desk.layout desk.office image job None is.kept later.kept had;
+  refused = λ job dd cause first second comes later. refused-stays desk.layout desk.office image job dd cause first second None is.kept later.kept had;
+  coded = λ job rule writes code lengths has. coded-committed desk is image had job rule writes code lengths has;
+}
+
+-- ---- the jobs in memory
+
+-- the jobs in memory stand for the desk behind an event, once its running steps do
+pub behind-stands : (layout : Layout) (old new : JobsView) (after : List ℕ) (desk : DeskModel) (event : Event) (deck : Option Job) → desk.layout ≡ layout → old.tables.desk ≡ desk.office.tables → old.failed ≡ desk.failed → HaveMoved event deck old new
+    → (office_after (event, deck) desk.office).tables ≡ after_event event deck desk.office.tables → IsDesk (behind event deck desk)
+    → AllStand desk.layout (office_after (event, deck) desk.office) after new.running (running_behind event desk.running) → differ (running_behind event desk.running) ≡ true
+    → HasCommitted desk.layout (office_after (event, deck) desk.office) after → StandsForDesk layout new after (behind event deck desk)
+behind-stands layout old new after desk event deck at tables failed moved same is running differs committed = record {
+  layout_is = at;
+  is_desk = is;
+  tables = moved.tables ∙ ap (after_event event deck) tables ∙ sym same;
+  failed = moved.failed ∙ ap (failed_behind event) failed;
+  running = running;
+  differ_so = differs;
+  committed = committed;
+}
+
+-- behind the event of a run that was on no initiator all running steps stand
+pub entered-stands : (layout : Layout) (old new : JobsView) (before after : List ℕ) (desk : DeskModel) (event : Event) (deck : Option Job) → StandsForDesk layout old before desk → HaveMoved event deck old new → HasSameRecords desk.layout before after
+    → (office_after (event, deck) desk.office).tables ≡ after_event event deck desk.office.tables → IsDesk (behind event deck desk)
+    → Enters desk.office (office_after (event, deck) desk.office) → new.running ≡ old.running → running_behind event desk.running ≡ desk.running
+    → HasCommitted desk.layout (office_after (event, deck) desk.office) after → StandsForDesk layout new after (behind event deck desk)
+entered-stands layout old new before after desk event deck stands moved records same is enters stay still committed =
+    behind-stands layout old new after desk event deck stands.layout_is stands.tables stands.failed moved same is
+    (subst (λ running. AllStand desk.layout (office_after (event, deck) desk.office) after new.running running) (sym still)
+    (subst (λ seen. AllStand desk.layout (office_after (event, deck) desk.office) after seen desk.running) (sym stay)
+    (all-stand desk stands.is_desk (office_after (event, deck) desk.office) enters before after records old.running desk.running stands.is_desk.going stands.running)))
+    (ap differ still ∙ stands.differ_so) committed
+
+-- behind an event with which the step of its run no longer runs those of the other runs stand
+pub ended-stands : (layout : Layout) (old new : JobsView) (before after : List ℕ) (desk : DeskModel) (event : Event) (job : ℕ) → desk.layout ≡ layout → IsDesk desk → old.tables.desk ≡ desk.office.tables → old.failed ≡ desk.failed → differ desk.running ≡ true
+    → AllStand desk.layout desk.office before (seen_without job old.running) (steps_without job desk.running) → HaveMoved event None old new → HasSameRecords desk.layout before after
+    → (office_after (event, None) desk.office).tables ≡ after_event event None desk.office.tables → IsDesk (behind event None desk)
+    → LeavesRuns desk.office (office_after (event, None) desk.office) job → LeavesOthers desk.office job (office_after (event, None) desk.office)
+    → new.running ≡ without_run job old.running → running_behind event desk.running ≡ steps_without job desk.running
+    → HasCommitted desk.layout (office_after (event, None) desk.office) after → StandsForDesk layout new after (behind event None desk)
+ended-stands layout old new before after desk event job at was tables failed differs others moved records same is leaves lies left gone committed =
+    behind-stands layout old new after desk event None at tables failed moved same is
+    (subst (λ running. AllStand desk.layout (office_after (event, None) desk.office) after new.running running) (sym gone)
+    (subst (λ seen. AllStand desk.layout (office_after (event, None) desk.office) after seen (steps_without job desk.running)) (sym left)
+    (rest-stand desk was (office_after (event, None) desk.office) job leaves lies before after records old.running desk.running was.going others)))
+    (ap differ gone ∙ left-differ job desk.running differs) committed
+
+module _ (layout : Layout) (old new : JobsView) (before after : List ℕ) (desk : DeskModel) (stands : StandsForDesk layout old before desk) (records : HasSameRecords desk.layout before after) where
+  -- an event has come, its jobs in memory have moved, and what it brings about is committed
+  abbrev pub BehindStands : Event → Type 0
+  BehindStands event =
+      Comes desk event → IsDesk (behind event None desk) → HaveMoved event None old new → HasCommitted desk.layout (behind event None desk).office after → StandsForDesk layout new after (behind event None desk)
+
+  rest : (job : ℕ) → AllStand desk.layout desk.office before (seen_without job old.running) (steps_without job desk.running)
+  rest job = left-stand desk.layout desk.office before job old.running desk.running stands.running
+
+  run-ended : (job : ℕ) (ending : Ending) → IsDesk (behind (Ended job ending) None desk) → HaveMoved (Ended job ending) None old new → LeavesOthers desk.office job (office_after (Ended job ending, None) desk.office) → HasCommitted desk.layout (behind (Ended job ending) None desk).office after → StandsForDesk layout new after (behind (Ended job ending) None desk)
+  run-ended job ending later moved lies committed =
+      ended-stands layout old new before after desk (Ended job ending) job stands.layout_is stands.is_desk stands.tables stands.failed stands.differ_so (rest job) moved records refl later
+      (ended-leaves desk.layout desk.office job ending stands.is_desk.kept.events) lies moved.running refl committed
+
+  step-started : (job step : ℕ) (items : ArrayVec Made) → BehindStands (Started job step items)
+  step-started job step items comes later moved committed =
+      behind-stands layout old new after desk (Started job step items) None stands.layout_is stands.tables stands.failed moved refl later
+      (new-stand (behind (Started job step items) None desk) later job going after committed old.running new.running starts (steps_without job desk.running)
+      (rest-stand desk stands.is_desk (office_after (Started job step items, None) desk.office) job
+      (started-leaves desk.layout desk.office job step items stands.is_desk.kept.events)
+      (others-started desk.layout desk.office job step items None stands.is_desk.kept comes.may comes.carried)
+      before after records old.running desk.running stands.is_desk.going (rest job)))
+      (and_from _ _ (ap not (left-none job desk.running)) (left-differ job desk.running stands.differ_so)) committed
+    where
+      going : IsGoing (office_after (Started job step items, None) desk.office) (at_first job)
+      going = later.going.0
+
+      same_tables : new.tables.desk ≡ (office_after (Started job step items, None) desk.office).tables
+      same_tables = moved.tables ∙ ap (after_event (Started job step items) None) stands.tables
+
+      same_step : going.number ≡ step
+      same_step =
+          ap step_in (sym (going-within (office_after (Started job step items, None) desk.office) (at_first job) going).place)
+          ∙ ap step_in (started-place desk.layout desk.office job step items stands.is_desk.kept.events comes.may comes.carried going.row going.row_at)
+
+      starts : (owned : OwnedStep) → step_of_run going.row going.number ≡ Some owned → HasNew job owned (office_after (Started job step items, None) desk.office).tables.sets old.running new.running
+      starts owned found =
+          subst (λ (tables : TablesModel). HasNew job owned tables.sets old.running new.running) same_tables
+          (moved.running going.row owned (ap (λ tables. run_of tables job) same_tables ∙ going.row_at) (ap (step_of_run going.row) (sym same_step) ∙ found))
+
+  pub each-stands : OfEach desk before BehindStands
+  each-stands = record {
+    selected = λ job initiator comes later moved committed.
+        entered-stands layout old new before after desk (Selected job initiator 0 0 None) None stands moved records refl later
+        (selected-enters desk.layout desk.office job initiator 0 stands.is_desk.kept.events comes.may) moved.running refl committed;
+    started = step-started;
+    step_ended = λ job step rc writes lengths has comes later moved committed.
+        ended-stands layout old new before after desk _ job stands.layout_is stands.is_desk stands.tables stands.failed stands.differ_so (rest job) moved records refl later
+        (step_ended-leaves desk.layout desk.office job step rc writes lengths stands.is_desk.kept.events)
+        (others-step-ended desk.layout desk.office job step rc writes lengths None stands.is_desk.kept comes.may comes.carried) moved.running refl committed;
+    completed = λ job comes later moved committed.
+        run-ended job Completed later moved (others-completed desk.layout desk.office job None stands.is_desk.kept comes.may) committed;
+    refused = λ job dd cause first second comes later moved committed.
+        run-ended job (Allocation dd cause first second) later moved (others-refused desk.layout desk.office job dd cause first second None stands.is_desk.kept comes.may) committed;
+    coded = λ job rule writes code lengths has comes later moved committed.
+        run-ended job (Coded code rule writes lengths) later moved (others-coded desk.layout desk.office job rule writes code lengths None stands.is_desk.kept comes.may comes.carried) committed;
+  }

@@ -1,0 +1,216 @@
+-- A step that has started stands at its beginning.
+use Rattle.std.proofs.Common.{◌≡◌, ◌≤◌, ℕ, zero, suc, Bool, true, false, cond, List, ◌∷◌, slice_get, refl, ap, sym, ◌∙◌, subst, Option, Some, None, arith}
+use Rattle.std.specs.Option.{option_map}
+use Rattle.std.proofs.lemmas.Option.{same_Some, slice_get-map}
+use Rattle.ckr_base.proofs.Options.{option-cases, some-not-none}
+use Rattle.arrayvec.specs.ArrayVec.{ArrayVec}
+use Rattle.ckr_events.specs.declared.event.Event.TheVariants.{Started}
+use Rattle.ckr_events.specs.declared.event.Made.{Made}
+use Rattle.ckr_jcl.specs.declared.deck.Job.{Job}
+use Rattle.ckr_jcl.specs.declared.deck.Step.{Step}
+use Rattle.ckr_desk_memory.specs.View.{RunningStepView}
+use Rattle.ckr_desk_memory.specs.Start.{HasNew, set_in_tables}
+use Rattle.ckr_desk_turn.specs.Invariant.{IsDesk, IsGoing}
+use Rattle.ckr_desk_turn.proofs.NextEvents.BetweenSteps.{no_restart, plain_parts}
+use Rattle.ckr_desk_turn.proofs.OtherRuns.{row-plain}
+use Rattle.ckr_desk_turn.proofs.RunningSteps.{going-within}
+use Rattle.ckr_desk_turn.proofs.NextEvents.WithinStep.{by-step}
+use Rattle.ckr_desk_refines.specs.Commits.{HasCommitted}
+use Rattle.ckr_desk_refines.specs.StepSets.{HasSets}
+use Rattle.ckr_desk_refines.proofs.Durable.Start.{none-long}
+use Rattle.ckr_desk_refines.proofs.Durable.Stamps.{as-office}
+use Rattle.ckr_library.specs.declared.sets.Content.TheVariants.{Plain}
+use Rattle.ckr_library.specs.declared.sets.DataSet.{DataSet}
+use Rattle.ckr_library.specs.Catalog.{set_of}
+use Rattle.ckr_library.specs.NameMaps.{Name, Named, entry_at}
+use Rattle.ckr_meaning.specs.EffectiveJob.{Effective, OwnedStep, is_among, names_of, owned_by, placed_in, plain_job, stamp_of, step_at}
+use Rattle.ckr_meaning.specs.Allotments.{DdAllotment, opened_all}
+use Rattle.ckr_meaning.specs.declared.place.Place.TheVariants.{Within}
+use Rattle.ckr_meaning.specs.StepRun.{StepStart, within_at}
+use Rattle.ckr_meaning.proofs.WriteSeries.{within_at-none}
+use Rattle.ckr_points.specs.Tables.{made_tables, start_point}
+use Rattle.ckr_points.specs.Payload.{carries}
+use Rattle.ckr_points.specs.Marks.{with_point}
+use Rattle.ckr_points.specs.Office.{Leg, Office, office_after}
+use Rattle.ckr_points.specs.Restart.{place_of}
+use Rattle.ckr_points.specs.Rows.{RunRow, TableSet, run_of, standing_of, step_of_run, table_ways}
+use Rattle.ckr_points.specs.Soundness.{may_come}
+use Rattle.ckr_points_invariant.specs.Invariant.{AreAlike, IsAgreed, Shape, set_shape, table_shape}
+use Rattle.ckr_points_invariant.proofs.Steps.Commits.{IsRunning, alike_within, formed_step, found_leg, in_reach, its_start, under_way}
+use Rattle.ckr_points_invariant.proofs.Holders.Rows.{run-same}
+use Rattle.ckr_points_invariant.proofs.Start.Event.{by-start}
+use Rattle.ckr_desk_refines.specs.Standing.{AllStand, StandsForStep}
+use Rattle.ckr_steps.specs.declared.files.Files.{Files}
+use Rattle.ckr_steps.specs.declared.step_run.StepRun.{StepRun}
+use Rattle.ckr_steps.specs.Files.{files_of}
+use Rattle.ckr_steps.specs.Places.{HasMade, ShowsWithin, IsStepPlace, files_at, names_at}
+use Rattle.ckr_steps.specs.Units.{first_state}
+use Rattle.ckr_steps.specs.Writes.{Shows}
+use Rattle.ckr_steps.proofs.Start.{begins, shows_made}
+use Rattle.ckr_desk_turn.specs.Desk.{DeskModel, DeskStep, at_first}
+use Rattle.ckr_volumes.specs.declared.layout.Layout.{Layout}
+use Rattle.ckr_desk_memory.specs.EventChanges.{without_run}
+use Rattle.ckr_desk_refines.proofs.Events.Commits.{within-begun}
+use Rattle.ckr_desk_refines.proofs.Events.StartNeeds.{may-start}
+
+-- ---- a run owns the steps of its deck
+
+owns-step : (run : ℕ) (deck : Job) (number : ℕ) (owned : OwnedStep) → step_at (plain_job run deck) number ≡ Some owned → owned.owner ≡ run
+owns-step run deck zero owned found = absurd (some-not-none owned (sym found))
+owns-step run deck (suc place) owned found = by (slice_get deck.steps place) (sym (slice_get-map (owned_by run deck) deck.steps place) ∙ found)
+  where
+    by : (step : Option Step) → option_map (owned_by run deck) step ≡ Some owned → owned.owner ≡ run
+    by None e = absurd (some-not-none owned (sym e))
+    by (Some step) e = ap (λ (o : OwnedStep). o.owner) (sym (same_Some (owned_by run deck step) owned e))
+
+-- ---- the place behind its start
+
+pub started-place : (layout : Layout) (now : Office) (job step : ℕ) (items : ArrayVec Made) → IsAgreed layout now → may_come layout now (Started job step items, None) ≡ true → carries layout now (Started job step items) None ≡ true
+    → (next : RunRow) → run_of (office_after (Started job step items, None) now).tables job ≡ Some next → place_of next ≡ Within step 0
+started-place layout now job step items kept may carried =
+    by-start (λ later. (next : RunRow) → run_of later.tables job ≡ Some next → place_of next ≡ Within step 0) layout now job step items None kept may carried
+    (λ row leg owned starts next next_at.
+    let placed : List DdAllotment = placed_in table_ways (standing_of row now.tables) row.job.root owned in
+    let opened : Named TableSet = opened_all table_ways (stamp_of owned step) placed now.tables.sets in
+    let put : RunRow = record row { place = Some (Within step 0); points = with_point (start_point row step opened) row.points } in
+    ap place_of (sym (same_Some put next
+    (sym (run-same (record now.tables { sets = made_tables (stamp_of owned step) items.items placed opened }) put row job starts.holder.row_at (kept.numbered job row starts.holder.row_at)) ∙ next_at))))
+
+-- ---- the step that stands before the others
+
+-- a data set in memory is that of the tables, under a name of the step
+record IsInTables (tables : Option TableSet) (among : Bool) (set : DataSet) : Type 0 where
+  table : TableSet
+  at : tables ≡ Some table
+  is : table.set ≡ set
+  named : among ≡ true
+
+in-tables : (tables : Option TableSet) (among : Bool) (set : DataSet) → cond among (option_map (λ (table : TableSet). table.set) tables) None ≡ Some set → IsInTables tables among set
+in-tables None true set e = absurd (some-not-none set (sym e))
+in-tables (Some table) true set e = record { table = table; at = refl; is = same_Some table.set set e; named = refl }
+in-tables tables false set e = absurd (some-not-none set (sym e))
+
+module _ (desk : DeskModel) (is : IsDesk desk) (run : ℕ) (going : IsGoing desk.office (at_first run)) (image : List ℕ) (committed : HasCommitted desk.layout desk.office image) (old new : List RunningStepView) where
+  module _ (leg : Leg) (owned : OwnedStep) (running : IsRunning desk.office run going.row leg owned going.number 0) (same : going.start ≡ its_start leg owned going.number)
+      (has : HasNew run owned desk.office.tables.sets old new) where
+    abbrev start : StepStart
+    start = its_start leg owned going.number
+
+    of_deck : leg.job ≡ plain_job going.row.number going.row.deck
+    of_deck =
+        (is.kept.events.uses run going.row leg running.holder).plain (no_restart going.row.deck (plain_parts going.row (row-plain desk is run going.row going.row_at)).runs)
+
+    root_is : leg.job.root ≡ run
+    root_is = ap (λ (job : Effective). job.root) of_deck ∙ is.kept.events.numbered run going.row going.row_at
+
+    step_there : step_at leg.job going.number ≡ Some owned
+    step_there = found_leg desk.layout desk.office run going.row leg owned going.number 0 is.kept.events running
+
+    owner_is : owned.owner ≡ run
+    owner_is =
+        owns-step going.row.number going.row.deck going.number owned (ap (λ (job : Effective). step_at job going.number) (sym of_deck) ∙ step_there)
+        ∙ is.kept.events.numbered run going.row going.row_at
+
+    named_so : (name : Name) → is_among (names_of run owned) name ≡ is_among (names_of leg.job.root owned) name
+    named_so name = ap (λ n. is_among (names_of n owned) name) (sym root_is)
+
+    -- ---- its data sets
+
+    set_there : (name : Name) → is_among (names_of leg.job.root owned) name ≡ true → set_of has.on.sets name ≡ set_in_tables desk.office.tables.sets name
+    set_there name among =
+        has.sets name ∙ ap (λ b. cond b (set_in_tables desk.office.tables.sets name) None) (named_so name ∙ among)
+
+    table_of : (name : Name) (set : DataSet) → set_of has.on.sets name ≡ Some set → IsInTables (entry_at desk.office.tables.sets name) (is_among (names_of run owned) name) set
+    table_of name set own = in-tables (entry_at desk.office.tables.sets name) (is_among (names_of run owned) name) set (sym (has.sets name) ∙ own)
+
+    has_sets : HasSets desk.office.tables.sets (names_of leg.job.root owned) has.on.sets
+    has_sets = record {
+      from = λ name set own.
+          let its : IsInTables (entry_at desk.office.tables.sets name) (is_among (names_of run owned) name) set = table_of name set own in (
+            its.table,
+            its.at,
+            record {
+              places = record { parts = ap (λ (s : DataSet). s.parts.items) (sym its.is); lrecl = ap (λ (s : DataSet). s.lrecl) (sym its.is) };
+              space = ap (λ (s : DataSet). s.space) (sym its.is);
+              longer = subst (λ (s : DataSet). its.table.set.length ≤ s.length) its.is (omega arith);
+            },
+          );
+      each = λ name table among e. (
+        table.set,
+        set_there name among ∙ ap (option_map (λ (table : TableSet). table.set)) e,
+        record { places = record { parts = refl; lrecl = refl }; space = refl; longer = omega arith },
+      );
+    }
+
+    -- ---- its records
+
+    alike_so : (name : Name) → is_among (names_of leg.job.root owned) name ≡ true → AreAlike desk.office.tables.sets (within_at start 0) name
+    alike_so name among =
+        alike_within desk.layout desk.office run going.row leg owned going.number 0 is.kept.events running name
+        (in_reach desk.layout desk.office run going.row leg owned going.number 0 is.kept.events running name among)
+
+    shows_so : ShowsWithin (Unit {0}) image desk.layout start 0 has.on.sets
+    shows_so name model among e plain =
+        option-cases (entry_at desk.office.tables.sets name)
+        (λ none. absurd (some-not-none (set_shape model) (sym (ap (option_map table_shape) (sym none) ∙ alike_so name among ∙ ap (option_map set_shape) e))))
+        (λ table at.
+        let shape : table_shape table ≡ set_shape model = same_Some _ _ (ap (option_map table_shape) (sym at) ∙ alike_so name among ∙ ap (option_map set_shape) e) in
+        let here : table.set.content ≡ Plain = ap (λ (s : Shape). s.content) shape ∙ plain in
+        record {
+          set = table.set;
+          is = set_there name among ∙ ap (option_map (λ (table : TableSet). table.set)) at;
+          shows = record {
+            lrecl = ap (λ (s : Shape). s.lrecl) shape;
+            space = ap (λ (s : Shape). s.space) shape;
+            length = none-long table model shape here;
+            records = λ told.
+                committed name table at here
+                ∙ as-office desk.layout desk.office name table model is.kept at here shape
+                (within-begun desk.layout desk.office run going.row leg owned going.number 0 is.kept running name model e);
+          };
+        })
+
+    -- ---- its place
+
+    files_are : files_at start ≡ files_of run run owned.step
+    files_are = ap (λ n. files_of n owned.owner owned.step) root_is ∙ ap (λ n. files_of run n owned.step) owner_is
+
+    made_so : HasMade desk.layout start has.on.sets
+    made_so =
+        shows_made (Unit {0}) image desk.layout start has.on.sets
+        (subst (λ library. Shows (Unit {0}) image desk.layout (names_at start) library has.on.sets) (within_at-none start) shows_so)
+
+    stands_so : IsStepPlace start 0 false has.on.step has.on.sets
+    stands_so =
+        subst (λ (s : StepRun). IsStepPlace start 0 false s has.on.sets)
+        (ap (λ (files : Files). (let step : StepRun = record { state = first_state owned.step.program; parm = owned.step.parm; files = files; writes = 0 } in step)) files_are ∙ sym has.step)
+        (begins desk.layout start
+        (may-start start (formed_step desk.layout desk.office run going.row leg owned going.number 0 is.kept.events running) (under_way desk.layout desk.office run going.row leg owned going.number 0 is.kept.events running).flawless)
+        has.on.sets made_so owned.step.parm refl)
+
+    step-stands : StandsForStep desk.layout desk.office image has.on (at_first run)
+    step-stands = record {
+      row = going.row;
+      row_at = going.row_at;
+      start = start;
+      start_at = going.start_at ∙ ap Some same;
+      run = has.run;
+      stands = stands_so;
+      writes = ap (λ (s : StepRun). s.writes) has.step;
+      sets = has_sets;
+      named = λ name set own. sym (named_so name) ∙ (table_of name set own).named;
+      shows = shows_so;
+      checked = λ name table set e own content.
+          let its : IsInTables (entry_at desk.office.tables.sets name) (is_among (names_of run owned) name) set = table_of name set own in
+          ap (λ (s : DataSet). s.length) (sym its.is) ∙ ap (λ (t : TableSet). t.set.length) (same_Some its.table table (sym its.at ∙ e));
+    }
+
+  -- it stands before the other ones
+  pub new-stand : ((owned : OwnedStep) → step_of_run going.row going.number ≡ Some owned → HasNew run owned desk.office.tables.sets old new) → (running : List DeskStep) → AllStand desk.layout desk.office image (without_run run old) running → AllStand desk.layout desk.office image new (at_first run ∷ running)
+  new-stand starts running rest =
+      by-step desk is run going.row going.number going.committed going.start (going-within desk.office (at_first run) going)
+      (λ leg owned its same spaced.
+      let none : going.committed ≡ 0 = (let low : going.committed ≤ 0 = going.behind in omega (arith, low)) in
+      let has : HasNew run owned desk.office.tables.sets old new = starts owned its.found in
+      subst (λ seen. AllStand desk.layout desk.office image seen (at_first run ∷ running)) (sym has.first)
+      (step-stands leg owned (subst (λ n. IsRunning desk.office run going.row leg owned going.number n) none its) same has, rest))

@@ -1,0 +1,6 @@
+pub mod Durable
+pub mod Listing
+pub mod Rewrites
+pub mod Standing
+pub mod Events
+pub mod Units

@@ -1,0 +1,14 @@
+pub mod StepLists
+pub mod InputRecords
+pub mod Unit
+pub mod Replies
+pub mod Legs
+pub mod Office
+pub mod OwnStep
+pub mod OtherSteps
+pub mod Commits
+pub mod Records
+pub mod Requests
+pub mod Desk
+pub mod Masters
+pub mod LastRecord

@@ -1,0 +1,5 @@
+pub mod PlanInputs
+pub mod StepViews
+pub mod Lengths
+pub mod Plans
+pub mod DeskView

@@ -1,0 +1,144 @@
+-- A unit by which a step ends with a code: what the desk tells, and what stands until its run ends in memory too.
+use Rattle.std.proofs.Common.{◌≡◌, ◌≤◌, ◌<◌, ℕ, true, not, cond, List, ◌∷◌, length, refl, ap, sym, ◌∙◌, subst, Some, None, arith}
+use Rattle.std.specs.Prelude.{◌==◌}
+use Rattle.std.proofs.lemmas.Option.{same_Some}
+use Rattle.ckr_base.specs.declared.code.Code.{Code}
+use Rattle.ckr_base.proofs.Numbers.{equal-itself}
+use Rattle.ckr_base.proofs.Sequences.{filter-twice}
+use Rattle.ckr_events.specs.declared.event.Event.{Event}
+use Rattle.ckr_events.specs.declared.event.Event.TheVariants.{Ended as EndedEvent}
+use Rattle.ckr_events.specs.declared.event.Ending.{Ending}
+use Rattle.ckr_events.specs.declared.event.Ending.TheVariants.{Coded as CodedEnding}
+use Rattle.ckr_desk_memory.specs.EventChanges.{without_first}
+use Rattle.ckr_desk_memory.specs.Plans.{told_by}
+use Rattle.ckr_desk_memory.specs.View.{JobsView, RunningStepView, running_of}
+use Rattle.ckr_desk_turn.proofs.Units.LastUnit.{full-plain}
+use Rattle.ckr_desk_turn.specs.Invariant.{HasCome, IsOpen, next_writes}
+use Rattle.ckr_desk_refines.proofs.Durable.Units.{within-shown}
+use Rattle.ckr_desk_refines.specs.Commits.{HasWithin, HasWithinRun}
+use Rattle.ckr_meaning.specs.StepRun.{StepStart, work_at}
+use Rattle.ckr_points.specs.Payload.{rewrites_nothing, start_in_office}
+use Rattle.ckr_points.specs.Rows.{RunRow, run_of}
+use Rattle.ckr_rules.specs.RuleTables.{rule_number}
+use Rattle.ckr_desk_refines.specs.Moves.{event_in, reply_in}
+use Rattle.ckr_desk_refines.specs.Standing.{AllStand, StandsBut, seen_without, steps_without}
+use Rattle.ckr_steps.specs.declared.step_run.Worked.TheVariants.{Abend}
+use Rattle.ckr_steps.specs.Places.{EndsSo}
+use Rattle.ckr_desk_turn.specs.Codes.{CodePlaceModel, code_plan, rule_for, running_reached}
+use Rattle.ckr_desk_turn.specs.Desk.{DeskModel, DeskStep, TurnDone, behind, seen, unit_done, with_progress, without_run, work_of}
+use Rattle.ckr_desk_turn.specs.declared.reply.Turn.{Turn}
+use Rattle.ckr_desk_turn.specs.Units.{StepProgress, unit_end}
+use Rattle.ckr_volumes.specs.declared.layout.Layout.{Layout}
+use Rattle.ckr_desk_refines.specs.Unit.{IsPutBack, StandsBehindUnit}
+use Rattle.ckr_desk_refines.proofs.Units.Desk.{committed-so, did-so, each-stays, goes-so, pair, row-at, run-moved, shows-at, stands-at, unclosed, work-is}
+use Rattle.ckr_desk_refines.proofs.Units.CodeOutcomes.{Ended, gave_up, spilled, end-coded, end_coded}
+use Rattle.ckr_desk_refines.proofs.Units.Outcomes.{open_at}
+use Rattle.ckr_desk_refines.proofs.Units.StepLists.{IsPair, all-stay, without-first}
+use Rattle.ckr_desk_refines.proofs.Units.OtherSteps.{same-start}
+use Rattle.ckr_desk_refines.proofs.Units.OwnStep.{own-sets}
+use Rattle.ckr_desk_refines.proofs.Units.Replies.{lengths-behind, seen-behind, told-so}
+
+without-moved : (run : ℕ) (progress : StepProgress) (running : List DeskStep) → without_run run (record { run = run; progress = progress } ∷ without_run run running) ≡ without_run run running
+without-moved run progress running =
+    ap (λ b. cond (not b) (record { run = run; progress = progress } ∷ without_run run (without_run run running)) (without_run run (without_run run running))) (equal-itself run)
+    ∙ filter-twice (λ (step : DeskStep). not (step.run == run)) running
+
+-- behind the end of its run it doesn't matter how far the step had come
+behind-moved : (run : ℕ) (ending : Ending) (progress : StepProgress) (desk : DeskModel) → behind (EndedEvent run ending) None (with_progress run progress desk) ≡ behind (EndedEvent run ending) None desk
+behind-moved run ending progress desk =
+    ap (λ (running : List DeskStep). record (behind (EndedEvent run ending) None desk) { running = running }) (without-moved run progress desk.running)
+
+module _ (layout : Layout) (old : JobsView) (before after : List ℕ) (desk : DeskModel) (turn : Turn) (run : ℕ) (on moved : RunningStepView) (code : Code) (unit : StandsBehindUnit layout old before after desk turn run on moved (Abend code)) where
+  abbrev p : IsPair desk.layout desk.office before run on desk.running
+  p = pair layout old before after desk turn run on moved (Abend code) unit
+
+  ends : EndsSo (Unit {0}) after desk.layout p.stands.start code moved.step moved.sets
+  ends = goes-so layout old before after desk turn run on moved (Abend code) unit
+
+  its_end : (unit_end p.stands.start (open_at p.step.progress.taken on.step.writes) ≡ end_coded code p.step.progress.taken moved.step.writes) × Ended p.stands.start p.step.progress.taken on.step.writes moved.step.writes
+  its_end =
+      end-coded before after desk.layout p.stands.start p.step.progress.taken on.step moved.step on.sets moved.sets (Abend code)
+      (stands-at layout old before after desk turn run on moved (Abend code) unit) (shows-at layout old before after desk turn run on moved (Abend code) unit) (did-so layout old before after desk turn run on moved (Abend code) unit)
+      code refl ends
+
+  abbrev its_progress : StepProgress
+  its_progress = open_at p.step.progress.taken moved.step.writes
+
+  coded-done : work_of run desk ≡ unit_done p.stands.row (end_coded code p.step.progress.taken moved.step.writes) desk
+  coded-done = work-is layout old before after desk turn run on moved (Abend code) unit (end_coded code p.step.progress.taken moved.step.writes) its_end.0
+
+  same : p.going.start ≡ p.stands.start
+  same = same-start desk.layout desk.office before on p.step p.going p.stands
+
+  opened : IsOpen p.going.start p.step.progress
+  opened = subst (HasCome p.going.start p.step.progress) (unclosed layout old before after desk turn run on moved (Abend code) unit) p.going.come
+
+  most : moved.step.writes ≡ length (work_at p.going.start).writes
+  most = ends.writes ∙ ap (λ (s : StepStart). length (work_at s).writes) (sym same)
+
+  committed-below : p.going.committed ≤ moved.step.writes
+  committed-below =
+      let a : p.going.committed ≤ p.step.progress.writes = p.going.behind in
+      let b : p.step.progress.writes ≤ length (work_at p.going.start).writes = p.going.fit in
+      let c : moved.step.writes ≡ length (work_at p.going.start).writes = most in
+      omega (arith, a, b, c)
+
+  plain-so : Ended p.stands.start p.step.progress.taken on.step.writes moved.step.writes → rewrites_nothing p.going.start p.going.committed moved.step.writes ≡ true
+  plain-so (spilled full) =
+      subst (λ n. rewrites_nothing p.going.start p.going.committed n ≡ true) (sym most)
+      (full-plain desk.office p.step p.going opened
+      (subst (λ (s : StepStart). length (work_at s).writes < next_writes s p.step.progress) (sym same)
+      (subst (λ (n : ℕ). length (work_at p.stands.start).writes < next_writes p.stands.start (record { taken = p.step.progress.taken; writes = n; closed = p.step.progress.closed })) p.stands.writes full)))
+  plain-so (gave_up none) = subst (λ n. rewrites_nothing p.going.start p.going.committed n ≡ true) (sym (none ∙ p.stands.writes)) p.going.plain
+
+  reached-so : running_reached (running_of desk.office.tables moved) ≡ running_reached (seen desk.office p.stands.row.number its_progress)
+  reached-so =
+      ap (λ (lengths : List ℕ). let reached : CodePlaceModel = record { writes = moved.step.writes; lengths = lengths } in reached)
+      (lengths-behind layout old before after desk turn run on moved (Abend code) unit moved.step.writes committed-below
+      (let c : moved.step.writes ≡ length (work_at p.going.start).writes = most in omega (arith, c)) (plain-so its_end.1) ends.shows)
+      ∙ sym (ap running_reached (seen-behind layout old before after desk turn run on moved (Abend code) unit its_progress))
+
+  pub told-coded : (row : RunRow) → run_of desk.office.tables run ≡ Some row
+      → (reply_in (told_by layout row (running_of desk.office.tables moved) (Abend code)) ≡ (work_of run desk).reply) × (event_in (told_by layout row (running_of desk.office.tables moved) (Abend code)) ≡ (work_of run desk).event)
+  told-coded =
+      told-so layout old before after desk turn run on moved (Abend code) unit (end_coded code p.step.progress.taken moved.step.writes) coded-done
+      (ap (λ (l : Layout). code_plan l p.stands.row code (running_reached (running_of desk.office.tables moved))) (sym unit.stands.layout_is)
+      ∙ ap (code_plan desk.layout p.stands.row code) reached-so)
+
+  -- ---- what stands meanwhile
+
+  others : (put : JobsView) → IsPutBack run moved old put → AllStand desk.layout desk.office after (seen_without run put.running) (steps_without run desk.running)
+  others put back =
+      subst (λ (seen : List RunningStepView). AllStand desk.layout desk.office after seen (steps_without run desk.running))
+      (sym (ap (seen_without run) back.running
+      ∙ ap (λ b. cond (not b) (moved ∷ seen_without run (without_first run old.running)) (seen_without run (without_first run old.running)))
+      (ap (λ n. n == run) (run-moved layout old before after desk turn run on moved (Abend code) unit) ∙ equal-itself run)
+      ∙ without-first run old.running))
+      (all-stay desk.layout desk.office before after run (each-stays layout old before after desk turn run on moved (Abend code) unit) old.running desk.running unit.stands.is_desk.going unit.stands.running)
+
+  pub coded-but : (put : JobsView) → IsPutBack run moved old put → StandsBut run layout put after desk
+  coded-but put back = record {
+    layout_is = unit.stands.layout_is;
+    is_desk = unit.stands.is_desk;
+    tables = back.tables ∙ unit.stands.tables;
+    failed = back.failed ∙ unit.stands.failed;
+    running = others put back;
+    differ_so = unit.stands.differ_so;
+    committed = committed-so layout old before after desk turn run on moved (Abend code) unit before after unit.stands.committed unit.keeps;
+  }
+
+  -- the image has what the step has written
+  pub coded-within : HasWithinRun desk.layout desk.office run moved.step.writes after
+  coded-within row start at starts =
+      let mine : p.stands.row ≡ row = same_Some p.stands.row row (sym (row-at layout old before after desk turn run on moved (Abend code) unit) ∙ at) in
+      let its : p.stands.start ≡ start = same_Some p.stands.start start (sym p.stands.start_at ∙ ap (start_in_office desk.office) mine ∙ starts) in
+      subst (λ (s : StepStart). HasWithin desk.layout desk.office.tables.sets s moved.step.writes after) its
+      (within-shown (Unit {0}) after desk.layout desk.office.tables.sets p.stands.start moved.step.writes moved.sets tt
+      (own-sets desk unit.stands.is_desk before after on moved p.step p.going p.stands (Abend code) (did-so layout old before after desk turn run on moved (Abend code) unit)) ends.shows)
+
+  -- the desk behind the unit is that behind its event
+  pub coded-behind : (event : Event) → (work_of run desk).event ≡ Some event → (work_of run desk).desk ≡ behind event None desk
+  coded-behind event is =
+      ap (λ (d : TurnDone). d.desk) coded-done
+      ∙ behind-moved p.stands.row.number (CodedEnding code (rule_number (rule_for desk.layout p.stands.row code)) (running_reached (seen desk.office p.stands.row.number its_progress)).writes (record { items = (running_reached (seen desk.office p.stands.row.number its_progress)).lengths })) its_progress desk
+      ∙ ap (λ (e : Event). behind e None desk) (same_Some _ event (sym (ap (λ (d : TurnDone). d.event) coded-done) ∙ is))

@@ -1,0 +1,68 @@
+-- The running step of a turn that works, in memory and at the desk, before its unit.
+use Rattle.std.proofs.Common.{◌≡◌, ℕ, Bool, false, List, find, ap, sym, ◌∙◌, subst, Option, Some, None}
+use Rattle.std.specs.Option.{option_map_or}
+use Rattle.std.proofs.lemmas.Option.{same_Some}
+use Rattle.ckr_desk_memory.specs.EventChanges.{is_of_run}
+use Rattle.ckr_desk_memory.specs.View.{JobsView, RunningStepView}
+use Rattle.ckr_meaning.specs.StepRun.{StepStart}
+use Rattle.ckr_points.specs.Rows.{RunRow, run_of}
+use Rattle.ckr_desk_refines.specs.Standing.{StandsForDesk}
+use Rattle.ckr_steps.specs.Places.{ShowsWithin, IsStepPlace}
+use Rattle.ckr_desk_turn.specs.Desk.{DeskModel, DeskStep, done_by, jobs_of, progress_of, start_of, unit_done, work_of}
+use Rattle.ckr_desk_turn.specs.declared.plan.Plan.TheVariants.{Rest, Work}
+use Rattle.ckr_desk_turn.specs.declared.reply.Reply.TheVariants.{Idle}
+use Rattle.ckr_desk_turn.specs.declared.reply.Turn.{Turn}
+use Rattle.ckr_desk_turn.specs.Plans.{plan_of}
+use Rattle.ckr_desk_turn.specs.Units.{StepProgress, UnitEnd, unit_end}
+use Rattle.ckr_volumes.specs.declared.layout.Layout.{Layout}
+use Rattle.ckr_desk_refines.proofs.Units.DueUnits.{IsDue, is-due}
+use Rattle.ckr_desk_refines.proofs.Units.Outcomes.{open_at}
+use Rattle.ckr_desk_refines.proofs.Units.StepLists.{IsPair, pair-of}
+
+module _ (layout : Layout) (jobs : JobsView) (image : List ℕ) (desk : DeskModel) (turn : Turn) (run : ℕ) (on : RunningStepView)
+    (stands : StandsForDesk layout jobs image desk) (planned : plan_of desk.layout (jobs_of desk) turn ≡ Work run) (found : find (is_of_run run) jobs.running ≡ Some on) where
+  -- the running step of the desk
+  pub pair-found : IsPair desk.layout desk.office image run on desk.running
+  pair-found = pair-of desk.layout desk.office image run on jobs.running desk.running stands.running stands.is_desk.going found
+
+  due : IsDue desk run
+  due = is-due desk turn run stands.is_desk planned
+
+  pub unclosed-found : pair-found.step.progress.closed ≡ false
+  unclosed-found = ap (λ (step : DeskStep). step.progress.closed) (same_Some pair-found.step due.step (sym pair-found.at ∙ due.at)) ∙ due.unclosed
+
+  abbrev start : StepStart
+  start = pair-found.stands.start
+
+  abbrev taken : ℕ
+  taken = pair-found.step.progress.taken
+
+  pub stands-found : IsStepPlace start taken false on.step on.sets
+  stands-found = subst (λ b. IsStepPlace pair-found.stands.start pair-found.step.progress.taken b on.step on.sets) unclosed-found pair-found.stands.stands
+
+  pub shows-found : ShowsWithin (Unit {0}) image desk.layout start on.step.writes on.sets
+  shows-found = subst (λ n. ShowsWithin (Unit {0}) image desk.layout pair-found.stands.start n on.sets) (sym pair-found.stands.writes) pair-found.stands.shows
+
+  -- ---- the turn of the desk
+
+  pub row-found : run_of desk.office.tables run ≡ Some pair-found.stands.row
+  row-found = ap (run_of desk.office.tables) (sym pair-found.same) ∙ pair-found.stands.row_at
+
+  pub number-found : pair-found.stands.row.number ≡ run
+  number-found = stands.is_desk.kept.events.numbered run pair-found.stands.row row-found
+
+  pub progress-found : progress_of desk run ≡ Some pair-found.step.progress
+  progress-found = ap (λ (o : Option DeskStep). option_map_or (λ (step : DeskStep). Some step.progress) o None) pair-found.at
+
+  progress-is : pair-found.step.progress ≡ open_at taken on.step.writes
+  progress-is =
+      ap (λ (n : ℕ). let progress : StepProgress = record { taken = pair-found.step.progress.taken; writes = n; closed = pair-found.step.progress.closed } in progress) (sym pair-found.stands.writes)
+      ∙ ap (λ (b : Bool). let progress : StepProgress = record { taken = pair-found.step.progress.taken; writes = on.step.writes; closed = b } in progress) unclosed-found
+
+  pub work-found : (end : UnitEnd) → unit_end start (open_at taken on.step.writes) ≡ end → work_of run desk ≡ unit_done pair-found.stands.row end desk
+  work-found end is =
+      ap (λ (o : Option RunRow). option_map_or (λ row. option_map_or (λ start. option_map_or (λ progress. unit_done row (unit_end start progress) desk) (progress_of desk run) (done_by (Rest Idle) desk)) (start_of desk.office row) (done_by (Rest Idle) desk)) o (done_by (Rest Idle) desk)) row-found
+      ∙ ap (λ (o : Option StepStart). option_map_or (λ start. option_map_or (λ progress. unit_done pair-found.stands.row (unit_end start progress) desk) (progress_of desk run) (done_by (Rest Idle) desk)) o (done_by (Rest Idle) desk)) pair-found.stands.start_at
+      ∙ ap (λ (o : Option StepProgress). option_map_or (λ progress. unit_done pair-found.stands.row (unit_end pair-found.stands.start progress) desk) o (done_by (Rest Idle) desk)) progress-found
+      ∙ ap (λ (progress : StepProgress). unit_done pair-found.stands.row (unit_end pair-found.stands.start progress) desk) progress-is
+      ∙ ap (λ (end : UnitEnd). unit_done pair-found.stands.row end desk) is

@@ -1,0 +1,13 @@
+use Rattle.ckr_desk_refines.proofs.Durable.Events.{coded-stays, step-ended-stays}
+use Rattle.ckr_desk_refines.proofs.Durable.Rewrite.{rewritten-stays}
+use Rattle.ckr_desk_refines.proofs.durable_laws.events_commit_what_a_step_has_written.Goals as goal
+
+pub returns-clause-step_ended : goal.returns-clause-step_ended
+returns-clause-step_ended c = step-ended-stays
+
+pub returns-clause-ended : goal.returns-clause-ended
+returns-clause-ended c =
+    λ layout now image job rule writes code lengths deck kept may carried next had has. coded-stays layout now image job rule writes code lengths deck kept may carried next had has
+
+pub returns-clause-rewritten : goal.returns-clause-rewritten
+returns-clause-rewritten c = rewritten-stays

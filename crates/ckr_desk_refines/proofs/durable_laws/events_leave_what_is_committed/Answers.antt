@@ -1,0 +1,21 @@
+use Rattle.ckr_desk_refines.proofs.Durable.Events.{completed-stays, purged-stays, refused-stays, submitted-stays}
+use Rattle.ckr_desk_refines.proofs.Durable.Start.{selected-stays, started-stays}
+use Rattle.ckr_desk_refines.proofs.durable_laws.events_leave_what_is_committed.Goals as goal
+
+pub returns-clause-submitted : goal.returns-clause-submitted
+returns-clause-submitted c = submitted-stays
+
+pub returns-clause-selected : goal.returns-clause-selected
+returns-clause-selected c = selected-stays
+
+pub returns-clause-started : goal.returns-clause-started
+returns-clause-started c = started-stays
+
+pub returns-clause-completed : goal.returns-clause-completed
+returns-clause-completed c = completed-stays
+
+pub returns-clause-refused : goal.returns-clause-refused
+returns-clause-refused c = refused-stays
+
+pub returns-clause-purged : goal.returns-clause-purged
+returns-clause-purged c = purged-stays

@@ -1,0 +1,13 @@
+pub mod Commits
+pub mod Origins
+pub mod StepSets
+pub mod SharedSets
+pub mod Listing
+pub mod Lengths
+pub mod Holders
+pub mod Rewrite
+pub mod Standing
+pub mod Moves
+pub mod RewriteRecord
+pub mod Unit
+pub mod Forecast

@@ -1,0 +1,98 @@
+-- The jobs in memory stand for the desk of the events, and an image of the disk has what those events and the running steps have written.
+use Rattle.std.specs.Prelude.{◌≡◌, ℕ, ◌==◌, Bool, true, ◌&&◌, not, List, [], ◌∷◌, filter, map, Some}
+use Rattle.std.specs.List.{list_any}
+use Rattle.ckr_desk_memory.specs.View.{JobsView, RunningStepView}
+use Rattle.ckr_library.specs.declared.sets.Content.TheVariants.{Checkpoints}
+use Rattle.ckr_library.specs.declared.sets.DataSet.{DataSet}
+use Rattle.ckr_library.specs.Catalog.{set_of}
+use Rattle.ckr_library.specs.NameMaps.{Name, entry_at}
+use Rattle.ckr_desk_turn.specs.Invariant.{IsDesk}
+use Rattle.ckr_desk_refines.specs.Commits.{HasCommitted}
+use Rattle.ckr_desk_refines.specs.StepSets.{HasSets}
+use Rattle.ckr_meaning.specs.EffectiveJob.{is_among, names_of}
+use Rattle.ckr_meaning.specs.StepRun.{StepStart}
+use Rattle.ckr_points.specs.Office.{Office}
+use Rattle.ckr_points.specs.Rows.{RunRow, TableSet, run_of}
+use Rattle.ckr_steps.specs.Places.{ShowsWithin, IsStepPlace}
+use Rattle.ckr_steps.specs.Units.{is_closed, taken_of}
+use Rattle.ckr_desk_turn.specs.Desk.{DeskModel, DeskStep, start_of}
+use Rattle.ckr_volumes.specs.declared.layout.Layout.{Layout}
+
+-- a running step in memory stands where its job comes to, and the image has what it has written
+pub record StandsForStep (layout : Layout) (office : Office) (image : List ℕ) (on : RunningStepView) (step : DeskStep) : Type 0 where
+  pub row : RunRow
+  pub row_at : run_of office.tables step.run ≡ Some row
+  pub start : StepStart
+  pub start_at : start_of office row ≡ Some start
+  pub run : on.run ≡ step.run
+  pub stands : IsStepPlace start step.progress.taken step.progress.closed on.step on.sets
+  pub writes : on.step.writes ≡ step.progress.writes
+  pub sets : HasSets office.tables.sets (names_of start.root start.owned) on.sets
+  -- it has no other data sets than those of its names
+  pub named : (name : Name) (set : DataSet) → set_of on.sets name ≡ Some set → is_among (names_of start.root start.owned) name ≡ true
+  pub shows : ShowsWithin (Unit {0}) image layout start step.progress.writes on.sets
+  -- its program writes no data set for checkpoint entries
+  pub checked : (name : Name) (table : TableSet) (set : DataSet) → entry_at office.tables.sets name ≡ Some table → set_of on.sets name ≡ Some set
+      → table.set.content ≡ Checkpoints → set.length ≡ table.set.length
+
+-- the running steps, in their order
+abbrev pub AllStand : Layout → Office → List ℕ → List RunningStepView → List DeskStep → Type 0
+AllStand layout office image [] [] = Unit {0}
+AllStand layout office image [] (step ∷ running) = ⊥
+AllStand layout office image (on ∷ seen) [] = ⊥
+AllStand layout office image (on ∷ seen) (step ∷ running) = StandsForStep layout office image on step × AllStand layout office image seen running
+
+-- whether one of these steps is of a run
+abbrev pub is_of_one : ℕ → List DeskStep → Bool
+is_of_one run running = list_any (λ (step : DeskStep). step.run == run) running
+
+-- no two of these steps are of one run
+abbrev pub differ : List DeskStep → Bool
+differ [] = true
+differ (step ∷ running) = not (is_of_one step.run running) && differ running
+
+-- The desk is kept, and the jobs in memory stand for it: their tables, their failed runs and their running steps are those of the desk, and
+-- the image has what the events have committed.
+pub record StandsForDesk (layout : Layout) (jobs : JobsView) (image : List ℕ) (desk : DeskModel) : Type 0 where
+  pub layout_is : desk.layout ≡ layout
+  pub is_desk : IsDesk desk
+  pub tables : jobs.tables.desk ≡ desk.office.tables
+  pub failed : jobs.failed ≡ desk.failed
+  pub running : AllStand desk.layout desk.office image jobs.running desk.running
+  pub differ_so : differ desk.running ≡ true
+  pub committed : HasCommitted desk.layout desk.office image
+
+-- ---- while a run ends
+
+abbrev pub seen_without : ℕ → List RunningStepView → List RunningStepView
+seen_without run seen = filter (λ (on : RunningStepView). not (on.run == run)) seen
+
+abbrev pub steps_without : ℕ → List DeskStep → List DeskStep
+steps_without run running = filter (λ (step : DeskStep). not (step.run == run)) running
+
+-- so it is but for the running step of one run
+pub record StandsBut (run : ℕ) (layout : Layout) (jobs : JobsView) (image : List ℕ) (desk : DeskModel) : Type 0 where
+  pub layout_is : desk.layout ≡ layout
+  pub is_desk : IsDesk desk
+  pub tables : jobs.tables.desk ≡ desk.office.tables
+  pub failed : jobs.failed ≡ desk.failed
+  pub running : AllStand desk.layout desk.office image (seen_without run jobs.running) (steps_without run desk.running)
+  pub differ_so : differ desk.running ≡ true
+  pub committed : HasCommitted desk.layout desk.office image
+
+-- ---- what is seen of the desk in memory
+
+abbrev pub step_on : RunningStepView → DeskStep
+step_on on = record {
+  run = on.run;
+  progress = record { taken = taken_of on.step.state; writes = on.step.writes; closed = is_closed on.step.state };
+}
+
+-- the desk by its jobs in memory, where its events have brought about this office
+abbrev pub desk_seen : Layout → Office → JobsView → DeskModel
+desk_seen layout office jobs = record {
+  layout = layout;
+  office = office;
+  running = map step_on jobs.running;
+  failed = jobs.failed;
+}

@@ -1,0 +1,70 @@
+//! The jobs in memory behind an event. A law is the contract of a function that does nothing.
+ghost use Rattle.std.specs.Prelude.{◌≡◌, ◌≤◌, ℕ, suc, true, List, length, None, Some, Ok};
+ghost use Rattle.arrayvec.specs.ArrayVec.{ArrayVec};
+ghost use Rattle.ckr_base.specs.declared.code.Code.{Code};
+ghost use Rattle.ckr_events.specs.declared.event.Ending.TheVariants.{Coded};
+ghost use Rattle.ckr_events.specs.declared.event.Event.{Event};
+ghost use Rattle.ckr_events.specs.declared.event.Event.TheVariants.{Ended as EndedEvent, Purged as PurgedEvent, Submitted as SubmittedEvent};
+ghost use Rattle.ckr_jcl.specs.declared.deck.Job.{Job};
+ghost use Rattle.ckr_jcl_decks.specs.Deck.{stored_deck};
+ghost use Rattle.ckr_desk_memory.specs.View.{JobsView};
+ghost use Rattle.ckr_desk_turn.specs.NextEvents.{Comes};
+ghost use Rattle.ckr_desk_turn.specs.Invariant.{IsDesk, IsTurnOf};
+ghost use Rattle.ckr_desk_refines.specs.Commits.{HasCommitted, HasWithinRun};
+ghost use Rattle.ckr_points.specs.declared.run.RunState.TheVariants.{Queued};
+ghost use Rattle.ckr_points.specs.Rows.{RunRow, run_of};
+ghost use Rattle.ckr_desk_refines.specs.Moves.{HasSameRecords, HaveMoved};
+ghost use Rattle.ckr_desk_refines.specs.Standing.{StandsForDesk, StandsBut};
+ghost use Rattle.ckr_points_decks.specs.Cards.{kept_of_stored};
+ghost use Rattle.ckr_points_decks.specs.Form.{is_run};
+ghost use Rattle.ckr_desk_turn.specs.declared.plan.Plan.TheVariants.{Tell};
+ghost use Rattle.ckr_desk_turn.specs.declared.reply.Reply.{Reply};
+ghost use Rattle.ckr_desk_turn.specs.declared.reply.Turn.{Turn};
+ghost use Rattle.ckr_desk_turn.specs.Desk.{DeskModel, behind, jobs_of, purged as purged_desk, submitted as submitted_desk};
+ghost use Rattle.ckr_desk_turn.specs.Plans.{plan_of};
+ghost use Rattle.ckr_volumes.specs.declared.layout.Layout.{Layout};
+
+/// Behind the event of a turn.
+pub fn desks_behind_turns_that_tell_stand()
+    ensures { (layout : Layout) (old new : JobsView) (before after : List ℕ) (desk : DeskModel) (turn : Turn) (reply : Reply) (event : Event)
+        → StandsForDesk layout old before desk → IsTurnOf desk.layout turn → plan_of desk.layout (jobs_of desk) turn ≡ Tell reply event
+        → HaveMoved event None old new → HasSameRecords desk.layout before after → StandsForDesk layout new after (behind event None desk) }
+{}
+
+/// Behind a deck that is submitted, and a run that is purged.
+pub fn desks_behind_calls_stand()
+    ensures submitted { (layout : Layout) (old new : JobsView) (before after : List ℕ) (desk : DeskModel) (cards : List ℕ) (deck : Job)
+        → StandsForDesk layout old before desk → 81 ≤ length cards → stored_deck cards ≡ Ok deck → is_run deck ≡ true
+        → HaveMoved (SubmittedEvent (suc (length desk.office.tables.runs)) (kept_of_stored cards)) (Some deck) old new → HasSameRecords desk.layout before after
+        → StandsForDesk layout new after (submitted_desk (kept_of_stored cards) deck desk) }
+    ensures purged { (layout : Layout) (old new : JobsView) (before after : List ℕ) (desk : DeskModel) (job : ℕ) (row : RunRow)
+        → StandsForDesk layout old before desk → run_of desk.office.tables job ≡ Some row → row.state ≡ Queued
+        → HaveMoved (PurgedEvent job) None old new → HasSameRecords desk.layout before after → StandsForDesk layout new after (purged_desk job desk) }
+{}
+
+/// Behind the event by which a run ends with a code, whatever its own step has come to.
+pub fn desks_behind_codes_stand()
+    ensures { (layout : Layout) (old new : JobsView) (before after : List ℕ) (desk : DeskModel) (run rule writes : ℕ) (code : Code) (lengths : ArrayVec ℕ)
+        → StandsBut run layout old before desk → Comes desk (EndedEvent run (Coded code rule writes lengths))
+        → IsDesk (behind (EndedEvent run (Coded code rule writes lengths)) None desk) → HasWithinRun desk.layout desk.office run writes before
+        → HaveMoved (EndedEvent run (Coded code rule writes lengths)) None old new → HasSameRecords desk.layout before after
+        → StandsForDesk layout new after (behind (EndedEvent run (Coded code rule writes lengths)) None desk) }
+{}
+
+/// The event is committed on each image that has the records.
+pub fn events_are_committed()
+    ensures told { (layout : Layout) (jobs : JobsView) (before : List ℕ) (desk : DeskModel) (turn : Turn) (reply : Reply) (event : Event)
+        → StandsForDesk layout jobs before desk → IsTurnOf desk.layout turn → plan_of desk.layout (jobs_of desk) turn ≡ Tell reply event
+        → (image : List ℕ) → HasSameRecords desk.layout before image → HasCommitted desk.layout (behind event None desk).office image }
+    ensures submitted { (layout : Layout) (jobs : JobsView) (before : List ℕ) (desk : DeskModel) (cards : List ℕ) (deck : Job)
+        → StandsForDesk layout jobs before desk → 81 ≤ length cards → stored_deck cards ≡ Ok deck → is_run deck ≡ true
+        → (image : List ℕ) → HasSameRecords desk.layout before image → HasCommitted desk.layout (submitted_desk (kept_of_stored cards) deck desk).office image }
+    ensures purged { (layout : Layout) (jobs : JobsView) (before : List ℕ) (desk : DeskModel) (job : ℕ) (row : RunRow)
+        → StandsForDesk layout jobs before desk → run_of desk.office.tables job ≡ Some row → row.state ≡ Queued
+        → (image : List ℕ) → HasSameRecords desk.layout before image → HasCommitted desk.layout (purged_desk job desk).office image }
+    ensures coded { (layout : Layout) (jobs : JobsView) (before : List ℕ) (desk : DeskModel) (run rule writes : ℕ) (code : Code) (lengths : ArrayVec ℕ)
+        → StandsBut run layout jobs before desk → Comes desk (EndedEvent run (Coded code rule writes lengths))
+        → IsDesk (behind (EndedEvent run (Coded code rule writes lengths)) None desk) → HasWithinRun desk.layout desk.office run writes before
+        → (image : List ℕ) → HasSameRecords desk.layout before image
+        → HasCommitted desk.layout (behind (EndedEvent run (Coded code rule writes lengths)) None desk).office image }
+{}

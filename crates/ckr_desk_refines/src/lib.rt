@@ -1,0 +1,34 @@
+//! That images of the disk have what the events have committed, that the jobs in memory stand for the desk of the events, and what is listed of it.
+#![tactic(auto)]
+
+mod data_sets;
+mod durable_laws;
+mod event_laws;
+mod holders;
+mod lengths;
+mod rewrite_laws;
+mod shared_sets;
+mod standing_laws;
+mod unit_laws;
+
+pub use data_sets::{Listed, free_set, is_held, set_at};
+pub use durable_laws::{
+    events_commit_what_a_step_has_written, events_leave_what_is_committed,
+    units_leave_what_is_committed,
+};
+pub use event_laws::{
+    desks_behind_calls_stand, desks_behind_codes_stand, desks_behind_turns_that_tell_stand,
+    events_are_committed,
+};
+pub use rewrite_laws::{
+    desks_behind_rewrites_stand, rewrites_are_committed_once_they_are_written, rewrites_are_told,
+};
+pub use shared_sets::{
+    events_leave_the_data_sets_of_other_steps, own_events_keep_where_data_sets_lie,
+    shared_data_sets_do_not_grow,
+};
+pub use standing_laws::{desks_are_seen_in_memory, plans_are_those_of_the_desk};
+pub use unit_laws::{
+    desks_behind_units_stand, running_steps_have_a_unit_due,
+    turns_that_work_tell_what_the_unit_came_to, turns_that_work_tell_what_was_foretold,
+};

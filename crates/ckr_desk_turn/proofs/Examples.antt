@@ -1,0 +1,6 @@
+-- Worked decks, computed: what their jobs leave, the tables of their events, and their turns.
+pub mod Decks
+pub mod Jobs
+pub mod Tables
+pub mod Desks
+pub mod Turns

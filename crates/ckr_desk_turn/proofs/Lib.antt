@@ -1,0 +1,15 @@
+pub mod RunningSteps
+pub mod OtherRuns
+pub mod StepEnd
+pub mod Select
+pub mod RunEnd
+pub mod Opening
+pub mod Definitions
+pub mod Examples
+pub mod Spelling
+pub mod NextEvents
+pub mod Start
+pub mod Units
+pub mod Turns
+pub mod Rewrite
+pub mod Queue

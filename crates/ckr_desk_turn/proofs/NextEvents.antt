@@ -1,0 +1,2 @@
+pub mod BetweenSteps
+pub mod WithinStep

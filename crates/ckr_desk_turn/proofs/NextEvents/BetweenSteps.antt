@@ -1,0 +1,203 @@
+-- The events of turns between steps, and of the other calls, may come.
+use Rattle.std.proofs.Common.{◌≡◌, ◌≤◌, ℕ, suc, Bool, true, false, ◌&&◌, ◌||◌, not, nat_le, nat_eq, ◌==◌, List, [], ◌∷◌, refl, ap, sym, ◌∙◌, subst, cond, Option, None, Some, arith, slice_get, find, length}
+use Rattle.std.specs.Option.{option_map_or, option_eq, is_none}
+use Rattle.std.specs.List.{list_all}
+use Rattle.std.proofs.lemmas.Bool.{and_from, and_parts}
+use Rattle.std.proofs.lemmas.Bool.{false≢true}
+use Rattle.std.proofs.lemmas.Bool.Decides.{nat_tests}
+use Rattle.ckr_base.proofs.Bools.{bool-cases}
+use Rattle.ckr_base.proofs.Numbers.{equal-itself}
+use Rattle.ckr_base.proofs.Options.{is_none-true, some-not-none}
+use Rattle.ckr_base.proofs.Sequences.{find-all, find-passes}
+use Rattle.ckr_events.specs.declared.event.Event.TheVariants.{Submitted as SubmittedEvent, Selected as SelectedEvent, Ended as EndedEvent, Purged as PurgedEvent}
+use Rattle.ckr_events.specs.declared.event.Ending.TheVariants.{Completed, Allocation}
+use Rattle.ckr_jcl.specs.declared.deck.Job.{Job}
+use Rattle.ckr_meaning.specs.EffectiveJob.{OwnedStep}
+use Rattle.ckr_volumes.specs.declared.layout.Layout.{Layout}
+use Rattle.ckr_points.specs.declared.run.RunState.{RunState}
+use Rattle.ckr_points.specs.declared.run.RunState.TheVariants.{Queued, On, Held, Released, Ended, Denied, Purged}
+use Rattle.ckr_points.specs.Follows.{ended_follows, is_free, is_in_state, is_within, may_hold, may_restart, own_step, selected_follows, state_number}
+use Rattle.ckr_points.specs.Office.{Office}
+use Rattle.ckr_points.specs.Restart.{place_of}
+use Rattle.ckr_points.specs.Rows.{RunRow, TablesModel, run_of}
+use Rattle.ckr_points.specs.Soundness.{ending_names_first, may_come}
+use Rattle.ckr_points_invariant.specs.Invariant.{IsKept}
+use Rattle.ckr_points_decks.specs.Form.{is_run}
+use Rattle.ckr_desk_turn.specs.Select.{is_on, may_select, next_run, run_on_initiator}
+use Rattle.ckr_desk_turn.specs.Desk.{DeskModel}
+use Rattle.ckr_desk_turn.specs.Invariant.{IsDesk, is_on_one, is_plain_row, is_plain_state}
+
+-- ---- runs that are found
+
+record FoundAt (rows : List RunRow) (row : RunRow) : Type 0 where
+  place : ℕ
+  at : slice_get rows place ≡ Some row
+
+found_at : (test : RunRow → Bool) (rows : List RunRow) (row : RunRow) → find test rows ≡ Some row → FoundAt rows row
+found_at test [] row found = cc
+found_at test (first ∷ rows) row found =
+    bool-cases (test first)
+    (λ does. record { place = 0; at = sym (ap (λ b. cond b (Some first) (find test rows)) does) ∙ found })
+    (λ isnt. let rest = found_at test rows row (sym (ap (λ b. cond b (Some first) (find test rows)) isnt) ∙ found) in record { place = suc rest.place; at = rest.at })
+
+-- a run that is found has its row under its number
+pub row_of_found : (layout : Layout) (office : Office) (test : RunRow → Bool) (row : RunRow) → IsKept layout office → find test office.tables.runs ≡ Some row → run_of office.tables row.number ≡ Some row
+row_of_found layout office test row kept found =
+    let at = found_at test office.tables.runs row found in
+    subst (λ n. run_of office.tables n ≡ Some row) (sym (kept.events.numbered (suc at.place) row at.at)) at.at
+
+pub plain_found : (desk : DeskModel) (test : RunRow → Bool) (row : RunRow) → IsDesk desk → find test desk.office.tables.runs ≡ Some row → is_plain_row row ≡ true
+plain_found desk test row is found = find-all is_plain_row test desk.office.tables.runs row is.plain found
+
+-- ---- a run is selected
+
+turned_number : (i other : ℕ) → nat_eq other i ≡ (i == other)
+turned_number i other = grind (arith, nat_tests)
+
+not_on : (i : ℕ) (row : RunRow) → is_on i row.initiator ≡ false → not (option_eq nat_eq row.initiator (Some i)) ≡ true
+not_on i row off = elim row.initiator as (λ o. is_on i o ≡ false → not (option_eq nat_eq o (Some i)) ≡ true) [
+  | None ↦ λ e. refl
+  | Some other ↦ λ e. ap not (turned_number i other ∙ e)
+] off
+
+-- an initiator that no run is on is free
+free_initiator : (i : ℕ) (rows : List RunRow) → find (λ row. is_on i row.initiator) rows ≡ None → list_all (λ row. not (option_eq nat_eq row.initiator (Some i))) rows ≡ true
+free_initiator i [] none = refl
+free_initiator i (first ∷ rows) none =
+    elim (is_on i first.initiator) as (λ b. is_on i first.initiator ≡ b → cond b (Some first) (find (λ row. is_on i row.initiator) rows) ≡ None → list_all (λ row. not (option_eq nat_eq row.initiator (Some i))) (first ∷ rows) ≡ true) [
+      | true ↦ λ on some. absurd (some-not-none first some)
+      | false ↦ λ off rest. and_from _ _ (not_on i first off) (free_initiator i rows rest)
+    ] refl none
+
+-- a run that comes next was never held: it waits, and its uses don't hold against those of a selected one
+next_waits : (tables : TablesModel) (row : RunRow) → may_select tables row.state row ≡ true → is_plain_state row.state ≡ true → (row.state ≡ Queued) × (may_hold tables row ≡ true)
+next_waits tables row may plain = elim row.state as (λ s. may_select tables s row ≡ true → is_plain_state s ≡ true → (s ≡ Queued) × (may_hold tables row ≡ true)) [
+  | Queued ↦ λ m p. (refl, m)
+  | On ↦ λ m p. absurd (false≢true m)
+  | Held ↦ λ m p. absurd (false≢true m)
+  | Released ↦ λ m p. absurd (false≢true p)
+  | Ended ↦ λ m p. absurd (false≢true m)
+  | Denied ↦ λ m p. absurd (false≢true m)
+  | Purged ↦ λ m p. absurd (false≢true m)
+] may plain
+
+-- what a plain run's test says, part by part
+pub record Plain (row : RunRow) : Type 0 where
+  pub state : is_plain_state row.state ≡ true
+  pub initiator : (is_none row.initiator || is_on_one row.state) ≡ true
+  pub code : is_none row.code ≡ true
+  pub runs : is_run row.deck ≡ true
+
+pub plain_parts : (row : RunRow) → is_plain_row row ≡ true → Plain row
+plain_parts row plain =
+    let one = and_parts (is_plain_state row.state) _ plain in
+    let two = and_parts (is_none row.initiator || is_on_one row.state) _ one.1 in
+    let three = and_parts (is_none row.code) (is_run row.deck) two.1 in
+    record { state = one.0; initiator = two.0; code = three.0; runs = three.1 }
+
+pub no_restart : (deck : Job) → is_run deck ≡ true → deck.restart ≡ None
+no_restart deck runs = is_none-true deck.restart (and_parts (is_none deck.restart) _ (and_parts (is_none deck.rd) _ runs).1).0
+
+pub selected_comes : (desk : DeskModel) (i : ℕ) (row : RunRow) → IsDesk desk → 1 ≤ i → i ≤ desk.layout.initiators → run_on_initiator desk.office.tables i ≡ None → next_run desk.office.tables ≡ Some row
+    → may_come desk.layout desk.office (SelectedEvent row.number i 0 0 None, None) ≡ true
+selected_comes desk i row is above below free next =
+    and_from _ _ (ap (λ o. option_map_or (selected_follows desk.layout tables i 0 0 None) o false) (row_of_found desk.layout desk.office selects row is.kept next) ∙ follows_so) refl
+  where
+    tables : TablesModel
+    tables = desk.office.tables
+
+    selects : RunRow → Bool
+    selects other = may_select tables other.state other
+
+    plain : Plain row
+    plain = plain_parts row (plain_found desk selects row is next)
+
+    waits : (row.state ≡ Queued) × (may_hold tables row ≡ true)
+    waits = next_waits tables row (find-passes selects tables.runs row next) plain.state
+
+    queued : is_in_state Queued row ≡ true
+    queued = ap (λ s. state_number s == state_number Queued) waits.0
+
+    within : nat_le 1 i ≡ true
+    within = grind (arith, nat_tests, above)
+
+    below_most : nat_le i desk.layout.initiators ≡ true
+    below_most = grind (arith, nat_tests, below)
+
+    is_there : is_free desk.layout tables i ≡ true
+    is_there = and_from _ _ (and_from _ _ within below_most) (free_initiator i tables.runs free)
+
+    alone : option_map_or (λ restart. may_restart tables row restart 0 0 None) row.deck.restart true ≡ true
+    alone = ap (λ r. option_map_or (λ restart. may_restart tables row restart 0 0 None) r true) (no_restart row.deck plain.runs)
+
+    follows_so : selected_follows desk.layout tables i 0 0 None row ≡ true
+    follows_so = and_from _ _ (and_from _ _ (and_from _ _ queued is_there) waits.1) alone
+
+-- ---- a run that is on an initiator
+
+on_it : (state : RunState) → is_on_one state ≡ true → state ≡ On
+on_it Queued e = absurd (false≢true e)
+on_it On e = refl
+on_it Held e = absurd (false≢true e)
+on_it Released e = absurd (false≢true e)
+on_it Ended e = absurd (false≢true e)
+on_it Denied e = absurd (false≢true e)
+on_it Purged e = absurd (false≢true e)
+
+placed_on : (i : ℕ) (o : Option ℕ) (on : Bool) → is_on i o ≡ true → (is_none o || on) ≡ true → on ≡ true
+placed_on i None on is either = absurd (false≢true is)
+placed_on i (Some other) on is either = either
+
+-- the run on an initiator is in that state
+pub state_on : (desk : DeskModel) (i : ℕ) (row : RunRow) → IsDesk desk → run_on_initiator desk.office.tables i ≡ Some row → row.state ≡ On
+state_on desk i row is found =
+    let here = λ (other : RunRow). is_on i other.initiator in
+    let plain = plain_parts row (plain_found desk here row is found) in
+    on_it row.state (placed_on i row.initiator (is_on_one row.state) (find-passes here desk.office.tables.runs row found) plain.initiator)
+
+-- a run ends behind its last step
+pub completed_comes : (desk : DeskModel) (i : ℕ) (row : RunRow) → IsDesk desk → run_on_initiator desk.office.tables i ≡ Some row → is_within (place_of row) ≡ false → own_step row ≡ None
+    → may_come desk.layout desk.office (EndedEvent row.number Completed, None) ≡ true
+completed_comes desk i row is found between none =
+    and_from _ _
+    (ap (λ o. option_map_or (λ row. ended_follows tables row Completed) o false) at
+    ∙ and_from _ _ (and_from _ _ (ap (λ s. state_number s == state_number On) (state_on desk i row is found)) (ap not between)) (ap is_none none))
+    (ap (λ o. option_map_or (λ row. ending_names_first desk.layout row Completed) o false) at)
+  where
+    tables : TablesModel
+    tables = desk.office.tables
+
+    at : run_of tables row.number ≡ Some row
+    at = row_of_found desk.layout desk.office (λ other. is_on i other.initiator) row is.kept found
+
+-- a run ends since a DD of its next step isn't allocated
+pub refused_comes : (desk : DeskModel) (i : ℕ) (row : RunRow) (owned : OwnedStep) (dd cause first second : ℕ) → IsDesk desk → run_on_initiator desk.office.tables i ≡ Some row → own_step row ≡ Some owned
+    → 1 ≤ dd → dd ≤ length owned.step.dds → may_come desk.layout desk.office (EndedEvent row.number (Allocation dd cause first second), None) ≡ true
+refused_comes desk i row owned dd cause first second is found there above below =
+    and_from _ _
+    (ap (λ o. option_map_or (λ row. ended_follows tables row (Allocation dd cause first second)) o false) at
+    ∙ and_from _ _ (ap (λ s. state_number s == state_number On) (state_on desk i row is found))
+    (ap (λ o. option_map_or (λ owned. nat_le 1 dd && nat_le dd (length owned.step.dds)) o false) there ∙ and_from _ _ one most))
+    (ap (λ o. option_map_or (λ row. ending_names_first desk.layout row (Allocation dd cause first second)) o false) at)
+  where
+    tables : TablesModel
+    tables = desk.office.tables
+
+    at : run_of tables row.number ≡ Some row
+    at = row_of_found desk.layout desk.office (λ other. is_on i other.initiator) row is.kept found
+
+    one : nat_le 1 dd ≡ true
+    one = grind (arith, nat_tests, above)
+
+    most : nat_le dd (length owned.step.dds) ≡ true
+    most = grind (arith, nat_tests, below)
+
+-- ---- the other calls
+
+pub purged_comes : (desk : DeskModel) (job : ℕ) (row : RunRow) → run_of desk.office.tables job ≡ Some row → row.state ≡ Queued → may_come desk.layout desk.office (PurgedEvent job, None) ≡ true
+purged_comes desk job row at queued =
+    and_from _ _ (ap (λ o. option_map_or (is_in_state Queued) o false) at ∙ ap (λ s. state_number s == state_number Queued) queued) refl
+
+-- a deck of at least one card, with the next number
+pub submitted_comes : (desk : DeskModel) (first : ℕ) (cards : List ℕ) (deck : Job) → may_come desk.layout desk.office (SubmittedEvent (suc (length desk.office.tables.runs)) (first ∷ cards), Some deck) ≡ true
+submitted_comes desk first cards deck = and_from _ _ (and_from _ _ (and_from _ _ (equal-itself (suc (length desk.office.tables.runs))) refl) refl) refl

@@ -1,0 +1,198 @@
+-- A desk whose run is submitted, selected or purged: the runs on initiators are as they were.
+use Rattle.std.proofs.Common.{◌≡◌, ◌≢◌, ◌≤◌, ◌*◌, ◌/◌, ℕ, zero, suc, true, false, List, [], ◌∷◌, ◌++◌, length, refl, ap, sym, ◌∙◌, Option, Some, None, Ok, arith}
+use Rattle.std.specs.Prelude.{◌==◌, slice_get, ◌&&◌, ◌||◌}
+use Rattle.std.specs.List.{AllByRecursion}
+use Rattle.std.specs.Option.{option_map_or, is_none}
+use Rattle.std.proofs.lemmas.Bool.{false≢true}
+use Rattle.std.proofs.lemmas.Option.{same_Some, slice_get_past}
+use Rattle.ckr_base.proofs.Bools.{and-second}
+use Rattle.ckr_base.proofs.Numbers.{number-cases}
+use Rattle.ckr_base.proofs.Options.{some-not-none}
+use Rattle.ckr_base.proofs.Sequences.{each-implies}
+use Rattle.ckr_events.specs.declared.event.Event.TheVariants.{Purged as PurgedEvent, Selected as SelectedEvent, Submitted as SubmittedEvent}
+use Rattle.ckr_jcl.specs.declared.deck.Job.{Job}
+use Rattle.ckr_jcl_decks.specs.Deck.{stored_deck}
+use Rattle.ckr_meaning.specs.LibrarySet.{AreWithinSpace}
+use Rattle.ckr_meaning.specs.declared.place.Place.TheVariants.{Before}
+use Rattle.ckr_meaning.specs.JobRun.{start_at}
+use Rattle.ckr_points_decks.proofs.JobForm.{job_formed}
+use Rattle.ckr_points_decks.proofs.KeptCards.{kept_long}
+use Rattle.ckr_points_decks.specs.Cards.{kept_of_stored}
+use Rattle.ckr_points_decks.specs.Form.{is_run}
+use Rattle.ckr_points.specs.declared.run.RunState.{RunState}
+use Rattle.ckr_points.specs.declared.run.RunState.TheVariants.{On, Queued, Purged}
+use Rattle.ckr_points.specs.Tables.{after_submitted, queued_run}
+use Rattle.ckr_points.specs.Follows.{is_running, state_number}
+use Rattle.ckr_points.specs.Office.{Leg, Office, leg_of, office_after}
+use Rattle.ckr_points.specs.Restart.{place_of, step_in}
+use Rattle.ckr_points.specs.Rows.{RunRow, run_of, with_run}
+use Rattle.ckr_points.specs.Soundness.{may_come}
+use Rattle.ckr_points_invariant.proofs.Select.Invariant.{chosen, led_there}
+use Rattle.ckr_points_invariant.proofs.WaitingRuns.{by-selected}
+use Rattle.ckr_points_invariant.proofs.Holders.Rows.{run-other, run-same}
+use Rattle.ckr_points_invariant.proofs.EventLaws.{purged, selected, submitted}
+use Rattle.ckr_points_invariant.proofs.Select.Holders.{all_legs}
+use Rattle.ckr_points_invariant.specs.Invariant.{IsKept}
+use Rattle.ckr_desk_turn.specs.Desk.{DeskModel, DeskStep, behind, start_of, submitted as submitted_desk, purged as purged_desk}
+use Rattle.ckr_desk_turn.specs.Invariant.{IsAdmitted, IsDesk, IsFailed, IsGoing, is_on_one, is_plain_row, is_plain_state}
+use Rattle.ckr_desk_turn.proofs.NextEvents.BetweenSteps.{purged_comes, submitted_comes}
+use Rattle.ckr_desk_turn.proofs.OtherRuns.{Changes, accounted-then, admitted-then, failed-still, going-still, plain-then, row-admitted, row-plain}
+
+-- ---- the runs on initiators
+
+-- the row and the leg of a run are as they were
+pub record Stays (office after : Office) (run : ℕ) : Type 0 where
+  pub row : run_of after.tables run ≡ run_of office.tables run
+  pub leg : leg_of after run ≡ leg_of office run
+
+module _ (desk : DeskModel) (is : IsDesk desk) (after : Office) (stay : (run : ℕ) (row : RunRow) → run_of desk.office.tables run ≡ Some row → row.state ≡ On → Stays desk.office after run) where
+  start-stays : (run : ℕ) (row : RunRow) → run_of desk.office.tables run ≡ Some row → row.state ≡ On → start_of after row ≡ start_of desk.office row
+  start-stays run row at on =
+      let its : row.number ≡ run = is.kept.events.numbered run row at in
+      ap (λ (o : Option Leg). option_map_or (λ leg. start_at leg.job leg.start (step_in (place_of row))) o None)
+      (ap (leg_of after) its ∙ (stay run row at on).leg ∙ ap (leg_of desk.office) (sym its))
+
+  going-stays : (on : DeskStep) → IsGoing desk.office on → IsGoing after on
+  going-stays on going = going-still desk.office after on going (stay on.run going.row going.row_at going.on).row (start-stays on.run going.row going.row_at going.on)
+
+  failed-stays : (number : ℕ) → IsFailed desk.office number → IsFailed after number
+  failed-stays number failed = failed-still desk.office after number failed (stay number failed.row failed.within.row_at failed.within.on).row (start-stays number failed.row failed.within.row_at failed.within.on)
+
+-- ---- one run that isn't on an initiator changes
+
+-- the row of a run that wasn't on an initiator is a new one, and the others are as they were
+pub record Enters (desk : DeskModel) (after : Office) (job : ℕ) (next : RunRow) : Type 0 where
+  pub mine : run_of after.tables job ≡ Some next
+  pub others : (other : ℕ) → other ≢ job → run_of after.tables other ≡ run_of desk.office.tables other
+  pub legs : (other : ℕ) → other ≢ job → leg_of after other ≡ leg_of desk.office other
+  pub waits : (row : RunRow) → run_of desk.office.tables job ≡ Some row → row.state ≡ On → ⊥
+  pub kept : IsKept desk.layout after
+  pub plain : is_plain_row next ≡ true
+  pub admitted : IsAdmitted next
+  pub rests : is_running next ≡ false
+  pub spaced : AreWithinSpace after.library
+  pub spaced_legs : AllByRecursion (λ (leg : Leg). AreWithinSpace leg.start) after.legs
+
+-- the desk with it is as its events have brought it about
+pub entered : (desk : DeskModel) → IsDesk desk → (after : Office) (job : ℕ) (next : RunRow) → Enters desk after job next → IsDesk (record desk { office = after })
+entered desk is after job next enters = record {
+  kept = enters.kept;
+  going = each-implies (IsGoing desk.office) (IsGoing after) desk.running (going-stays desk is after stay) is.going;
+  failed = each-implies (IsFailed desk.office) (IsFailed after) desk.failed (failed-stays desk is after stay) is.failed;
+  plain = plain-then desk later is job next changes enters.plain;
+  admitted = admitted-then desk later is job next changes enters.admitted;
+  accounted = accounted-then desk later is job next changes enters.rests (λ number apart. refl) (λ number apart. refl);
+  spaced = enters.spaced;
+  spaced_legs = enters.spaced_legs;
+}
+  where
+    stay : (run : ℕ) (row : RunRow) → run_of desk.office.tables run ≡ Some row → row.state ≡ On → Stays desk.office after run
+    stay run row at on =
+        number-cases run job
+        (λ same. absurd (enters.waits row (ap (run_of desk.office.tables) (sym same) ∙ at) on))
+        (λ apart. record { row = enters.others run apart; leg = enters.legs run apart })
+
+    later : DeskModel
+    later = record desk { office = record after { legs = desk.office.legs } }
+
+    changes : Changes desk.office later.office job next
+    changes = record { mine = enters.mine; others = enters.others; legs = refl }
+
+queued-off : (state : RunState) → (state_number state == 1) ≡ true → state ≡ On → ⊥
+queued-off state queued on = false≢true (ap (λ (s : RunState). state_number s == 1) (sym on) ∙ queued)
+
+-- ---- purged
+
+pub purged-keeps : (desk : DeskModel) → IsDesk desk → (job : ℕ) (row : RunRow) → run_of desk.office.tables job ≡ Some row → row.state ≡ Queued → IsDesk (purged_desk job desk)
+purged-keeps desk is job row at queued =
+    let its : row.number ≡ job = is.kept.events.numbered job row at in
+    let next : RunRow = record row { state = Purged } in
+    let was : IsAdmitted row = row-admitted desk is job row at in
+    let plain : is_plain_row row ≡ true = row-plain desk is job row at in
+    let here : run_of desk.office.tables row.number ≡ Some row = ap (run_of desk.office.tables) its ∙ at in
+    entered desk is (office_after (PurgedEvent job, None) desk.office) job next
+    (record {
+      mine = of_tables job ∙ run-same desk.office.tables next row job at its;
+      others = λ other apart. of_tables other ∙ run-other desk.office.tables next other (λ e. apart (e ∙ its));
+      legs = λ other apart. refl;
+      waits = λ one there on. queued-off one.state (ap (λ (r : RunRow). state_number r.state == 1) (same_Some one row (sym there ∙ at)) ∙ ap (λ s. state_number s == 1) queued) on;
+      kept = purged desk.layout desk.office job None is.kept (purged_comes desk job row at queued);
+      plain = off_plain plain;
+      admitted = record { cards = was.cards; accepted = was.accepted; lodged = refl };
+      rests = refl;
+      spaced = is.spaced;
+      spaced_legs = is.spaced_legs;
+    })
+  where
+    of_tables : (number : ℕ) → run_of (option_map_or (λ row. with_run (record row { state = Purged }) desk.office.tables) (run_of desk.office.tables job) desk.office.tables) number ≡ run_of (with_run (record row { state = Purged }) desk.office.tables) number
+    of_tables number = ap (λ (o : Option RunRow). run_of (option_map_or (λ row. with_run (record row { state = Purged }) desk.office.tables) o desk.office.tables) number) at
+
+    off_plain : is_plain_row row ≡ true → is_plain_row (record row { state = Purged }) ≡ true
+    off_plain plain = sym (ap (λ s. is_plain_state s && ((is_none row.initiator || is_on_one s) && (is_none row.code && is_run row.deck))) queued) ∙ plain
+
+-- ---- submitted
+
+last_row : (runs : List RunRow) (row : RunRow) → slice_get (runs ++ row ∷ []) (length runs) ≡ Some row
+last_row [] row = refl
+last_row (first ∷ rest) row = last_row rest row
+
+front_row : (runs : List RunRow) (row : RunRow) (place : ℕ) → place ≢ length runs → slice_get (runs ++ row ∷ []) place ≡ slice_get runs place
+front_row [] row zero apart = absurd (apart refl)
+front_row [] row (suc place) apart = refl
+front_row (first ∷ rest) row zero apart = refl
+front_row (first ∷ rest) row (suc place) apart = front_row rest row place (λ e. apart (ap suc e))
+
+pub submitted-keeps : (desk : DeskModel) → IsDesk desk → (cards : List ℕ) (first : ℕ) (kept : List ℕ) (deck : Job) → stored_deck cards ≡ Ok deck → is_run deck ≡ true → IsDesk (submitted_desk (first ∷ kept) deck desk)
+submitted-keeps desk is cards first kept deck accepted runs =
+    entered desk is (office_after (SubmittedEvent job (first ∷ kept), Some deck) desk.office) job (queued_run job deck)
+    (record {
+      mine = last_row desk.office.tables.runs (queued_run job deck);
+      others = others;
+      legs = λ other apart. refl;
+      waits = λ row at on. some-not-none row (sym at ∙ slice_get_past desk.office.tables.runs (length desk.office.tables.runs) (omega arith));
+      kept = submitted desk.layout desk.office job (first ∷ kept) (Some deck) is.kept (submitted_comes desk first kept deck) (job_formed cards deck job accepted);
+      plain = runs;
+      admitted = record { cards = cards; accepted = accepted; lodged = refl };
+      rests = refl;
+      spaced = is.spaced;
+      spaced_legs = is.spaced_legs;
+    })
+  where
+    job : ℕ
+    job = suc (length desk.office.tables.runs)
+
+    others : (other : ℕ) → other ≢ suc (length desk.office.tables.runs) → run_of (after_submitted job deck desk.office.tables) other ≡ run_of desk.office.tables other
+    others zero apart = refl
+    others (suc place) apart = front_row desk.office.tables.runs (queued_run job deck) place (λ e. apart (ap suc e))
+
+-- the cards that its event keeps are at least one
+pub stored-keeps : (desk : DeskModel) → IsDesk desk → (cards : List ℕ) (deck : Job) → 81 ≤ length cards → stored_deck cards ≡ Ok deck → is_run deck ≡ true → IsDesk (submitted_desk (kept_of_stored cards) deck desk)
+stored-keeps desk is cards deck some accepted runs =
+    by (kept_of_stored cards) (kept_long cards)
+  where
+    by : (kept : List ℕ) → length kept ≡ 80 * (length cards / 81) → IsDesk (submitted_desk kept deck desk)
+    by [] long = absurd (omega (arith, long, some))
+    by (first ∷ kept) long = submitted-keeps desk is cards first kept deck accepted runs
+
+-- ---- selected
+
+pub selected-keeps : (desk : DeskModel) → IsDesk desk → (job initiator : ℕ) → may_come desk.layout desk.office (SelectedEvent job initiator 0 0 None, None) ≡ true → IsDesk (behind (SelectedEvent job initiator 0 0 None) None desk)
+selected-keeps desk is job initiator may =
+    by-selected (λ after. IsKept desk.layout after → IsDesk (record desk { office = after })) desk.layout desk.office job initiator 0 None None is.kept.events may
+    (λ row row_at queued plain free kept.
+    let next : RunRow = record row { state = On; initiator = Some initiator; place = Some (Before 1) } in
+    let was : IsAdmitted row = row-admitted desk is row.number row row_at in
+    entered desk is (chosen desk.layout desk.office row initiator is.kept.events row_at queued plain free) row.number next
+    (record {
+      mine = run-same desk.office.tables next row row.number row_at refl;
+      others = λ other apart. run-other desk.office.tables next other apart;
+      legs = λ other apart. led_there desk.layout desk.office row initiator is.kept.events row_at queued plain free other apart;
+      waits = λ one there on. queued-off one.state (ap (λ (r : RunRow). state_number r.state == 1) (same_Some one row (sym there ∙ row_at)) ∙ queued) on;
+      kept = kept;
+      plain = and-second (is_none row.initiator || is_on_one row.state) (is_none row.code && is_run row.deck) (and-second (is_plain_state row.state) _ (row-plain desk is row.number row row_at));
+      admitted = record { cards = was.cards; accepted = was.accepted; lodged = refl };
+      rests = refl;
+      spaced = is.spaced;
+      spaced_legs = all_legs (λ (leg : Leg). AreWithinSpace leg.start) _ desk.office.legs is.spaced is.spaced_legs;
+    }))
+    (selected desk.layout desk.office job initiator 0 None None is.kept may)

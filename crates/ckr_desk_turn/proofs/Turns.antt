@@ -1,0 +1,4 @@
+pub mod WithinStep
+pub mod Units
+pub mod Initiator
+pub mod Series

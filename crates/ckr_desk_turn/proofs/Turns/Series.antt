@@ -1,0 +1,72 @@
+-- The desk behind turns, one after the other.
+use Rattle.std.proofs.Common.{◌≡◌, ℕ, List, [], ◌∷◌, refl, sym, ◌∙◌, subst, Option, Some, None}
+use Rattle.std.specs.List.{AllByRecursion}
+use Rattle.std.specs.Option.{option_map_or}
+use Rattle.ckr_meaning.specs.StepRun.{StepStart}
+use Rattle.ckr_points.specs.Rows.{RunRow, run_of}
+use Rattle.ckr_points_invariant.specs.Invariant.{IsKept}
+use Rattle.ckr_desk_turn.specs.declared.plan.Plan.{Plan}
+use Rattle.ckr_desk_turn.specs.declared.plan.Plan.TheVariants.{Rest, Tell, Work}
+use Rattle.ckr_desk_turn.specs.declared.reply.Reply.TheVariants.{Idle}
+use Rattle.ckr_desk_turn.specs.declared.reply.Turn.{Turn}
+use Rattle.ckr_desk_turn.specs.Desk.{DeskModel, carried_out, desk_after, done_by, jobs_of, progress_of, start_of, turn_of, unit_done, with_progress, work_of}
+use Rattle.ckr_desk_turn.specs.Plans.{plan_of}
+use Rattle.ckr_desk_turn.specs.Units.{StepProgress, UnitEnd, unit_end}
+use Rattle.ckr_desk_turn.specs.Invariant.{IsDesk, IsTurnOf, Keeps}
+use Rattle.ckr_desk_turn.proofs.Turns.Initiator.{turn-keeps}
+
+-- ---- the layout stays
+
+done-layout : (plan : Plan) (desk : DeskModel) → (done_by plan desk).desk.layout ≡ desk.layout
+done-layout (Rest reply) desk = refl
+done-layout (Tell reply event) desk = refl
+done-layout (Work job) desk = refl
+
+unit-layout : (row : RunRow) (end : UnitEnd) (desk : DeskModel) → (unit_done row end desk).desk.layout ≡ desk.layout
+unit-layout row end desk = done-layout _ (with_progress row.number end.progress desk)
+
+work-layout : (run : ℕ) (desk : DeskModel) → (work_of run desk).desk.layout ≡ desk.layout
+work-layout run desk = by-row (run_of desk.office.tables run)
+  where
+    by-progress : (row : RunRow) (start : StepStart) (progress : Option StepProgress) → (option_map_or (λ progress. unit_done row (unit_end start progress) desk) progress (done_by (Rest Idle) desk)).desk.layout ≡ desk.layout
+    by-progress row start None = refl
+    by-progress row start (Some progress) = unit-layout row (unit_end start progress) desk
+
+    by-start : (row : RunRow) (start : Option StepStart) → (option_map_or (λ start. option_map_or (λ progress. unit_done row (unit_end start progress) desk) (progress_of desk run) (done_by (Rest Idle) desk)) start (done_by (Rest Idle) desk)).desk.layout ≡ desk.layout
+    by-start row None = refl
+    by-start row (Some start) = by-progress row start (progress_of desk run)
+
+    by-row : (row : Option RunRow) → (option_map_or (λ row. option_map_or (λ start. option_map_or (λ progress. unit_done row (unit_end start progress) desk) (progress_of desk run) (done_by (Rest Idle) desk)) (start_of desk.office row) (done_by (Rest Idle) desk)) row (done_by (Rest Idle) desk)).desk.layout ≡ desk.layout
+    by-row None = refl
+    by-row (Some row) = by-start row (start_of desk.office row)
+
+plan-layout : (plan : Plan) (desk : DeskModel) → (carried_out plan desk).desk.layout ≡ desk.layout
+plan-layout (Rest reply) desk = refl
+plan-layout (Tell reply event) desk = refl
+plan-layout (Work job) desk = work-layout job desk
+
+turn-layout : (desk : DeskModel) (turn : Turn) → (turn_of desk turn).desk.layout ≡ desk.layout
+unfolding turn_of
+turn-layout desk turn = plan-layout (plan_of desk.layout (jobs_of desk) turn) desk
+
+pub after-layout : (turns : List Turn) (desk : DeskModel) → (desk_after turns desk).layout ≡ desk.layout
+after-layout [] desk = refl
+after-layout (turn ∷ turns) desk = after-layout turns (turn_of desk turn).desk ∙ turn-layout desk turn
+
+-- ---- turns, one after the other
+
+pub turns-keep : (turns : List Turn) (desk : DeskModel) → IsDesk desk → AllByRecursion (IsTurnOf desk.layout) turns → IsDesk (desk_after turns desk)
+turns-keep [] desk is each = is
+turns-keep (turn ∷ turns) desk is each =
+    turns-keep turns (turn_of desk turn).desk (turn-keeps desk turn is each.0.above each.0.below).kept
+    (subst (λ layout. AllByRecursion (IsTurnOf layout) turns) (sym (turn-layout desk turn)) each.1)
+
+-- the events behind them are kept, in the layout that the desk began with
+pub turns-kept : (turns : List Turn) (desk : DeskModel) → IsDesk desk → AllByRecursion (IsTurnOf desk.layout) turns → IsKept desk.layout (desk_after turns desk).office
+turns-kept turns desk is each = subst (λ layout. IsKept layout (desk_after turns desk).office) (after-layout turns desk) (turns-keep turns desk is each).kept
+
+-- so does the next turn
+pub next-keeps : (turns : List Turn) (turn : Turn) (desk : DeskModel) → IsDesk desk → AllByRecursion (IsTurnOf desk.layout) turns → IsTurnOf desk.layout turn → Keeps (desk_after turns desk) (turn_of (desk_after turns desk) turn)
+next-keeps turns turn desk is each next =
+    let there : IsTurnOf (desk_after turns desk).layout turn = subst (λ layout. IsTurnOf layout turn) (sym (after-layout turns desk)) next in
+    turn-keeps (desk_after turns desk) turn (turns-keep turns desk is each) there.above there.below

@@ -1,0 +1,113 @@
+-- A turn of a run within a step: its event may come, and the desk behind it is as its events have brought it about.
+use Rattle.std.proofs.Common.{◌≡◌, ℕ, Bool, true, false, cond, refl, ap, sym, ◌∙◌, subst, Option, Some, None}
+use Rattle.std.specs.Option.{option_map_or}
+use Rattle.std.proofs.lemmas.Option.{same_Some}
+use Rattle.ckr_base.specs.declared.code.Code.{Code}
+use Rattle.ckr_base.specs.declared.programs.Finish.TheVariants.{Returned}
+use Rattle.ckr_base.proofs.Bools.{bool-cases}
+use Rattle.ckr_base.proofs.Options.{option-cases}
+use Rattle.ckr_events.specs.declared.event.Event.TheVariants.{StepEnded as StepEndedEvent}
+use Rattle.ckr_meaning.specs.StepRun.{StepStart, work_at}
+use Rattle.ckr_points.specs.Payload.{lengths_at}
+use Rattle.ckr_points.specs.Restart.{place_of, step_in}
+use Rattle.ckr_points.specs.Rows.{RunRow, run_of}
+use Rattle.ckr_rules.specs.RuleTables.{rule_number}
+use Rattle.ckr_desk_turn.specs.declared.plan.Plan.{Plan}
+use Rattle.ckr_desk_turn.specs.declared.plan.Plan.TheVariants.{Rest}
+use Rattle.ckr_desk_turn.specs.declared.reply.Reply.TheVariants.{Idle, NothingToFail}
+use Rattle.ckr_desk_turn.specs.Codes.{code_plan, reached_by, rule_for}
+use Rattle.ckr_desk_turn.specs.Desk.{DeskModel, DeskStep, carried_out, jobs_of, rc_by, work_of}
+use Rattle.ckr_desk_turn.specs.Jobs.{TurnStep, is_failed, running_in}
+use Rattle.ckr_desk_turn.specs.Plans.{fail_plan, is_within, placed_plan, run_plan, running_plan, system_failure}
+use Rattle.ckr_desk_turn.specs.NextEvents.{Comes, IsWithinStep}
+use Rattle.ckr_desk_turn.specs.Invariant.{HasCome, IsClosed, IsDesk, IsGoing, Keeps, is_plain_row}
+use Rattle.ckr_desk_turn.proofs.StepEnd.{code-kept, step_end-kept}
+use Rattle.ckr_desk_turn.proofs.OtherRuns.{row-plain}
+use Rattle.ckr_desk_turn.proofs.RunningSteps.{FoundStep, found-step, going-within, reached-comes}
+use Rattle.ckr_desk_turn.proofs.NextEvents.WithinStep.{step_ended-comes}
+use Rattle.ckr_desk_turn.proofs.Units.AnyUnit.{work-keeps}
+
+-- what a plan comes to
+abbrev pub PlanKeeps : DeskModel → Plan → Type 0
+PlanKeeps desk plan = Keeps desk (carried_out plan desk)
+
+module _ (desk : DeskModel) (is : IsDesk desk) (row : RunRow) (number committed : ℕ) (start : StepStart) (within : IsWithinStep desk.office row.number row number committed start) where
+  plain : is_plain_row row ≡ true
+  plain = row-plain desk is row.number row within.row_at
+
+  -- a code
+  code_plan-keeps : (code : Code) → PlanKeeps desk (code_plan desk.layout row code (reached_by (jobs_of desk) row))
+  code_plan-keeps code =
+      let comes = reached-comes desk is row.number row number committed start within code in
+      record {
+        comes = comes;
+        kept = code-kept desk is row.number row number committed start within plain code (rule_number (rule_for desk.layout row code)) (reached_by (jobs_of desk) row).writes (record { items = (reached_by (jobs_of desk) row).lengths }) comes;
+      }
+
+  -- a running step: it goes on, or it ends with its return code
+  module _ (isnt : is_failed (jobs_of desk) row.number ≡ false) (step : TurnStep) (found : FoundStep desk.office desk.running row.number step) where
+    its_row : found.going.row ≡ row
+    its_row = same_Some _ _ (sym found.going.row_at ∙ ap (run_of desk.office.tables) found.same ∙ within.row_at)
+
+    ends : (going : IsGoing desk.office found.on) → IsClosed going.start found.on.progress → going.number ≡ number → Comes desk (StepEndedEvent row.number number (rc_by (work_at going.start).finish) found.on.progress.writes (record { items = lengths_at going.start desk.office.tables.sets found.on.progress.writes }))
+    ends going closed at_number =
+        subst (λ n. Comes desk (StepEndedEvent row.number n (rc_by (work_at going.start).finish) found.on.progress.writes (record { items = lengths_at going.start desk.office.tables.sets found.on.progress.writes }))) at_number
+        (subst (λ n. Comes desk (StepEndedEvent n going.number (rc_by (work_at going.start).finish) found.on.progress.writes (record { items = lengths_at going.start desk.office.tables.sets found.on.progress.writes }))) found.same
+        (step_ended-comes desk is found.on.run going.row going.number going.committed going.start (going-within desk.office found.on going) found.on.progress.writes going.behind going.fit going.plain
+        (rc_by (work_at going.start).finish) closed.writes (closed.returned ∙ ap Returned (sym (ap rc_by closed.returned)))))
+
+    at_number : found.going.number ≡ number
+    at_number = ap step_in (sym (going-within desk.office found.on found.going).place ∙ ap place_of its_row ∙ within.place)
+
+    goes_on : found.on.progress.closed ≡ false → Keeps desk (work_of row.number desk)
+    goes_on = work-keeps desk is row.number found.on.progress (ap (λ (o : Option DeskStep). option_map_or (λ (step : DeskStep). Some step.progress) o None) found.at)
+
+    by-closed : (closed : Bool) → found.on.progress.closed ≡ closed → HasCome found.going.start found.on.progress closed → PlanKeeps desk (running_plan row number (record {
+      run = found.on.run;
+      taken = found.on.progress.taken;
+      writes = found.on.progress.writes;
+      finished = cond closed (Some (rc_by (work_at found.going.start).finish)) None;
+      lengths = lengths_at found.going.start desk.office.tables.sets found.on.progress.writes;
+    }))
+    by-closed false opened come = goes_on opened
+    by-closed true opened come =
+        let comes = ends found.going come at_number in
+        record {
+          comes = comes;
+          kept = step_end-kept desk is row.number row number committed start within plain (rc_by (work_at found.going.start).finish) found.on.progress.writes (record { items = lengths_at found.going.start desk.office.tables.sets found.on.progress.writes }) comes isnt;
+        }
+
+    running_plan-keeps : PlanKeeps desk (running_plan row number step)
+    running_plan-keeps = subst (λ s. PlanKeeps desk (running_plan row number s)) (sym found.is) (by-closed found.on.progress.closed refl found.going.come)
+
+  -- a turn with no code
+  placed_plan-keeps : is_failed (jobs_of desk) row.number ≡ false → PlanKeeps desk (placed_plan desk.layout (jobs_of desk) row (place_of row))
+  placed_plan-keeps isnt =
+      subst (λ place. PlanKeeps desk (placed_plan desk.layout (jobs_of desk) row place)) (sym within.place)
+      (option-cases (running_in (jobs_of desk) row.number)
+      (λ none. subst (λ (o : Option TurnStep). PlanKeeps desk (option_map_or (running_plan row number) o (Rest Idle))) (sym none) (record { comes = tt; kept = is }))
+      (λ step some.
+      subst (λ (o : Option TurnStep). PlanKeeps desk (option_map_or (running_plan row number) o (Rest Idle))) (sym some)
+      (running_plan-keeps isnt step (found-step desk.office row.number desk.running step is.going some))))
+
+  -- a turn with a code, or with none
+  fail_plan-keeps : is_failed (jobs_of desk) row.number ≡ false → (fail : Option Code) → PlanKeeps desk (fail_plan desk.layout (jobs_of desk) row fail)
+  fail_plan-keeps isnt None = placed_plan-keeps isnt
+  fail_plan-keeps isnt (Some code) =
+      subst (λ place. PlanKeeps desk (elim (is_within place) [
+        | true ↦ code_plan desk.layout row code (reached_by (jobs_of desk) row)
+        | false ↦ Rest NothingToFail
+      ])) (sym within.place) (code_plan-keeps code)
+
+  -- a turn of its initiator
+  pub step-keeps : (fail : Option Code) → PlanKeeps desk (run_plan desk.layout (jobs_of desk) fail row)
+  step-keeps fail =
+      bool-cases (is_failed (jobs_of desk) row.number)
+      (λ failed. subst PlanBy (sym failed) (code_plan-keeps system_failure))
+      (λ isnt. subst PlanBy (sym isnt) (fail_plan-keeps isnt fail))
+    where
+      PlanBy : Bool → Type 0
+      PlanBy b = PlanKeeps desk (elim b [
+        | true ↦ code_plan desk.layout row system_failure (reached_by (jobs_of desk) row)
+        | false ↦ fail_plan desk.layout (jobs_of desk) row fail
+      ])

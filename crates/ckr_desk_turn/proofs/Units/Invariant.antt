@@ -1,0 +1,101 @@
+-- A unit of a running step: the desk behind it, where the step goes on and where it ends with a code.
+use Rattle.std.proofs.Common.{◌≡◌, ◌≤◌, ℕ, Bool, true, false, cond, not, ◌||◌, List, [], ◌∷◌, filter, length, refl, ap, sym, ◌∙◌, subst, Some, None}
+use Rattle.std.specs.Prelude.{◌==◌}
+use Rattle.std.specs.List.{AllByRecursion, list_any}
+use Rattle.std.proofs.lemmas.Bool.{false≢true, or_left, or_right}
+use Rattle.std.proofs.lemmas.Option.{same_Some}
+use Rattle.arrayvec.specs.ArrayVec.{ArrayVec}
+use Rattle.ckr_base.specs.declared.code.Code.{Code}
+use Rattle.ckr_base.proofs.Bools.{bool-cases}
+use Rattle.ckr_base.proofs.Numbers.{equal-itself}
+use Rattle.ckr_base.proofs.Sequences.{all-get, filter-twice}
+use Rattle.ckr_events.specs.declared.event.Event.TheVariants.{Ended as EndedEvent}
+use Rattle.ckr_events.specs.declared.event.Ending.TheVariants.{Coded as CodedEnding}
+use Rattle.ckr_meaning.specs.StepRun.{StepStart, work_at}
+use Rattle.ckr_points.specs.Follows.{is_running}
+use Rattle.ckr_points.specs.Payload.{lengths_at, rewrites_nothing}
+use Rattle.ckr_points.specs.Rows.{RunRow, run_of}
+use Rattle.ckr_rules.specs.RuleTables.{rule_number}
+use Rattle.ckr_desk_turn.specs.Codes.{CodePlaceModel, code_plan, rule_for, running_reached}
+use Rattle.ckr_desk_turn.specs.Desk.{DeskModel, DeskStep, behind as desk_behind, done_by, unit_done, with_progress, without_run}
+use Rattle.ckr_desk_turn.specs.Units.{StepProgress, went, abended}
+use Rattle.ckr_desk_turn.specs.NextEvents.{Comes, IsWithinStep}
+use Rattle.ckr_desk_turn.specs.Invariant.{IsDesk, IsGoing, Keeps, is_accounted}
+use Rattle.ckr_desk_turn.proofs.StepEnd.{code-kept}
+use Rattle.ckr_desk_turn.proofs.OtherRuns.{all-by, row-plain, running-same}
+use Rattle.ckr_desk_turn.proofs.RunningSteps.{going-within, seen-so}
+use Rattle.ckr_desk_turn.proofs.NextEvents.WithinStep.{code-comes}
+
+all-filtered : {X : Type 0} (P : X → Type 0) (keep : X → Bool) (xs : List X) → AllByRecursion P xs → AllByRecursion P (filter keep xs)
+all-filtered P keep [] each = tt
+all-filtered P keep (x ∷ xs) each =
+    bool-cases (keep x)
+    (λ kept. subst (λ b. AllByRecursion P (cond b (x ∷ filter keep xs) (filter keep xs))) (sym kept) (each.0, all-filtered P keep xs each.1))
+    (λ gone. subst (λ b. AllByRecursion P (cond b (x ∷ filter keep xs) (filter keep xs))) (sym gone) (all-filtered P keep xs each.1))
+
+module _ (desk : DeskModel) (is : IsDesk desk) (run : ℕ) (progress : StepProgress) where
+  abbrev pub moved : DeskModel
+  moved = with_progress run progress desk
+
+  still_running : (number : ℕ) → list_any (λ (step : DeskStep). step.run == number) desk.running ≡ true → list_any (λ (step : DeskStep). step.run == number) moved.running ≡ true
+  still_running number some =
+      bool-cases (run == number)
+      (λ here. or_left (run == number) _ here)
+      (λ there.
+      or_right (run == number) _
+      (sym (running-same run desk.running number (λ e. false≢true (sym there ∙ ap (λ n. n == number) (sym e) ∙ equal-itself number))) ∙ some))
+
+  pub accounted_so : (row : RunRow) → is_accounted desk row ≡ true → is_accounted moved row ≡ true
+  accounted_so row was =
+      by (not (is_running row)) (list_any (λ (step : DeskStep). step.run == row.number) desk.running) _ _ (still_running row.number) was
+    where
+      by : (out old new failed : Bool) → (old ≡ true → new ≡ true) → (out || (old || failed)) ≡ true → (out || (new || failed)) ≡ true
+      by true old new failed more e = refl
+      by false true new failed more e = ap (λ b. b || failed) (more refl)
+      by false false new failed more e = or_right new failed e
+
+  -- the desk where the step has come further
+  pub moved-kept : IsGoing desk.office (record { run = run; progress = progress }) → IsDesk moved
+  moved-kept going = record {
+    kept = is.kept;
+    going = (going, all-filtered (IsGoing desk.office) (λ (step : DeskStep). not (step.run == run)) desk.running is.going);
+    failed = is.failed;
+    plain = is.plain;
+    admitted = is.admitted;
+    accounted = all-by (is_accounted moved) desk.office.tables.runs (λ place row at. accounted_so row (all-get (is_accounted desk) desk.office.tables.runs place row is.accounted at));
+    spaced = is.spaced;
+    spaced_legs = is.spaced_legs;
+  }
+
+-- a unit by which the step goes on, with no rewrite
+pub went-keeps : (desk : DeskModel) → IsDesk desk → (row : RunRow) (progress : StepProgress) → IsGoing desk.office (record { run = row.number; progress = progress }) → Keeps desk (unit_done row (record { unit = went None; progress = progress }) desk)
+went-keeps desk is row progress going = record { comes = tt; kept = moved-kept desk is row.number progress going }
+
+-- without the step of a run, however far it had come
+without-moved : (run : ℕ) (progress : StepProgress) (running : List DeskStep) → without_run run (record { run = run; progress = progress } ∷ without_run run running) ≡ without_run run running
+without-moved run progress running =
+    ap (λ b. cond (not b) (record { run = run; progress = progress } ∷ without_run run (without_run run running)) (without_run run (without_run run running))) (equal-itself run)
+    ∙ filter-twice (λ (step : DeskStep). not (step.run == run)) running
+
+-- a unit by which the step ends with a code, behind writes that rewrite nothing
+pub ended-keeps : (desk : DeskModel) → IsDesk desk → (row : RunRow) (number committed : ℕ) (start : StepStart) → IsWithinStep desk.office row.number row number committed start → (progress : StepProgress) (code : Code) → committed ≤ progress.writes → progress.writes ≤ length (work_at start).writes → rewrites_nothing start committed progress.writes ≡ true → Keeps desk (unit_done row (record { unit = abended code; progress = progress }) desk)
+ended-keeps desk is row number committed start within progress code behind fit plain =
+    let rule : ℕ = rule_number (rule_for desk.layout row code) in
+    let lengths : ArrayVec ℕ = record { items = lengths_at start desk.office.tables.sets progress.writes } in
+    let comes : Comes desk (EndedEvent row.number (CodedEnding code rule progress.writes lengths)) = code-comes desk is row.number row number committed start within progress.writes behind fit plain code in
+    subst (λ (s : CodePlaceModel). Keeps desk (done_by (code_plan desk.layout row code s) (with_progress row.number progress desk)))
+    (sym (ap running_reached (seen-so desk.office row.number progress row start within.row_at within.start_at)))
+    (record {
+      comes = comes;
+      kept =
+          subst (λ running. IsDesk (record (desk_behind (EndedEvent row.number (CodedEnding code rule progress.writes lengths)) None desk) { running = running }))
+          (sym (without-moved row.number progress desk.running))
+          (code-kept desk is row.number row number committed start within (row-plain desk is row.number row within.row_at) code rule progress.writes lengths comes);
+    })
+
+pub abended-keeps : (desk : DeskModel) → IsDesk desk → (row : RunRow) (progress : StepProgress) (code : Code) → run_of desk.office.tables row.number ≡ Some row → IsGoing desk.office (record { run = row.number; progress = progress }) → Keeps desk (unit_done row (record { unit = abended code; progress = progress }) desk)
+abended-keeps desk is row progress code at going =
+    let mine : going.row ≡ row = same_Some _ _ (sym going.row_at ∙ at) in
+    ended-keeps desk is row going.number going.committed going.start
+    (subst (λ r. IsWithinStep desk.office row.number r going.number going.committed going.start) mine (going-within desk.office (record { run = row.number; progress = progress }) going))
+    progress code going.behind going.fit going.plain

@@ -1,0 +1,11 @@
+use Rattle.ckr_desk_turn.proofs.Turns.Series.{next-keeps, turns-keep, turns-kept}
+use Rattle.std.proofs.Common.{[], ◌∷◌}
+use Rattle.ckr_desk_turn.proofs.turn_laws.desks_behind_turns.Goals as goal
+
+pub returns : goal.returns
+returns c = record {
+  behind = λ turns desk is each. turns-keep turns desk is each;
+  kept = λ turns desk is each. turns-kept turns desk is each;
+  next = λ turns turn desk is each next. (next-keeps turns turn desk is each next).comes;
+  one = λ desk turn is of. ((next-keeps [] turn desk is tt of).comes, turns-kept (turn ∷ []) desk is (of, tt));
+}

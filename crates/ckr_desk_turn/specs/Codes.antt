@@ -1,0 +1,58 @@
+-- A code: the rule by which the run isn't restarted, and its end.
+use Rattle.std.specs.Prelude.{ℕ, false, List, [], Option, None, Some}
+use Rattle.std.specs.Option.{option_map_or}
+use Rattle.ckr_base.specs.declared.code.Code.{Code}
+use Rattle.ckr_events.specs.declared.event.Event.TheVariants.{Ended as EndedEvent}
+use Rattle.ckr_events.specs.declared.event.Ending.TheVariants.{Coded as CodedEnding}
+use Rattle.ckr_points.specs.RuleCases.{auto_case}
+use Rattle.ckr_points.specs.Restart.{place_of, step_in}
+use Rattle.ckr_points.specs.Rows.{RunRow, step_of_run}
+use Rattle.ckr_points.specs.Payload.{lengths_kept, writes_in}
+use Rattle.ckr_rules.specs.RuleTables.{automatic, rule_number}
+use Rattle.ckr_rules.specs.declared.cases.Rule.{Rule}
+use Rattle.ckr_rules.specs.declared.cases.Rule.TheVariants.{A6}
+use Rattle.ckr_rules.specs.declared.cases.Verdict.{Verdict}
+use Rattle.ckr_rules.specs.declared.cases.Verdict.TheVariants.{Step, Checkpoint, Denied}
+use Rattle.ckr_volumes.specs.declared.layout.Layout.{Layout}
+use Rattle.ckr_desk_turn.specs.declared.plan.Plan.{Plan}
+use Rattle.ckr_desk_turn.specs.declared.plan.Plan.TheVariants.{Tell}
+use Rattle.ckr_desk_turn.specs.declared.reply.How.TheVariants.{Abended}
+use Rattle.ckr_desk_turn.specs.declared.reply.Reply.TheVariants.{JobEnded}
+use Rattle.ckr_desk_turn.specs.Jobs.{TurnJobs, TurnStep, running_in}
+
+-- how far a run with a code has come: the writes of its running step and the lengths with them, else the committed ones
+pub record CodePlaceModel : Type 0 where
+  pub writes : ℕ
+  pub lengths : List ℕ
+
+abbrev pub kept_reached : TurnJobs → RunRow → CodePlaceModel
+kept_reached jobs row = record {
+  writes = writes_in (place_of row);
+  lengths = option_map_or (λ owned. lengths_kept row.job.root owned jobs.tables.sets) (step_of_run row (step_in (place_of row))) [];
+}
+
+abbrev pub running_reached : TurnStep → CodePlaceModel
+running_reached step = record { writes = step.writes; lengths = step.lengths }
+
+abbrev pub reached_by : TurnJobs → RunRow → CodePlaceModel
+reached_by jobs row = option_map_or running_reached (running_in jobs row.number) (kept_reached jobs row)
+
+-- a run ends with a code by a rule
+abbrev pub ended_by : RunRow → Code → Rule → CodePlaceModel → Plan
+ended_by row code rule reached =
+    Tell (JobEnded row.number (Abended code rule))
+    (EndedEvent row.number (CodedEnding code (rule_number rule) reached.writes (record { items = reached.lengths })))
+
+-- no deck that the desk runs asks for a restart, and no operator is asked for one
+abbrev pub rule_by : Verdict → Rule
+rule_by (Denied rule) = rule
+rule_by Step = A6
+rule_by Checkpoint = A6
+
+-- the rule by which a run isn't restarted after a code
+abbrev pub rule_for : Layout → RunRow → Code → Rule
+rule_for layout row code = rule_by (automatic (auto_case row (step_in (place_of row)) layout.eligible.items code false))
+
+-- a turn in which a run has a code
+abbrev pub code_plan : Layout → RunRow → Code → CodePlaceModel → Plan
+code_plan layout row code reached = ended_by row code (rule_for layout row code) reached

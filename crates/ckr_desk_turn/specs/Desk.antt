@@ -1,0 +1,176 @@
+-- The desk between two turns, with all that its jobs are to do: a turn, and the other calls.
+use Rattle.std.specs.Prelude.{ℕ, suc, ◌==◌, Bool, true, false, ◌&&◌, not, if◌then◌else◌, List, [], ◌∷◌, map, filter, find, length, Option, None, Some}
+use Rattle.std.specs.Option.{option_map_or, is_some}
+use Rattle.ckr_base.specs.declared.programs.Finish.{Finish}
+use Rattle.ckr_base.specs.declared.programs.Finish.TheVariants.{Returned, Abend}
+use Rattle.ckr_events.specs.declared.event.Event.{Event}
+use Rattle.ckr_events.specs.declared.event.Event.TheVariants.{Submitted, Started, StepEnded, Ended, Purged}
+use Rattle.ckr_jcl.specs.declared.deck.Job.{Job}
+use Rattle.ckr_meaning.specs.JobRun.{start_at}
+use Rattle.ckr_meaning.specs.StepRun.{StepStart, work_at}
+use Rattle.ckr_points.specs.Payload.{lengths_at}
+use Rattle.ckr_points.specs.Office.{Office, office_after, leg_of}
+use Rattle.ckr_points.specs.Restart.{place_of, step_in}
+use Rattle.ckr_points.specs.Rows.{RunRow, TablesModel, run_of}
+use Rattle.ckr_volumes.specs.declared.layout.Layout.{Layout}
+use Rattle.ckr_desk_turn.specs.declared.plan.Plan.{Plan}
+use Rattle.ckr_desk_turn.specs.declared.plan.Plan.TheVariants.{Rest, Tell, Work}
+use Rattle.ckr_desk_turn.specs.declared.reply.Reply.{Reply}
+use Rattle.ckr_desk_turn.specs.declared.reply.Reply.TheVariants.{Idle}
+use Rattle.ckr_desk_turn.specs.declared.reply.Turn.{Turn}
+use Rattle.ckr_desk_turn.specs.Jobs.{TurnJobs, TurnStep}
+use Rattle.ckr_desk_turn.specs.Plans.{plan_of, is_within}
+use Rattle.ckr_desk_turn.specs.Units.{StepProgress, UnitOutcome, UnitEnd, unit_end, unit_plan}
+
+-- a running step: its run, and how far it has come
+pub record DeskStep : Type 0 where
+  pub run : ℕ
+  pub progress : StepProgress
+
+-- the tables with what the jobs leave, the running steps, and the runs that were running when the system failed
+pub record DeskModel : Type 0 where
+  pub layout : Layout
+  pub office : Office
+  pub running : List DeskStep
+  pub failed : List ℕ
+
+-- the reply of a turn, its event or none, and the desk behind it
+pub record TurnDone : Type 0 where
+  pub reply : Reply
+  pub event : Option Event
+  pub desk : DeskModel
+
+-- the step that a run is before or in, as its job comes to it without interruption
+abbrev pub start_of : Office → RunRow → Option StepStart
+start_of office row = option_map_or (λ leg. start_at leg.job leg.start (step_in (place_of row))) (leg_of office row.number) None
+
+abbrev pub start_in_run : Office → ℕ → Option StepStart
+start_in_run office run = option_map_or (start_of office) (run_of office.tables run) None
+
+-- ---- its jobs
+
+-- the return code of a program that has returned
+abbrev pub rc_by : Finish → ℕ
+rc_by (Returned rc) = rc
+rc_by (Abend code) = 0
+
+-- a running step as its job has it
+abbrev pub seen_from : Office → ℕ → StepProgress → StepStart → TurnStep
+seen_from office run progress start = record {
+  run = run;
+  taken = progress.taken;
+  writes = progress.writes;
+  finished = if progress.closed then Some (rc_by (work_at start).finish) else None;
+  lengths = lengths_at start office.tables.sets progress.writes;
+}
+
+abbrev pub seen : Office → ℕ → StepProgress → TurnStep
+seen office run progress =
+    option_map_or (seen_from office run progress) (start_in_run office run)
+    (record { run = run; taken = progress.taken; writes = progress.writes; finished = None; lengths = [] })
+
+abbrev pub jobs_of : DeskModel → TurnJobs
+jobs_of desk = record {
+  tables = desk.office.tables;
+  running = map (λ step. seen desk.office step.run step.progress) desk.running;
+  failed = desk.failed;
+}
+
+-- ---- the desk behind an event
+
+abbrev pub without_run : ℕ → List DeskStep → List DeskStep
+without_run run running = filter (λ step. not (step.run == run)) running
+
+abbrev pub at_first : ℕ → DeskStep
+at_first run = record { run = run; progress = record { taken = 0; writes = 0; closed = false } }
+
+-- a step is running from its start to its end, or to that of its run
+abbrev pub running_behind : Event → List DeskStep → List DeskStep
+running_behind (Started job step items) running = at_first job ∷ without_run job running
+running_behind (StepEnded job step rc writes lengths) running = without_run job running
+running_behind (Ended job ending) running = without_run job running
+running_behind _ running = running
+
+-- a run that has ended isn't marked any more
+abbrev pub failed_behind : Event → List ℕ → List ℕ
+failed_behind (Ended job ending) failed = filter (λ number. not (number == job)) failed
+failed_behind _ failed = failed
+
+-- the desk behind an event; the deck is given for one that is submitted
+abbrev pub behind : Event → Option Job → DeskModel → DeskModel
+behind event deck desk = record {
+  layout = desk.layout;
+  office = office_after (event, deck) desk.office;
+  running = running_behind event desk.running;
+  failed = failed_behind event desk.failed;
+}
+
+-- ---- a turn
+
+abbrev pub done_by : Plan → DeskModel → TurnDone
+done_by (Rest reply) desk = record { reply = reply; event = None; desk = desk }
+done_by (Tell reply event) desk = record { reply = reply; event = Some event; desk = behind event None desk }
+done_by (Work job) desk = record { reply = Idle; event = None; desk = desk }
+
+abbrev pub with_progress : ℕ → StepProgress → DeskModel → DeskModel
+with_progress run progress desk = record desk { running = record { run = run; progress = progress } ∷ without_run run desk.running }
+
+-- a unit of a running step, with the desk behind it
+abbrev pub unit_done : RunRow → UnitEnd → DeskModel → TurnDone
+unit_done row end desk =
+    let moved = with_progress row.number end.progress desk in
+    done_by (unit_plan desk.layout (jobs_of moved) row (seen moved.office row.number end.progress) end.unit) moved
+
+abbrev pub progress_of : DeskModel → ℕ → Option StepProgress
+progress_of desk run = option_map_or (λ step. Some step.progress) (find (λ step. step.run == run) desk.running) None
+
+abbrev pub work_of : ℕ → DeskModel → TurnDone
+work_of run desk =
+    option_map_or
+    (λ row.
+    option_map_or
+    (λ start. option_map_or (λ progress. unit_done row (unit_end start progress) desk) (progress_of desk run) (done_by (Rest Idle) desk))
+    (start_of desk.office row) (done_by (Rest Idle) desk))
+    (run_of desk.office.tables run) (done_by (Rest Idle) desk)
+
+abbrev pub carried_out : Plan → DeskModel → TurnDone
+carried_out (Rest reply) desk = done_by (Rest reply) desk
+carried_out (Tell reply event) desk = done_by (Tell reply event) desk
+carried_out (Work job) desk = work_of job desk
+
+-- a turn
+unfoldable pub turn_of : DeskModel → Turn → TurnDone
+turn_of desk turn = carried_out (plan_of desk.layout (jobs_of desk) turn) desk
+
+-- ---- the other calls
+
+-- the desk behind a deck that was submitted, with its cards
+abbrev pub submitted : List ℕ → Job → DeskModel → DeskModel
+submitted cards deck desk = behind (Submitted (suc (length desk.office.tables.runs)) cards) (Some deck) desk
+
+-- the desk behind a queued run that was purged
+abbrev pub purged : ℕ → DeskModel → DeskModel
+purged job desk = behind (Purged job) None desk
+
+-- whether a run on an initiator is within a step
+abbrev pub is_running : RunRow → Bool
+is_running row = is_some row.initiator && is_within (place_of row)
+
+-- the desk behind its opening: what was running has failed
+abbrev pub opened : Layout → Office → DeskModel
+opened layout office = record {
+  layout = layout;
+  office = office;
+  running = [];
+  failed = map (λ row. row.number) (filter is_running office.tables.runs);
+}
+
+-- the replies of turns, one after the other
+abbrev pub replies_of : List Turn → DeskModel → List Reply
+replies_of [] desk = []
+replies_of (turn ∷ turns) desk = let done = turn_of desk turn in done.reply ∷ replies_of turns done.desk
+
+-- the desk behind turns
+abbrev pub desk_after : List Turn → DeskModel → DeskModel
+desk_after [] desk = desk
+desk_after (turn ∷ turns) desk = desk_after turns (turn_of desk turn).desk

@@ -1,0 +1,127 @@
+-- A desk whose events are kept, and whose running steps stand where their jobs come to.
+use Rattle.std.specs.Prelude.{◌≡◌, ◌+◌, ◌≤◌, ◌==◌, ◌||◌, ◌&&◌, ℕ, Bool, true, false, not, List, length, Some, Ok}
+use Rattle.std.specs.List.{list_any, list_all, AllByRecursion}
+use Rattle.std.specs.Option.{is_none, is_some}
+use Rattle.ckr_base.specs.declared.programs.Finish.TheVariants.{Returned}
+use Rattle.ckr_jcl_decks.specs.Deck.{stored_deck}
+use Rattle.ckr_meaning.specs.declared.place.Place.TheVariants.{Within}
+use Rattle.ckr_meaning.specs.LibrarySet.{AreWithinSpace}
+use Rattle.ckr_meaning.specs.Program.{records_taken, unit_done, upto}
+use Rattle.ckr_meaning.specs.StepRun.{StepStart, case_at, work_at}
+use Rattle.ckr_points.specs.declared.run.RunState.{RunState}
+use Rattle.ckr_points.specs.declared.run.RunState.TheVariants.{Queued, On, Held, Released, Ended, Denied, Purged}
+use Rattle.ckr_points.specs.Follows.{is_running, own_step}
+use Rattle.ckr_points.specs.Payload.{rewrites_nothing}
+use Rattle.ckr_points.specs.Office.{Leg, Office}
+use Rattle.ckr_points.specs.Rows.{RunRow, run_of}
+use Rattle.ckr_points_invariant.specs.Invariant.{IsKept}
+use Rattle.ckr_points_decks.specs.Form.{is_run}
+use Rattle.ckr_desk_turn.specs.declared.reply.Turn.{Turn}
+use Rattle.ckr_desk_turn.specs.Desk.{DeskModel, DeskStep, TurnDone, start_of}
+use Rattle.ckr_desk_turn.specs.Units.{StepProgress}
+use Rattle.ckr_volumes.specs.declared.layout.Layout.{Layout}
+use Rattle.ckr_desk_turn.specs.NextEvents.{EventComes, IsWithinStep}
+
+-- how far a step has come: behind so many records taken, with the writes for them; or closed, with all its writes
+pub record IsOpen (start : StepStart) (progress : StepProgress) : Type 0 where
+  pub taken : progress.taken ≤ records_taken (case_at start)
+  pub writes : progress.writes ≡ length (upto (case_at start) progress.taken)
+
+pub record IsClosed (start : StepStart) (progress : StepProgress) : Type 0 where
+  pub writes : progress.writes ≡ length (work_at start).writes
+  pub rc : ℕ
+  pub returned : (work_at start).finish ≡ Returned rc
+
+abbrev pub HasCome : StepStart → StepProgress → Bool → Type 0
+HasCome start progress false = IsOpen start progress
+HasCome start progress true = IsClosed start progress
+
+-- a running step of a run on an initiator, behind the writes that are committed
+pub record IsGoing (office : Office) (step : DeskStep) : Type 0 where
+  pub row : RunRow
+  pub row_at : run_of office.tables step.run ≡ Some row
+  pub on : row.state ≡ On
+  pub number : ℕ
+  pub committed : ℕ
+  pub place : row.place ≡ Some (Within number committed)
+  pub start : StepStart
+  pub start_at : start_of office row ≡ Some start
+  pub fit : step.progress.writes ≤ length (work_at start).writes
+  pub behind : committed ≤ step.progress.writes
+  pub plain : rewrites_nothing start committed step.progress.writes ≡ true
+  pub come : HasCome start step.progress step.progress.closed
+
+-- a run that was within a step when the system failed
+pub record IsFailed (office : Office) (run : ℕ) : Type 0 where
+  pub row : RunRow
+  pub number : ℕ
+  pub committed : ℕ
+  pub start : StepStart
+  pub within : IsWithinStep office run row number committed start
+
+-- whether a run may be on an initiator
+abbrev pub is_on_one : RunState → Bool
+is_on_one Queued = false
+is_on_one On = true
+is_on_one _ = false
+
+-- a run that was never held, of a form that the desk runs
+abbrev pub is_plain_state : RunState → Bool
+is_plain_state Queued = true
+is_plain_state On = true
+is_plain_state Held = false
+is_plain_state Released = false
+is_plain_state Ended = true
+is_plain_state Denied = false
+is_plain_state Purged = true
+
+abbrev pub is_plain_row : RunRow → Bool
+is_plain_row row = is_plain_state row.state && ((is_none row.initiator || is_on_one row.state) && (is_none row.code && is_run row.deck))
+
+-- the cards of an accepted deck were read, and a run that is on an initiator has one
+pub record IsAdmitted (row : RunRow) : Type 0 where
+  pub cards : List ℕ
+  pub accepted : stored_deck cards ≡ Ok row.deck
+  pub lodged : (not (is_on_one row.state) || is_some row.initiator) ≡ true
+
+-- a run on an initiator within a step is running, or was when the system failed
+abbrev pub is_accounted : DeskModel → RunRow → Bool
+is_accounted desk row =
+    not (is_running row) || (list_any (λ (step : DeskStep). step.run == row.number) desk.running || list_any (λ number. number == row.number) desk.failed)
+
+-- the desk is as its events have brought it about
+pub record IsDesk (desk : DeskModel) : Type 0 where
+  pub kept : IsKept desk.layout desk.office
+  pub going : AllByRecursion (IsGoing desk.office) desk.running
+  pub failed : AllByRecursion (IsFailed desk.office) desk.failed
+  pub plain : list_all is_plain_row desk.office.tables.runs ≡ true
+  pub admitted : AllByRecursion IsAdmitted desk.office.tables.runs
+  pub accounted : list_all (is_accounted desk) desk.office.tables.runs ≡ true
+  pub spaced : AreWithinSpace desk.office.library
+  pub spaced_legs : AllByRecursion (λ (leg : Leg). AreWithinSpace leg.start) desk.office.legs
+
+-- a run on an initiator within a step has that step
+abbrev pub has_its_step : RunRow → Bool
+has_its_step row = not (is_running row) || is_some (own_step row)
+
+-- what the events of a desk have brought about beside kept tables, whichever steps are running
+pub record HasRuns (office : Office) : Type 0 where
+  pub plain : list_all is_plain_row office.tables.runs ≡ true
+  pub admitted : AllByRecursion IsAdmitted office.tables.runs
+  pub stepped : list_all has_its_step office.tables.runs ≡ true
+  pub spaced : AreWithinSpace office.library
+  pub spaced_legs : AllByRecursion (λ (leg : Leg). AreWithinSpace leg.start) office.legs
+
+-- what a turn comes to: its event may come, and the desk behind it is as its events have brought it about
+pub record Keeps (desk : DeskModel) (done : TurnDone) : Type 0 where
+  pub comes : EventComes desk done.event
+  pub kept : IsDesk done.desk
+
+-- a turn of an initiator that the layout has
+pub record IsTurnOf (layout : Layout) (turn : Turn) : Type 0 where
+  pub above : 1 ≤ turn.initiator
+  pub below : turn.initiator ≤ layout.initiators
+
+-- the writes behind the next unit, if they fit
+abbrev pub next_writes : StepStart → StepProgress → ℕ
+next_writes start before = before.writes + length (unit_done (case_at start) before.taken).writes.items

@@ -1,0 +1,11 @@
+pub mod NextEvents
+pub mod Invariant
+pub mod Allocation
+pub mod Select
+pub mod Codes
+pub mod Desk
+pub mod Jobs
+pub mod Plans
+pub mod Queue
+pub mod Spelling
+pub mod Units

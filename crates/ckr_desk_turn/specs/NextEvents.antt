@@ -1,0 +1,28 @@
+-- An event that may come next at a desk, and carries what its job gives; and a run within a step.
+use Rattle.std.specs.Prelude.{◌≡◌, ℕ, true, Option, Some, None}
+use Rattle.ckr_events.specs.declared.event.Event.{Event}
+use Rattle.ckr_meaning.specs.declared.place.Place.TheVariants.{Within}
+use Rattle.ckr_meaning.specs.StepRun.{StepStart}
+use Rattle.ckr_points.specs.declared.run.RunState.TheVariants.{On}
+use Rattle.ckr_points.specs.Payload.{carries}
+use Rattle.ckr_points.specs.Office.{Office}
+use Rattle.ckr_points.specs.Restart.{place_of}
+use Rattle.ckr_points.specs.Rows.{RunRow, run_of}
+use Rattle.ckr_points.specs.Soundness.{may_come}
+use Rattle.ckr_desk_turn.specs.Desk.{DeskModel, start_of}
+
+pub record Comes (desk : DeskModel) (event : Event) : Type 0 where
+  pub may : may_come desk.layout desk.office (event, None) ≡ true
+  pub carried : carries desk.layout desk.office event None ≡ true
+
+-- a run on an initiator, within its step behind so many committed writes
+pub record IsWithinStep (office : Office) (run : ℕ) (row : RunRow) (number committed : ℕ) (start : StepStart) : Type 0 where
+  pub row_at : run_of office.tables run ≡ Some row
+  pub on : row.state ≡ On
+  pub place : place_of row ≡ Within number committed
+  pub start_at : start_of office row ≡ Some start
+
+-- the event of a turn, where it has one
+abbrev pub EventComes : DeskModel → Option Event → Type 0
+EventComes desk None = Unit {0}
+EventComes desk (Some event) = Comes desk event

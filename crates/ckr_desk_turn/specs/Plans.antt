@@ -1,0 +1,115 @@
+-- What a turn comes to, by the tables and the running steps.
+use Rattle.std.specs.Prelude.{ℕ, pred, Bool, true, false, List, [], slice_get, Option, None, Some, Ok, Err}
+use Rattle.std.specs.Option.{option_map_or}
+use Rattle.ckr_points_library.specs.declared.cause.Cause.{Cause}
+use Rattle.ckr_base.specs.declared.code.Code.{Code}
+use Rattle.ckr_base.specs.declared.code.Code.TheVariants.{System}
+use Rattle.ckr_events.specs.declared.event.Event.TheVariants.{Selected as SelectedEvent, Started as StartedEvent, StepEnded as StepEndedEvent, Ended as EndedEvent}
+use Rattle.ckr_events.specs.declared.event.Ending.TheVariants.{Completed as CompletedEnding, Allocation as AllocationEnding}
+use Rattle.ckr_meaning.specs.EffectiveJob.{OwnedStep}
+use Rattle.ckr_meaning.specs.declared.place.Place.{Place}
+use Rattle.ckr_meaning.specs.declared.place.Place.TheVariants.{Before, Opened, Within}
+use Rattle.ckr_points.specs.Restart.{place_of}
+use Rattle.ckr_points.specs.Rows.{RunRow, step_of_run}
+use Rattle.ckr_volumes.specs.declared.layout.Layout.{Layout}
+use Rattle.ckr_desk_turn.specs.declared.plan.Plan.{Plan}
+use Rattle.ckr_desk_turn.specs.declared.plan.Plan.TheVariants.{Rest, Tell, Work}
+use Rattle.ckr_desk_turn.specs.declared.reply.How.TheVariants.{Completed, Allocation}
+use Rattle.ckr_desk_turn.specs.declared.reply.Reply.TheVariants.{Idle, NothingToFail, Selected, Started, StepEnded, JobEnded}
+use Rattle.ckr_desk_turn.specs.declared.reply.Turn.{Turn}
+use Rattle.ckr_desk_turn.specs.Allocation.{allocation_of, cause_numbers}
+use Rattle.ckr_desk_turn.specs.Select.{next_run, run_on_initiator}
+use Rattle.ckr_desk_turn.specs.Codes.{code_plan, reached_by}
+use Rattle.ckr_desk_turn.specs.Jobs.{TurnJobs, TurnStep, is_failed, running_in, step_name_of}
+
+-- ---- between steps
+
+-- a DD of the step can't be allocated, and the run ends
+abbrev pub allocation_ended : RunRow → OwnedStep → ℕ → Cause → Plan
+allocation_ended row owned dd cause =
+    let numbers = cause_numbers cause in
+    let name = option_map_or (λ one. one.name) (slice_get owned.step.dds (pred dd)) [] in
+    Tell (JobEnded row.number (Allocation owned.step.name name cause)) (EndedEvent row.number (AllocationEnding dd numbers.0 numbers.1 numbers.2))
+
+-- the step starts, or a DD of it can't be allocated
+abbrev pub start_plan : Layout → TurnJobs → RunRow → OwnedStep → ℕ → Plan
+start_plan layout jobs row owned number =
+    elim (allocation_of layout row owned number jobs.tables) [
+      | Err refusal ↦ allocation_ended row owned refusal.dd refusal.cause
+      | Ok items ↦ Tell (Started row.number owned.step.name) (StartedEvent row.number number (record { items = items }))
+    ]
+
+-- where no step is left the job is completed
+abbrev pub between_plan : Layout → TurnJobs → RunRow → ℕ → Plan
+between_plan layout jobs row number =
+    elim (step_of_run row number) [
+      | None ↦ Tell (JobEnded row.number Completed) (EndedEvent row.number CompletedEnding)
+      | Some owned ↦ start_plan layout jobs row owned number
+    ]
+
+-- ---- within a step
+
+-- the step ends where its closing unit is done, with its return code
+abbrev pub finished_plan : RunRow → ℕ → TurnStep → Option ℕ → Plan
+finished_plan row number step finished =
+    elim finished [
+      | None ↦ Work row.number
+      | Some rc ↦
+          Tell (StepEnded row.number (step_name_of row) rc) (StepEndedEvent row.number number rc step.writes (record { items = step.lengths }))
+    ]
+
+abbrev pub running_plan : RunRow → ℕ → TurnStep → Plan
+running_plan row number step = finished_plan row number step step.finished
+
+abbrev pub placed_plan : Layout → TurnJobs → RunRow → Place → Plan
+placed_plan layout jobs row (Before number) = between_plan layout jobs row number
+placed_plan layout jobs row (Opened number) = between_plan layout jobs row number
+placed_plan layout jobs row (Within number writes) = option_map_or (running_plan row number) (running_in jobs row.number) (Rest Idle)
+
+-- ---- an initiator that has a run
+
+-- the code of a run that was running when the system failed
+abbrev pub system_failure : Code
+system_failure = System 755
+
+abbrev pub is_within : Place → Bool
+is_within (Before number) = false
+is_within (Opened number) = false
+is_within (Within number writes) = true
+
+-- a code that is given is that of the running step
+abbrev pub fail_plan : Layout → TurnJobs → RunRow → Option Code → Plan
+fail_plan layout jobs row None = placed_plan layout jobs row (place_of row)
+fail_plan layout jobs row (Some code) =
+    elim (is_within (place_of row)) [
+      | true ↦ code_plan layout row code (reached_by jobs row)
+      | false ↦ Rest NothingToFail
+    ]
+
+-- a system failure comes first
+abbrev pub run_plan : Layout → TurnJobs → Option Code → RunRow → Plan
+run_plan layout jobs fail row =
+    elim (is_failed jobs row.number) [
+      | true ↦ code_plan layout row system_failure (reached_by jobs row)
+      | false ↦ fail_plan layout jobs row fail
+    ]
+
+-- ---- an initiator that has none
+
+-- a released run goes on with the code that it was held with
+abbrev pub chosen_plan : Layout → TurnJobs → ℕ → RunRow → Plan
+chosen_plan layout jobs initiator row =
+    elim row.code [
+      | None ↦ Tell (Selected row.number) (SelectedEvent row.number initiator 0 0 None)
+      | Some code ↦ code_plan layout row code (reached_by jobs row)
+    ]
+
+abbrev pub free_plan : Layout → TurnJobs → ℕ → Option Code → Plan
+free_plan layout jobs initiator (Some code) = Rest NothingToFail
+free_plan layout jobs initiator None = option_map_or (chosen_plan layout jobs initiator) (next_run jobs.tables) (Rest Idle)
+
+-- what a turn comes to
+unfoldable pub plan_of : Layout → TurnJobs → Turn → Plan
+plan_of layout jobs turn =
+    option_map_or (run_plan layout jobs turn.fail) (run_on_initiator jobs.tables turn.initiator)
+    (free_plan layout jobs turn.initiator turn.fail)

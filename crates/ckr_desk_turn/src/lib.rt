@@ -1,0 +1,34 @@
+//! What a turn of the desk comes to, with its reply and its event or none, and that turns keep the events of the desk.
+#![tactic(auto)]
+
+mod event_laws;
+mod events;
+mod opening_law;
+mod plan;
+mod queue_law;
+mod reply;
+mod step_laws;
+mod turn_laws;
+mod unit_laws;
+
+pub use ckr_points_library::Cause;
+pub use event_laws::{events_between_steps_may_come, events_of_calls_may_come};
+pub use events::{
+    allocation_event, coded_event, completed_event, purged_event, rewritten_event, selected_event,
+    started_event, step_ended_event,
+};
+pub use opening_law::opened_desks_are_desks;
+pub use plan::Plan;
+pub use queue_law::the_queue_selects_the_next_run;
+pub use reply::{Chkpt, How, Reply, Submitted, Turn};
+pub use step_laws::{
+    next_units_keep_the_desk, turns_within_a_step_keep_the_desk, units_keep_the_desk,
+};
+pub use turn_laws::{
+    desks_behind_calls, desks_behind_steps_that_start, desks_behind_turns,
+    desks_behind_turns_between_steps, turns_keep_the_desk,
+};
+pub use unit_laws::{
+    codes_of_units_are_those_of_the_work, last_units_keep_the_desk, rewrites_keep_the_desk,
+    work_keeps_the_desk,
+};

@@ -1,0 +1,14 @@
+//! The desk behind its opening. A law is the contract of a function that does nothing.
+ghost use Rattle.ckr_points.specs.Office.{Office, no_office};
+ghost use Rattle.ckr_points_invariant.specs.Invariant.{IsKept};
+ghost use Rattle.ckr_desk_turn.specs.Desk.{DeskModel, opened};
+ghost use Rattle.ckr_volumes.specs.declared.layout.Layout.{Layout as LayoutOfDisk};
+ghost use Rattle.ckr_desk_turn.specs.Invariant.{HasRuns, IsDesk};
+
+/// A desk that is opened on kept events of plain runs is as its events have brought it about: what was running is marked. The events of a
+/// desk are such ones at any time, and so are no events.
+pub fn opened_desks_are_desks()
+    ensures opened_so { (layout : LayoutOfDisk) (office : Office) → IsKept layout office → HasRuns office → IsDesk (opened layout office) }
+    ensures at_any_time { (desk : DeskModel) → IsDesk desk → HasRuns desk.office }
+    ensures at_first { (layout : LayoutOfDisk) → IsDesk (opened layout no_office) }
+{}

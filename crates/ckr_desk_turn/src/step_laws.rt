@@ -1,0 +1,32 @@
+//! What holds of each turn of a run within a step. A law is the contract of a function that does nothing.
+ghost use Rattle.std.specs.Prelude.{◌≡◌, ◌≤◌, ◌<◌, ℕ, length, Option, None, Some};
+ghost use Rattle.ckr_base.specs.declared.code.Code.{Code};
+ghost use Rattle.ckr_base.specs.declared.programs.Finish.TheVariants.{Abend};
+ghost use Rattle.ckr_meaning.specs.Program.{records_taken, unit_done as program_unit};
+ghost use Rattle.ckr_meaning.specs.StepRun.{StepStart, case_at, work_at};
+ghost use Rattle.ckr_points.specs.Rows.{RunRow, run_of};
+ghost use Rattle.ckr_desk_turn.specs.Desk.{DeskModel, DeskStep, carried_out, jobs_of, progress_of, unit_done, work_of};
+ghost use Rattle.ckr_desk_turn.specs.Plans.{run_plan};
+ghost use Rattle.ckr_desk_turn.specs.Units.{StepProgress, abended, first_rewrite, went};
+ghost use Rattle.ckr_desk_turn.specs.NextEvents.{IsWithinStep};
+ghost use Rattle.ckr_desk_turn.specs.Invariant.{IsDesk, IsGoing, IsOpen, Keeps, next_writes};
+
+/// A turn of an initiator whose run is within a step tells an event that may come and carries what the job gives: the step ends with
+/// its return code, a record is rewritten, or the run ends with a code: one that is given, that of a system failure, that of its
+/// program, or SB37. The desk behind it is as its events have brought it about, also where the turn tells none.
+pub fn turns_within_a_step_keep_the_desk()
+    ensures { (desk : DeskModel) (row : RunRow) (number committed : ℕ) (start : StepStart) (fail : Option Code) → IsDesk desk → IsWithinStep desk.office row.number row number committed start → Keeps desk (carried_out (run_plan desk.layout (jobs_of desk) fail row) desk) }
+{}
+
+/// A unit by which a step goes on without a rewrite, or by which it ends with a code of its program, keeps the desk.
+pub fn units_keep_the_desk()
+    ensures went_on { (desk : DeskModel) (row : RunRow) (progress : StepProgress) → IsDesk desk → IsGoing desk.office (record { run = row.number; progress = progress }) → Keeps desk (unit_done row (record { unit = went None; progress = progress }) desk) }
+    ensures abended_so { (desk : DeskModel) (row : RunRow) (progress : StepProgress) (code : Code) → IsDesk desk → run_of desk.office.tables row.number ≡ Some row → IsGoing desk.office (record { run = row.number; progress = progress }) → Keeps desk (unit_done row (record { unit = abended code; progress = progress }) desk) }
+{}
+
+/// So does the next unit of a running step whose writes fit: one that takes a record and rewrites nothing, and one by which its program
+/// ends with a code.
+pub fn next_units_keep_the_desk()
+    ensures taking { (desk : DeskModel) (on : DeskStep) (going : IsGoing desk.office on) → IsDesk desk → progress_of desk on.run ≡ Some on.progress → IsOpen going.start on.progress → on.progress.taken < records_taken (case_at going.start) → next_writes going.start on.progress ≤ length (work_at going.start).writes → first_rewrite (program_unit (case_at going.start) on.progress.taken).writes.items ≡ None → Keeps desk (work_of on.run desk) }
+    ensures ending { (desk : DeskModel) (on : DeskStep) (going : IsGoing desk.office on) (code : Code) → IsDesk desk → progress_of desk on.run ≡ Some on.progress → next_writes going.start on.progress ≤ length (work_at going.start).writes → (program_unit (case_at going.start) on.progress.taken).finish ≡ Some (Abend code) → Keeps desk (work_of on.run desk) }
+{}

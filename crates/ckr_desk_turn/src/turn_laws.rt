@@ -1,0 +1,74 @@
+//! The desk behind a turn of an initiator whose run isn't within a step, and behind the other calls. A law is the contract of a function
+//! that does nothing.
+ghost use Rattle.std.specs.Prelude.{◌≡◌, ◌≤◌, ℕ, suc, true, false, List, ◌∷◌, length, Option, None, Some, Ok, Err};
+ghost use Rattle.std.specs.List.{AllByRecursion};
+ghost use Rattle.ckr_points_library.specs.declared.cause.Refusal.{Refusal as RefusalOfDd};
+ghost use Rattle.ckr_base.specs.declared.code.Code.{Code};
+ghost use Rattle.ckr_events.specs.declared.event.Event.TheVariants.{Submitted as SubmittedEvent};
+ghost use Rattle.ckr_events.specs.declared.event.Made.{Made as MadePart};
+ghost use Rattle.ckr_jcl.specs.declared.deck.Job.{Job as JobOfDeck};
+ghost use Rattle.ckr_jcl_decks.specs.Deck.{stored_deck};
+ghost use Rattle.ckr_meaning.specs.EffectiveJob.{OwnedStep};
+ghost use Rattle.ckr_points.specs.declared.run.RunState.TheVariants.{Queued};
+ghost use Rattle.ckr_points.specs.Follows.{is_within, own_step};
+ghost use Rattle.ckr_points.specs.Payload.{carries};
+ghost use Rattle.ckr_points.specs.Restart.{place_of, step_in};
+ghost use Rattle.ckr_points.specs.Rows.{RunRow, run_of};
+ghost use Rattle.ckr_points_invariant.specs.Invariant.{IsKept};
+ghost use Rattle.ckr_points_decks.specs.Cards.{kept_of_stored};
+ghost use Rattle.ckr_points_decks.specs.Form.{is_run};
+ghost use Rattle.ckr_desk_turn.specs.Allocation.{allocation_of};
+ghost use Rattle.ckr_desk_turn.specs.Select.{run_on_initiator};
+ghost use Rattle.ckr_desk_turn.specs.declared.reply.Turn.{Turn};
+ghost use Rattle.ckr_desk_turn.specs.Desk.{DeskModel, carried_out, desk_after, jobs_of, purged as purged_desk, submitted as submitted_desk, turn_of};
+ghost use Rattle.ckr_desk_turn.specs.Plans.{between_plan, free_plan, run_plan, start_plan};
+ghost use Rattle.ckr_desk_turn.specs.NextEvents.{EventComes};
+ghost use Rattle.ckr_desk_turn.specs.Invariant.{IsDesk, IsTurnOf, Keeps};
+
+/// A turn of an initiator that no run is on keeps the desk: a queued run is selected, or none may be, or there is nothing to fail. So does
+/// the turn by which a run ends behind its last step, and the one by which it ends since a DD of its next step isn't allocated.
+pub fn desks_behind_turns_between_steps()
+    ensures selected { (desk : DeskModel) (i : ℕ) (fail : Option Code) → IsDesk desk → 1 ≤ i → i ≤ desk.layout.initiators → run_on_initiator desk.office.tables i ≡ None
+        → Keeps desk (carried_out (free_plan desk.layout (jobs_of desk) i fail) desk) }
+    ensures completed { (desk : DeskModel) (i : ℕ) (row : RunRow) → IsDesk desk → run_on_initiator desk.office.tables i ≡ Some row → is_within (place_of row) ≡ false → own_step row ≡ None
+        → Keeps desk (carried_out (between_plan desk.layout (jobs_of desk) row (step_in (place_of row))) desk) }
+    ensures refused { (desk : DeskModel) (i : ℕ) (row : RunRow) (owned : OwnedStep) (refusal : RefusalOfDd) → IsDesk desk → run_on_initiator desk.office.tables i ≡ Some row → is_within (place_of row) ≡ false → own_step row ≡ Some owned
+        → allocation_of desk.layout row owned (step_in (place_of row)) desk.office.tables ≡ Err refusal
+        → Keeps desk (carried_out (start_plan desk.layout (jobs_of desk) row owned (step_in (place_of row))) desk) }
+{}
+
+/// The event of an accepted deck carries what its job gives. The desk behind one of a form that it runs, and the desk behind a queued run
+/// that is purged, are as their events have brought them about. An event keeps at least one card.
+pub fn desks_behind_calls()
+    ensures carried { (desk : DeskModel) (cards kept : List ℕ) (deck : JobOfDeck) → stored_deck cards ≡ Ok deck → carries desk.layout desk.office (SubmittedEvent (suc (length desk.office.tables.runs)) kept) (Some deck) ≡ true }
+    ensures submitted { (desk : DeskModel) (cards : List ℕ) (first : ℕ) (kept : List ℕ) (deck : JobOfDeck) → IsDesk desk → stored_deck cards ≡ Ok deck → is_run deck ≡ true
+        → IsDesk (submitted_desk (first ∷ kept) deck desk) }
+    ensures kept_so { (desk : DeskModel) (cards : List ℕ) (deck : JobOfDeck) → IsDesk desk → 81 ≤ length cards → stored_deck cards ≡ Ok deck → is_run deck ≡ true → IsDesk (submitted_desk (kept_of_stored cards) deck desk) }
+    ensures purged { (desk : DeskModel) (job : ℕ) (row : RunRow) → IsDesk desk → run_of desk.office.tables job ≡ Some row → row.state ≡ Queued → IsDesk (purged_desk job desk) }
+{}
+
+/// So does the turn by which a step starts: the parts that its allocation gives are those of the DDs that make their data sets, each
+/// data set stands in the layout and lies apart from all others, and no return code bypasses the step. So any turn of an initiator whose
+/// run isn't within a step keeps the desk.
+pub fn desks_behind_steps_that_start()
+    ensures started { (desk : DeskModel) (i : ℕ) (row : RunRow) (owned : OwnedStep) (items : List MadePart) → IsDesk desk → run_on_initiator desk.office.tables i ≡ Some row → is_within (place_of row) ≡ false → own_step row ≡ Some owned
+        → allocation_of desk.layout row owned (step_in (place_of row)) desk.office.tables ≡ Ok items
+        → Keeps desk (carried_out (start_plan desk.layout (jobs_of desk) row owned (step_in (place_of row))) desk) }
+    ensures between { (desk : DeskModel) (i : ℕ) (row : RunRow) (fail : Option Code) → IsDesk desk → run_on_initiator desk.office.tables i ≡ Some row → is_within (place_of row) ≡ false
+        → Keeps desk (carried_out (run_plan desk.layout (jobs_of desk) fail row) desk) }
+{}
+
+/// Each turn of an initiator of the layout keeps the desk.
+pub fn turns_keep_the_desk()
+    ensures { (desk : DeskModel) (turn : Turn) → IsDesk desk → 1 ≤ turn.initiator → turn.initiator ≤ desk.layout.initiators → Keeps desk (turn_of desk turn) }
+{}
+
+/// So do turns one after the other: the desk behind them is as its events have brought it about, its events are kept in the layout that
+/// it began with, and the event of the next turn, where it tells one, may come and carries what the job gives.
+pub fn desks_behind_turns()
+    ensures behind { (turns : List Turn) (desk : DeskModel) → IsDesk desk → AllByRecursion (IsTurnOf desk.layout) turns → IsDesk (desk_after turns desk) }
+    ensures kept { (turns : List Turn) (desk : DeskModel) → IsDesk desk → AllByRecursion (IsTurnOf desk.layout) turns → IsKept desk.layout (desk_after turns desk).office }
+    ensures next { (turns : List Turn) (turn : Turn) (desk : DeskModel) → IsDesk desk → AllByRecursion (IsTurnOf desk.layout) turns → IsTurnOf desk.layout turn
+        → EventComes (desk_after turns desk) (turn_of (desk_after turns desk) turn).event }
+    ensures one { (desk : DeskModel) (turn : Turn) → IsDesk desk → IsTurnOf desk.layout turn → EventComes desk (turn_of desk turn).event × IsKept desk.layout (turn_of desk turn).desk.office }
+{}

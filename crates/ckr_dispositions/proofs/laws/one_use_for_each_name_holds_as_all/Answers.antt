@@ -1,5 +1,0 @@
-use Rattle.ckr_dispositions.proofs.Colliding.{holds-merged}
-use Rattle.ckr_dispositions.proofs.laws.one_use_for_each_name_holds_as_all.Goals as goal
-
-pub returns : goal.returns
-returns c = holds-merged

@@ -1,6 +1,0 @@
-use Rattle.std.proofs.Common.{◌≡◌, map, take}
-use Rattle.ckr_dispositions.specs.Using.{use_among, names_once, names_in}
-use Rattle.ckr_dispositions.proofs.uses.merged.Given as goal
-
-abbrev pub invariant-loop-place : goal.invariant-loop-place
-invariant-loop-place l = l.one ≡ map (use_among l.uses) (names_once (names_in (take l.place l.uses)))

@@ -1,3 +1,0 @@
-pub mod Disposing
-pub mod Naming
-pub mod Using

@@ -1,0 +1,11 @@
+use Rattle.std.proofs.Common.{◌≡◌, ◌-◌, length}
+use Rattle.ckr_fields.specs.Fields.{times_at}
+use Rattle.ckr_events.proofs.FieldLoop.{with_front}
+use Rattle.ckr_events.specs.Format.{piece_at}
+use Rattle.ckr_events.proofs.field_reader.some_pieces.Given as goal
+
+abbrev pub invariant-loop : goal.invariant-loop
+invariant-loop l = record {
+  so_far : with_front l.list.items (times_at piece_at (l.count - l.counter) l.fields) ≡ times_at piece_at l.count l.fn.fields;
+  many : length l.list.items ≡ l.counter;
+}

@@ -1,0 +1,111 @@
+//! The bytes of an event.
+ghost use Rattle.std.specs.Prelude.{◌≡◌, ◌≤◌, ◌+◌, ◌++◌, ◌∷◌, ◌/◌, ◌^◌, ◌<◌, IfOk, OnOk, length, vec_len, vec_capacity};
+ghost use Rattle.ckr_events.specs.Format.{submitted};
+ghost use Rattle.ckr_events.specs.Event.{spelling, IsSmall, IsCounted};
+
+use crate::event::Event;
+use crate::field_writer;
+use ckr_base::{ByteList, NoMemory};
+use ckr_fields::{put_byte, put_bytes, put_four_bytes};
+use std::alloc::Global;
+
+/// Room for an event of each kind but `Submitted`, of which the longest has 3,447 bytes.
+const SMALL: usize = 4096;
+
+/// The one spelling of the event. A `Submitted` event has fewer than 4,294,967,296 cards. It fails where there is no
+/// memory for the bytes.
+pub fn encode(alloc: Global, event: &Event) -> Result<Vec<u8>, NoMemory>
+    requires { IsCounted event.now }
+    ensures { IfOk result (λ bytes. bytes.items ≡ spelling event.now) }
+{
+    let mut out = Vec::new(alloc);
+    match event {
+        Event::Submitted { job, cards } => put_submitted(&mut out, *job, cards)?,
+        other => {
+            out.reserve(SMALL)?;
+            encode_small(other, &mut out);
+        }
+    }
+    Ok(out)
+}
+
+/// Puts the one spelling of an event, which isn't `Submitted`, behind what stands in the vector. The vector has room
+/// for 4,096 bytes more, and no memory is taken.
+pub fn encode_small(event: &Event, buf: &mut Vec<u8>)
+    requires small { IsSmall event.now }
+    requires room { vec_len buf.old + 4096 ≤ vec_capacity buf.old }
+    ensures { buf.new.items ≡ buf.old.items ++ spelling event.now }
+{
+    match event {
+        Event::Submitted { .. } => unreachable!(),
+        Event::Selected {
+            job,
+            initiator,
+            earlier,
+            step,
+            id,
+        } => field_writer::put_selected(buf, *job, *initiator, *earlier, *step, id),
+        Event::Denied { job, rule, name } => field_writer::put_denied(buf, *job, *rule, name),
+        Event::Started {
+            job,
+            step,
+            made: listing,
+        } => field_writer::put_started(buf, *job, *step, listing),
+        Event::Rewritten {
+            job,
+            taken,
+            writes,
+            lengths,
+            place,
+            image,
+        } => field_writer::put_rewritten(buf, *job, *taken, *writes, lengths, *place, image),
+        Event::Checkpointed {
+            job,
+            id,
+            taken,
+            writes,
+            lengths,
+            place,
+            bytes,
+        } => field_writer::put_checkpointed(
+            buf, *job, id, *taken, *writes, lengths, *place, *bytes,
+        ),
+        Event::StepEnded {
+            job,
+            step,
+            rc,
+            writes,
+            lengths,
+        } => field_writer::put_step_ended(buf, *job, *step, *rc, *writes, lengths),
+        Event::Restarted {
+            job,
+            initiator,
+            code,
+            checkpoint,
+        } => field_writer::put_restarted(buf, *job, *initiator, *code, *checkpoint),
+        Event::Held {
+            job,
+            code,
+            writes,
+            lengths,
+        } => field_writer::put_held(buf, *job, *code, *writes, lengths),
+        Event::Ended { job, ending } => field_writer::put_ended(buf, *job, ending),
+        Event::Cancelled { job } => field_writer::put_job(buf, 7, *job),
+        Event::Released { job } => field_writer::put_job(buf, 11, *job),
+        Event::Purged { job } => field_writer::put_job(buf, 13, *job),
+    }
+}
+
+/// The event `Submitted`, of which each card has 80 bytes.
+fn put_submitted(out: &mut Vec<u8>, job: u32, cards: &ByteList) -> Result<(), NoMemory>
+    requires { length cards.now / 80 < 2 ^ 32 }
+    ensures { OnOk result (out.new.items ≡ out.old.items ++ (1 ∷ submitted.spell (job, cards.now))) }
+{
+    let bytes = cards.as_slice();
+    out.reserve(bytes.len() + 9)?;
+    put_byte(out, 1);
+    put_four_bytes(out, job);
+    put_four_bytes(out, (bytes.len() / 80) as u32);
+    put_bytes(out, bytes);
+    Ok(())
+}

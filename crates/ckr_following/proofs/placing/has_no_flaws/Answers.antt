@@ -1,6 +1,0 @@
-use Rattle.std.proofs.Common.{◌∙◌}
-use Rattle.ckr_following.proofs.Placed.{no-flaws}
-use Rattle.ckr_following.proofs.placing.has_no_flaws.Goals as goal
-
-pub returns : goal.returns
-returns c = c.are_unrefused.ensures ∙ no-flaws c.args.placed.now

@@ -1,5 +1,0 @@
-use Rattle.ckr_following.proofs.Free.{no-run-by}
-use Rattle.ckr_following.proofs.selecting.has_no_run.Goals as goal
-
-pub returns : goal.returns
-returns c = no-run-by c.args.tables.now.desk c.args.initiator c.on_initiator.result c.is_none.result c.is_none.ensures c.on_initiator.ensures

@@ -1,9 +1,0 @@
-pub mod Clear
-pub mod Counting
-pub mod Gathered
-pub mod Holding
-pub mod Lengths
-pub mod Placing
-pub mod Rewriting
-pub mod Standing
-pub mod Starting

@@ -1,0 +1,124 @@
+//! A book whose disk is stopped at each call of an append, and its records one by one.
+ghost use Rattle.std.specs.Prelude.{◌≡◌, ◌≤◌, IfOk, length};
+ghost use Rattle.ckr_outside.specs.MemDisk.{content_of};
+
+use ckr_book::{Book, BookError, NextError, next_record};
+use ckr_outside::{Disk, MemDisk, Pick};
+use std::alloc::Global;
+use std::process::Abort;
+use std::test::Fail;
+
+/// Opens a book of 64 bytes from byte 8 on, and appends three records, of 3, 0 and 5 bytes. Opening makes two calls,
+/// and each append six: the length, the bytes, the next gate, a sync, the gate and a sync.
+fn append_three<D: Disk>(disk: &mut D) -> Result<(), BookError>
+    requires { 72 ≤ D.size disk.old }
+    ensures { D.size disk.new ≡ D.size disk.old }
+{
+    let mut book = Book::open_on(disk, 8, 64)?;
+    book.append(disk, b"ABC")?;
+    book.append(disk, b"")?;
+    book.append(disk, b"THIRD")
+}
+
+/// The disk after a stop at that call.
+fn stopped(alloc: Global, stop_at: u64, pick: Pick) -> Result<MemDisk, Fail>
+    ensures { IfOk result (λ disk. length (content_of disk) ≡ 80) }
+{
+    let mut disk = MemDisk::new(alloc, 80, Vec::new(alloc), Some(stop_at))?;
+    let _ = append_three(&mut disk);
+    Ok(disk.stop(pick))
+}
+
+#[test]
+fn a_stop_leaves_the_record_whole_or_not_at_all(rt: HostRuntime) -> Result<(), Fail> {
+    // The room of two records, and of three.
+    let (without, with) = (51, 41);
+    let picks = [
+        Pick::Kept,
+        Pick::Lost,
+        Pick::Filled(0),
+        Pick::Filled(1),
+        Pick::Filled(255),
+    ];
+    // The calls of the third append, and what each pick leaves of a stop there.
+    let expected = [
+        (14, [without, without, without, without, without]),
+        (15, [without, without, without, without, without]),
+        (16, [without, without, without, without, without]),
+        (17, [without, without, without, without, without]),
+        (18, [without, without, without, with, without]),
+        (19, [with, without, without, with, without]),
+        (20, [with, with, with, with, with]),
+    ];
+    for (stop_at, rooms) in expected {
+        for (pick, room) in picks.iter().zip(rooms) {
+            let mut disk = stopped(rt.alloc(), stop_at, *pick)?;
+            let book = Book::open_on(&mut disk, 8, 64)?;
+            assert!(rt; book.room() == room);
+            let mut third = [0; 5];
+            book.read_at(&mut disk, 18, &mut third)?;
+            assert!(rt; room == without || third == *b"THIRD");
+        }
+    }
+    Ok(())
+}
+
+#[test]
+fn a_record_that_does_not_fit_is_refused(rt: HostRuntime) -> Result<(), Fail> {
+    let mut disk = MemDisk::new(rt.alloc(), 16, Vec::new(rt.alloc()), None)?;
+    let mut book = Book::open_on(&mut disk, 0, 16)?;
+    let full = BookError::Full { need: 17, room: 16 };
+    assert!(rt; book.append(&mut disk, b"ELEVEN BYTE") == Err(full));
+    assert!(rt; book.append(&mut disk, b"TEN BYTES.") == Ok(()));
+    assert!(rt; book.room() == 1);
+    // An open gate with no room for a record.
+    disk.write_at(15, &[1])?;
+    assert!(rt; Book::open_on(&mut disk, 0, 16).err() == Some(BookError::Bad { offset: 15 }));
+    Ok(())
+}
+
+/// The record at a gate, and the place of the next gate.
+fn is_found<D: Disk>(
+    rt: &impl Abort,
+    alloc: Global,
+    disk: &mut D,
+    place: u32,
+    expected: Option<(&[u8], u32)>,
+) -> Result<(), Fail>
+    requires size { 72 ≤ D.size disk.old }
+    requires place { place ≤ 64 }
+    ensures { D.size disk.new ≡ D.size disk.old }
+{
+    let found = next_record(alloc, disk, 8, 64, place)?;
+    match (&found, expected) {
+        (Some(found), Some((bytes, next))) => {
+            assert!(rt; found.bytes.as_slice() == bytes);
+            assert!(rt; found.next == next);
+        }
+        (found, expected) => assert!(rt; found.is_none() && expected.is_none()),
+    }
+    Ok(())
+}
+
+/// Reads three records one by one, and a gate that is open before no whole record.
+fn read_one_by_one<D: Disk>(rt: &impl Abort, alloc: Global, disk: &mut D) -> Result<(), Fail>
+    requires { 72 ≤ D.size disk.old }
+{
+    is_found(rt, alloc, disk, 0, Some((b"ABC", 8)))?;
+    is_found(rt, alloc, disk, 8, Some((b"", 13)))?;
+    is_found(rt, alloc, disk, 13, Some((b"THIRD", 23)))?;
+    is_found(rt, alloc, disk, 23, None)?;
+    is_found(rt, alloc, disk, 64, None)?;
+    assert!(rt; Book::ending_at(8, 64, 23) == Book::open_on(disk, 8, 64)?);
+    disk.write_at(8 + 23, &[1, 255, 255, 255, 255])?;
+    let bad = next_record(alloc, disk, 8, 64, 23).err();
+    assert!(rt; bad == Some(NextError::Bad));
+    Ok(())
+}
+
+#[test]
+fn records_one_by_one(rt: HostRuntime) -> Result<(), Fail> {
+    let mut disk = MemDisk::new(rt.alloc(), 80, Vec::new(rt.alloc()), None)?;
+    append_three(&mut disk)?;
+    read_one_by_one(&rt, rt.alloc(), &mut disk)
+}

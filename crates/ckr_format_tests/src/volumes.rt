@@ -1,0 +1,193 @@
+//! A small disk in use.
+ghost use Rattle.std.specs.Prelude.{◌≡◌, IsTrue, length};
+ghost use Rattle.ckr_volumes.specs.Places.{bytes_of};
+ghost use Rattle.ckr_volumes.specs.Layouts.{is_laid_out, disk_needed, StandsIn};
+
+use arrayvec::ArrayVec;
+use ckr_base::{Code, Rec, Volser};
+use ckr_library::{Content, DataSet, Extent, Library, Part, Stamp};
+use ckr_outside::MemDisk;
+use ckr_volumes::{
+    HeaderError, Layout, NoSpace, Volume, allocate, header_bytes, read_header, read_record,
+    write_record,
+};
+use std::test::Fail;
+
+/// The layout of `INITIATORS 2`, `UNITS 2`, `BOOK 100000`, `VOLUME VOL001 200000`, `VOLUME VOL002 200000`.
+fn worked() -> Option<Layout> {
+    let mut volumes = ArrayVec::new();
+    volumes.push(Volume {
+        serial: Volser::read(b"VOL001")?,
+        start: 100_512,
+        bytes: 200_000,
+    });
+    volumes.push(Volume {
+        serial: Volser::read(b"VOL002")?,
+        start: 300_512,
+        bytes: 200_000,
+    });
+    let mut eligible = ArrayVec::new();
+    eligible.push(Code::System(0x001));
+    eligible.push(Code::System(0x2f3));
+    eligible.push(Code::System(0xb37));
+    Some(Layout {
+        version: 1,
+        initiators: 2,
+        units: 2,
+        volumes,
+        eligible,
+        book: 100_000,
+        image: 0,
+    })
+}
+
+#[test]
+fn header_both_ways(rt: HostRuntime) -> Result<(), Fail> {
+    let Some(layout) = worked() else {
+        return Ok(());
+    };
+    let bytes = header_bytes(&layout);
+    let fields =
+        b"\x01CKRD\x00\x01\x02\x02\x02\x03\x00\x01\x86\xa0\x00\x00\x00\x00VOL001\x00\x03\x0d\x40VOL002\x00\x03\x0d\x40S\x00\x01S\x02\xf3S\x0b\x37";
+    assert!(rt; bytes.as_slice().starts_with(fields));
+    assert!(rt; bytes.len() == 512);
+    let read = read_header(bytes.as_slice(), 500_512)?;
+    assert!(rt; header_bytes(&read).as_slice() == bytes.as_slice());
+    assert!(rt;
+        read_header(bytes.as_slice(), 500_511).err() == Some(HeaderError::BadHeader { offset: 11 })
+    );
+    Ok(())
+}
+
+#[test]
+fn headers_that_are_refused(rt: HostRuntime) -> Result<(), Fail> {
+    let Some(layout) = worked() else {
+        return Ok(());
+    };
+    let table = [
+        (0, 0, HeaderError::NotFormatted),
+        (4, b'X', HeaderError::NotFormatted),
+        (6, 3, HeaderError::Version(3)),
+        (7, 0, HeaderError::BadHeader { offset: 7 }),
+        (8, 17, HeaderError::BadHeader { offset: 8 }),
+        (9, 33, HeaderError::BadHeader { offset: 9 }),
+        (10, 0, HeaderError::BadHeader { offset: 10 }),
+        (12, 0xff, HeaderError::BadHeader { offset: 11 }),
+        (18, 1, HeaderError::BadHeader { offset: 15 }),
+        (20, b' ', HeaderError::BadHeader { offset: 19 }),
+        (34, b'1', HeaderError::BadHeader { offset: 29 }),
+        (39, b'T', HeaderError::BadHeader { offset: 39 }),
+        (43, 0x10, HeaderError::BadHeader { offset: 42 }),
+        (48, 7, HeaderError::BadHeader { offset: 48 }),
+        (511, 7, HeaderError::BadHeader { offset: 511 }),
+    ];
+    for (offset, byte, error) in table {
+        let mut bytes = header_bytes(&layout);
+        change(&mut bytes, offset, byte);
+        assert!(rt; read_header(bytes.as_slice(), 600_000).err() == Some(error));
+    }
+    Ok(())
+}
+
+/// Writes a byte over one of a header.
+fn change(bytes: &mut ArrayVec<u8, 512>, offset: usize, byte: u8) {
+    if offset < bytes.len() {
+        bytes.as_mut_slice()[offset] = byte;
+    }
+}
+
+/// A disk of a book of 512 bytes and one volume of 2048.
+fn small() -> Layout
+    ensures laid { IsTrue (is_laid_out result) }
+    ensures needed { disk_needed result ≡ 3072 }
+    ensures volumes { length result.volumes.items ≡ 1 }
+    ensures bytes { bytes_of result.volumes.items 0 ≡ 2048 }
+{
+    let mut volumes = ArrayVec::new();
+    volumes.push(Volume {
+        serial: Volser::default(),
+        start: 1024,
+        bytes: 2048,
+    });
+    Layout {
+        version: 1,
+        initiators: 1,
+        units: 1,
+        volumes,
+        eligible: ArrayVec::new(),
+        book: 512,
+        image: 0,
+    }
+}
+
+/// Ten records of 80 bytes in two extents.
+fn in_two_extents(layout: &Layout) -> DataSet
+    requires volumes { length layout.now.volumes.items ≡ 1 }
+    requires bytes { bytes_of layout.now.volumes.items 0 ≡ 2048 }
+    ensures stands { StandsIn layout.now result }
+    ensures lrecl { result.lrecl ≡ 80 }
+    ensures space { result.space ≡ 10 }
+{
+    let mut extents = ArrayVec::new();
+    extents.push(Extent {
+        start: 800,
+        records: 4,
+    });
+    extents.push(Extent {
+        start: 0,
+        records: 6,
+    });
+    let mut parts = ArrayVec::new();
+    parts.push(Part {
+        volume: 0,
+        extents,
+        records: 10,
+    });
+    DataSet {
+        parts,
+        cataloged: false,
+        lrecl: 80,
+        space: 10,
+        length: 0,
+        stamp: Stamp {
+            run: 1,
+            step: 1,
+            rewrites: 0,
+        },
+        content: Content::Plain,
+    }
+}
+
+#[test]
+fn records_written_and_read(rt: HostRuntime) -> Result<(), Fail> {
+    let layout = small();
+    let set = in_two_extents(&layout);
+    let mut disk = MemDisk::new(rt.alloc(), 3072, Vec::new(rt.alloc()), None)?;
+    for place in 0..10 {
+        let image = Rec::of(&[b'0' + place as u8; 80]);
+        write_record(&mut disk, &layout, &set, place, &image)?;
+    }
+    for place in 0..10 {
+        let found = read_record(&mut disk, &layout, &set, place)?;
+        assert!(rt; found.bytes()[79] == b'0' + place as u8);
+    }
+    Ok(())
+}
+
+#[test]
+fn space_on_an_empty_volume(rt: HostRuntime) -> Result<(), Fail> {
+    let layout = small();
+    let library = Library::new(rt.alloc());
+    let extents = allocate(&layout, &library, 0, 80, 25)?;
+    assert!(rt; extents.len() == 1);
+    assert!(rt;
+        extents
+            .as_slice()
+            .iter()
+            .all(|one| (one.start, one.records) == (0, 25))
+    );
+    assert!(rt;
+        allocate(&layout, &library, 0, 80, 26).err() == Some(NoSpace { need: 26, free: 25 })
+    );
+    Ok(())
+}

@@ -1,3 +1,0 @@
-pub mod Codes
-pub mod Volumes
-pub mod Sound

@@ -1,5 +1,0 @@
-use Rattle.std.proofs.Common.{length}
-use Rattle.ckr_installation.proofs.said.+first_over.Given as goal
-
-abbrev pub decreases-first_over : goal.decreases-first_over
-decreases-first_over l = length l.shares.now

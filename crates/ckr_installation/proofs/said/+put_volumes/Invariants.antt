@@ -1,5 +1,0 @@
-use Rattle.std.proofs.Common.{length}
-use Rattle.ckr_installation.proofs.said.+put_volumes.Given as goal
-
-abbrev pub decreases-put_volumes : goal.decreases-put_volumes
-decreases-put_volumes l = length l.volumes.now

@@ -1,9 +1,0 @@
-use Rattle.std.proofs.Common.{◌≡◌, ◌||◌, Option, take}
-use Rattle.std.specs.List.{list_any}
-use Rattle.ckr_jcl.specs.declared.dd_values.DsnText.{DsnText}
-use Rattle.ckr_jcl.specs.DeckFaults.{is_checkpointed_on}
-use Rattle.ckr_jcl.specs.Met.{dsn_met}
-use Rattle.ckr_jcl.proofs.checkpointed.meet_dds.Given as goal
-
-abbrev pub invariant-loop-dd : goal.invariant-loop-dd
-invariant-loop-dd l = (dsn : Option DsnText) → dsn_met l.permanent l.passing dsn ≡ (list_any (is_checkpointed_on dsn) (take l.dd-index l.dds) || dsn_met l.fn.permanent l.fn.passing dsn)

@@ -1,5 +1,0 @@
-use Rattle.std.proofs.Common.{length}
-use Rattle.ckr_jcl.proofs.dcb_value.+parts_read.Given as goal
-
-abbrev pub decreases-parts_read : goal.decreases-parts_read
-decreases-parts_read l = length l.list.now

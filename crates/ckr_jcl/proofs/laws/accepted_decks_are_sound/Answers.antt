@@ -1,5 +1,0 @@
-use Rattle.ckr_jcl.proofs.Refusing.{job_law}
-use Rattle.ckr_jcl.proofs.laws.accepted_decks_are_sound.Goals as goal
-
-pub returns : goal.returns
-returns c = job_law

@@ -1,5 +1,0 @@
-use Rattle.ckr_jcl.proofs.MetNames.{met_behind}
-use Rattle.ckr_jcl.proofs.met.is_new_permanent.Goals as goal
-
-pub returns-clause-met : goal.returns-clause-met
-returns-clause-met c = λ other. rw c.copied.ensures at (met_behind c.args.names.now c.insert.new.self c.copied.result c.in_ok-insert.ensures.updates other)

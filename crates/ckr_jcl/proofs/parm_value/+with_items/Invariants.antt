@@ -1,5 +1,0 @@
-use Rattle.std.proofs.Common.{length}
-use Rattle.ckr_jcl.proofs.parm_value.+with_items.Given as goal
-
-abbrev pub decreases-with_items : goal.decreases-with_items
-decreases-with_items l = length l.list.now

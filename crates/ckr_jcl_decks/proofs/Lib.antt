@@ -1,0 +1,12 @@
+pub mod StatementNames
+pub mod NeededDds
+pub mod MetNames
+pub mod Repeats
+pub mod CheckpointDds
+pub mod Limits
+pub mod StatementOrder
+pub mod Definitions
+pub mod Examples
+pub mod LeastFault
+pub mod Answers
+pub mod Refusals

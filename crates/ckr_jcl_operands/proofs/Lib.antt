@@ -1,0 +1,3 @@
+pub mod Serials
+pub mod DcbParts
+pub mod Joins

@@ -1,0 +1,4 @@
+pub mod JobValues
+pub mod DdValues
+pub mod DcbValues
+pub mod Keywords

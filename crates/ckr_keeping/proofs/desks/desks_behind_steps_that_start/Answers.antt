@@ -1,8 +1,0 @@
-use Rattle.ckr_keeping.proofs.Turns.{between-keeps, started-keeps}
-use Rattle.ckr_keeping.proofs.desks.desks_behind_steps_that_start.Goals as goal
-
-pub returns : goal.returns
-returns c = record {
-  started = λ desk i row owned items is found out there got. started-keeps desk is i row found out owned items there got;
-  between = λ desk i row fail is found out. between-keeps desk is i row found out fail;
-}

@@ -1,4 +1,0 @@
-pub mod Committed
-pub mod Stemming
-pub mod Running
-pub mod Others

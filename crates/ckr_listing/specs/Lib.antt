@@ -1,3 +1,0 @@
-pub mod Listed
-pub mod Lengths
-pub mod Holding

@@ -1,0 +1,288 @@
+//! A disk that is opened and opened again, decks that are submitted, and a job that runs to its end.
+ghost use Rattle.std.specs.Prelude.{IfOk};
+ghost use Rattle.ckr_volumes.specs.Header.{IsHeader};
+ghost use Rattle.ckr_volumes.specs.Layouts.{disk_needed};
+
+use arrayvec::ArrayVec;
+use ckr_base::{Code, DsName, Volser, trimmed};
+use ckr_desk::{Desk, DeskError, OpenError};
+use ckr_desk_turn::{Reply, Submitted, Turn};
+use ckr_journal::format;
+use ckr_outside::MemDisk;
+use ckr_volumes::{Layout, Volume};
+use std::alloc::Global;
+use std::process::Abort;
+use std::test::Fail;
+
+/// The layout of `INITIATORS 2`, `UNITS 2`, `BOOK 100000`, `VOLUME VOL001 200000`.
+fn worked() -> Result<Layout, Fail>
+    ensures { IfOk result (λ layout. IsHeader layout (disk_needed layout)) }
+{
+    let mut volumes = ArrayVec::new();
+    volumes.push(Volume {
+        serial: Volser::read(b"VOL001").ok_or("the serial is well formed")?,
+        start: 100_512,
+        bytes: 200_000,
+    });
+    let mut eligible = ArrayVec::new();
+    eligible.push(Code::System(0x0c1));
+    Ok(Layout {
+        version: 1,
+        initiators: 2,
+        units: 2,
+        volumes,
+        eligible,
+        book: 100_000,
+        image: 0,
+    })
+}
+
+/// A disk of that layout, formatted.
+fn formatted(alloc: Global) -> Result<MemDisk, Fail> {
+    let mut disk = MemDisk::new(alloc, 300_512, Vec::new(alloc), None)?;
+    format(&mut disk, &worked()?)?;
+    Ok(disk)
+}
+
+fn open(alloc: Global, disk: MemDisk) -> Result<Desk<MemDisk>, Fail> {
+    match Desk::open_on(alloc, disk) {
+        Ok(desk) => Ok(desk),
+        Err(opening) => Err(opening.error.into()),
+    }
+}
+
+#[test]
+fn opened_again(rt: HostRuntime) -> Result<(), Fail> {
+    let alloc = rt.alloc();
+    let desk = open(alloc, formatted(alloc)?)?;
+    assert!(rt; desk.runs().is_empty());
+    let again = open(alloc, desk.close())?;
+    assert!(rt; again.runs().is_empty());
+    assert!(rt; again.layout().book == 100_000);
+    Ok(())
+}
+
+#[test]
+fn never_formatted(rt: HostRuntime) -> Result<(), Fail> {
+    let alloc = rt.alloc();
+    let zeros = MemDisk::new(alloc, 512, Vec::new(alloc), None)?;
+    match Desk::open_on(alloc, zeros) {
+        Ok(_) => Err("it was never formatted".into()),
+        Err(opening) => {
+            assert!(rt; matches!(opening.error, OpenError::NotFormatted));
+            Ok(())
+        }
+    }
+}
+
+/// The cards of these lines, of at most 80 bytes, as a reader stores them.
+fn cards_of(alloc: Global, lines: &[&[u8]]) -> Result<Vec<u8>, Fail> {
+    let mut cards = Vec::new(alloc);
+    for line in lines {
+        for column in 0..80 {
+            cards.push(line.get(column).copied().unwrap_or(b' '))?;
+        }
+        cards.push(0)?;
+    }
+    Ok(cards)
+}
+
+/// The cards of a copy of the record `ALPHA` to `OUT.A`.
+fn copy_cards(alloc: Global) -> Result<Vec<u8>, Fail> {
+    cards_of(
+        alloc,
+        &[
+            b"//COPY1 JOB",
+            b"//S1 EXEC PGM=COPY",
+            b"//SYSUT1 DD *",
+            b"ALPHA",
+            b"/*",
+            b"//SYSUT2 DD DSN=OUT.A,DISP=(NEW,CATLG),SPACE=(80,10)",
+        ],
+    )
+}
+
+/// Submits that copy.
+fn submit_copy(alloc: Global, desk: &mut Desk<MemDisk>) -> Result<Submitted, Fail> {
+    let cards = copy_cards(alloc)?;
+    if cards.len() % 81 != 0 || cards.len() < 81 || 8_100 < cards.len() {
+        return Err("the cards have 81 bytes each".into());
+    }
+    Ok(desk.submit(&cards)?)
+}
+
+/// Submits two decks, and purges the first one's job; whether all is answered so.
+fn submit_and_purge(alloc: Global, desk: &mut Desk<MemDisk>) -> Result<bool, Fail> {
+    Ok(
+        matches!(submit_copy(alloc, desk)?, Submitted::Job(1))
+            && matches!(submit_copy(alloc, desk)?, Submitted::Job(2))
+            && desk.purge(1)?
+            && !desk.purge(1)?,
+    )
+}
+
+#[test]
+fn submitted_and_purged(rt: HostRuntime) -> Result<(), Fail> {
+    let alloc = rt.alloc();
+    let mut desk = open(alloc, formatted(alloc)?)?;
+    let answered = submit_and_purge(alloc, &mut desk)?;
+    let again = open(alloc, desk.close())?;
+    let runs = again.runs().len();
+    again.close();
+    assert!(rt; answered && runs == 2);
+    Ok(())
+}
+
+/// One turn of the first initiator.
+fn turn(desk: &mut Desk<MemDisk>) -> Result<Reply, Fail> {
+    if desk.layout().initiators < 1 {
+        return Err("a layout has an initiator".into());
+    }
+    let turn = Turn {
+        initiator: 1,
+        fail: None,
+    };
+    Ok(desk.turn(turn)?)
+}
+
+/// Whether the one data set that is listed has the record that the job copies, and nothing more.
+fn has_copied(desk: &mut Desk<MemDisk>) -> Result<bool, Fail> {
+    let name = DsName::read(b"OUT.A").ok_or("the name is well formed")?;
+    let listed = desk.set_at(0).ok_or("a data set is listed")?;
+    if listed.name != name || listed.set.length != 1 || desk.set_at(1).is_some() {
+        return Ok(false);
+    }
+    let records = desk.records(&name)?.ok_or("no run holds it")?;
+    let mut copied = records.as_slice().iter();
+    Ok(
+        copied
+            .next()
+            .is_some_and(|it| trimmed(it.bytes()) == b"ALPHA".as_slice())
+            && copied.next().is_none(),
+    )
+}
+
+/// Whether a turn is answered by the start of the step of the copy.
+fn is_started(reply: &Reply) -> bool {
+    match reply {
+        Reply::Started { job: 1, step } => step.text() == b"S1".as_slice(),
+        _ => false,
+    }
+}
+
+/// Whether a turn is answered by the first record of the copy.
+fn is_worked(reply: &Reply) -> bool {
+    match reply {
+        Reply::Worked {
+            job: 1,
+            step,
+            taken: 1,
+        } => step.text() == b"S1".as_slice(),
+        _ => false,
+    }
+}
+
+/// Runs the copy; whether each turn is answered so.
+fn run_copy(alloc: Global, desk: &mut Desk<MemDisk>) -> Result<bool, Fail> {
+    let started = matches!(submit_copy(alloc, desk)?, Submitted::Job(1))
+        && matches!(turn(desk)?, Reply::Selected { job: 1 })
+        && is_started(&turn(desk)?)
+        && is_worked(&turn(desk)?);
+    for _ in 0..3 {
+        turn(desk)?;
+    }
+    Ok(started && matches!(turn(desk)?, Reply::Idle) && has_copied(desk)?)
+}
+
+#[test]
+fn run_to_its_end(rt: HostRuntime) -> Result<(), Fail> {
+    let alloc = rt.alloc();
+    let mut desk = open(alloc, formatted(alloc)?)?;
+    let ran = run_copy(alloc, &mut desk)?;
+    let mut again = open(alloc, desk.close())?;
+    let kept = has_copied(&mut again)?;
+    again.close();
+    assert!(rt; ran && kept);
+    Ok(())
+}
+
+/// Submits a copy of two records to a data set with space for one, and does the first unit of it; whether one record is written.
+fn begin_long_copy(alloc: Global, desk: &mut Desk<MemDisk>) -> Result<bool, Fail> {
+    let cards = cards_of(
+        alloc,
+        &[
+            b"//COPY2 JOB",
+            b"//S1 EXEC PGM=COPY",
+            b"//SYSUT1 DD *",
+            b"ALPHA",
+            b"BETA",
+            b"/*",
+            b"//SYSUT2 DD DSN=OUT.A,DISP=(NEW,CATLG),SPACE=(80,1)",
+        ],
+    )?;
+    if cards.len() % 81 != 0 || cards.len() < 81 || 8_100 < cards.len() {
+        return Err("the cards have 81 bytes each".into());
+    }
+    desk.submit(&cards)?;
+    for _ in 0..3 {
+        turn(desk)?;
+    }
+    Ok(desk.set_at(0).is_some_and(|it| it.set.length == 1))
+}
+
+/// Fills the book with decks, and then by purging their jobs, until fewer than 11 bytes of it are left.
+fn fill_book(alloc: Global, desk: &mut Desk<MemDisk>) -> Result<(), Fail> {
+    let cards = copy_cards(alloc)?;
+    if cards.len() % 81 != 0 || cards.len() < 81 || 8_100 < cards.len() {
+        return Err("the cards have 81 bytes each".into());
+    }
+    for _ in 0..1_000 {
+        if desk.submit(&cards).is_err() {
+            break;
+        }
+    }
+    for job in 2..1_000 {
+        match desk.purge(job) {
+            Ok(_) => {}
+            Err(DeskError::BookFull { .. }) => return Ok(()),
+            Err(error) => return Err(error.into()),
+        }
+    }
+    Err("the book is never full".into())
+}
+
+/// What the event of a turn of the first initiator needs, and the room of the book, where it has no room.
+fn lack_in_turn(desk: &mut Desk<MemDisk>) -> Option<(u32, u32)> {
+    if desk.layout().initiators < 1 {
+        return None;
+    }
+    let turn = Turn {
+        initiator: 1,
+        fail: None,
+    };
+    match desk.turn(turn) {
+        Err(DeskError::BookFull { need, room }) => Some((need, room)),
+        _ => None,
+    }
+}
+
+/// Whether a turn has no room for its event, of 19 bytes, and the next one neither.
+fn has_no_room_twice(desk: &mut Desk<MemDisk>) -> bool {
+    let first = lack_in_turn(desk);
+    let second = lack_in_turn(desk);
+    first.is_some_and(|(need, room)| need == 25 && room < 11)
+        && first == second
+        && desk.set_at(0).is_some_and(|it| it.set.length == 1)
+}
+
+#[test]
+fn no_room_for_the_event_of_a_unit(rt: HostRuntime) -> Result<(), Fail> {
+    let alloc = rt.alloc();
+    let mut desk = open(alloc, formatted(alloc)?)?;
+    let begun = begin_long_copy(alloc, &mut desk)?;
+    fill_book(alloc, &mut desk)?;
+    let full = has_no_room_twice(&mut desk);
+    desk.close();
+    assert!(rt; begun && full);
+    Ok(())
+}

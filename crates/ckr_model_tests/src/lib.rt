@@ -1,0 +1,27 @@
+//! Tests of the model and of the desk on it.
+#![tactic(auto)]
+
+#[cfg(test)]
+mod allocation;
+#[cfg(test)]
+mod desk;
+#[cfg(test)]
+mod entry;
+#[cfg(test)]
+mod follows;
+#[cfg(test)]
+mod matching;
+#[cfg(test)]
+mod programs;
+#[cfg(test)]
+mod queue;
+#[cfg(test)]
+mod rules;
+#[cfg(test)]
+mod steps;
+#[cfg(test)]
+mod submissions;
+#[cfg(test)]
+mod tables;
+#[cfg(test)]
+mod uses;

@@ -1,0 +1,465 @@
+//! Steps on a small disk.
+ghost use Rattle.std.specs.Prelude.{◌≡◌, ◌≤◌, ◌+◌, ◌*◌, ◌∷◌, [], IsTrue, IfOk, OnOk, length};
+ghost use Rattle.ckr_volumes.specs.Places.{bytes_of, stretches_of};
+ghost use Rattle.ckr_volumes.specs.Layouts.{is_laid_out, disk_needed, StandsIn};
+ghost use Rattle.ckr_steps.specs.Inputs.{AreStored, AreThere, IsSourceThere, IsSetThere, AreSameSet};
+ghost use Rattle.ckr_base.specs.declared.programs.NextDue.TheVariants.{Unit as OneUnit};
+ghost use Rattle.ckr_model_tests.specs.Placed.{EndsBy};
+ghost use Rattle.ckr_steps.specs.StepUnit.{AreCounted};
+ghost use Rattle.ckr_steps.specs.Units.{due_of};
+
+use arrayvec::ArrayVec;
+use ckr_base::{Code, DsName, Name8, NextDue, Rec, Volser};
+use ckr_jcl::{Cards, Conds, Dd, Dds, Disp, Kind, Origin, Role, Status, Step, read_parm};
+use ckr_library::{Content, DataSet, Extent, Library, Part, Stamp};
+use ckr_outside::{Disk, MemDisk};
+use ckr_steps::{Files, RecordSource, StepRun, Worked};
+use ckr_volumes::{Layout, Volume, read_record, write_record};
+use std::alloc::Global;
+use std::process::Abort;
+use std::test::Fail;
+
+/// How a step ended, and how many writes it made.
+#[derive(Clone, Copy, PartialEq, Eq)]
+enum End {
+    Returned(u16, u32),
+    Abend(Code, u32),
+}
+
+/// A book of 512 bytes and one volume of 2048.
+fn small() -> Layout
+    ensures laid { IsTrue (is_laid_out result) }
+    ensures needed { disk_needed result ≡ 3072 }
+    ensures volumes { length result.volumes.items ≡ 1 }
+    ensures bytes { bytes_of result.volumes.items 0 ≡ 2048 }
+{
+    let mut volumes = ArrayVec::new();
+    volumes.push(Volume {
+        serial: Volser::default(),
+        start: 1024,
+        bytes: 2048,
+    });
+    Layout {
+        version: 1,
+        initiators: 1,
+        units: 1,
+        volumes,
+        eligible: ArrayVec::new(),
+        book: 512,
+        image: 0,
+    }
+}
+
+/// A data set of so many records of 80 bytes, from a byte of the volume on.
+fn set_from(layout: &Layout, start: u32, space: u32) -> DataSet
+    requires volumes { length layout.now.volumes.items ≡ 1 }
+    requires bytes { bytes_of layout.now.volumes.items 0 ≡ 2048 }
+    requires inside { start + space * 80 ≤ 2048 }
+    requires some { 1 ≤ space }
+    ensures stands { StandsIn layout.now result }
+    ensures lies { stretches_of result ≡ record { volume = 0; start = start; records = space } ∷ [] }
+    ensures lrecl { result.lrecl ≡ 80 }
+    ensures fits { result.length ≤ result.space }
+{
+    let mut extents = ArrayVec::new();
+    extents.push(Extent {
+        start,
+        records: space,
+    });
+    let mut parts = ArrayVec::new();
+    parts.push(Part {
+        volume: 0,
+        extents,
+        records: space,
+    });
+    DataSet {
+        parts,
+        cataloged: true,
+        lrecl: 80,
+        space,
+        length: 0,
+        stamp: Stamp {
+            run: 1,
+            step: 1,
+            rewrites: 0,
+        },
+        content: Content::Plain,
+    }
+}
+
+/// Puts a data set behind all others.
+fn add<R: Abort>(
+    rt: &R,
+    library: &mut Library,
+    layout: &Layout,
+    name: DsName,
+    start: u32,
+    space: u32,
+) -> Result<(), Fail>
+    requires volumes { length layout.now.volumes.items ≡ 1 }
+    requires bytes { bytes_of layout.now.volumes.items 0 ≡ 2048 }
+    requires inside { start + space * 80 ≤ 2048 }
+    requires some { 1 ≤ space }
+    requires stored { AreStored layout.now library.old }
+    requires ends { EndsBy start library.old }
+    ensures stored { OnOk result (AreStored layout.now library.new) }
+    ensures ends { OnOk result (EndsBy (start + space * 80) library.new) }
+{
+    assert!(rt; library.get(&name).is_none());
+    library.insert(name, set_from(layout, start, space))?;
+    Ok(())
+}
+
+fn name<R: Abort>(rt: &R, text: &[u8]) -> DsName {
+    DsName::read(text).expect(rt, "a name")
+}
+
+/// `A` with space for three records, `B` and `C` with space for four, and `D` with space for one.
+fn library_of<R: Abort>(rt: &R, alloc: Global, layout: &Layout) -> Result<Library, Fail>
+    requires volumes { length layout.now.volumes.items ≡ 1 }
+    requires bytes { bytes_of layout.now.volumes.items 0 ≡ 2048 }
+    ensures { IfOk result (AreStored layout.now) }
+{
+    let mut library = Library::new(alloc);
+    add(rt, &mut library, layout, name(rt, b"A"), 0, 3)?;
+    add(rt, &mut library, layout, name(rt, b"B"), 240, 4)?;
+    add(rt, &mut library, layout, name(rt, b"C"), 560, 4)?;
+    add(rt, &mut library, layout, name(rt, b"D"), 880, 1)?;
+    Ok(library)
+}
+
+/// Whether the records of an input are there.
+fn is_source_there(library: &Library, source: &RecordSource) -> bool
+    ensures { IsTrue result → IsSourceThere library.now source.now }
+{
+    match source {
+        RecordSource::Nowhere => true,
+        RecordSource::InDeck(cards) => cards.as_slice().len() <= 1_000_000,
+        RecordSource::InSet(name) => library.get(name).is_some(),
+    }
+}
+
+/// Whether the data set of an output is there.
+fn is_set_there(library: &Library, name: &Option<DsName>) -> bool
+    ensures { IsTrue result → IsSetThere library.now name.now }
+{
+    match name {
+        Some(name) => library.get(name).is_some(),
+        None => true,
+    }
+}
+
+/// Whether two outputs are one data set.
+fn are_same_set(one: &Option<DsName>, other: &Option<DsName>) -> bool
+    ensures { AreSameSet one.now other.now → IsTrue result }
+{
+    match (one, other) {
+        (Some(one), Some(other)) => one.cmp(other).is_eq(),
+        _ => false,
+    }
+}
+
+/// Whether the data sets of a program are there.
+fn are_there(library: &Library, files: &Files) -> bool
+    ensures { IsTrue result → AreThere files.now library.now }
+{
+    is_source_there(library, &files.first)
+        && is_source_there(library, &files.second)
+        && is_set_there(library, &files.main)
+        && is_set_there(library, &files.rejects)
+        && !are_same_set(&files.rejects, &files.main)
+}
+
+/// A DD of this origin.
+fn dd<R: Abort>(rt: &R, name: &[u8], origin: Origin) -> Dd {
+    Dd {
+        name: Name8::read(name).expect(rt, "a name"),
+        role: Role::Unused,
+        origin,
+        disp: Disp {
+            status: Status::Old,
+            normal: None,
+            abnormal: None,
+        },
+        volumes: ArrayVec::new(),
+        space: None,
+        lrecl: 80,
+    }
+}
+
+/// A DD of a data set.
+fn named<R: Abort>(rt: &R, dd_name: &[u8], set: &[u8]) -> Dd {
+    dd(rt, dd_name, Origin::Named(name(rt, set)))
+}
+
+/// A DD with these records in the deck.
+fn in_deck<R: Abort>(rt: &R, alloc: Global, dd_name: &[u8], records: &[&[u8]]) -> Result<Dd, Fail> {
+    let mut cards = Cards::new(alloc);
+    for record in records {
+        assert!(rt; record.len() <= 256);
+        cards.push(Rec::of(record))?;
+    }
+    Ok(dd(rt, dd_name, Origin::InStream(cards)))
+}
+
+/// A step, and how it is to end.
+#[derive(Drop)]
+struct Case {
+    step: Step,
+    end: End,
+}
+
+fn case_of<R: Abort>(
+    rt: &R,
+    alloc: Global,
+    program: Kind,
+    parm: &[u8],
+    dds: Dds,
+    end: End,
+) -> Result<Case, Fail> {
+    assert!(rt; parm.len() <= 100);
+    let parm = read_parm(program, parm)?;
+    let step = Step {
+        name: Name8::read(b"S1").expect(rt, "a name"),
+        program,
+        parm,
+        rd: None,
+        cond: Conds::new(alloc),
+        dds,
+    };
+    Ok(Case { step, end })
+}
+
+/// Rewrites a record.
+fn rewrite<R: Abort, D: Disk>(
+    rt: &R,
+    disk: &mut D,
+    layout: &Layout,
+    library: &Library,
+    name: &DsName,
+    place: u32,
+    image: &Rec,
+) -> Result<(), Fail>
+    requires layout { IsTrue (is_laid_out layout.now) }
+    requires fits { disk_needed layout.now ≤ D.size disk.old }
+    requires stored { AreStored layout.now library.now }
+    ensures { D.size disk.new ≡ D.size disk.old }
+{
+    let set = match library.get(name) {
+        Some(set) => set,
+        None => return Ok(()),
+    };
+    assert!(rt; place < set.space);
+    assert!(rt; image.bytes().len() == usize::from(set.lrecl));
+    write_record(disk, layout, set, place, image)?;
+    Ok(())
+}
+
+/// Does a unit, and its rewrite in the data set `A`. An end where it ends the step abnormally.
+fn unit<R: Abort, D: Disk>(
+    rt: &R,
+    disk: &mut D,
+    layout: &Layout,
+    library: &mut Library,
+    step: &mut StepRun,
+) -> Result<Option<End>, Fail>
+    requires due { due_of step.old.parm step.old.state ≡ OneUnit }
+    requires counted { AreCounted step.old }
+    requires layout { IsTrue (is_laid_out layout.now) }
+    requires fits { disk_needed layout.now ≤ D.size disk.old }
+    requires stored { AreStored layout.now library.old }
+    requires there { AreThere step.old.files library.old }
+    ensures counted { IfOk result (λ _. AreCounted step.new) }
+    ensures stored { AreStored layout.now library.new }
+    ensures there { AreThere step.new.files library.new }
+    ensures size { D.size disk.new ≡ D.size disk.old }
+{
+    let expected = step.ahead(disk, layout, library)?;
+    let worked = step.work(disk, layout, library)?;
+    assert!(rt; worked == expected);
+    match worked {
+        Worked::Went { taken } => {
+            assert!(rt; taken == step.progress().taken);
+            Ok(None)
+        }
+        Worked::Rewrite { place, image, .. } => {
+            rewrite(rt, disk, layout, library, &name(rt, b"A"), place, &image)?;
+            Ok(None)
+        }
+        Worked::Abend(code) => Ok(Some(End::Abend(code, step.progress().writes))),
+    }
+}
+
+/// Does what is due.
+fn next<R: Abort, D: Disk>(
+    rt: &R,
+    disk: &mut D,
+    layout: &Layout,
+    library: &mut Library,
+    step: &mut StepRun,
+) -> Result<Option<End>, Fail>
+    requires counted { AreCounted step.old }
+    requires layout { IsTrue (is_laid_out layout.now) }
+    requires fits { disk_needed layout.now ≤ D.size disk.old }
+    requires stored { AreStored layout.now library.old }
+    requires there { AreThere step.old.files library.old }
+    ensures counted { IfOk result (λ _. AreCounted step.new) }
+    ensures stored { AreStored layout.now library.new }
+    ensures there { AreThere step.new.files library.new }
+    ensures size { D.size disk.new ≡ D.size disk.old }
+{
+    match step.due() {
+        NextDue::Finished(rc) => Ok(Some(End::Returned(rc, step.progress().writes))),
+        NextDue::Checkpoint | NextDue::Cancel => {
+            step.served(false);
+            Ok(None)
+        }
+        NextDue::Unit => unit(rt, disk, layout, library, step),
+    }
+}
+
+/// Runs a step to its end.
+fn run<R: Abort, D: Disk>(
+    rt: &R,
+    alloc: Global,
+    disk: &mut D,
+    layout: &Layout,
+    library: &mut Library,
+    step: &Step,
+) -> Result<Option<End>, Fail>
+    requires layout { IsTrue (is_laid_out layout.now) }
+    requires fits { disk_needed layout.now ≤ D.size disk.old }
+    requires stored { AreStored layout.now library.old }
+    ensures size { D.size disk.new ≡ D.size disk.old }
+    ensures stored { AreStored layout.now library.new }
+{
+    assert!(rt; step.parm.sum.1 <= 15);
+    assert!(rt; step.parm.key.1 <= 32);
+    let mut step = StepRun::begin(alloc, step, 1, 1)?;
+    assert!(rt; are_there(library, &step.files));
+    for _ in 0..20 {
+        if let Some(end) = next(rt, disk, layout, library, &mut step)? {
+            return Ok(Some(end));
+        }
+    }
+    Ok(None)
+}
+
+/// Runs the steps one after another.
+fn run_all<R: Abort, D: Disk>(
+    rt: &R,
+    alloc: Global,
+    disk: &mut D,
+    layout: &Layout,
+    library: &mut Library,
+    cases: &[Case],
+) -> Result<(), Fail>
+    requires layout { IsTrue (is_laid_out layout.now) }
+    requires fits { disk_needed layout.now ≤ D.size disk.old }
+    requires stored { AreStored layout.now library.old }
+    ensures size { D.size disk.new ≡ D.size disk.old }
+    ensures stored { AreStored layout.now library.new }
+{
+    for case in cases {
+        let end = run(rt, alloc, disk, layout, library, &case.step)?;
+        assert!(rt; end == Some(case.end));
+    }
+    Ok(())
+}
+
+/// The first byte of a record of the data set `A`.
+fn byte_at<R: Abort, D: Disk>(
+    rt: &R,
+    disk: &mut D,
+    layout: &Layout,
+    library: &Library,
+    place: u32,
+) -> Result<Option<u8>, Fail>
+    requires layout { IsTrue (is_laid_out layout.now) }
+    requires fits { disk_needed layout.now ≤ D.size disk.old }
+    requires stored { AreStored layout.now library.now }
+    ensures { D.size disk.new ≡ D.size disk.old }
+{
+    let name = name(rt, b"A");
+    let set = match library.get(&name) {
+        Some(set) => set,
+        None => return Ok(None),
+    };
+    assert!(rt; place < set.space);
+    let found = read_record(disk, layout, set, place)?;
+    Ok(found.bytes().first().copied())
+}
+
+/// COPY of these records into a data set.
+fn copy<R: Abort>(
+    rt: &R,
+    alloc: Global,
+    records: &[&[u8]],
+    set: &[u8],
+    end: End,
+) -> Result<Case, Fail> {
+    let mut dds = Dds::new(alloc);
+    dds.push(in_deck(rt, alloc, b"SYSUT1", records)?)?;
+    dds.push(named(rt, b"SYSUT2", set))?;
+    case_of(rt, alloc, Kind::Copy, b"CHK=2,CANCEL=1", dds, end)
+}
+
+/// SELECT of the records of `B` that begin with 1, into `C`.
+fn select<R: Abort>(rt: &R, alloc: Global, end: End) -> Result<Case, Fail> {
+    let mut dds = Dds::new(alloc);
+    dds.push(named(rt, b"SYSUT1", b"B"))?;
+    dds.push(named(rt, b"SYSUT2", b"C"))?;
+    case_of(rt, alloc, Kind::Select, b"COL=1,VAL=1", dds, end)
+}
+
+/// MERGE of `B` and of these records by their first byte, into `D`.
+fn merge<R: Abort>(rt: &R, alloc: Global, records: &[&[u8]], end: End) -> Result<Case, Fail> {
+    let mut dds = Dds::new(alloc);
+    dds.push(named(rt, b"IN1", b"B"))?;
+    dds.push(in_deck(rt, alloc, b"IN2", records)?)?;
+    dds.push(named(rt, b"OUT", b"D"))?;
+    case_of(rt, alloc, Kind::Merge, b"KEY=1:1", dds, end)
+}
+
+/// UPDATE of `A` by these transactions, by the second byte of its images; the rejects go to `D`.
+fn update<R: Abort>(rt: &R, alloc: Global, records: &[&[u8]], end: End) -> Result<Case, Fail> {
+    let mut dds = Dds::new(alloc);
+    dds.push(named(rt, b"MASTER", b"A"))?;
+    dds.push(in_deck(rt, alloc, b"TRANS", records)?)?;
+    dds.push(named(rt, b"REJECTS", b"D"))?;
+    case_of(rt, alloc, Kind::Update, b"KEY=2:1", dds, end)
+}
+
+/// The steps, and how each ends by its program's rules and by the space of its data sets.
+fn cases_of<R: Abort>(rt: &R, alloc: Global) -> Result<Vec<Case>, Fail> {
+    let full = Code::System(0xB37);
+    let mut cases = Vec::new(alloc);
+    let masters: [&[u8]; 4] = [b"X1", b"X2", b"X3", b"X4"];
+    cases.push(copy(rt, alloc, &masters, b"A", End::Abend(full, 3))?)?;
+    cases.push(copy(rt, alloc, &[b"1A", b"1B", b"3C"], b"B", End::Returned(0, 3))?)?;
+    cases.push(select(rt, alloc, End::Returned(0, 2))?)?;
+    cases.push(merge(rt, alloc, &[b"2D"], End::Abend(full, 1))?)?;
+    cases.push(update(rt, alloc, &[b"CY2"], End::Returned(0, 1))?)?;
+    cases.push(update(rt, alloc, &[b"CZ4"], End::Abend(full, 0))?)?;
+    Ok(cases)
+}
+
+#[test]
+fn steps_end_as_their_programs_say(rt: HostRuntime) -> Result<(), Fail> {
+    let alloc = rt.alloc();
+    let layout = small();
+    let mut library = library_of(&rt, alloc, &layout)?;
+    let mut disk = MemDisk::new(alloc, 3072, Vec::new(alloc), None)?;
+    let cases = cases_of(&rt, alloc)?;
+    run_all(
+        &rt,
+        alloc,
+        &mut disk,
+        &layout,
+        &mut library,
+        cases.as_slice(),
+    )?;
+    assert!(rt; byte_at(&rt, &mut disk, &layout, &library, 0)? == Some(b'X'));
+    assert!(rt; byte_at(&rt, &mut disk, &layout, &library, 1)? == Some(b'Y'));
+    Ok(())
+}

@@ -1,0 +1,12 @@
+pub mod Clashes
+pub mod DistinctNames
+pub mod AllocationNeeds
+pub mod JobForm
+pub mod KeptCards
+pub mod DeckLimits
+pub mod Names
+pub mod Origins
+pub mod DeckTests
+pub mod Repeats
+pub mod Roles
+pub mod Texts

@@ -1,0 +1,7 @@
+pub mod Spans
+pub mod Clearance
+pub mod ItemNames
+pub mod Placements
+pub mod Stretches
+pub mod DdOrder
+pub mod Tests

@@ -1,0 +1,9 @@
+pub mod Clearance
+pub mod RewriteCounts
+pub mod Stretches
+pub mod DeckConflicts
+pub mod Lengths
+pub mod Placements
+pub mod Rewrite
+pub mod Runs
+pub mod Start

@@ -1,0 +1,52 @@
+//! Whether an event follows.
+ghost use Rattle.std.specs.Prelude.{◌≡◌, ◌≤◌, IsTrue, length};
+ghost use Rattle.std.specs.Option.{option_copied};
+ghost use Rattle.ckr_points.specs.Follows.{follows};
+ghost use Rattle.ckr_points_tables.specs.Invariant.{is_plain_event};
+
+use crate::rewrite::rewritten_follows;
+use crate::select::{purged_follows, selected_follows};
+use crate::start::started_follows;
+use crate::step_end::{ended_follows, step_ended_follows};
+use crate::submit::submitted_follows;
+use ckr_events::Event;
+use ckr_jcl::Job;
+use ckr_points_tables::Tables;
+use ckr_volumes::Layout;
+
+/// Whether a plain event follows on the tables: one of a run that continues none, and no checkpoint, restart or denial. The deck is
+/// given for Submitted, where its cards are one. It takes no memory (this project's profile).
+pub fn follows(tables: &Tables, layout: &Layout, event: &Event, deck: Option<&Job>) -> bool
+    requires plain { IsTrue (is_plain_event event.now) }
+    ensures { result ≡ follows layout.now tables.now.desk event.now (option_copied deck.entry) }
+{
+    match event {
+        Event::Submitted { job, cards } => submitted_follows(tables, *job, cards.as_slice(), deck),
+        Event::Selected {
+            job,
+            initiator,
+            step,
+            id,
+            ..
+        } => selected_follows(layout, tables, *job, *initiator, *step, id),
+        Event::Started { job, step, made } => {
+            started_follows(tables, layout, *job, *step, made.as_slice())
+        }
+        Event::Rewritten {
+            job,
+            lengths,
+            place,
+            image,
+            ..
+        } => rewritten_follows(tables, *job, lengths.as_slice(), *place, image.bytes()),
+        Event::StepEnded {
+            job,
+            step,
+            lengths,
+            ..
+        } => step_ended_follows(tables, *job, *step, lengths.as_slice()),
+        Event::Ended { job, ending } => ended_follows(tables, *job, ending),
+        Event::Purged { job } => purged_follows(tables, *job),
+        _ => false,
+    }
+}

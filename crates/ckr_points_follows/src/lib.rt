@@ -1,0 +1,26 @@
+//! Whether an event follows on the tables of a desk.
+#![tactic(auto)]
+
+mod clearance;
+mod deck_conflicts;
+mod event;
+mod items;
+mod lengths;
+mod placements;
+mod rewrite;
+mod rewrite_counts;
+mod runs;
+mod select;
+mod start;
+mod step_end;
+mod steps;
+mod stretches;
+mod submit;
+
+pub use event::follows;
+pub use rewrite::rewritten_follows;
+pub use rewrite_counts::{may_count, what_can_be_counted_may_be};
+pub use select::{purged_follows, selected_follows};
+pub use start::started_follows;
+pub use step_end::{ended_follows, step_ended_follows};
+pub use submit::submitted_follows;

@@ -1,0 +1,124 @@
+//! What allocation says of the DDs of a step.
+ghost use Rattle.std.specs.Prelude.{◌≡◌, ◌≤◌, [], false, length, not, Option};
+ghost use Rattle.std.specs.List.{list_all};
+ghost use Rattle.ckr_points_follows.specs.declared.placements.PlacedNow.{PlacedNow as Placing};
+ghost use Rattle.std.specs.Option.{is_some, option_map, option_map_or};
+ghost use Rattle.ckr_points_library.specs.Holdings.{meant, owned};
+ghost use Rattle.ckr_meaning.specs.Allotments.{is_made, DdAllotment};
+ghost use Rattle.ckr_meaning.specs.EffectiveJob.{flaw_in, flaws_in, name_of, placed_in, placed_one};
+ghost use Rattle.ckr_points.specs.Follows.{is_empty};
+ghost use Rattle.ckr_points.specs.Rows.{standing_of, table_ways};
+ghost use Rattle.ckr_points_follows.specs.Placements.{placed_list, placed_now};
+ghost use Rattle.ckr_points_follows.specs.Runs.{row_now, IsWholeRun};
+
+use crate::runs::WholeRun;
+use crate::steps::set_of;
+use arrayvec::ArrayVec;
+use ckr_base::DsName;
+use ckr_jcl::{Dd, Step};
+use ckr_points_library::{Allotment, allotment_of, is_passed};
+use ckr_points_tables::Tables;
+use ckr_uses::library_name;
+
+/// A DD that has a data set.
+#[derive(Drop)]
+pub(crate) struct PlacedNow<'a> {
+    pub(crate) dd: &'a Dd,
+    /// Its number in the step, from 1.
+    pub(crate) number: u8,
+    /// The name of its data set.
+    pub(crate) name: DsName,
+    /// What allocation says of it.
+    pub(crate) allotment: Allotment,
+}
+
+/// A DD of a step, if it has a data set.
+fn place_dd<'a>(
+    tables: &Tables,
+    run: &WholeRun<'_>,
+    own: &Step,
+    dd: &'a Dd,
+    number: u8,
+) -> Option<PlacedNow<'a>>
+    requires { IsWholeRun run.now }
+    ensures { let root = run.now.line.now.number in option_map placed_now result ≡ option_map (placed_one table_ways (standing_of (row_now run.now) tables.now.desk) number dd.now) (name_of root (owned own.now root []) dd.now) }
+{
+    let root = run.line.number;
+    match library_name(dd, root, root, &own.name) {
+        Some(name) => {
+            let passed = is_passed(run.table.passed.as_slice(), &name);
+            let allotment = allotment_of(dd, passed, set_of(tables, &name));
+            Some(PlacedNow {
+                dd,
+                number,
+                name,
+                allotment,
+            })
+        }
+        None => None,
+    }
+}
+
+/// The DDs of a step in their order, `None` for those without a data set.
+pub(crate) fn place_step<'a>(
+    tables: &Tables,
+    run: &WholeRun<'_>,
+    own: &'a Step,
+) -> ArrayVec<Option<PlacedNow<'a>>, 16>
+    requires is { IsWholeRun run.now }
+    requires few { length own.now.dds ≤ 16 }
+    ensures { let root = run.now.line.now.number in placed_list result.items ≡ placed_in table_ways (standing_of (row_now run.now) tables.now.desk) root (owned own.now root []) }
+{
+    let mut placed = ArrayVec::new();
+    let mut number = 0;
+    for dd in own.dds.as_slice() {
+        number += 1;
+        placed.push(place_dd(tables, run, own, dd, number));
+    }
+    placed
+}
+
+/// Whether a DD of which allocation says so makes its data set.
+fn makes(allotment: Allotment) -> bool
+    ensures { result ≡ is_made (meant allotment) }
+{
+    matches!(allotment, Allotment::Made)
+}
+
+/// Whether a step makes the data set of a DD.
+pub(crate) fn is_made(one: &PlacedNow<'_>) -> bool
+    ensures { result ≡ is_made (placed_now one.now).allotment }
+{
+    makes(one.allotment)
+}
+
+/// Whether a DD of which allocation says so is refused.
+fn refuses(allotment: Allotment) -> bool
+    ensures { result ≡ is_some (flaw_in (meant allotment)) }
+{
+    matches!(allotment, Allotment::Refused(_))
+}
+
+/// Whether a DD is refused.
+fn is_refused(one: &Option<PlacedNow<'_>>) -> bool
+    ensures { result ≡ option_map_or (λ (p : DdAllotment). is_some (flaw_in p.allotment)) (option_map placed_now one.now) false }
+{
+    match one {
+        Some(one) => refuses(one.allotment),
+        None => false,
+    }
+}
+
+/// Whether none of these DDs is refused.
+fn are_unrefused(placed: &[Option<PlacedNow<'_>>]) -> bool
+    ensures { result ≡ list_all (λ (one : Option Placing). not (option_map_or (λ (p : DdAllotment). is_some (flaw_in p.allotment)) (option_map placed_now one) false)) placed.now }
+{
+    placed.iter().all(|one| !is_refused(one))
+}
+
+/// Whether no DD is refused.
+pub(crate) fn has_no_flaws(placed: &[Option<PlacedNow<'_>>]) -> bool
+    ensures { result ≡ is_empty (flaws_in (placed_list placed.now)) }
+{
+    are_unrefused(placed)
+}

@@ -1,0 +1,16 @@
+pub mod WaitingRuns
+pub mod EventLaws
+pub mod EventList
+pub mod RowChanges
+pub mod Soundness
+pub mod Library
+pub mod Stamps
+pub mod Select
+pub mod Steps
+pub mod Rewrite
+pub mod StepEnd
+pub mod Holders
+pub mod RunEnd
+pub mod Writes
+pub mod Marks
+pub mod Start

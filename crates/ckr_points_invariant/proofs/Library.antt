@@ -1,0 +1,4 @@
+pub mod Likeness
+pub mod Entries
+pub mod Extents
+pub mod PassedList

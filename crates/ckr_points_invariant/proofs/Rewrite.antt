@@ -1,0 +1,4 @@
+pub mod Counts
+pub mod Event
+pub mod Invariant
+pub mod Sets

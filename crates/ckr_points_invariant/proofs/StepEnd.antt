@@ -1,0 +1,2 @@
+pub mod Disposals
+pub mod Invariant

@@ -1,0 +1,3 @@
+pub mod Commits
+pub mod Events
+pub mod Walks

@@ -1,0 +1,7 @@
+pub mod Allocation
+pub mod Commit
+pub mod Disposals
+pub mod FreeSpace
+pub mod Holdings
+pub mod AllocationSteps
+pub mod Outputs

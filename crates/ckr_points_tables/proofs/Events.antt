@@ -1,0 +1,325 @@
+-- The tables in code go on by an event as the tables do.
+use Rattle.std.proofs.Common.{◌≡◌, ℕ, zero, suc, ◌+◌, ◌==◌, ◌<◌, ◌≤◌, ◌&&◌, ◌⊎◌, inl, inr, Bool, true, false, ◌||◌, not, IsTrue, nat_eq, List, [], ◌∷◌, length, map, slice_get, slice_set, refl, ap, sym, ◌∙◌, subst, arith, Some, None, Option}
+use Rattle.std.specs.Option.{option_map, option_map_or, option_and_then, option_eq, is_none}
+use Rattle.std.specs.List.{list_all}
+use Rattle.std.proofs.lemmas.Bool.{false≢true, not-true}
+use Rattle.std.proofs.lemmas.Option.{same_Some, slice_get-map, slice_get_within}
+use Rattle.std.proofs.Math.ListN.{length-set}
+use Rattle.ckr_base.proofs.Bools.{and-first, and-second}
+use Rattle.ckr_base.proofs.Numbers.{suc-same}
+use Rattle.ckr_base.proofs.Options.{some-not-none}
+use Rattle.ckr_uses.specs.Uses.{are_distinct}
+use Rattle.ckr_events.specs.Jobs.{job_of}
+use Rattle.ckr_events.specs.declared.event.Event.{Event}
+use Rattle.ckr_events.specs.declared.event.Event.TheVariants.{Submitted, Selected, Started, Rewritten, StepEnded, Ended, Purged}
+use Rattle.ckr_events.specs.declared.event.Ending.{Ending}
+use Rattle.ckr_events.specs.declared.event.Ending.TheVariants.{Completed, Coded, Allocation}
+use Rattle.ckr_entry.specs.declared.point.Mark.{Mark}
+use Rattle.ckr_uses.specs.SetNames.{origin_name, run_name}
+use Rattle.ckr_jcl.specs.declared.deck.Dd.{Dd}
+use Rattle.ckr_jcl.specs.declared.deck.Job.{Job}
+use Rattle.ckr_jcl.specs.declared.deck.Origin.{Origin}
+use Rattle.ckr_jcl.specs.declared.deck.Origin.TheVariants.{InStream, Named as NamedOrigin, Temporary, Unnamed, Sysout, Dummy}
+use Rattle.ckr_jcl.specs.declared.deck.Step.{Step}
+use Rattle.ckr_library.specs.Catalog.{Catalog, Holding}
+use Rattle.ckr_library.specs.NameMaps.{EachEntry, Name, Named, entry_at}
+use Rattle.ckr_library.proofs.Named.{at-viewed, each-at}
+use Rattle.ckr_meaning.specs.EffectiveJob.{Effective, HasDistinctNames, OwnedStep, name_of, names_of, owned_by, plain_job, step_at}
+use Rattle.ckr_volumes.specs.declared.layout.Layout.{Layout}
+use Rattle.ckr_points.specs.declared.run.Run.{Run}
+use Rattle.ckr_points.specs.declared.run.RunState.TheVariants.{Queued}
+use Rattle.ckr_points_tables.specs.declared.run_table.RunTable.{RunTable}
+use Rattle.ckr_points_tables.specs.declared.tables.Spare.{Spare}
+use Rattle.ckr_points_tables.specs.RunChange.{Going, going, changed, desk_with, holding_kit, place_now, table_kit}
+use Rattle.ckr_points_tables.specs.StepEnd.{HasLengths, MayRewriteIn}
+use Rattle.ckr_points.specs.Follows.{ended_follows, follows, is_rewrite, is_update, of_step, may_hold, may_restart, is_free, is_in_state, is_running, lengths_follow, of_run, selected_follows, started_follows}
+use Rattle.ckr_points_tables.specs.Invariant.{AreKept, HasRoom, HasRoomIn, IsRun, IsWide, MayCount, MayFollow, initiator_at, is_plain_event, is_submission, put_at, room_at}
+use Rattle.ckr_points_tables.specs.Needs.{MayChange}
+use Rattle.ckr_points.specs.Restart.{after_event, place_of, step_in}
+use Rattle.ckr_points_tables.specs.Rewrite.{HasFewRewrites, MayRestamp, has_master, has_set, master_dd, master_name}
+use Rattle.ckr_points.specs.Rows.{RunRow, TablesModel, run_of, with_row}
+use Rattle.ckr_points_tables.specs.View.{bare, TablesRoom, RunTableView, facts_of, has_few_dds, is_within_limits, room_of, row_of, row_with, rows_of, seen_by, table_of}
+use Rattle.ckr_points_tables.proofs.RunChanges.{MakesSameBy, event_in}
+use Rattle.ckr_points_tables.proofs.Follows.{lengths_fit, started-makes}
+use Rattle.ckr_points_tables.proofs.Initiators.{index_changed}
+use Rattle.ckr_points_tables.proofs.Runs.{at_false, length-rows, rows-at, rows-set, runs-at, runs-set}
+use Rattle.ckr_points_tables.proofs.RunIdentity.{IsSelecting, Stays, stays}
+use Rattle.ckr_points_tables.proofs.Steps.{few_of}
+use Rattle.ckr_points_tables.proofs.RecordWidths.{MayMakeBy, changed-wide}
+use Rattle.ckr_points_tables.proofs.SetViews.{bare_view, changed_seen, going_viewed, table_view}
+
+-- ---- an event that follows is of a run that is there
+
+of_run-there : (tables : TablesModel) (job : ℕ) (test : RunRow → Bool) → of_run tables job test ≡ true → (row : RunRow) × (run_of tables job ≡ Some row) × (test row ≡ true)
+of_run-there tables job test e = by (run_of tables job) refl e
+  where
+    by : (found : Option RunRow) → run_of tables job ≡ found → option_map_or test found false ≡ true → (row : RunRow) × (run_of tables job ≡ Some row) × (test row ≡ true)
+    by None is e = absurd (false≢true e)
+    by (Some row) is e = (row, is, e)
+
+-- what the event has of its row
+abbrev pub RowFollows : Layout → TablesModel → Event → RunRow → Type 0
+RowFollows layout tables (Selected job initiator earlier step id) row = selected_follows layout tables initiator earlier step id row ≡ true
+RowFollows layout tables (Started job step items) row = started_follows layout tables step items.items row ≡ true
+RowFollows layout tables (Rewritten job taken writes lengths place image) row = (is_running row && lengths_follow tables row lengths.items && of_step row (is_rewrite tables place image row)) ≡ true
+RowFollows layout tables (StepEnded job step rc writes lengths) row = (is_running row && step_in (place_of row) == step && lengths_follow tables row lengths.items) ≡ true
+RowFollows layout tables (Ended job ending) row = ended_follows tables row ending ≡ true
+RowFollows layout tables _ row = Unit {0}
+
+abbrev Followed : Layout → TablesModel → Event → Type 0
+Followed layout tables event = (row : RunRow) × (run_of tables (job_of event) ≡ Some row) × RowFollows layout tables event row
+
+followed : (layout : Layout) (tables : TablesModel) (event : Event) (deck : Option Job) → is_plain_event event ≡ true → is_submission event ≡ false → follows layout tables event deck ≡ true → Followed layout tables event
+followed layout tables (Submitted job cards) deck plain other e = absurd (false≢true (sym other))
+followed layout tables (Selected job initiator earlier step id) deck plain other e = of_run-there tables job (selected_follows layout tables initiator earlier step id) e
+followed layout tables (Started job step items) deck plain other e = of_run-there tables job (started_follows layout tables step items.items) e
+followed layout tables (Rewritten job taken writes lengths place image) deck plain other e = of_run-there tables job (λ row. is_running row && lengths_follow tables row lengths.items && of_step row (is_rewrite tables place image row)) e
+followed layout tables (StepEnded job step rc writes lengths) deck plain other e = of_run-there tables job (λ row. is_running row && step_in (place_of row) == step && lengths_follow tables row lengths.items) e
+followed layout tables (Ended job ending) deck plain other e = of_run-there tables job (λ row. ended_follows tables row ending) e
+followed layout tables (Purged job) deck plain other e = let there = of_run-there tables job (is_in_state Queued) e in (there.0, there.1, tt)
+followed layout tables _ deck plain other e = absurd (false≢true plain)
+
+-- the place of the run
+pub placed_at : (desk : TablesModel) (event : Event) (deck : Option Job) → is_plain_event event ≡ true → is_submission event ≡ false → MayFollow desk event deck → (0 < job_of event) × (job_of event ≤ length desk.runs)
+placed_at desk event deck plain other may =
+    let there = followed may.0 desk event deck plain other may.1 in by (job_of event) there.0 there.1
+  where
+    by : (job : ℕ) (row : RunRow) → run_of desk job ≡ Some row → (0 < job) × (job ≤ length desk.runs)
+    by zero row found = absurd (some-not-none _ (sym found))
+    by (suc place) row found = (omega arith, slice_get_within desk.runs place row found)
+
+-- no name stands twice in a step
+distinct_of : (job : Effective) → HasDistinctNames job → (step : ℕ) (own : OwnedStep) → step_at job step ≡ Some own → are_distinct (names_of job.root own) ≡ true
+distinct_of job distinct zero own there = absurd (some-not-none _ (sym there))
+distinct_of job distinct (suc place) own there = each job.steps distinct place there
+  where
+    each : (steps : List OwnedStep) → list_all (λ owned. are_distinct (names_of job.root owned)) steps ≡ true → (place : ℕ) → slice_get steps place ≡ Some own → are_distinct (names_of job.root own) ≡ true
+    each [] all place there = absurd (some-not-none _ (sym there))
+    each (one ∷ steps) all zero there = ap (λ owned. are_distinct (names_of job.root owned)) (sym (same_Some one own there)) ∙ and-first (are_distinct (names_of job.root one)) _ all
+    each (one ∷ steps) all (suc place) there = each steps (and-second (are_distinct (names_of job.root one)) _ all) place there
+
+-- MASTER of a step of UPDATE has a data set
+has_master_of : (run : ℕ) (job : Job) → list_all has_master job.steps ≡ true → (step : ℕ) (own : OwnedStep) → step_at (plain_job run job) step ≡ Some own → has_master own.step ≡ true
+has_master_of run job all zero own there = absurd (some-not-none _ (sym there))
+has_master_of run job all (suc place) own there = each job.steps all place there
+  where
+    each : (steps : List Step) → list_all has_master steps ≡ true → (place : ℕ) → slice_get (map (owned_by run job) steps) place ≡ Some own → has_master own.step ≡ true
+    each [] all place there = absurd (some-not-none _ (sym there))
+    each (one ∷ steps) all zero there = ap (λ (owned : OwnedStep). has_master owned.step) (sym (same_Some (owned_by run job one) own there)) ∙ and-first (has_master one) _ all
+    each (one ∷ steps) all (suc place) there = each steps (and-second (has_master one) _ all) place there
+
+named_so : (origin : Origin) (root owner step dd : Name) → has_set origin ≡ true → (name : Name) × (origin_name origin root owner step dd ≡ Some name)
+named_so (InStream cards) root owner step dd e = absurd (false≢true e)
+named_so (NamedOrigin name) root owner step dd e = (_, refl)
+named_so (Temporary name) root owner step dd e = (_, refl)
+named_so Unnamed root owner step dd e = (_, refl)
+named_so Sysout root owner step dd e = (_, refl)
+named_so Dummy root owner step dd e = absurd (false≢true e)
+
+master_named : (step : Step) (root : ℕ) (own : OwnedStep) → is_update step.program ≡ true → has_master step ≡ true → step ≡ own.step → (name : Name) × (master_name root own ≡ Some name)
+master_named step root own update has same = by (master_dd own.step) refl
+  where
+    either : (a b : Bool) → a ≡ true → (not a || b) ≡ true → b ≡ true
+    either true b e f = f
+    either false b e f = absurd (false≢true e)
+
+    by : (found : Option Dd) → master_dd own.step ≡ found → (name : Name) × (master_name root own ≡ Some name)
+    by found there =
+        let there_is : option_map_or (λ (dd : Dd). has_set dd.origin) found false ≡ true =
+        ap (λ f. option_map_or (λ (dd : Dd). has_set dd.origin) f false) (sym (ap master_dd same ∙ there)) ∙ either (is_update step.program) (option_map_or (λ (dd : Dd). has_set dd.origin) (master_dd step) false) update has in
+        each found there there_is
+      where
+        each : (found : Option Dd) → master_dd own.step ≡ found → option_map_or (λ (dd : Dd). has_set dd.origin) found false ≡ true → (name : Name) × (master_name root own ≡ Some name)
+        each None there e = absurd (false≢true e)
+        each (Some dd) there e =
+            let named = named_so dd.origin (run_name root) (run_name own.owner) own.step.name dd.name e in
+            (named.0, ap (option_and_then (name_of root own)) there ∙ named.1)
+
+restamps : (sets : Named Holding) → EachEntry HasFewRewrites (seen_by table_of sets) → (name : Name) → MayRestamp (entry_at sets name)
+restamps sets counts name = by (entry_at sets name) refl
+  where
+    by : (found : Option Holding) → entry_at sets name ≡ found → MayRestamp found
+    by None there = tt
+    by (Some holding) there = each-at HasFewRewrites (seen_by table_of sets) counts name (table_of holding) (at-viewed table_of sets name ∙ ap (option_map table_of) there)
+
+-- no run on a free initiator
+none_on : (runs : List RunRow) (initiator : ℕ) → list_all (λ (row : RunRow). not (option_eq nat_eq row.initiator (Some initiator))) runs ≡ true → (place : ℕ) (row : RunRow) → slice_get runs place ≡ Some row → row.initiator ≡ Some initiator → ⊥
+none_on [] initiator all place row there on = some-not-none _ (sym there)
+none_on (one ∷ runs) initiator all zero row there on =
+    at_false row.initiator initiator (ap (λ (r : RunRow). option_eq nat_eq r.initiator (Some initiator)) (sym (same_Some one row there)) ∙ not-true (option_eq nat_eq one.initiator (Some initiator)) (and-first (not (option_eq nat_eq one.initiator (Some initiator))) _ all)) on
+none_on (one ∷ runs) initiator all (suc place) row there on = none_on runs initiator (and-second (not (option_eq nat_eq one.initiator (Some initiator))) _ all) place row there on
+
+module _ (library : Catalog) (lines : List Run) (tables : List RunTable) (index : List ℕ) (spare : Spare) (kept : AreKept library.sets lines tables index spare.marks.items) (event : Event) (deck : Option Job) (plain : is_plain_event event ≡ true) (other : is_submission event ≡ false) where
+  abbrev pub desk : TablesModel
+  desk = record { sets = seen_by table_of library.sets; runs = rows_of lines tables }
+
+  module _ (may : MayFollow desk event deck) (place : ℕ) (line : Run) (table : RunTable) (numbered : job_of event ≡ suc place) (lined : slice_get lines place ≡ Some line) (tabled : slice_get tables place ≡ Some table) where
+    abbrev facts : RunTableView
+    facts = facts_of table
+
+    abbrev row : RunRow
+    row = row_with line facts
+
+    abbrev now : Going Holding
+    now = going line facts library.sets
+
+    is : IsRun (1 + place) line table
+    is = runs-at 1 lines tables kept.runs place line table lined tabled
+
+    number_is : line.number ≡ suc place
+    number_is = is.numbered ∙ omega arith
+
+    run_found : run_of desk (suc place) ≡ Some row
+    run_found = rows-at lines tables place line table lined tabled
+
+    found : run_of desk line.number ≡ Some row
+    found = ap (run_of desk) number_is ∙ run_found
+
+    row_follows : RowFollows may.0 desk event row
+    row_follows =
+        let there = followed may.0 desk event deck plain other may.1 in
+        subst (RowFollows may.0 desk event) (same_Some there.0 row (sym there.1 ∙ ap (run_of desk) numbered ∙ run_found)) there.2
+
+    own_limits : (step : ℕ) (own : OwnedStep) → step_at (plain_job line.number table.job) step ≡ Some own → IsTrue (has_few_dds own.step) × (are_distinct (names_of line.number own) ≡ true)
+    own_limits step own there = (
+      few_of line.number table.job is.limits step own there,
+      distinct_of (plain_job line.number table.job) (subst (λ n. HasDistinctNames (plain_job n table.job)) (sym is.numbered) is.distinct) step own there,
+    )
+
+    -- the number fits
+    pub number_fits : line.number ≤ 9999999
+    number_fits = omega (arith, slice_get_within tables place table tabled, kept.few, number_is)
+
+    pub within_limits : IsTrue (is_within_limits table.job)
+    within_limits = is.limits
+
+    makes_by : (one : Event) → RowFollows may.0 desk one row → MakesSameBy one (going line facts desk.sets)
+    makes_by (Started job step items) follows = (started-makes may.0 line facts library.sets (rows_of lines tables) step items.items (own_limits step) follows).0
+    makes_by _ follows = tt
+
+    may_make : (one : Event) → RowFollows may.0 desk one row → MayMakeBy one now
+    may_make (Started job step items) follows = (started-makes may.0 line facts library.sets (rows_of lines tables) step items.items (own_limits step) follows).1
+    may_make _ follows = tt
+
+    module _ (runs_room lines_room : ℕ) where
+      abbrev pub room : TablesRoom
+      room = record {
+        sets = library.room;
+        runs = runs_room;
+        lines = lines_room;
+        sorted = spare.sorted.room;
+        marks = spare.marks.room;
+        passed = spare.passed.room;
+        each = map room_of tables;
+      }
+
+      room_found : room_at room (job_of event) ≡ Some (room_of table)
+      room_found = ap (room_at room) numbered ∙ slice_get-map room_of tables place ∙ ap (option_map room_of) tabled
+
+      lengths_of : (ending : Ending) → ended_follows desk row ending ≡ true → HasLengths line.number ending library.sets (step_at (plain_job line.number table.job) (step_in (place_now facts)))
+      lengths_of Completed follows = tt
+      lengths_of (Coded code rule writes lengths) follows =
+          lengths_fit may.0 line facts library.sets (rows_of lines tables) lengths.items (and-second _ (lengths_follow desk row lengths.items) follows)
+      lengths_of (Allocation dd cause one more) follows = tt
+
+      master_of : (at : ℕ) (image : List ℕ) (there : Option OwnedStep) → step_at (plain_job line.number table.job) (step_in (place_now facts)) ≡ there → EachEntry HasFewRewrites desk.sets
+          → option_map_or (is_rewrite desk at image row) there false ≡ true → MayRewriteIn line.number library.sets there
+      master_of at image None is_there counts follows = tt
+      master_of at image (Some own) is_there counts follows =
+          let master = has_master_of line.number table.job is.masters (step_in (place_now facts)) own is_there in
+          let named = master_named own.step line.number own (and-first (is_update own.step.program) _ follows) master refl in
+          (named.0, named.1, λ one. restamps library.sets counts one)
+
+      may_by : (one : Event) → MayCount one desk.sets → RowFollows may.0 desk one row → HasRoomIn room row (room_of table) one → MayChange one line.number table library spare
+      may_by (Started job step items) count follows has = record {
+        room = record { sorted = has.sorted; marks = has.marks; passed = has.passed };
+        point = has.points;
+        sets = has.sets;
+        may = (started-makes may.0 line facts library.sets (rows_of lines tables) step items.items (own_limits step) follows).1;
+      }
+      may_by (Rewritten job taken writes lengths place image) count follows has = record {
+        fits = lengths_fit may.0 line facts library.sets (rows_of lines tables) lengths.items (and-second (is_running row) (lengths_follow desk row lengths.items) (and-first _ (of_step row (is_rewrite desk place image row)) follows));
+        master = master_of place image (step_at (plain_job line.number table.job) (step_in (place_now facts))) refl count (and-second _ (of_step row (is_rewrite desk place image row)) follows);
+      }
+      may_by (StepEnded job step rc writes lengths) count follows has = record {
+        fits = lengths_fit may.0 line facts library.sets (rows_of lines tables) lengths.items (and-second _ (lengths_follow desk row lengths.items) follows);
+        passed = has.passed;
+        codes = has.codes;
+      }
+      may_by (Ended job ending) count follows has = record { fits = lengths_of ending follows; passed = has.passed }
+      may_by _ count follows has = tt
+
+      -- what the event needs is there
+      pub may_change : MayCount event desk.sets → HasRoom (record { desk = desk; room = room }) event → MayChange event line.number table library spare
+      may_change count has = may_by event count row_follows (has.run row (room_of table) (ap (run_of desk) numbered ∙ run_found) room_found)
+
+    -- ---- what it leaves
+
+    module _ (new : Run) (after : RunTable) (sets : Named Holding) (goes : going new (facts_of after) sets ≡ changed holding_kit event now) where
+      left : Stays event now (going new (facts_of after) sets)
+      left = subst (Stays event now) (sym goes) (stays event now)
+
+      new_number : new.number ≡ suc place
+      new_number = left.number ∙ number_is
+
+      -- the tables as they are seen
+      pub desk_after : record { sets = seen_by table_of sets; runs = rows_of (slice_set lines place new) (slice_set tables place after) } ≡ after_event event deck desk
+      desk_after =
+          ap (λ runs. let all : TablesModel = record { sets = seen_by table_of sets; runs = runs } in all) (rows-set lines tables place new after ∙ ap (λ n. with_row (row_of new after) n (rows_of lines tables)) (sym new_number))
+          ∙ ap (λ seen. desk_with seen desk) (ap (going_viewed table_of) goes ∙ changed_seen table_of holding_kit table_kit table_view event now)
+          ∙ sym (event_in desk line facts found event deck plain other (number_is ∙ sym numbered) (makes_by event row_follows))
+
+      free_by : (one : Event) → RowFollows may.0 desk one row → (i : ℕ) → IsSelecting i one → (k : ℕ) → initiator_at lines k ≡ Some i → ⊥
+      free_by (Submitted job cards) follows i selecting k on = selecting
+      free_by (Selected job initiator earlier step id) follows i selecting k on = by (slice_get lines k) refl on
+        where
+          free : list_all (λ (one : RunRow). not (option_eq nat_eq one.initiator (Some initiator))) desk.runs ≡ true
+          free = and-second _ (list_all (λ (one : RunRow). not (option_eq nat_eq one.initiator (Some initiator))) desk.runs) (and-second (is_in_state Queued row) (is_free may.0 desk initiator) (and-first _ (may_hold desk row) (and-first _ (option_map_or (λ restart. may_restart desk row restart earlier step id) row.deck.restart (earlier == 0 && step == 0 && is_none id)) follows)))
+
+          by : (found : Option Run) → slice_get lines k ≡ found → option_and_then (λ (l : Run). l.initiator) found ≡ Some i → ⊥
+          by None none on = some-not-none _ (sym on)
+          by (Some l) some on =
+              let there = tabled_at tables k (length-rows 1 lines tables kept.runs).0 (slice_get_within lines k l some) in
+              none_on desk.runs initiator free k (row_of l there.0) (rows-at lines tables k l there.0 some there.1) (on ∙ ap Some (sym selecting))
+            where
+              tabled_at : (all : List RunTable) (n : ℕ) → length lines ≡ length all → n < length lines → (one : RunTable) × (slice_get all n ≡ Some one)
+              tabled_at all n same inside = at all n (omega (arith, same, inside))
+                where
+                  at : (all : List RunTable) (n : ℕ) → n < length all → (one : RunTable) × (slice_get all n ≡ Some one)
+                  at [] n inside = absurd (omega (arith, inside))
+                  at (one ∷ all) zero inside = (one, refl)
+                  at (one ∷ all) (suc n) inside = at all n (omega (arith, inside))
+      free_by _ follows i selecting k on = selecting
+
+      only : (i k : ℕ) → new.initiator ≡ Some i → initiator_at lines k ≡ Some i → k ≡ place
+      only i k on there = by (left.on i on)
+        where
+          by : (line.initiator ≡ Some i) ⊎ IsSelecting i event → k ≡ place
+          by (inl before) =
+              suc-same k place (sym (kept.indexed.all i k there) ∙ kept.indexed.all i place (ap (λ (found : Option Run). option_and_then (λ (l : Run). l.initiator) found) lined ∙ before))
+          by (inr selecting) = absurd (free_by event row_follows i selecting k there)
+
+      job_is : after.job ≡ table.job
+      job_is = left.job
+
+      new_is : IsRun (1 + place) new after
+      new_is = record {
+        numbered = left.number ∙ is.numbered;
+        named = left.name ∙ is.named ∙ ap (λ (job : Job). job.name) (sym job_is);
+        limits = ap is_within_limits job_is ∙ is.limits;
+        distinct = subst (λ job. HasDistinctNames (plain_job (1 + place) job)) (sym job_is) is.distinct;
+        masters = ap (λ (job : Job). list_all has_master job.steps) job_is ∙ is.masters;
+        free = λ queued. let before = left.free queued in before.1 ∙ is.free before.0;
+      }
+
+      -- what is kept
+      pub kept_after : (marks : List Mark) → marks ≡ [] → ((i : ℕ) → new.initiator ≡ Some i → i < 256)
+          → AreKept sets (slice_set lines place new) (slice_set tables place after) (put_at new.initiator (suc place) (put_at line.initiator 0 index)) marks
+      kept_after marks spared fits = record {
+        bare = ap (λ (all : Going Holding). all.sets) (ap (going_viewed bare) goes ∙ changed_seen bare holding_kit holding_kit bare_view event now ∙ ap (λ before. changed holding_kit event (going line facts before)) kept.bare ∙ sym goes);
+        wide = subst (EachEntry IsWide) (ap (λ (all : Going Holding). all.sets) (sym goes)) (changed-wide event now (may_make event row_follows) kept.wide);
+        runs = runs-set 1 lines tables kept.runs place new after new_is;
+        few = subst (λ n. n ≤ 9999999) (sym (length-set tables place after)) kept.few;
+        indexed = index_changed lines index kept.indexed place line lined new fits only;
+        spare = spared;
+      }

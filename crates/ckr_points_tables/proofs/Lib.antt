@@ -1,0 +1,17 @@
+pub mod Runs
+pub mod MarkOrder
+pub mod RunChanges
+pub mod Initiators
+pub mod Steps
+pub mod StepEnd
+pub mod SetViews
+pub mod Follows
+pub mod Events
+pub mod RunIdentity
+pub mod Calls
+pub mod RoomGrowth
+pub mod RewriteCounts
+pub mod RecordWidths
+pub mod Starts
+pub mod Allocations
+pub mod MeaningViews

@@ -1,0 +1,143 @@
+-- More room for a run changes nothing of the tables.
+use Rattle.std.proofs.Common.{◌≡◌, ℕ, zero, suc, ◌+◌, ◌≤◌, IsTrue, List, [], ◌∷◌, length, map, slice_get, slice_set, refl, ap, sym, ◌∙◌, subst, arith, Some}
+use Rattle.std.specs.List.{list_all}
+use Rattle.std.specs.Option.{option_map}
+use Rattle.std.proofs.lemmas.Option.{same_Some, slice_get-map, slice_get_within}
+use Rattle.std.proofs.Math.ListN.{length-set}
+use Rattle.ckr_base.proofs.Options.{some-not-none}
+use Rattle.ckr_base.proofs.Sequences.{get-set-same, set-same}
+use Rattle.ckr_entry.specs.declared.point.Mark.{Mark}
+use Rattle.ckr_jcl.specs.declared.deck.Job.{Job}
+use Rattle.ckr_library.specs.Catalog.{Catalog, Holding}
+use Rattle.ckr_library.specs.NameMaps.{Named}
+use Rattle.ckr_meaning.specs.EffectiveJob.{HasDistinctNames, names_of_job, plain_job, step_at}
+use Rattle.ckr_points.specs.declared.run.Run.{Run}
+use Rattle.ckr_points_tables.specs.declared.run_table.RunTable.{RunTable}
+use Rattle.ckr_points_tables.specs.declared.tables.Spare.{Spare}
+use Rattle.ckr_points_tables.specs.RunChange.{place_now}
+use Rattle.ckr_points_tables.specs.StepEnd.{HasPassedRoom}
+use Rattle.ckr_points_tables.specs.Invariant.{AreKept, AreRuns, HasEndRoom, HasStartRoom, IsRun, room_at}
+use Rattle.ckr_points.specs.Restart.{step_in}
+use Rattle.ckr_points_tables.specs.Rewrite.{has_master}
+use Rattle.ckr_points_tables.specs.Rooms.{EndsFit, HasNoLess, HasNoPlace, StartsFit}
+use Rattle.ckr_points.specs.Rows.{RunRow, TablesModel, run_of}
+use Rattle.ckr_points_tables.specs.View.{TablesRoom, RunTableView, RunRoom, facts_of, is_within_limits, room_of, row_of, row_with, rows_of}
+use Rattle.ckr_points_tables.proofs.Runs.{rows-at, runs-at, runs-set}
+
+-- a run has a line
+lined-at : (number : ℕ) (lines : List Run) (tables : List RunTable) → AreRuns number lines tables → (place : ℕ) (table : RunTable) → slice_get tables place ≡ Some table → (line : Run) × (slice_get lines place ≡ Some line)
+lined-at number [] [] are place table here = absurd (some-not-none _ (sym here))
+lined-at number [] (one ∷ tables) are place table here = absurd are
+lined-at number (line ∷ lines) [] are place table here = absurd are
+lined-at number (line ∷ lines) (one ∷ tables) are zero table here = (line, refl)
+lined-at number (line ∷ lines) (one ∷ tables) are (suc place) table here = lined-at (suc number) lines tables are.1 place table here
+
+rows-same : (lines : List Run) (tables : List RunTable) (place : ℕ) (old new : RunTable) → slice_get tables place ≡ Some old → facts_of new ≡ facts_of old → rows_of lines (slice_set tables place new) ≡ rows_of lines tables
+rows-same lines [] place old new here same = absurd (some-not-none _ (sym here))
+rows-same [] (one ∷ tables) zero old new here same = refl
+rows-same [] (one ∷ tables) (suc place) old new here same = refl
+rows-same (line ∷ lines) (one ∷ tables) zero old new here same =
+    ap (λ facts. row_with line facts ∷ rows_of lines tables) (same ∙ ap facts_of (sym (same_Some one old here)))
+rows-same (line ∷ lines) (one ∷ tables) (suc place) old new here same = ap (λ rest. row_of line one ∷ rest) (rows-same lines tables place old new here same)
+
+module _ (lines : List Run) (tables : List RunTable) (are : AreRuns 1 lines tables) (place : ℕ) (old new : RunTable) (here : slice_get tables place ≡ Some old) where
+  pub line_there : (line : Run) × (slice_get lines place ≡ Some line)
+  line_there = lined-at 1 lines tables are place old here
+
+  is : IsRun (1 + place) line_there.0 old
+  is = runs-at 1 lines tables are place line_there.0 old line_there.1 here
+
+  pub limits_there : IsTrue (is_within_limits old.job)
+  limits_there = is.limits
+
+  pub distinct_there : HasDistinctNames (plain_job (1 + place) old.job)
+  distinct_there = is.distinct
+
+  pub numbered_there : line_there.0.number ≡ 1 + place
+  numbered_there = is.numbered
+
+  pub found_there : slice_get (rows_of lines tables) place ≡ Some (row_of line_there.0 old)
+  found_there = rows-at lines tables place line_there.0 old line_there.1 here
+
+  module _ (same : facts_of new ≡ facts_of old) where
+    pub rows_there : rows_of lines (slice_set tables place new) ≡ rows_of lines tables
+    rows_there = rows-same lines tables place old new here same
+
+    pub runs_there : AreRuns 1 lines (slice_set tables place new)
+    runs_there =
+        let job : new.job ≡ old.job = ap (λ (facts : RunTableView). facts.job) same in
+        subst (λ all. AreRuns 1 all (slice_set tables place new)) (set-same lines place line_there.0 line_there.1)
+        (runs-set 1 lines tables are place line_there.0 new (record {
+          numbered = is.numbered;
+          named = is.named ∙ ap (λ (j : Job). j.name) (sym job);
+          limits = ap is_within_limits job ∙ is.limits;
+          distinct = subst (λ j. HasDistinctNames (plain_job (1 + place) j)) (sym job) is.distinct;
+          masters = ap (λ (j : Job). list_all has_master j.steps) job ∙ is.masters;
+          free = is.free;
+        }))
+
+    -- what is kept
+    pub kept_there : (sets : Named Holding) (index : List ℕ) (marks : List Mark) → AreKept sets lines tables index marks → AreKept sets lines (slice_set tables place new) index marks
+    kept_there sets index marks kept = record {
+      bare = kept.bare;
+      wide = kept.wide;
+      runs = runs_there;
+      few = subst (λ n. n ≤ 9999999) (sym (length-set tables place new)) kept.few;
+      indexed = kept.indexed;
+      spare = kept.spare;
+    }
+
+    row_there : (row : RunRow) → slice_get (rows_of lines (slice_set tables place new)) place ≡ Some row → row ≡ row_of line_there.0 new
+    row_there row found = same_Some row (row_of line_there.0 new) (sym found ∙ rows-at lines (slice_set tables place new) place line_there.0 new line_there.1 (get-set-same tables place new old here))
+
+    room_there : (one : RunRoom) → slice_get (map room_of (slice_set tables place new)) place ≡ Some one → one ≡ room_of new
+    room_there one found = same_Some one (room_of new) (sym found ∙ slice_get-map room_of (slice_set tables place new) place ∙ ap (option_map room_of) (get-set-same tables place new old here))
+
+    -- room for a start
+    pub start_there : (room : TablesRoom) (library : Catalog) (spare : Spare) → StartsFit new library spare → room.sets ≡ library.room → room.sorted ≡ spare.sorted.room → room.marks ≡ spare.marks.room → room.passed ≡ spare.passed.room
+        → (row : RunRow) (one : RunRoom) → slice_get (rows_of lines (slice_set tables place new)) place ≡ Some row → slice_get (map room_of (slice_set tables place new)) place ≡ Some one → HasStartRoom room row one
+    start_there room library spare fits sets sorted marks passed row one row_found one_found =
+        subst (λ r. HasStartRoom room r one) (sym (row_there row row_found)) (subst (HasStartRoom room (row_of line_there.0 new)) (sym (room_there one one_found))
+        (let point = fits.room line_there.0.number in
+        record {
+          sorted = subst (λ n. length (names_of_job (plain_job line_there.0.number new.job)) ≤ n) (sym sorted) point.sorted;
+          marks = subst (λ n. length (names_of_job (plain_job line_there.0.number new.job)) ≤ n) (sym marks) point.marks;
+          passed = subst (λ n. length new.passed.items ≤ n) (sym passed) point.passed;
+          points = fits.points;
+          sets = subst (λ n. 16 ≤ n) (sym sets) fits.sets;
+        }))
+
+    -- room for an end
+    pub end_there : EndsFit old new → (row : RunRow) (one : RunRoom) → slice_get (rows_of lines (slice_set tables place new)) place ≡ Some row → slice_get (map room_of (slice_set tables place new)) place ≡ Some one → HasEndRoom row one
+    end_there fits row one row_found one_found =
+        subst (λ r. HasEndRoom r one) (sym (row_there row row_found)) (subst (HasEndRoom (row_of line_there.0 new)) (sym (room_there one one_found))
+        (record {
+          passed = subst (λ (facts : RunTableView). HasPassedRoom new.passed.room (step_at (plain_job line_there.0.number facts.job) (step_in (place_now facts)))) (sym same) (fits.passed line_there.0.number);
+          codes = fits.codes;
+        }))
+
+  -- each run has no less room
+  pub each_there : HasNoLess (room_of old) (room_of new) → (k : ℕ) (one two : RunRoom) → slice_get (map room_of tables) k ≡ Some one → slice_get (map room_of (slice_set tables place new)) k ≡ Some two → HasNoLess one two
+  each_there more k one two first second = each tables place k here first second
+    where
+      as_much : (room other : RunRoom) → room ≡ other → HasNoLess room other
+      as_much room other same = subst (HasNoLess room) same (record { points = omega arith; codes = omega arith; passed = omega arith })
+
+      each : (all : List RunTable) (place k : ℕ) → slice_get all place ≡ Some old → slice_get (map room_of all) k ≡ Some one → slice_get (map room_of (slice_set all place new)) k ≡ Some two → HasNoLess one two
+      each [] place k here first second = absurd (some-not-none _ (sym here))
+      each (table ∷ all) zero zero here first second =
+          subst (λ r. HasNoLess r two) (ap room_of (sym (same_Some table old here)) ∙ same_Some (room_of table) one first) (subst (HasNoLess (room_of old)) (same_Some (room_of new) two second) more)
+      each (table ∷ all) zero (suc k) here first second = as_much one two (same_Some one two (sym first ∙ second))
+      each (table ∷ all) (suc place) zero here first second = as_much one two (same_Some one two (sym first ∙ second))
+      each (table ∷ all) (suc place) (suc k) here first second = each all place k here first second
+
+  -- by the number of a run
+  pub each_by : HasNoLess (room_of old) (room_of new) → (before after : TablesRoom) → before.each ≡ map room_of tables → after.each ≡ map room_of (slice_set tables place new) → (job : ℕ) (one two : RunRoom) → room_at before job ≡ Some one → room_at after job ≡ Some two → HasNoLess one two
+  each_by more before after is_before is_after zero one two first second = absurd (some-not-none _ (sym first))
+  each_by more before after is_before is_after (suc k) one two first second =
+      each_there more k one two (ap (λ all. slice_get all k) (sym is_before) ∙ first) (ap (λ all. slice_get all k) (sym is_after) ∙ second)
+
+-- no run is beyond the last one
+pub none_beyond : (tables : TablesModel) (job : ℕ) (row : RunRow) → HasNoPlace job (length tables.runs) → run_of tables job ≡ Some row → ⊥
+none_beyond tables zero row none found = some-not-none _ (sym found)
+none_beyond tables (suc place) row none found = omega (arith, slice_get_within tables.runs place row found, none)

@@ -1,0 +1,72 @@
+-- What an event leaves of its run: its number, its name and its job; and who is on an initiator.
+use Rattle.std.proofs.Common.{◌≡◌, ℕ, ◌⊎◌, inl, inr, true, refl, sym, Some, None, Option}
+use Rattle.std.specs.Option.{option_map_or}
+use Rattle.std.proofs.lemmas.Bool.{false≢true}
+use Rattle.std.proofs.lemmas.Option.{same_Some}
+use Rattle.ckr_base.proofs.Options.{some-not-none}
+use Rattle.ckr_events.specs.declared.event.Event.{Event}
+use Rattle.ckr_events.specs.declared.event.Event.TheVariants.{Selected, Started, Rewritten, StepEnded, Ended, Purged}
+use Rattle.ckr_events.specs.declared.event.Ending.{Ending}
+use Rattle.ckr_events.specs.declared.event.Ending.TheVariants.{Completed, Coded, Allocation}
+use Rattle.ckr_library.specs.Catalog.{Holding}
+use Rattle.ckr_meaning.specs.EffectiveJob.{OwnedStep}
+use Rattle.ckr_meaning.specs.declared.place.Place.{Place}
+use Rattle.ckr_meaning.specs.declared.place.Place.TheVariants.{Before, Opened, Within}
+use Rattle.ckr_points_tables.specs.RunChange.{Going, by_step_of, changed, coded, ended, ended_at, ended_by, ended_in, holding_kit, place_now, rewritten, started, step_ended, step_of}
+use Rattle.ckr_points_tables.specs.Invariant.{is_queued}
+use Rattle.ckr_points.specs.Restart.{step_in}
+
+-- the event selects a run for the initiator
+abbrev pub IsSelecting : ℕ → Event → Type 0
+IsSelecting i (Selected job initiator earlier step id) = initiator ≡ i
+IsSelecting i _ = ⊥
+
+-- the run stays what it is
+pub record Stays (event : Event) (now after : Going Holding) : Type 0 where
+  pub number : after.line.number ≡ now.line.number
+  pub name : after.line.name ≡ now.line.name
+  pub job : after.facts.job ≡ now.facts.job
+  pub free : is_queued after.line.state ≡ true → (is_queued now.line.state ≡ true) × (after.line.initiator ≡ now.line.initiator)
+  pub on : (i : ℕ) → after.line.initiator ≡ Some i → (now.line.initiator ≡ Some i) ⊎ IsSelecting i event
+
+same : (event : Event) (now : Going Holding) → Stays event now now
+same event now = record { number = refl; name = refl; job = refl; free = λ e. (e, refl); on = λ i e. inl e }
+
+module _ (event : Event) (now : Going Holding) where
+  by_step-stays : (step : ℕ) (change : OwnedStep → Going Holding) → ((own : OwnedStep) → Stays event now (change own)) → Stays event now (by_step_of step change now)
+  by_step-stays step change stays = by (step_of now step)
+    where
+      by : (found : Option OwnedStep) → Stays event now (option_map_or change found now)
+      by None = same event now
+      by (Some own) = stays own
+
+  ended-stays : Stays event now (ended now)
+  ended-stays = record { number = refl; name = refl; job = refl; free = λ e. absurd (false≢true e); on = λ i e. absurd (some-not-none _ (sym e)) }
+
+  ended_in-stays : (step : ℕ) (own : OwnedStep) → Stays event now (ended_in holding_kit step now own)
+  ended_in-stays step own = record { number = refl; name = refl; job = refl; free = λ e. absurd (false≢true e); on = λ i e. absurd (some-not-none _ (sym e)) }
+
+  ended_at-stays : (place : Place) → Stays event now (ended_at holding_kit place now)
+  ended_at-stays (Before step) = ended-stays
+  ended_at-stays (Opened step) = ended-stays
+  ended_at-stays (Within step writes) = by_step-stays step (ended_in holding_kit step now) (ended_in-stays step)
+
+  ended_by-stays : (ending : Ending) → Stays event now (ended_by holding_kit ending now)
+  ended_by-stays Completed = ended-stays
+  ended_by-stays (Coded code rule writes lengths) =
+      by_step-stays (step_in (place_now now.facts)) (coded holding_kit (step_in (place_now now.facts)) writes lengths.items now)
+      (λ own. record { number = refl; name = refl; job = refl; free = λ e. absurd (false≢true e); on = λ i e. absurd (some-not-none _ (sym e)) })
+  ended_by-stays (Allocation dd cause one other) = ended_at-stays (place_now now.facts)
+
+-- an event leaves its run so
+pub stays : (event : Event) (now : Going Holding) → Stays event now (changed holding_kit event now)
+stays (Selected job initiator earlier step id) now = record { number = refl; name = refl; job = refl; free = λ e. absurd (false≢true e); on = λ i e. inr (same_Some initiator i e) }
+stays (Started job step items) now =
+    by_step-stays (Started job step items) now step (started holding_kit step items.items now) (λ own. record { number = refl; name = refl; job = refl; free = λ e. (e, refl); on = λ i e. inl e })
+stays (Rewritten job taken writes lengths place image) now =
+    by_step-stays (Rewritten job taken writes lengths place image) now (step_in (place_now now.facts)) (rewritten holding_kit (step_in (place_now now.facts)) writes lengths.items now) (λ own. record { number = refl; name = refl; job = refl; free = λ e. (e, refl); on = λ i e. inl e })
+stays (StepEnded job step rc writes lengths) now =
+    by_step-stays (StepEnded job step rc writes lengths) now (step_in (place_now now.facts)) (step_ended holding_kit (step_in (place_now now.facts)) rc lengths.items now) (λ own. record { number = refl; name = refl; job = refl; free = λ e. (e, refl); on = λ i e. inl e })
+stays (Ended job ending) now = ended_by-stays (Ended job ending) now ending
+stays (Purged job) now = record { number = refl; name = refl; job = refl; free = λ e. absurd (false≢true e); on = λ i e. inl e }
+stays _ now = same _ now

@@ -1,0 +1,202 @@
+-- What an event makes of a run and of the data sets goes through a view of the data sets.
+use Rattle.std.proofs.Common.{◌≡◌, ℕ, suc, Bool, true, false, cond, List, [], ◌∷◌, map, refl, ap, sym, ◌∙◌, Option, Some, None}
+use Rattle.std.specs.Option.{option_map_or}
+use Rattle.ckr_points_library.specs.Commit.{committed, output_names}
+use Rattle.ckr_events.specs.declared.event.Event.{Event}
+use Rattle.ckr_events.specs.declared.event.Event.TheVariants.{Started, Rewritten, StepEnded, Ended}
+use Rattle.ckr_events.specs.declared.event.Ending.{Ending}
+use Rattle.ckr_events.specs.declared.event.Ending.TheVariants.{Completed, Coded, Allocation}
+use Rattle.ckr_events.specs.declared.event.Made.{Made}
+use Rattle.ckr_entry.specs.declared.point.Mark.{Mark}
+use Rattle.ckr_entry.specs.declared.point.Passed.{Passed}
+use Rattle.ckr_jcl.specs.declared.deck.Dd.{Dd}
+use Rattle.ckr_jcl.specs.declared.deck.After.TheVariants.{Delete}
+use Rattle.ckr_library.specs.declared.sets.DataSet.{DataSet}
+use Rattle.ckr_library.specs.declared.sets.Stamp.{Stamp}
+use Rattle.ckr_library.specs.Catalog.{Holding}
+use Rattle.ckr_library.specs.NameMaps.{Name, Named, with_changed, with_entry, without_entry}
+use Rattle.ckr_library.proofs.Named.{viewed, viewed-with_changed, viewed-with_entry}
+use Rattle.ckr_meaning.specs.Allotments.{opened_all}
+use Rattle.ckr_meaning.specs.Dispositions.{Stock, passed_ended}
+use Rattle.ckr_meaning.specs.EffectiveJob.{OwnedStep, name_of, names_of_job, placed_in, plain_job, stamp_of}
+use Rattle.ckr_meaning.specs.declared.place.Place.{Place}
+use Rattle.ckr_meaning.specs.declared.place.Place.TheVariants.{Before, Opened, Within}
+use Rattle.ckr_points_tables.proofs.MeaningViews.{GoesThrough, viewed-opened_all, viewed-disposed_all, viewed-placed_in}
+use Rattle.ckr_points_tables.specs.RunChange.{Going, Kit, going, by_step_of, changed, committed_by, coded, disposed, ended, ended_at, ended_by, ended_in, fresh_point, gone_on, holding_kit, opened_by, place_now, restamped, rewritten, started, step_ended, step_of, table_kit, within}
+use Rattle.ckr_points_tables.specs.StepEnd.{disposals_at}
+use Rattle.ckr_meaning.specs.StepRun.{rewritten_stamp}
+use Rattle.ckr_points.specs.Tables.{is_updates, name_with_role, parts_from}
+use Rattle.ckr_points_tables.specs.NewSets.{fresh_set, has_items, made_from, made_named}
+use Rattle.ckr_points.specs.Marks.{mark_now, marked_under, with_point}
+use Rattle.ckr_points.specs.Restart.{step_in}
+use Rattle.ckr_points.specs.Rows.{StartPoint}
+use Rattle.ckr_points_tables.specs.View.{bare, table_of}
+
+-- marks that are the same by name
+marked_same : (first second : Name → Mark) → ((name : Name) → first name ≡ second name) → (names : List Name) → marked_under first names ≡ marked_under second names
+marked_same first second same [] = refl
+marked_same first second same (name ∷ names) =
+    ap (λ mark. with_entry name mark (marked_under first names)) (same name) ∙ ap (with_entry name (second name)) (marked_same first second same names)
+
+-- a view that goes through each change
+pub record IsKitView {X Y : Type 0} (view : X → Y) (first : Kit X) (second : Kit Y) : Type 0 where
+  pub through : GoesThrough view first.ways second.ways
+  pub cuts : (most : ℕ) (set : X) → view (first.cut most set) ≡ second.cut most (view set)
+  pub freshes : (set : DataSet) → view (first.fresh set) ≡ second.fresh set
+  pub marks : (sets : Named X) (name : Name) → first.mark sets name ≡ second.mark (viewed view sets) name
+  pub stampings : (set : X) → first.stamp set ≡ second.stamp (view set)
+
+abbrev pub going_viewed : {X Y : Type 0} → (X → Y) → Going X → Going Y
+going_viewed view now = going now.line now.facts (viewed view now.sets)
+
+module _ {X Y : Type 0} (view : X → Y) (first : Kit X) (second : Kit Y) (is : IsKitView view first second) where
+  committed-seen : (names : List Name) (lengths : List ℕ) (sets : Named X) → viewed view (committed first.cut names lengths sets) ≡ committed second.cut names lengths (viewed view sets)
+  committed-seen [] lengths sets = refl
+  committed-seen (name ∷ names) [] sets = refl
+  committed-seen (name ∷ names) (most ∷ lengths) sets =
+      committed-seen names lengths (with_changed name (first.cut most) sets)
+      ∙ ap (committed second.cut names lengths) (viewed-with_changed view (first.cut most) (second.cut most) (is.cuts most) name sets)
+
+  -- to take out a data set is to dispose of it by DELETE
+  without-seen : (name : Name) (sets : Named X) → viewed view (without_entry name sets) ≡ without_entry name (viewed view sets)
+  without-seen name sets =
+      ap (λ (both : Stock Y). both.sets) (viewed-disposed_all view first.ways second.ways is.through (record { name = name; after = Delete; made = false } ∷ []) (record { sets = sets; passed = [] }))
+
+  passed-seen : (passed : List Passed) (sets : Named X) → viewed view (passed_ended passed sets) ≡ passed_ended passed (viewed view sets)
+  passed-seen [] sets = refl
+  passed-seen (one ∷ passed) sets =
+      passed-seen passed (cond one.made (without_entry one.name sets) sets) ∙ ap (passed_ended passed) (by one.made)
+    where
+      by : (made : Bool) → viewed view (cond made (without_entry one.name sets) sets) ≡ cond made (without_entry one.name (viewed view sets)) (viewed view sets)
+      by true = without-seen one.name sets
+      by false = refl
+
+  pub named-seen : (stamp : Stamp) (items : List Made) (number : ℕ) (dd : Dd) (found : Option Name) (sets : Named X) → viewed view (made_named first.fresh stamp items number dd found sets) ≡ made_named second.fresh stamp items number dd found (viewed view sets)
+  named-seen stamp items number dd None sets = refl
+  named-seen stamp items number dd (Some name) sets = by (has_items number items)
+    where
+      set : DataSet
+      set = fresh_set stamp dd (parts_from number items)
+
+      by : (has : Bool) → viewed view (cond has (with_entry name (first.fresh (fresh_set stamp dd (parts_from number items))) sets) sets) ≡ cond has (with_entry name (second.fresh (fresh_set stamp dd (parts_from number items))) (viewed view sets)) (viewed view sets)
+      by true = viewed-with_entry view name (first.fresh (fresh_set stamp dd (parts_from number items))) sets ∙ ap (λ entry. with_entry name entry (viewed view sets)) (is.freshes (fresh_set stamp dd (parts_from number items)))
+      by false = refl
+
+  made-seen : (stamp : Stamp) (items : List Made) (named : Dd → Option Name) (number : ℕ) (dds : List Dd) (sets : Named X) → viewed view (made_from first.fresh stamp items named number dds sets) ≡ made_from second.fresh stamp items named number dds (viewed view sets)
+  made-seen stamp items named number [] sets = refl
+  made-seen stamp items named number (dd ∷ dds) sets =
+      made-seen stamp items named (suc number) dds (made_named first.fresh stamp items number dd (named dd) sets)
+      ∙ ap (made_from second.fresh stamp items named (suc number) dds) (named-seen stamp items number dd (named dd) sets)
+
+  pub opened-seen : (step : ℕ) (own : OwnedStep) (now : Going X) → viewed view (opened_by first step own now) ≡ opened_by second step own (going_viewed view now)
+  opened-seen step own now =
+      let before : Stock X = record { sets = now.sets; passed = now.facts.passed } in
+      viewed-opened_all view first.ways second.ways is.through (stamp_of own step) (placed_in first.ways before now.line.number own) now.sets
+      ∙ ap (λ placed. opened_all second.ways (stamp_of own step) placed (viewed view now.sets)) (viewed-placed_in view first.ways second.ways is.through before now.line.number own)
+
+  point-seen : (step : ℕ) (sets : Named X) (now : Going X) → fresh_point first step sets now ≡ fresh_point second step (viewed view sets) (going_viewed view now)
+  point-seen step sets now =
+      let names = names_of_job (plain_job now.line.number now.facts.job) in
+      ap (λ marks. record (fresh_point first step sets now) { marks = marks })
+      (ap (map (λ entry. entry.1)) (marked_same (first.mark sets) (second.mark (viewed view sets)) (is.marks sets) names))
+
+  started-seen : (step : ℕ) (items : List Made) (now : Going X) (own : OwnedStep) → going_viewed view (started first step items now own) ≡ started second step items (going_viewed view now) own
+  started-seen step items now own =
+      let opened = opened_by first step own now in
+      let others = opened_by second step own (going_viewed view now) in
+      let after = λ (point : StartPoint) (sets : Named Y). going now.line (record now.facts { place = Some (Within step 0); points = with_point point now.facts.points }) sets in
+      ap (after (fresh_point first step opened now)) (made-seen (stamp_of own step) items (name_of now.line.number own) 1 own.step.dds opened)
+      ∙ ap (λ point. after point (made_from second.fresh (stamp_of own step) items (name_of now.line.number own) 1 own.step.dds (viewed view opened))) (point-seen step opened now)
+      ∙ ap (λ sets. after (fresh_point second step sets (going_viewed view now)) (made_from second.fresh (stamp_of own step) items (name_of now.line.number own) 1 own.step.dds sets)) (opened-seen step own now)
+
+  disposed-seen : (step : ℕ) (abnormal : Bool) (own : OwnedStep) (now : Going X) → going_viewed view (disposed first step abnormal own now) ≡ disposed second step abnormal own (going_viewed view now)
+  disposed-seen step abnormal own now =
+      ap (λ (both : Stock Y). going now.line (record now.facts { passed = both.passed }) both.sets)
+      (viewed-disposed_all view first.ways second.ways is.through (disposals_at now.line.number now.facts.job now.facts.points step abnormal own) (record { sets = now.sets; passed = now.facts.passed }))
+
+  committed_by-seen : (lengths : List ℕ) (own : OwnedStep) (now : Going X) → going_viewed view (committed_by first lengths own now) ≡ committed_by second lengths own (going_viewed view now)
+  committed_by-seen lengths own now = ap (going now.line now.facts) (committed-seen (output_names now.line.number own) lengths now.sets)
+
+  rewritten-seen : (step writes : ℕ) (lengths : List ℕ) (now : Going X) (own : OwnedStep) → going_viewed view (rewritten first step writes lengths now own) ≡ rewritten second step writes lengths (going_viewed view now) own
+  rewritten-seen step writes lengths now own =
+      let after = rewritten second step writes lengths (going_viewed view now) own in
+      let name = name_with_role now.line.number own is_updates in
+      ap (going after.line after.facts)
+      (
+      viewed-with_changed view (restamped first own.owner step) (restamped second own.owner step)
+      (λ set. is.through.stamps (rewritten_stamp own.owner step (first.stamp set)) set ∙ ap (λ stamp. second.ways.stamped (rewritten_stamp own.owner step stamp) (view set)) (is.stampings set))
+      name (committed_by first lengths own now).sets
+      ∙ ap (with_changed name (restamped second own.owner step)) (committed-seen (output_names now.line.number own) lengths now.sets)
+      )
+
+  ended-seen : (now : Going X) → going_viewed view (ended now) ≡ ended (going_viewed view now)
+  ended-seen now = ap (going (ended now).line (ended now).facts) (passed-seen now.facts.passed now.sets)
+
+  step_ended-seen : (step rc : ℕ) (lengths : List ℕ) (now : Going X) (own : OwnedStep) → going_viewed view (step_ended first step rc lengths now own) ≡ step_ended second step rc lengths (going_viewed view now) own
+  step_ended-seen step rc lengths now own =
+      ap (gone_on second step rc) (disposed-seen step false own (committed_by first lengths own now) ∙ ap (disposed second step false own) (committed_by-seen lengths own now))
+
+  ended_in-seen : (step : ℕ) (now : Going X) (own : OwnedStep) → going_viewed view (ended_in first step now own) ≡ ended_in second step (going_viewed view now) own
+  ended_in-seen step now own = ended-seen (disposed first step true own now) ∙ ap ended (disposed-seen step true own now)
+
+  coded-seen : (step writes : ℕ) (lengths : List ℕ) (now : Going X) (own : OwnedStep) → going_viewed view (coded first step writes lengths now own) ≡ coded second step writes lengths (going_viewed view now) own
+  coded-seen step writes lengths now own =
+      ended_in-seen step (within first step writes (committed_by first lengths own now)) own
+      ∙ ap (λ after. ended_in second step (within second step writes after) own) (committed_by-seen lengths own now)
+
+  by_step-seen : (step : ℕ) (one : OwnedStep → Going X) (other : OwnedStep → Going Y) → ((own : OwnedStep) → going_viewed view (one own) ≡ other own) → (now : Going X) → going_viewed view (by_step_of step one now) ≡ by_step_of step other (going_viewed view now)
+  by_step-seen step one other same now = by (step_of now step)
+    where
+      by : (found : Option OwnedStep) → going_viewed view (option_map_or one found now) ≡ option_map_or other found (going_viewed view now)
+      by None = refl
+      by (Some own) = same own
+
+  ended_at-seen : (place : Place) (now : Going X) → going_viewed view (ended_at first place now) ≡ ended_at second place (going_viewed view now)
+  ended_at-seen (Before step) now = ended-seen now
+  ended_at-seen (Opened step) now = ended-seen now
+  ended_at-seen (Within step writes) now = by_step-seen step (ended_in first step now) (ended_in second step (going_viewed view now)) (ended_in-seen step now) now
+
+  ended_by-seen : (ending : Ending) (now : Going X) → going_viewed view (ended_by first ending now) ≡ ended_by second ending (going_viewed view now)
+  ended_by-seen Completed now = ended-seen now
+  ended_by-seen (Coded code rule writes lengths) now =
+      let step = step_in (place_now now.facts) in
+      by_step-seen step (coded first step writes lengths.items now) (coded second step writes lengths.items (going_viewed view now)) (coded-seen step writes lengths.items now) now
+  ended_by-seen (Allocation dd cause one other) now = ended_at-seen (place_now now.facts) now
+
+  pub changed_seen : (event : Event) (now : Going X) → going_viewed view (changed first event now) ≡ changed second event (going_viewed view now)
+  changed_seen (Started job step items) now = by_step-seen step (started first step items.items now) (started second step items.items (going_viewed view now)) (started-seen step items.items now) now
+  changed_seen (Rewritten job taken writes lengths place image) now =
+      let running = step_in (place_now now.facts) in
+      by_step-seen running (rewritten first running writes lengths.items now) (rewritten second running writes lengths.items (going_viewed view now)) (rewritten-seen running writes lengths.items now) now
+  changed_seen (StepEnded job step rc writes lengths) now =
+      let running = step_in (place_now now.facts) in
+      by_step-seen running (step_ended first running rc lengths.items now) (step_ended second running rc lengths.items (going_viewed view now)) (step_ended-seen running rc lengths.items now) now
+  changed_seen (Ended job ending) now = ended_by-seen ending now
+  changed_seen _ now = refl
+
+-- ---- the views
+
+-- the data sets of the tables are those of the library
+pub table_view : IsKitView table_of holding_kit table_kit
+table_view = record {
+  through = record { knows = λ set. refl; marks = λ on set. refl; empties = λ set. refl; stamps = λ stamp set. refl };
+  cuts = λ most set. refl;
+  freshes = λ set. refl;
+  marks = λ sets name. refl;
+  stampings = λ set. refl;
+}
+
+-- data sets without their entries are seen the same
+bare-seen : (sets : Named Holding) → viewed table_of (viewed bare sets) ≡ viewed table_of sets
+bare-seen [] = refl
+bare-seen (entry ∷ sets) = ap (λ rest. (entry.0, table_of entry.1) ∷ rest) (bare-seen sets)
+
+-- data sets without their entries go on so
+pub bare_view : IsKitView bare holding_kit holding_kit
+bare_view = record {
+  through = record { knows = λ set. refl; marks = λ on set. refl; empties = λ set. refl; stamps = λ stamp set. refl };
+  cuts = λ most set. refl;
+  freshes = λ set. refl;
+  marks = λ sets name. ap (λ all. mark_now all name) (sym (bare-seen sets));
+  stampings = λ set. refl;
+}

@@ -1,0 +1,12 @@
+use Rattle.std.proofs.Common.{sym, subst}
+use Rattle.ckr_meaning.specs.EffectiveJob.{plain_job, step_at}
+use Rattle.ckr_points_tables.specs.StepEnd.{MayRewriteIn}
+use Rattle.ckr_points_tables.proofs.RewriteCounts.{may_still}
+use Rattle.ckr_points_tables.proofs.rewrite.rewrite_run.Goals as goal
+
+pub restamp_master-requires-clause-master : goal.restamp_master-requires-clause-master
+restamp_master-requires-clause-master c =
+    let run = c.args.line.now.number in
+    let job = c.args.table.now.job in
+    may_still run c.args.lengths.now c.args.library.now.sets c.commit.new.library.sets (step_at (plain_job run job) c.step_now-step.result) c.commit.ensures
+    (subst (λ step. MayRewriteIn run c.args.library.now.sets (step_at (plain_job run job) step)) (sym c.step_now-step.ensures) c.requires.may.master)

@@ -1,0 +1,98 @@
+use Rattle.std.proofs.Common.{◌≡◌, ◌-◌, ◌<◌, vec_len, vec_capacity, ap, sym, ◌∙◌, subst, arith, length, map, refl, slice_get, slice_set, Some}
+use Rattle.std.proofs.lemmas.Result.{on_ok_weaker}
+use Rattle.ckr_base.proofs.Sequences.{get-from}
+use Rattle.ckr_points_tables.specs.Parts.{tables_seen}
+use Rattle.ckr_points_tables.specs.Invariant.{AreKept, room_at}
+use Rattle.ckr_points_tables.specs.Rooms.{HasNoPlace, IsRoomier}
+use Rattle.ckr_points.specs.Rows.{TablesModel, run_of}
+use Rattle.ckr_points_tables.specs.View.{TablesRoom, room_of, rows_of, seen_by, table_of}
+use Rattle.ckr_points_tables.proofs.RoomGrowth.{limits_there, rows_there, kept_there, start_there, each_by, none_beyond}
+use Rattle.ckr_points_tables.proofs.Runs.{length-rows}
+use Rattle.ckr_points_tables.proofs.tables.Tables.room_to_start.Goals as goal
+
+pub reserve_start-requires : goal.reserve_start-requires
+reserve_start-requires c =
+    let tables = c.self.inside.tables.items in
+    let place = c.in-Some.place in
+    let old = c.index_mut.result.now in
+    let inside : place < length tables = omega (arith, (c.in-Some.ensures.some place refl).1, ap length c.as_slice.ensures.value) in
+    let here : slice_get tables place ≡ Some old = get-from tables place old inside c.index_mut.ensures.value in
+    record { limits = limits_there c.self.inside.lines.items tables c.self.invariant.runs place old old here }
+
+pub invariant_of-self : goal.invariant_of-self
+invariant_of-self c =
+    let tables = c.self.inside.tables.items in
+    let place = c.in-Some.place in
+    let old = c.index_mut.result.now in
+    let inside : place < length tables = omega (arith, (c.in-Some.ensures.some place refl).1, ap length c.as_slice.ensures.value) in
+    let here : slice_get tables place ≡ Some old = get-from tables place old inside c.index_mut.ensures.value in
+    subst (λ sets. AreKept sets c.self.inside.lines.items (slice_set tables place c.reserve_start.new.table) c.self.inside.index c.reserve_start.new.spare.marks.items) (sym c.reserve_start.ensures.sets)
+    (subst (AreKept c.self.inside.library.sets c.self.inside.lines.items (slice_set tables place c.reserve_start.new.table) c.self.inside.index) (sym c.reserve_start.ensures.marks)
+    (kept_there c.self.inside.lines.items tables c.self.invariant.runs place old c.reserve_start.new.table here c.reserve_start.ensures.facts c.self.inside.library.sets c.self.inside.index c.self.inside.spare.marks.items c.self.invariant))
+
+pub returns-in-Some-clause-desk : goal.returns-in-Some-clause-desk
+returns-in-Some-clause-desk c =
+    let tables = c.self.inside.tables.items in
+    let place = c.in-Some.place in
+    let old = c.index_mut.result.now in
+    let inside : place < length tables = omega (arith, (c.in-Some.ensures.some place refl).1, ap length c.as_slice.ensures.value) in
+    let here : slice_get tables place ≡ Some old = get-from tables place old inside c.index_mut.ensures.value in
+    ap (λ runs. let all : TablesModel = record { sets = seen_by table_of c.reserve_start.new.library.sets; runs = runs } in all) (rows_there c.self.inside.lines.items tables c.self.invariant.runs place old c.reserve_start.new.table here c.reserve_start.ensures.facts)
+    ∙ ap (λ sets. let all : TablesModel = record { sets = seen_by table_of sets; runs = rows_of c.self.inside.lines.items tables } in all) c.reserve_start.ensures.sets ∙ ap (λ v. v.desk) c.self.view_is
+
+pub returns-in-Some-clause-ok : goal.returns-in-Some-clause-ok
+returns-in-Some-clause-ok c =
+    let tables = c.self.inside.tables.items in
+    let place = c.in-Some.place in
+    let old = c.index_mut.result.now in
+    let inside : place < length tables = omega (arith, (c.in-Some.ensures.some place refl).1, ap length c.as_slice.ensures.value) in
+    let here : slice_get tables place ≡ Some old = get-from tables place old inside c.index_mut.ensures.value in
+    let room : TablesRoom = record {
+      sets = c.reserve_start.new.library.room;
+      runs = vec_capacity c.self.inside.tables - vec_len c.self.inside.tables;
+      lines = vec_capacity c.self.inside.lines - vec_len c.self.inside.lines;
+      sorted = c.reserve_start.new.spare.sorted.room;
+      marks = c.reserve_start.new.spare.marks.room;
+      passed = c.reserve_start.new.spare.passed.room;
+      each = map room_of (slice_set tables place c.reserve_start.new.table);
+    } in
+    let desk : TablesModel = record { sets = seen_by table_of c.reserve_start.new.library.sets; runs = rows_of c.self.inside.lines.items (slice_set tables place c.reserve_start.new.table) } in
+    let job = (c.in-Some.ensures.some place refl).0 in
+    on_ok_weaker c.reserve_start.result
+    (λ fits row one found roomed.
+    start_there c.self.inside.lines.items tables c.self.invariant.runs place old c.reserve_start.new.table here c.reserve_start.ensures.facts room c.reserve_start.new.library c.reserve_start.new.spare fits refl refl refl refl
+    row one (ap (run_of desk) (sym job) ∙ found) (ap (room_at room) (sym job) ∙ roomed))
+    c.reserve_start.ensures.ok
+
+pub returns-in-Some-clause-room : goal.returns-in-Some-clause-room
+returns-in-Some-clause-room c =
+    let tables = c.self.inside.tables.items in
+    let place = c.in-Some.place in
+    let old = c.index_mut.result.now in
+    let inside : place < length tables = omega (arith, (c.in-Some.ensures.some place refl).1, ap length c.as_slice.ensures.value) in
+    let here : slice_get tables place ≡ Some old = get-from tables place old inside c.index_mut.ensures.value in
+    let room : TablesRoom = record {
+      sets = c.reserve_start.new.library.room;
+      runs = vec_capacity c.self.inside.tables - vec_len c.self.inside.tables;
+      lines = vec_capacity c.self.inside.lines - vec_len c.self.inside.lines;
+      sorted = c.reserve_start.new.spare.sorted.room;
+      marks = c.reserve_start.new.spare.marks.room;
+      passed = c.reserve_start.new.spare.passed.room;
+      each = map room_of (slice_set tables place c.reserve_start.new.table);
+    } in
+    let more = c.reserve_start.ensures.run in
+    subst (λ v. IsRoomier v.room room) c.self.view_is
+    (record {
+      sets = c.reserve_start.ensures.more.sets;
+      runs = omega arith;
+      lines = omega arith;
+      sorted = c.reserve_start.ensures.more.sorted;
+      marks = c.reserve_start.ensures.more.marks;
+      passed = c.reserve_start.ensures.more.passed;
+      each = λ job one two first second. each_by c.self.inside.lines.items tables c.self.invariant.runs place old c.reserve_start.new.table here more (tables_seen c.self.inside).room room refl refl job one two first second;
+    })
+
+pub returns-in-None-clause-ok : goal.returns-in-None-clause-ok
+returns-in-None-clause-ok c = λ row one found roomed.
+    absurd (none_beyond c.args.self.now.desk c.args.job row
+    (subst (HasNoPlace c.args.job) (ap length c.as_slice.ensures.value ∙ sym (length-rows 1 c.self.inside.lines.items c.self.inside.tables.items c.self.invariant.runs).1 ∙ ap (λ v. length v.desk.runs) c.self.view_is) (c.in-None.ensures.none refl)) found)

@@ -1,0 +1,164 @@
+-- What holds of the tables in code, and what an event needs of them.
+use Rattle.std.specs.Prelude.{◌≡◌, ◌≤◌, ◌<◌, ℕ, zero, suc, ◌==◌, Bool, true, false, ◌&&◌, nat_le, IsTrue, List, [], ◌∷◌, length, slice_get, slice_set, slice_index, Option, None, Some}
+use Rattle.std.specs.Option.{option_and_then}
+use Rattle.std.specs.List.{list_all}
+use Rattle.ckr_points_library.specs.Holdings.{owned}
+use Rattle.ckr_uses.specs.Uses.{are_distinct}
+use Rattle.ckr_events.specs.Jobs.{job_of}
+use Rattle.ckr_events.specs.declared.event.Event.{Event}
+use Rattle.ckr_events.specs.declared.event.Event.TheVariants.{Submitted, Selected, Started, Rewritten, StepEnded, Ended, Purged}
+use Rattle.ckr_jcl.specs.declared.deck.Job.{Job}
+use Rattle.ckr_jcl.specs.declared.deck.Step.{Step}
+use Rattle.ckr_entry.specs.declared.point.Mark.{Mark}
+use Rattle.ckr_library.specs.Catalog.{Holding}
+use Rattle.ckr_library.specs.NameMaps.{EachEntry, Named}
+use Rattle.ckr_volumes.specs.declared.layout.Layout.{Layout}
+use Rattle.ckr_meaning.specs.EffectiveJob.{HasDistinctNames, names_of, names_of_job, plain_job}
+use Rattle.ckr_points.specs.declared.run.Run.{Run}
+use Rattle.ckr_points.specs.declared.run.RunState.{RunState}
+use Rattle.ckr_points.specs.declared.run.RunState.TheVariants.{Queued}
+use Rattle.ckr_points_tables.specs.declared.run_table.RunTable.{RunTable}
+use Rattle.ckr_points_tables.specs.StepEnd.{HasPassedRoom}
+use Rattle.ckr_points.specs.Follows.{follows}
+use Rattle.ckr_points.specs.Rows.{TableSet, TablesModel, RunRow, run_of, step_of_run}
+use Rattle.ckr_points_tables.specs.Rewrite.{HasFewRewrites, has_master}
+use Rattle.ckr_points.specs.Restart.{place_of, step_in}
+use Rattle.ckr_points_tables.specs.View.{AreBare, RunRoom, TablesRoom, RoomyTables, is_within_limits}
+
+-- ---- what holds of runs
+
+abbrev pub is_queued : RunState → Bool
+is_queued Queued = true
+is_queued _ = false
+
+-- a run of this number with its line: a queued one is on no initiator
+pub record IsRun (number : ℕ) (line : Run) (table : RunTable) : Type 0 where
+  pub numbered : line.number ≡ number
+  pub named : line.name ≡ table.job.name
+  pub limits : IsTrue (is_within_limits table.job)
+  pub distinct : HasDistinctNames (plain_job number table.job)
+  pub masters : list_all has_master table.job.steps ≡ true
+  pub free : is_queued line.state ≡ true → line.initiator ≡ None
+
+-- the runs from this number on, each with its line
+abbrev pub AreRuns : ℕ → List Run → List RunTable → Type 0
+AreRuns number [] [] = Unit {0}
+AreRuns number [] (table ∷ tables) = ⊥
+AreRuns number (line ∷ lines) [] = ⊥
+AreRuns number (line ∷ lines) (table ∷ tables) = IsRun number line table × AreRuns (suc number) lines tables
+
+-- the initiator of the run at a place
+abbrev pub initiator_at : List Run → ℕ → Option ℕ
+initiator_at lines place = option_and_then (λ (line : Run). line.initiator) (slice_get lines place)
+
+-- the index with a number written at an initiator, if there is one
+abbrev pub put_at : Option ℕ → ℕ → List ℕ → List ℕ
+put_at None number index = index
+put_at (Some initiator) number index = slice_set index initiator number
+
+-- by initiator, the number of the run that is on it, or 0
+pub record IsIndexOf (index : List ℕ) (lines : List Run) : Type 0 where
+  pub long : length index ≡ 256
+  pub on : (initiator place : ℕ) → slice_index index initiator ≡ suc place → initiator_at lines place ≡ Some initiator
+  pub all : (initiator place : ℕ) → initiator_at lines place ≡ Some initiator → slice_index index initiator ≡ suc place
+
+-- records of at least one byte
+abbrev pub IsWide : Holding → Type 0
+IsWide holding = 1 ≤ holding.set.lrecl
+
+pub record AreKept (sets : Named Holding) (lines : List Run) (tables : List RunTable) (index : List ℕ) (marks : List Mark) : Type 0 where
+  pub bare : AreBare sets
+  pub wide : EachEntry IsWide sets
+  pub runs : AreRuns 1 lines tables
+  pub few : length tables ≤ 9999999
+  pub indexed : IsIndexOf index lines
+  pub spare : marks ≡ []
+
+-- ---- what an event needs
+
+-- the events that are kept by now: no checkpoints, and no restarts
+abbrev pub is_plain_event : Event → Bool
+is_plain_event (Submitted job cards) = true
+is_plain_event (Selected job initiator earlier step id) = earlier == 0
+is_plain_event (Started job step made) = true
+is_plain_event (Rewritten job taken writes lengths place image) = true
+is_plain_event (StepEnded job step rc writes lengths) = true
+is_plain_event (Ended job ending) = true
+is_plain_event (Purged job) = true
+is_plain_event _ = false
+
+abbrev pub is_submission : Event → Bool
+is_submission (Submitted job cards) = true
+is_submission _ = false
+
+-- the event follows, in some layout
+abbrev pub MayFollow : TablesModel → Event → Option Job → Type 0
+MayFollow tables event deck = (layout : Layout) × (follows layout tables event deck ≡ true)
+
+-- whether a deck may be submitted: its number has seven digits, it is within the limits, and no name stands twice in a step
+abbrev pub is_submittable : ℕ → Job → Bool
+is_submittable number job =
+    nat_le number 9999999 && is_within_limits job && list_all (λ (step : Step). are_distinct (names_of number (owned step number []))) job.steps
+    && list_all has_master job.steps
+
+abbrev pub IsAnySubmittable : ℕ → Option Job → Type 0
+IsAnySubmittable number None = Unit {0}
+IsAnySubmittable number (Some job) = IsTrue (is_submittable number job)
+
+abbrev pub MaySubmit : Event → Option Job → Type 0
+MaySubmit (Submitted job cards) deck = IsAnySubmittable job deck
+MaySubmit _ deck = Unit {0}
+
+-- the stamps have not been counted out
+abbrev pub MayCount : Event → Named TableSet → Type 0
+MayCount (Rewritten job taken writes lengths place image) sets = EachEntry HasFewRewrites sets
+MayCount _ sets = Unit {0}
+
+-- ---- spare places
+
+abbrev pub room_at : TablesRoom → ℕ → Option RunRoom
+room_at room zero = None
+room_at room (suc place) = slice_get room.each place
+
+-- room for a run
+pub record HasRunRoom (room : TablesRoom) : Type 0 where
+  pub runs : 0 < room.runs
+  pub lines : 0 < room.lines
+
+-- room for the start of a step
+pub record HasStartRoom (room : TablesRoom) (row : RunRow) (one : RunRoom) : Type 0 where
+  pub sorted : length (names_of_job row.job) ≤ room.sorted
+  pub marks : length (names_of_job row.job) ≤ room.marks
+  pub passed : length row.passed ≤ room.passed
+  pub points : 0 < one.points
+  pub sets : 16 ≤ room.sets
+
+-- room for the end of a step
+pub record HasEndRoom (row : RunRow) (one : RunRoom) : Type 0 where
+  pub passed : HasPassedRoom one.passed (step_of_run row (step_in (place_of row)))
+  pub codes : 0 < one.codes
+
+-- room for the start of a step of a run, if it is there
+abbrev pub CanStart : RoomyTables → ℕ → Type 0
+CanStart now job = (row : RunRow) (one : RunRoom) → run_of now.desk job ≡ Some row → room_at now.room job ≡ Some one → HasStartRoom now.room row one
+
+-- room for the end of a step of a run, if it is there
+abbrev pub CanEnd : RoomyTables → ℕ → Type 0
+CanEnd now job = (row : RunRow) (one : RunRoom) → run_of now.desk job ≡ Some row → room_at now.room job ≡ Some one → HasEndRoom row one
+
+-- room in the lists of runs
+abbrev pub HasListRoom : TablesRoom → Event → Type 0
+HasListRoom room (Submitted job cards) = HasRunRoom room
+HasListRoom room _ = Unit {0}
+
+-- room for what the event makes of its run
+abbrev pub HasRoomIn : TablesRoom → RunRow → RunRoom → Event → Type 0
+HasRoomIn room row one (Started job step made) = HasStartRoom room row one
+HasRoomIn room row one (StepEnded job step rc writes lengths) = HasEndRoom row one
+HasRoomIn room row one (Ended job ending) = HasEndRoom row one
+HasRoomIn room row one _ = Unit {0}
+
+-- there is room for an event
+pub record HasRoom (now : RoomyTables) (event : Event) : Type 0 where
+  pub lists : HasListRoom now.room event
+  pub run : (row : RunRow) (one : RunRoom) → run_of now.desk (job_of event) ≡ Some row → room_at now.room (job_of event) ≡ Some one → HasRoomIn now.room row one event

@@ -1,0 +1,13 @@
+pub mod Allocation
+pub mod RunChange
+pub mod StepEnd
+pub mod Parts
+pub mod Invariant
+pub mod NewSets
+pub mod MarkOrder
+pub mod Needs
+pub mod PlainRows
+pub mod Rewrite
+pub mod Rooms
+pub mod View
+pub mod Start

@@ -1,0 +1,62 @@
+-- How much room there is for events, and that it becomes no less.
+use Rattle.std.specs.Prelude.{◌≡◌, ◌≤◌, ◌<◌, ℕ, zero, suc, List, length, sum_by, Some}
+use Rattle.ckr_entry.specs.declared.point.Passed.{Passed}
+use Rattle.ckr_jcl.specs.declared.deck.Job.{Job}
+use Rattle.ckr_jcl.specs.declared.deck.Step.{Step}
+use Rattle.ckr_library.specs.Catalog.{Catalog}
+use Rattle.ckr_meaning.specs.EffectiveJob.{names_of_job, plain_job, step_at}
+use Rattle.ckr_points_tables.specs.declared.run_table.RunTable.{RunTable}
+use Rattle.ckr_points_tables.specs.declared.tables.Spare.{Spare}
+use Rattle.ckr_points_tables.specs.StepEnd.{HasPassedRoom}
+use Rattle.ckr_points_tables.specs.Invariant.{room_at}
+use Rattle.ckr_points_tables.specs.Needs.{step_now}
+use Rattle.ckr_points_tables.specs.View.{TablesRoom, RunRoom}
+
+-- how many DDs steps have
+abbrev pub dds_of : List Step → ℕ
+dds_of steps = sum_by (λ (step : Step). length step.dds) steps
+
+-- a run has no less room than before
+pub record HasNoLess (old new : RunRoom) : Type 0 where
+  pub points : old.points ≤ new.points
+  pub codes : old.codes ≤ new.codes
+  pub passed : old.passed ≤ new.passed
+
+-- there is no less room than before
+pub record IsRoomier (old new : TablesRoom) : Type 0 where
+  pub sets : old.sets ≤ new.sets
+  pub runs : old.runs ≤ new.runs
+  pub lines : old.lines ≤ new.lines
+  pub sorted : old.sorted ≤ new.sorted
+  pub marks : old.marks ≤ new.marks
+  pub passed : old.passed ≤ new.passed
+  pub each : (job : ℕ) (one two : RunRoom) → room_at old job ≡ Some one → room_at new job ≡ Some two → HasNoLess one two
+
+-- the library and the spare lists have no less room than before
+pub record AreRoomier (library_old library_new : Catalog) (spare_old spare_new : Spare) : Type 0 where
+  pub sets : library_old.room ≤ library_new.room
+  pub sorted : spare_old.sorted.room ≤ spare_new.sorted.room
+  pub marks : spare_old.marks.room ≤ spare_new.marks.room
+  pub passed : spare_old.passed.room ≤ spare_new.passed.room
+
+-- room for the marks of a run's names, and for what it passed on
+pub record FitsPoint (run : ℕ) (job : Job) (passed_on : List Passed) (spare : Spare) : Type 0 where
+  pub sorted : length (names_of_job (plain_job run job)) ≤ spare.sorted.room
+  pub marks : length (names_of_job (plain_job run job)) ≤ spare.marks.room
+  pub passed : length passed_on ≤ spare.passed.room
+
+-- room for the start of any step of a run
+pub record StartsFit (table : RunTable) (library : Catalog) (spare : Spare) : Type 0 where
+  pub room : (run : ℕ) → FitsPoint run table.job table.passed.items spare
+  pub points : 0 < table.points.room
+  pub sets : 16 ≤ library.room
+
+-- room for the end of the step that a run is before or in
+pub record EndsFit (old new : RunTable) : Type 0 where
+  pub passed : (run : ℕ) → HasPassedRoom new.passed.room (step_at (plain_job run old.job) (step_now old))
+  pub codes : 0 < new.codes.room
+
+-- no run of these has this number
+abbrev pub HasNoPlace : ℕ → ℕ → Type 0
+HasNoPlace zero count = Unit {0}
+HasNoPlace (suc place) count = count ≤ place

@@ -1,0 +1,203 @@
+-- What an event makes of a run that continues none, and of the data sets.
+use Rattle.std.specs.Prelude.{ℕ, suc, Bool, true, false, List, [], ◌∷◌, ◌++◌, Option, None, Some, map}
+use Rattle.std.specs.Option.{option_map, option_map_or}
+use Rattle.ckr_points_library.specs.Commit.{committed, output_names}
+use Rattle.ckr_points_library.specs.Holdings.{holding_ways}
+use Rattle.ckr_events.specs.declared.event.Event.{Event}
+use Rattle.ckr_events.specs.declared.event.Event.TheVariants.{Selected, Started, Rewritten, StepEnded, Ended, Purged}
+use Rattle.ckr_events.specs.declared.event.Ending.{Ending}
+use Rattle.ckr_events.specs.declared.event.Ending.TheVariants.{Completed, Coded, Allocation}
+use Rattle.ckr_events.specs.declared.event.Made.{Made}
+use Rattle.ckr_entry.specs.declared.point.Mark.{Mark}
+use Rattle.ckr_library.specs.declared.sets.DataSet.{DataSet}
+use Rattle.ckr_library.specs.Catalog.{Holding, fresh_holding, with_length}
+use Rattle.ckr_library.specs.NameMaps.{Name, Named, with_changed}
+use Rattle.ckr_library.specs.declared.sets.Stamp.{Stamp}
+use Rattle.ckr_meaning.specs.StepRun.{rewritten_stamp}
+use Rattle.ckr_meaning.specs.LibrarySet.{SetWays}
+use Rattle.ckr_meaning.specs.Allotments.{opened_all}
+use Rattle.ckr_meaning.specs.Dispositions.{Stock, disposed_all, passed_ended}
+use Rattle.ckr_meaning.specs.EffectiveJob.{OwnedStep, name_of, names_of_job, placed_in, plain_job, stamp_of, step_at}
+use Rattle.ckr_meaning.specs.declared.place.Place.{Place}
+use Rattle.ckr_meaning.specs.declared.place.Place.TheVariants.{Before, Opened, Within}
+use Rattle.ckr_points.specs.declared.run.Run.{Run}
+use Rattle.ckr_points.specs.declared.run.RunState.TheVariants.{On, Ended as EndedRun, Purged as PurgedRun}
+use Rattle.ckr_points_tables.specs.StepEnd.{disposals_at}
+use Rattle.ckr_points.specs.Tables.{effect_rewritten, is_updates, name_with_role, point_rewritten}
+use Rattle.ckr_points_tables.specs.NewSets.{made_from}
+use Rattle.ckr_points.specs.Marks.{mark_now, marks_for, point_at, with_point}
+use Rattle.ckr_points.specs.Restart.{step_in}
+use Rattle.ckr_points.specs.Rows.{StartPoint, TableSet, TablesModel, cut_set, table_ways, with_run}
+use Rattle.ckr_points_tables.specs.View.{RunTableView, row_with, seen_by, table_of}
+
+-- a run with its line, and the data sets
+pub record Going (X : Type 0) : Type 0 where
+  pub line : Run
+  pub facts : RunTableView
+  pub sets : Named X
+
+abbrev pub going : {X : Type 0} → Run → RunTableView → Named X → Going X
+going line facts sets = record { line = line; facts = facts; sets = sets }
+
+-- how data sets are changed, cut, made and marked
+pub record Kit (X : Type 0) : Type 0 where
+  pub ways : SetWays X
+  pub cut : ℕ → X → X
+  pub fresh : DataSet → X
+  pub mark : Named X → Name → Mark
+  pub stamp : X → Stamp
+
+-- those of the tables
+abbrev pub table_kit : Kit TableSet
+table_kit = record {
+  ways = table_ways;
+  cut = cut_set;
+  fresh = λ set. record { set = set; entries = [] };
+  mark = mark_now;
+  stamp = λ table. table.set.stamp;
+}
+
+-- those of the library
+abbrev pub holding_kit : Kit Holding
+holding_kit = record {
+  ways = holding_ways;
+  cut = with_length;
+  fresh = fresh_holding;
+  mark = λ sets. mark_now (seen_by table_of sets);
+  stamp = λ holding. holding.set.stamp;
+}
+
+abbrev pub step_of : {X : Type 0} → Going X → ℕ → Option OwnedStep
+step_of now step = step_at (plain_job now.line.number now.facts.job) step
+
+abbrev pub by_step_of : {X : Type 0} → ℕ → (OwnedStep → Going X) → Going X → Going X
+by_step_of step change now = option_map_or change (step_of now step) now
+
+abbrev pub place_now : RunTableView → Place
+place_now facts = option_map_or (λ place. place) facts.place (Before 1)
+
+-- the points of a run know of a rewrite in a step, and the run is behind so many writes
+abbrev pub rewritten_facts : ℕ → ℕ → RunTableView → RunTableView
+rewritten_facts step writes facts = record facts {
+  place = Some (Within step writes);
+  points = map (point_rewritten step) facts.points;
+  in_effect = option_map effect_rewritten facts.in_effect;
+}
+
+abbrev pub selected : {X : Type 0} → ℕ → Going X → Going X
+selected initiator now =
+    record now {
+      line = record now.line { state = On; initiator = Some initiator };
+      facts = record now.facts { place = Some (Before 1) };
+    }
+
+abbrev pub purged : {X : Type 0} → Going X → Going X
+purged now = record now { line = record now.line { state = PurgedRun } }
+
+-- the end of a run
+abbrev pub ended : {X : Type 0} → Going X → Going X
+ended now = record {
+  line = record now.line { state = EndedRun; initiator = None };
+  facts = record now.facts { code = None; passed = []; in_effect = None };
+  sets = passed_ended now.facts.passed now.sets;
+}
+
+module _ {X : Type 0} (kit : Kit X) where
+  -- a step's outputs opened
+  abbrev pub opened_by : ℕ → OwnedStep → Going X → Named X
+  opened_by step own now =
+      opened_all kit.ways (stamp_of own step) (placed_in kit.ways (record { sets = now.sets; passed = now.facts.passed }) now.line.number own) now.sets
+
+  -- the step point of a step that starts
+  abbrev pub fresh_point : ℕ → Named X → Going X → StartPoint
+  fresh_point step sets now = record {
+    step = step;
+    restarts = option_map_or (λ (point : StartPoint). point.restarts) (point_at now.facts.points step) 0;
+    rewritten = false;
+    count = now.facts.count;
+    marks = marks_for (kit.mark sets) (names_of_job (plain_job now.line.number now.facts.job));
+    passed = now.facts.passed;
+  }
+
+  abbrev pub started : ℕ → List Made → Going X → OwnedStep → Going X
+  started step items now own =
+      let opened = opened_by step own now in
+      record now {
+        facts = record now.facts { place = Some (Within step 0); points = with_point (fresh_point step opened now) now.facts.points };
+        sets = made_from kit.fresh (stamp_of own step) items (name_of now.line.number own) 1 own.step.dds opened;
+      }
+
+  -- the lengths of a step committed
+  abbrev pub committed_by : List ℕ → OwnedStep → Going X → Going X
+  committed_by lengths own now =
+      record now { sets = committed kit.cut (output_names now.line.number own) lengths now.sets }
+
+  -- a data set with the stamp of one more rewrite
+  abbrev pub restamped : ℕ → ℕ → X → X
+  restamped owner step set = kit.ways.stamped (rewritten_stamp owner step (kit.stamp set)) set
+
+  -- a record of MASTER rewritten: the lengths are committed, and the stamp tells the rewrite
+  abbrev pub rewritten : ℕ → ℕ → List ℕ → Going X → OwnedStep → Going X
+  rewritten step writes lengths now own =
+      going now.line (rewritten_facts step writes now.facts)
+      (with_changed (name_with_role now.line.number own is_updates) (restamped own.owner step) (committed_by lengths own now).sets)
+
+  -- the dispositions of a step
+  abbrev pub disposed_of : ℕ → Bool → OwnedStep → Going X → Stock X
+  disposed_of step abnormal own now =
+      disposed_all kit.ways (disposals_at now.line.number now.facts.job now.facts.points step abnormal own)
+      (record { sets = now.sets; passed = now.facts.passed })
+
+  abbrev pub disposed : ℕ → Bool → OwnedStep → Going X → Going X
+  disposed step abnormal own now =
+      let done = disposed_of step abnormal own now in
+      record now { facts = record now.facts { passed = done.passed }; sets = done.sets }
+
+  abbrev pub gone_on : ℕ → ℕ → Going X → Going X
+  gone_on step rc now =
+      record now {
+        facts = record now.facts { place = Some (Before (suc step)); rcs = now.facts.rcs ++ (step, rc) ∷ []; in_effect = None };
+      }
+
+  abbrev pub step_ended : ℕ → ℕ → List ℕ → Going X → OwnedStep → Going X
+  step_ended step rc lengths now own = gone_on step rc (disposed step false own (committed_by lengths own now))
+
+  -- the end of a run in a step, with its dispositions
+  abbrev pub ended_in : ℕ → Going X → OwnedStep → Going X
+  ended_in step now own = ended (disposed step true own now)
+
+  abbrev pub ended_at : Place → Going X → Going X
+  ended_at (Before step) now = ended now
+  ended_at (Opened step) now = ended now
+  ended_at (Within step writes) now = by_step_of step (ended_in step now) now
+
+  abbrev pub within : ℕ → ℕ → Going X → Going X
+  within step writes now = record now { facts = record now.facts { place = Some (Within step writes) } }
+
+  abbrev pub coded : ℕ → ℕ → List ℕ → Going X → OwnedStep → Going X
+  coded step writes lengths now own = ended_in step (within step writes (committed_by lengths own now)) own
+
+  abbrev pub ended_by : Ending → Going X → Going X
+  ended_by Completed now = ended now
+  ended_by (Coded code rule writes lengths) now =
+      let step = step_in (place_now now.facts) in
+      by_step_of step (coded step writes lengths.items now) now
+  ended_by (Allocation dd cause first second) now = ended_at (place_now now.facts) now
+
+  -- what a plain event of the run makes of it
+  abbrev pub changed : Event → Going X → Going X
+  changed (Selected job initiator earlier step id) now = selected initiator now
+  changed (Started job step items) now = by_step_of step (started step items.items now) now
+  changed (Rewritten job taken writes lengths place image) now =
+      let running = step_in (place_now now.facts) in
+      by_step_of running (rewritten running writes lengths.items now) now
+  changed (StepEnded job step rc writes lengths) now =
+      let running = step_in (place_now now.facts) in
+      by_step_of running (step_ended running rc lengths.items now) now
+  changed (Ended job ending) now = ended_by ending now
+  changed (Purged job) now = purged now
+  changed _ now = now
+
+-- the tables with a run as it was changed, and with the data sets
+abbrev pub desk_with : Going TableSet → TablesModel → TablesModel
+desk_with now desk = with_run (row_with now.line now.facts) (record desk { sets = now.sets })

@@ -1,0 +1,137 @@
+//! The tables go on by an event.
+ghost use Rattle.std.specs.Prelude.{◌≡◌, ℕ, suc, ◌≤◌, ◌<◌, [], ◌∷◌, ◌++◌, true, false, Some, IsTrue, Option, length, vec_len, vec_capacity};
+ghost use Rattle.ckr_jcl.specs.declared.deck.Job.{Job as JobOfDeck};
+ghost use Rattle.ckr_points.specs.Tables.{after_submitted};
+ghost use Rattle.ckr_points_tables.specs.Invariant.{is_plain_event, is_submission, is_submittable, put_at, HasRoom, HasRunRoom, MayCount, MayFollow, MaySubmit};
+ghost use Rattle.ckr_points.specs.Restart.{after_event};
+ghost use Rattle.ckr_points_tables.specs.View.{facts_of, fresh_facts};
+
+use crate::run_change::change_run;
+use crate::{RunTable, StepPoints, Tables};
+use ckr_base::RoomyList;
+use ckr_entry::PassedList;
+use ckr_events::Event;
+use ckr_jcl::Job;
+use ckr_points::{Run, RunState};
+use std::alloc::Global;
+
+impl Tables {
+    /// Goes on by an event that follows: the tables are those of one more event. A job is given exactly where the event is
+    /// Submitted and its cards are a deck, and it is that deck. There is room for the event, by `make_room` for it or for one
+    /// that differs from it in its writes and lengths alone; Rewritten needs none. It takes no memory (this project's profile).
+    pub fn apply(&mut self, event: &Event, job: Option<Job>)
+        requires plain { IsTrue (is_plain_event event.now) }
+        requires follows { MayFollow self.old.desk event.now job }
+        requires deck { MaySubmit event.now job }
+        requires room { HasRoom self.old event.now }
+        requires count { MayCount event.now self.old.desk.sets }
+        ensures { self.new.desk ≡ after_event event.now job self.old.desk }
+    {
+        if is_submission(event) {
+            self.submit_deck(event, job);
+        } else {
+            self.change(event);
+        }
+    }
+
+    /// A deck is submitted, where it is given. There is room for its run.
+    fn submit_deck(&mut self, event: &Event, job: Option<Job>)
+        requires submission { is_submission event.now ≡ true }
+        requires follows { MayFollow self.old.desk event.now job }
+        requires deck { MaySubmit event.now job }
+        requires room { HasRoom self.old event.now }
+        ensures { self.new.desk ≡ after_event event.now job self.old.desk }
+    {
+        if let Event::Submitted { job: number, .. } = event {
+            if let Some(job) = job {
+                self.submit(*number, job);
+            }
+        }
+    }
+
+    /// A run of the tables goes on by a plain event that follows. There is room for it.
+    fn change(&mut self, event: &Event)
+        requires plain { is_plain_event event.now ≡ true }
+        requires other { is_submission event.now ≡ false }
+        requires follows { (deck : Option JobOfDeck) → MayFollow self.old.desk event.now deck }
+        requires room { HasRoom self.old event.now }
+        requires count { MayCount event.now self.old.desk.sets }
+        ensures { (deck : Option JobOfDeck) → self.new.desk ≡ after_event event.now deck self.old.desk }
+    {
+        let number = event.job();
+        let place = number as usize - 1;
+        let before = self.lines[place].initiator;
+        change_run(
+            event,
+            &mut self.lines[place],
+            &mut self.tables[place],
+            &mut self.library,
+            &mut self.spare,
+        );
+        let after = self.lines[place].initiator;
+        put_at(&mut self.index, before, 0);
+        put_at(&mut self.index, after, number);
+    }
+
+    /// A deck is submitted. There is room for its run.
+    fn submit(&mut self, number: u32, job: Job)
+        requires next { number ≡ suc (length self.old.desk.runs) }
+        requires deck { IsTrue (is_submittable number job) }
+        requires room { HasRunRoom self.old.room }
+        ensures { self.new.desk ≡ after_submitted number job self.old.desk }
+    {
+        let alloc = *self.tables.allocator();
+        let line = Run {
+            number,
+            name: job.name.copied(),
+            state: RunState::Queued,
+            initiator: None,
+        };
+        put(&mut self.lines, line);
+        put(&mut self.tables, fresh_table(alloc, job));
+    }
+}
+
+/// Whether a deck is submitted.
+fn is_submission(event: &Event) -> bool
+    ensures { result ≡ is_submission event.now }
+{
+    matches!(event, Event::Submitted { .. })
+}
+
+/// A run that was just submitted.
+fn fresh_table(alloc: Global, job: Job) -> RunTable
+    ensures { facts_of result ≡ fresh_facts job }
+{
+    RunTable {
+        job,
+        place: None,
+        code: None,
+        count: 0,
+        codes: RoomyList::new(alloc),
+        passed: PassedList::new(alloc),
+        points: StepPoints::new(alloc),
+        in_effect: None,
+    }
+}
+
+/// Puts an item behind the others. There is a spare place for it.
+fn put<T: Drop>(items: &mut Vec<T>, item: T)
+    requires { vec_len items.old < vec_capacity items.old }
+    ensures { items.new.items ≡ items.old.items ++ item ∷ [] }
+{
+    match items.push(item) {
+        Ok(()) => {}
+        Err(_) => unreachable!(),
+    }
+}
+
+/// Writes a run's number into the index at an initiator, if there is one.
+fn put_at(index: &mut [u32; 256], initiator: Option<u8>, number: u32)
+    ensures index { index.new ≡ put_at initiator number index.old }
+    ensures fits { (i : ℕ) → initiator ≡ Some i → i < 256 }
+{
+    if let Some(initiator) = initiator {
+        index[initiator as usize] = number;
+    }
+}

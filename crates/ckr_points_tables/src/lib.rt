@@ -1,0 +1,27 @@
+//! The tables of a desk in code: its data sets and its runs, kept event by event.
+#![tactic(auto)]
+
+mod allocation;
+mod event;
+mod made_names;
+mod marks_in_order;
+mod new_sets;
+mod rewrite;
+mod rooms;
+mod run_change;
+mod run_marks;
+mod run_table;
+mod start;
+mod step_end;
+mod step_points;
+mod submit;
+mod tables;
+
+pub use rewrite::{master_dd, master_name};
+pub use run_change::is_plain;
+pub use run_table::{InEffect, ReturnCode, RunTable, StepPoint};
+pub use start::{point_at, step_at};
+pub use step_end::place_now;
+pub use step_points::StepPoints;
+pub use submit::is_submittable;
+pub use tables::Tables;

@@ -1,0 +1,163 @@
+//! Memory for an event, before it is written.
+ghost use Rattle.std.specs.Prelude.{◌≡◌, ℕ, suc, Some, None, ◌+◌, ◌*◌, ◌≤◌, ◌<◌, OnOk, IsTrue, length, vec_len, vec_capacity};
+ghost use Rattle.std.specs.Option.{option_map_or};
+ghost use Rattle.ckr_events.specs.declared.event.Event.{Event as EventOfDesk};
+ghost use Rattle.ckr_meaning.specs.EffectiveJob.{plain_job, step_at, OwnedStep};
+ghost use Rattle.ckr_points_tables.specs.StepEnd.{HasPassedRoom};
+ghost use Rattle.ckr_points_tables.specs.Invariant.{CanEnd, CanStart, HasRoom, HasRunRoom};
+ghost use Rattle.ckr_points_tables.specs.Needs.{step_now};
+ghost use Rattle.ckr_points_tables.specs.Rooms.{dds_of, HasNoPlace, AreRoomier, EndsFit, FitsPoint, HasNoLess, IsRoomier, StartsFit};
+ghost use Rattle.ckr_points_tables.specs.View.{facts_of, is_within_limits, room_of};
+ghost use Rattle.ckr_points_tables.specs.Start.{HasPointRoom};
+
+use crate::start::step_at;
+use crate::step_end::step_now;
+use crate::tables::Spare;
+use crate::{RunTable, Tables};
+use ckr_base::NoMemory;
+use ckr_entry::Passed;
+use ckr_events::Event;
+use ckr_jcl::{Job, Step};
+use ckr_library::Library;
+
+impl Tables {
+    /// Takes the memory that an event needs. The tables stay the same in either case, and the room that is there stays.
+    ///
+    /// `NoMemory`: there may be no room for the event.
+    pub fn make_room(&mut self, event: &Event) -> Result<(), NoMemory>
+        ensures desk { self.new.desk ≡ self.old.desk }
+        ensures ok { OnOk result (HasRoom self.new event.now) }
+        ensures room { IsRoomier self.old.room self.new.room }
+    {
+        match event {
+            Event::Submitted { .. } => self.room_to_submit(),
+            Event::Started { job, .. } => self.room_to_start(*job),
+            Event::StepEnded { job, .. } | Event::Ended { job, .. } => self.room_to_end(*job),
+            _ => Ok(()),
+        }
+    }
+
+    /// Makes room for one more run.
+    fn room_to_submit(&mut self) -> Result<(), NoMemory>
+        ensures desk { self.new.desk ≡ self.old.desk }
+        ensures ok { OnOk result (HasRunRoom self.new.room) }
+        ensures room { IsRoomier self.old.room self.new.room }
+    {
+        self.lines.reserve(1)?;
+        self.tables.reserve(1)?;
+        Ok(())
+    }
+
+    /// Makes room for the start of a step of a run, if there is such a run.
+    fn room_to_start(&mut self, job: u32) -> Result<(), NoMemory>
+        ensures desk { self.new.desk ≡ self.old.desk }
+        ensures ok { OnOk result (CanStart self.new job) }
+        ensures room { IsRoomier self.old.room self.new.room }
+    {
+        match place_in(job, self.tables.as_slice()) {
+            Some(place) => {
+                reserve_start(&mut self.tables[place], &mut self.library, &mut self.spare)
+            }
+            None => Ok(()),
+        }
+    }
+
+    /// Makes room for the end of a step of a run, if there is such a run.
+    fn room_to_end(&mut self, job: u32) -> Result<(), NoMemory>
+        ensures desk { self.new.desk ≡ self.old.desk }
+        ensures ok { OnOk result (CanEnd self.new job) }
+        ensures room { IsRoomier self.old.room self.new.room }
+    {
+        match place_in(job, self.tables.as_slice()) {
+            Some(place) => reserve_end(&mut self.tables[place]),
+            None => Ok(()),
+        }
+    }
+}
+
+/// The place of a run by its number, if there is such a run.
+pub(crate) fn place_in(job: u32, tables: &[RunTable]) -> Option<usize>
+    ensures some { (place : ℕ) → result ≡ Some place → (job ≡ suc place) × (place < length tables.now) }
+    ensures none { result ≡ None → HasNoPlace job (length tables.now) }
+{
+    if job == 0 || tables.len() < job as usize {
+        None
+    } else {
+        Some(job as usize - 1)
+    }
+}
+
+/// How many DDs these steps have.
+fn dds_of(steps: &[Step]) -> u32
+    requires { dds_of steps.now ≤ 1024 }
+    ensures { result ≡ dds_of steps.now }
+{
+    let mut count = 0;
+    for step in steps {
+        count += step.dds.as_slice().len() as u32;
+    }
+    count
+}
+
+/// Makes room for the marks of a run's names, and for what it passed on.
+fn reserve_point(job: &Job, passed: &[Passed], spare: &mut Spare) -> Result<(), NoMemory>
+    requires limits { IsTrue (is_within_limits job.now) }
+    ensures marks { spare.new.marks.items ≡ spare.old.marks.items }
+    ensures ok { OnOk result ((run : ℕ) → FitsPoint run job.now passed.now spare.new) }
+    ensures sorted { spare.old.sorted.room ≤ spare.new.sorted.room }
+    ensures more { spare.old.marks.room ≤ spare.new.marks.room }
+    ensures passed { spare.old.passed.room ≤ spare.new.passed.room }
+{
+    let names = dds_of(job.steps.as_slice());
+    let Ok(more) = u32::try_from(passed.len()) else {
+        return Err(NoMemory);
+    };
+    spare.sorted.reserve(names)?;
+    spare.marks.reserve(names)?;
+    spare.passed.reserve(more)?;
+    Ok(())
+}
+
+/// Makes room for the start of a step of a run.
+fn reserve_start(
+    table: &mut RunTable,
+    library: &mut Library,
+    spare: &mut Spare,
+) -> Result<(), NoMemory>
+    requires limits { IsTrue (is_within_limits table.old.job) }
+    ensures facts { facts_of table.new ≡ facts_of table.old }
+    ensures sets { library.new.sets ≡ library.old.sets }
+    ensures marks { spare.new.marks.items ≡ spare.old.marks.items }
+    ensures ok { OnOk result (StartsFit table.new library.new spare.new) }
+    ensures run { HasNoLess (room_of table.old) (room_of table.new) }
+    ensures more { AreRoomier library.old library.new spare.old spare.new }
+{
+    reserve_point(&table.job, table.passed.as_slice(), spare)?;
+    table.points.reserve(1)?;
+    library.reserve(16)?;
+    Ok(())
+}
+
+/// How many DDs the step has that a run is before or in, and none where there is no such step.
+fn dds_now(table: &RunTable) -> u32
+    requires { IsTrue (is_within_limits table.now.job) }
+    ensures { (run : ℕ) → result ≡ option_map_or (λ (own : OwnedStep). length own.step.dds) (step_at (plain_job run table.now.job) (step_now table.now)) 0 }
+{
+    match step_at(&table.job, step_now(table)) {
+        Some(own) => own.dds.as_slice().len() as u32,
+        None => 0,
+    }
+}
+
+/// Makes room for the end of the step that a run is before or in.
+fn reserve_end(table: &mut RunTable) -> Result<(), NoMemory>
+    requires limits { IsTrue (is_within_limits table.old.job) }
+    ensures facts { facts_of table.new ≡ facts_of table.old }
+    ensures ok { OnOk result (EndsFit table.old table.new) }
+    ensures run { HasNoLess (room_of table.old) (room_of table.new) }
+{
+    let more = dds_now(table);
+    table.passed.reserve(more)?;
+    table.codes.reserve(1)?;
+    Ok(())
+}

@@ -1,0 +1,91 @@
+//! What an event makes of its run, and of the library.
+ghost use Rattle.std.specs.Prelude.{◌≡◌, ◌≤◌, [], IsTrue};
+ghost use Rattle.ckr_points_tables.specs.RunChange.{by_step_of, changed, going, holding_kit, started};
+ghost use Rattle.ckr_points_tables.specs.Invariant.{is_plain_event};
+ghost use Rattle.ckr_points_tables.specs.Needs.{MayChange};
+ghost use Rattle.ckr_points_tables.specs.View.{facts_of, is_within_limits};
+ghost use Rattle.ckr_points_tables.specs.Start.{MayStartNow};
+
+use crate::RunTable;
+use crate::rewrite::rewrite_run;
+use crate::start::start_run;
+use crate::step_end::{end_run, end_step_of, step_now};
+use crate::tables::Spare;
+use ckr_events::{Event, Made};
+use ckr_library::Library;
+use ckr_meaning::Place;
+use ckr_points::{Run, RunState};
+
+/// Whether an event is of those that the desk keeps by now: no checkpoint, no restart, no denial.
+pub fn is_plain(event: &Event) -> bool
+    ensures { result ≡ is_plain_event event.now }
+{
+    match event {
+        Event::Selected { earlier, .. } => *earlier == 0,
+        Event::Submitted { .. }
+        | Event::Started { .. }
+        | Event::Rewritten { .. }
+        | Event::StepEnded { .. }
+        | Event::Ended { .. }
+        | Event::Purged { .. } => true,
+        _ => false,
+    }
+}
+
+/// A step of the run starts. A job without such a step stays as it is.
+fn start(
+    line: &Run,
+    step: u8,
+    items: &[Made],
+    table: &mut RunTable,
+    library: &mut Library,
+    spare: &mut Spare,
+)
+    requires run { line.now.number ≤ 9999999 }
+    requires limits { IsTrue (is_within_limits table.old.job) }
+    requires empty { spare.old.marks.items ≡ [] }
+    requires may { MayStartNow line.now.number step items.now table.old library.old spare.old }
+    ensures going { going line.now (facts_of table.new) library.new.sets ≡ by_step_of step (started holding_kit step items.now (going line.now (facts_of table.old) library.old.sets)) (going line.now (facts_of table.old) library.old.sets) }
+    ensures empty { spare.new.marks.items ≡ [] }
+{
+    start_run(line.number, step, items, table, library, spare);
+}
+
+/// A run goes on by a plain event.
+pub(crate) fn change_run(
+    event: &Event,
+    line: &mut Run,
+    table: &mut RunTable,
+    library: &mut Library,
+    spare: &mut Spare,
+)
+    requires run { line.old.number ≤ 9999999 }
+    requires limits { IsTrue (is_within_limits table.old.job) }
+    requires empty { spare.old.marks.items ≡ [] }
+    requires may { MayChange event.now line.old.number table.old library.old spare.old }
+    ensures going { going line.new (facts_of table.new) library.new.sets ≡ changed holding_kit event.now (going line.old (facts_of table.old) library.old.sets) }
+    ensures empty { spare.new.marks.items ≡ [] }
+{
+    match event {
+        Event::Selected { initiator, .. } => {
+            line.state = RunState::On;
+            line.initiator = Some(*initiator);
+            table.place = Some(Place::Before(1));
+        }
+        Event::Started { step, made, .. } => {
+            start(line, *step, made.as_slice(), table, library, spare);
+        }
+        Event::Rewritten {
+            writes,
+            lengths,
+            ..
+        } => rewrite_run(line, *writes, lengths.as_slice(), table, library),
+        Event::StepEnded { rc, lengths, .. } => {
+            let step = step_now(table);
+            end_step_of(line, step, *rc, lengths.as_slice(), table, library);
+        }
+        Event::Ended { ending, .. } => end_run(line, ending, table, library),
+        Event::Purged { .. } => line.state = RunState::Purged,
+        _ => {}
+    }
+}

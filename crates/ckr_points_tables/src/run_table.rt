@@ -1,0 +1,65 @@
+//! What the tables keep of a run besides its line.
+
+use crate::StepPoints;
+use ckr_base::{Code, DsName, RoomyList};
+use ckr_entry::{Marks, PassedList};
+use ckr_jcl::Job;
+use ckr_library::Kept;
+use ckr_meaning::Place;
+
+/// The return code of a step that has ended.
+#[derive(Clone, Copy)]
+pub struct ReturnCode {
+    /// The number of the step, from 1.
+    pub step: u8,
+    pub rc: u16,
+}
+
+/// What was at the start of a step: behind the opening of its data sets for output and before it made any.
+#[derive(Drop)]
+pub struct StepPoint {
+    /// The number of the step, from 1.
+    pub step: u8,
+    /// How often the run was restarted here.
+    pub restarts: u8,
+    /// Whether the run rewrote a record in place since.
+    pub rewritten: bool,
+    /// How many checkpoint entries the job had written.
+    pub count: u32,
+    /// The marks of the names of the job.
+    pub marks: Marks,
+    /// What was passed on and not yet received.
+    pub passed: PassedList,
+}
+
+/// The checkpoint to which an automatic restart would go back.
+#[derive(Drop)]
+pub struct InEffect {
+    /// The name of the data set that keeps its entry.
+    pub set: DsName,
+    pub kept: Kept,
+    /// How often the run was restarted here.
+    pub restarts: u8,
+    /// Whether the run rewrote a record in place since.
+    pub rewritten: bool,
+}
+
+/// How far a run has come, and what a restart of it needs.
+#[derive(Drop)]
+pub struct RunTable {
+    /// The job of its deck.
+    pub job: Job,
+    /// Where it is; None before it is selected. It stays once the run has ended.
+    pub place: Option<Place>,
+    /// The code with which it waits for a restart.
+    pub code: Option<Code>,
+    /// How many checkpoint entries the job has written.
+    pub count: u32,
+    /// The return codes of the steps that have ended, in their order.
+    pub codes: RoomyList<ReturnCode>,
+    /// What was passed on and not yet received.
+    pub passed: PassedList,
+    /// The step points, in ascending order of the steps.
+    pub points: StepPoints,
+    pub in_effect: Option<InEffect>,
+}

@@ -1,0 +1,203 @@
+//! The start of a step.
+ghost use Rattle.std.specs.Prelude.{◌≡◌, ℕ, ◌+◌, ◌≤◌, ◌<◌, [], ◌++◌, IsTrue, length, map, find, ◌==◌, slice_get};
+ghost use Rattle.std.specs.Option.{option_copied, option_map, option_map_or};
+ghost use Rattle.ckr_meaning.specs.EffectiveJob.{names_of_job, owned_by, plain_job, step_at};
+ghost use Rattle.ckr_points.specs.Marks.{mark_now, marks_for, point_at};
+ghost use Rattle.ckr_points.specs.Rows.{StartPoint as StartOfStep};
+ghost use Rattle.ckr_points_tables.specs.declared.run_table.StepPoint.{StepPoint as PointOfStep};
+ghost use Rattle.ckr_points_tables.specs.View.{facts_of, is_within_limits, point_of, seen_by, table_of};
+ghost use Rattle.ckr_points_tables.specs.Start.{fresh_point, started_facts, started_point, started_sets, HasPointRoom, MayStart};
+
+use crate::new_sets::make_sets;
+use crate::run_marks::mark_job;
+use crate::tables::Spare;
+use crate::{RunTable, StepPoint};
+use ckr_entry::{Mark, Marks, Passed, PassedList};
+use ckr_events::Made;
+use ckr_jcl::{Job, Step};
+use ckr_library::{Library, Stamp};
+use ckr_meaning::Place;
+use ckr_points_library::open_outputs;
+use std::mem;
+
+/// A step of a job by its number, from 1.
+pub fn step_at(job: &Job, step: u8) -> Option<&Step>
+    ensures { (run : ℕ) → option_map (owned_by run job.now) (option_copied result) ≡ step_at (plain_job run job.now) step }
+{
+    if step == 0 {
+        return None;
+    }
+    step_in(job.steps.as_slice(), step as usize - 1)
+}
+
+/// The step at a place.
+fn step_in(steps: &[Step], place: usize) -> Option<&Step>
+    ensures { option_copied result ≡ slice_get steps.now place }
+{
+    steps.get(place)
+}
+
+/// The step point of a step.
+pub fn point_at(points: &[StepPoint], step: u8) -> Option<&StepPoint>
+    ensures { option_copied result ≡ find (λ (point : PointOfStep). point.step == step) points.now }
+{
+    points.iter().find(|point| point.step == step)
+}
+
+/// How often a run was restarted at the start of a step.
+fn restarts_at(points: &[StepPoint], step: u8) -> u8
+    ensures { result ≡ option_map_or (λ (point : StartOfStep). point.restarts) (point_at (map point_of points.now) step) 0 }
+{
+    match point_at(points, step) {
+        Some(point) => point.restarts,
+        None => 0,
+    }
+}
+
+/// The same mark.
+fn copy_of_mark(mark: &Mark) -> Mark
+    ensures { result ≡ mark.now }
+{
+    Mark {
+        name: mark.name.copied(),
+        present: mark.present,
+    }
+}
+
+/// Puts marks behind others. There is a spare place for each.
+fn put_marks(items: &[Mark], marks: &mut Marks)
+    requires { length items.now ≤ marks.old.room }
+    ensures { marks.new.items ≡ marks.old.items ++ items.now }
+{
+    for mark in items {
+        match marks.push(copy_of_mark(mark)) {
+            Ok(()) => {}
+            Err(_) => unreachable!(),
+        }
+    }
+}
+
+/// The same entry of a passed list.
+fn copy_of_passed(one: &Passed) -> Passed
+    ensures { result ≡ one.now }
+{
+    Passed {
+        name: one.name.copied(),
+        made: one.made,
+    }
+}
+
+/// Puts what was passed behind the others. There is a spare place for each.
+fn put_passed(items: &[Passed], passed: &mut PassedList)
+    requires { length items.now ≤ passed.old.room }
+    ensures { passed.new.items ≡ passed.old.items ++ items.now }
+{
+    for one in items {
+        match passed.push(copy_of_passed(one)) {
+            Ok(()) => {}
+            Err(_) => unreachable!(),
+        }
+    }
+}
+
+/// The marks of a run's names now, out of the spare ones.
+fn take_marks(run: u32, job: &Job, library: &Library, spare: &mut Spare) -> Marks
+    requires run { run ≤ 9999999 }
+    requires empty { spare.old.marks.items ≡ [] }
+    requires sorted { length (names_of_job (plain_job run job.now)) ≤ spare.old.sorted.room }
+    requires marks { length (names_of_job (plain_job run job.now)) ≤ spare.old.marks.room }
+    ensures marks { result.items ≡ marks_for (mark_now (seen_by table_of library.now.sets)) (names_of_job (plain_job run job.now)) }
+    ensures empty { spare.new.marks.items ≡ [] }
+    ensures passed { spare.new.passed ≡ spare.old.passed }
+{
+    mark_job(run, job, library, &mut spare.sorted);
+    let mut marks = mem::replace(&mut spare.marks, Marks::new(spare.alloc));
+    put_marks(spare.sorted.as_slice(), &mut marks);
+    marks
+}
+
+/// The step point of a step that starts, with its outputs opened.
+fn take_point(
+    run: u32,
+    step: u8,
+    table: &RunTable,
+    library: &Library,
+    spare: &mut Spare,
+) -> StepPoint
+    requires run { run ≤ 9999999 }
+    requires empty { spare.old.marks.items ≡ [] }
+    requires room { HasPointRoom run table.now spare.old }
+    ensures point { point_of result ≡ fresh_point run (facts_of table.now) step (seen_by table_of library.now.sets) }
+    ensures empty { spare.new.marks.items ≡ [] }
+{
+    let marks = take_marks(run, &table.job, library, spare);
+    spare.passed.clear();
+    let mut passed = mem::replace(&mut spare.passed, PassedList::new(spare.alloc));
+    put_passed(table.passed.as_slice(), &mut passed);
+    StepPoint {
+        step,
+        restarts: restarts_at(table.points.as_slice(), step),
+        rewritten: false,
+        count: table.count,
+        marks,
+        passed,
+    }
+}
+
+/// The library as a step starts: its outputs are opened, and what it makes is made. The step point is that between the two. None
+/// for a job without such a step; then nothing changes.
+fn open_step(
+    run: u32,
+    step: u8,
+    items: &[Made],
+    table: &RunTable,
+    library: &mut Library,
+    spare: &mut Spare,
+) -> Option<StepPoint>
+    requires run { run ≤ 9999999 }
+    requires limits { IsTrue (is_within_limits table.now.job) }
+    requires empty { spare.old.marks.items ≡ [] }
+    requires room { HasPointRoom run table.now spare.old }
+    requires sets { 16 ≤ library.old.room }
+    requires may { MayStart run step items.now (facts_of table.now) library.old.sets }
+    ensures point { option_map point_of result ≡ started_point run step (facts_of table.now) library.old.sets }
+    ensures sets { library.new.sets ≡ started_sets run step items.now (facts_of table.now) library.old.sets }
+    ensures empty { spare.new.marks.items ≡ [] }
+{
+    let own = step_at(&table.job, step)?;
+    let stamp = Stamp {
+        run,
+        step,
+        rewrites: 0,
+    };
+    open_outputs(own, run, run, step, library, table.passed.as_slice());
+    let point = take_point(run, step, table, library, spare);
+    make_sets(run, own, stamp, items, library);
+    Some(point)
+}
+
+/// A step starts. A job without such a step stays as it is.
+pub(crate) fn start_run(
+    run: u32,
+    step: u8,
+    items: &[Made],
+    table: &mut RunTable,
+    library: &mut Library,
+    spare: &mut Spare,
+)
+    requires run { run ≤ 9999999 }
+    requires limits { IsTrue (is_within_limits table.old.job) }
+    requires empty { spare.old.marks.items ≡ [] }
+    requires room { HasPointRoom run table.old spare.old }
+    requires point { 0 < table.old.points.room }
+    requires sets { 16 ≤ library.old.room }
+    requires may { MayStart run step items.now (facts_of table.old) library.old.sets }
+    ensures facts { facts_of table.new ≡ started_facts step (started_point run step (facts_of table.old) library.old.sets) (facts_of table.old) }
+    ensures sets { library.new.sets ≡ started_sets run step items.now (facts_of table.old) library.old.sets }
+    ensures empty { spare.new.marks.items ≡ [] }
+{
+    if let Some(point) = open_step(run, step, items, table, library, spare) {
+        table.points.put(point);
+        table.place = Some(Place::Within(step, 0));
+    }
+}

@@ -1,0 +1,130 @@
+//! The tables of the desk.
+ghost use Rattle.std.specs.Prelude.{◌≡◌, ℕ, ◌≤◌, ◌<◌, [], Some, IsTrue, OnOk, IsOk, length, map, replicate, slice_get};
+ghost use Rattle.std.specs.Option.{option_copied, option_map};
+ghost use Rattle.ckr_library.specs.NameMaps.{EachEntry};
+ghost use Rattle.ckr_points.specs.Rows.{no_tables, run_of, holding_of, RunRow, TableSet};
+ghost use Rattle.ckr_points_tables.specs.PlainRows.{IsPlainRow};
+ghost use Rattle.ckr_points_tables.specs.View.{facts_in, facts_of, line_of, place_of, run_on, table_of, seen_by};
+
+use crate::RunTable;
+use crate::marks_in_order::MarksInOrder;
+use ckr_base::NoMemory;
+use ckr_entry::{Marks, PassedList};
+use ckr_library::Library;
+use ckr_points::Run;
+use std::alloc::Global;
+use std::marker::Model;
+
+/// What a step point is made of, so that its making takes no memory.
+#[derive(Drop)]
+pub(crate) struct Spare {
+    pub(crate) alloc: Global,
+    /// Where the marks are put in order.
+    pub(crate) sorted: MarksInOrder,
+    pub(crate) marks: Marks,
+    pub(crate) passed: PassedList,
+}
+
+/// The tables of the desk: its data sets, and its runs in the order of their numbers.
+#[derive(Drop)]
+pub struct Tables {
+    pub(crate) library: Library,
+    pub(crate) lines: Vec<Run>,
+    pub(crate) tables: Vec<RunTable>,
+    /// By initiator, the number of the run that is on it, or 0.
+    pub(crate) index: [u32; 256],
+    pub(crate) spare: Spare,
+}
+
+impl Model for Tables {
+    ghost use Rattle.ckr_points_tables.specs.View.{RoomyTables};
+
+    ghost Value = { RoomyTables };
+
+    ghost use Rattle.ckr_points_tables.specs.Parts.{tables_seen, IsKept};
+
+    ghost view = { tables_seen };
+
+    ghost invariant = { IsKept };
+}
+
+impl Tables {
+    /// The tables of no events. It takes no memory.
+    pub fn new(alloc: Global) -> Tables
+        ensures { result.desk ≡ no_tables }
+    {
+        Tables {
+            library: Library::new(alloc),
+            lines: Vec::new(alloc),
+            tables: Vec::new(alloc),
+            index: no_runs_on(),
+            spare: Spare {
+                alloc,
+                sorted: MarksInOrder::new(alloc),
+                marks: Marks::new(alloc),
+                passed: PassedList::new(alloc),
+            },
+        }
+    }
+
+    /// The data sets. Each has records of at least one byte.
+    pub fn library(&self) -> &Library
+        ensures sets { result.now.sets ≡ seen_by holding_of self.now.desk.sets }
+        ensures seen { seen_by table_of result.now.sets ≡ self.now.desk.sets }
+        ensures wide { EachEntry (λ (table : TableSet). 1 ≤ table.set.lrecl) self.now.desk.sets }
+    {
+        &self.library
+    }
+
+    /// The lines of the runs, in the order of their numbers. Each run continues none, has a number of at most seven digits, and a job
+    /// within the limits.
+    pub fn runs(&self) -> &[Run]
+        ensures lines { result.now ≡ map line_of self.now.desk.runs }
+        ensures plain { (job : ℕ) (row : RunRow) → run_of self.now.desk job ≡ Some row → IsPlainRow job row }
+    {
+        self.lines.as_slice()
+    }
+
+    /// What the tables keep of a run besides its line. None exactly where there is no such run.
+    pub fn run(&self, job: u32) -> Option<&RunTable>
+        ensures { option_map facts_of (option_copied result) ≡ option_map facts_in (run_of self.now.desk job) }
+    {
+        match place_of(job) {
+            Some(place) => table_at(self.tables.as_slice(), place),
+            None => None,
+        }
+    }
+
+    /// The number of the run that is on an initiator. None exactly where there is none.
+    pub fn on_initiator(&self, initiator: u8) -> Option<u32>
+        ensures { result ≡ run_on initiator self.now.desk }
+    {
+        let number = self.index[initiator as usize];
+        if number == 0 { None } else { Some(number) }
+    }
+}
+
+/// The run table at a place.
+fn table_at(tables: &[RunTable], place: usize) -> Option<&RunTable>
+    ensures { option_copied result ≡ slice_get tables.now place }
+{
+    tables.get(place)
+}
+
+/// No run on any initiator.
+fn no_runs_on() -> [u32; 256]
+    ensures { result ≡ replicate 256 0 }
+{
+    [0; 256]
+}
+
+/// The place of a run by its number.
+fn place_of(job: u32) -> Option<usize>
+    ensures { result ≡ place_of job }
+{
+    if job == 0 {
+        None
+    } else {
+        Some(job as usize - 1)
+    }
+}

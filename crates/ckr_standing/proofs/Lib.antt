@@ -1,5 +1,0 @@
-pub mod Planning
-pub mod Seeing
-pub mod Lengths
-pub mod Plans
-pub mod Seen

@@ -1,7 +1,0 @@
-use Rattle.std.proofs.Common.{◌≡◌, drop}
-use Rattle.ckr_statements.specs.Field.{goes_on}
-use Rattle.ckr_statements.proofs.Fields.{goes_on_after}
-use Rattle.ckr_statements.proofs.columns.goes_on.Given as goal
-
-abbrev pub invariant-loop-byte : goal.invariant-loop-byte
-invariant-loop-byte l = goes_on l.field ≡ goes_on_after l.comma l.quoted (drop l.byte-index l.field)

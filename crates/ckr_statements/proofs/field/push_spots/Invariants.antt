@@ -1,6 +1,0 @@
-use Rattle.std.proofs.Common.{◌≡◌, ◌++◌, take}
-use Rattle.ckr_statements.specs.Field.{spots}
-use Rattle.ckr_statements.proofs.field.push_spots.Given as goal
-
-abbrev pub invariant-loop-byte : goal.invariant-loop-byte
-invariant-loop-byte l = l.field ≡ l.fn.field ++ spots l.card (take l.byte-index l.text)

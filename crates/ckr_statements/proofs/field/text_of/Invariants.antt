@@ -1,6 +1,0 @@
-use Rattle.std.proofs.Common.{◌≡◌, take}
-use Rattle.ckr_statements.specs.Statement.{text_of}
-use Rattle.ckr_statements.proofs.field.text_of.Given as goal
-
-abbrev pub invariant-loop-spot : goal.invariant-loop-spot
-invariant-loop-spot l = l.text ≡ text_of (take l.spot-index l.part)

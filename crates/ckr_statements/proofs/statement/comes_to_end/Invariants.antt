@@ -1,6 +1,0 @@
-use Rattle.std.proofs.Common.{◌≡◌, drop}
-use Rattle.ckr_statements.specs.Statement.{comes_to_end}
-use Rattle.ckr_statements.proofs.statement.comes_to_end.Given as goal
-
-abbrev pub invariant-loop-card : goal.invariant-loop-card
-invariant-loop-card l = comes_to_end l.calls l.more ≡ comes_to_end l.open (drop l.card-index l.more)

@@ -1,7 +1,0 @@
-use Rattle.std.proofs.Common.{◌≡◌, ◌+◌, ◌++◌, ◌≤◌, length, drop}
-use Rattle.ckr_statements.specs.Card.{stored_cards}
-use Rattle.ckr_statements.specs.Statement.{continuation}
-use Rattle.ckr_statements.proofs.statement.read_continuation.Given as goal
-
-abbrev pub invariant-loop-stored : goal.invariant-loop-stored
-invariant-loop-stored l = (l.number ≡ l.first + l.stored-index) × (length l.more ≤ l.stored-index) × (continuation l.first_calls (stored_cards l.first l.cards) ≡ l.more ++ continuation l.calls (stored_cards l.number (drop l.stored-index l.cards)))

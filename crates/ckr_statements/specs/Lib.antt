@@ -1,9 +1,0 @@
-pub mod Tables
-pub mod Card
-pub mod Field
-pub mod Parts
-pub mod Statement
-pub mod Cut
-pub mod CutSteps
-pub mod Standing
-pub mod Session

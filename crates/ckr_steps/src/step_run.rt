@@ -1,0 +1,229 @@
+//! A running step.
+ghost use Rattle.std.specs.Prelude.{◌≡◌, ◌≤◌, ◌<◌, ℕ, Bool, true, false, IsTrue, IfOk};
+ghost use Rattle.ckr_base.specs.declared.programs.NextDue.TheVariants.{Unit as OneUnit};
+ghost use Rattle.ckr_outside.specs.Disk.{OnlyReads, HasCause};
+ghost use Rattle.ckr_library.specs.Catalog.{Catalog};
+ghost use Rattle.ckr_meaning.specs.StepRun.{StepStart};
+ghost use Rattle.ckr_programs.specs.Ranges.{IsInRange};
+ghost use Rattle.ckr_volumes.specs.declared.layout.Layout.{Layout as OneLayout};
+ghost use Rattle.ckr_volumes.specs.Layouts.{is_laid_out, disk_needed};
+ghost use Rattle.ckr_steps.specs.Files.{files_of};
+ghost use Rattle.ckr_steps.specs.Units.{first_state, due_of, served_of, taken_of, entries_of};
+ghost use Rattle.ckr_steps.specs.Inputs.{AreStored, AreThere};
+ghost use Rattle.ckr_steps.specs.Writes.{worked_by, ChangesKeeping};
+
+use crate::files::{Files, files_of};
+use crate::heads::heads_of;
+use crate::unit_writes::{do_writes, fit, rewrite_of};
+use crate::units;
+use ckr_base::{Code, Duplicate, Finish, NextDue, NoMemory, Rec};
+use ckr_entry::State;
+use ckr_jcl::{Parm, Step};
+use ckr_library::Library;
+use ckr_outside::{Disk, Failed};
+use ckr_volumes::Layout;
+use std::alloc::Global;
+
+/// A write has no space in its data set.
+const NO_SPACE: Code = Code::System(0xB37);
+
+/// What a unit of a step's work came to.
+#[derive(PartialEq, Eq, Drop)]
+pub enum Worked {
+    /// The records taken so far; the records that the unit writes are on the disk.
+    Went { taken: u32 },
+    /// A record of the updated data set is to be rewritten: its place, counted from 0, and the image, which has the data set's
+    /// record length. It isn't written yet.
+    Rewrite { place: u32, image: Rec, taken: u32 },
+    /// The program has ended abnormally.
+    Abend(Code),
+}
+
+/// How far a step has come.
+#[derive(Drop)]
+pub struct Progress<'a> {
+    /// The records taken of all inputs.
+    pub taken: u32,
+    /// The records that the program wrote and rewrote.
+    pub writes: u32,
+    /// Where the program stands.
+    pub state: &'a State,
+}
+
+/// A running step: where its program stands, its PARM, its inputs with the records that are in the deck, its outputs, and the
+/// number of its writes.
+#[derive(Drop)]
+pub struct StepRun {
+    state: State,
+    parm: Parm,
+    pub files: Files,
+    writes: u32,
+}
+
+/// What is answered to a unit behind which so many records are taken.
+fn answer(taken: u32, rewrite: Option<(u32, Rec)>, fits: bool, finish: Option<Finish>) -> Worked
+    ensures { result ≡ worked_by taken rewrite fits finish }
+{
+    if let Some((place, image)) = rewrite {
+        return Worked::Rewrite {
+            place,
+            image,
+            taken,
+        };
+    }
+    if !fits {
+        return Worked::Abend(NO_SPACE);
+    }
+    match finish {
+        Some(Finish::Abend(code)) => Worked::Abend(code),
+        Some(Finish::Returned(_)) | None => Worked::Went { taken },
+    }
+}
+
+impl StepRun {
+    ghost use Rattle.ckr_steps.specs.StepUnit.{AreCounted, heads_on, worked_for, HasWorked, HasLooked};
+    ghost use Rattle.ckr_steps.specs.Places.{files_at, MayStart, IsStepPlace, ShowsWithin, GoesOn, DueAt, HasFewCards, HasMade};
+
+    /// A step that starts, by the numbers of the run's root and of the run that owns the step, each at most 9,999,999. It keeps
+    /// its own copy of the records in the deck and of the PARM, which is one that `read_parm` gives for the program.
+    ///
+    /// `NoMemory`: there is none for the copies.
+    pub fn begin(alloc: Global, step: &Step, root: u32, owner: u32) -> Result<StepRun, NoMemory>
+        requires root { root ≤ 9999999 }
+        requires owner { owner ≤ 9999999 }
+        requires parm { IsInRange step.now.parm }
+        ensures begun { IfOk result (λ run. run ≡ record { state = first_state step.now.program; parm = step.now.parm; files = files_of root owner step.now; writes = 0 }) }
+        ensures counted { IfOk result AreCounted }
+
+        // Where the library has the data sets of a step that may start, the step stands before its first record.
+        ensures stands { (start : StepStart) (layout : OneLayout) (library : Catalog) → start.root ≡ root → start.owned.owner ≡ owner → start.owned.step ≡ step.now
+            → MayStart start → HasMade layout start library → IfOk result (λ run. IsStepPlace start 0 false run library) }
+        ensures there { (start : StepStart) (layout : OneLayout) (library : Catalog) → start.root ≡ root → start.owned.owner ≡ owner → start.owned.step ≡ step.now
+            → MayStart start → HasMade layout start library → HasFewCards (files_at start).first → HasFewCards (files_at start).second
+            → IfOk result (λ run. AreThere run.files library) }
+    {
+        Ok(StepRun {
+            state: units::first_state(step.program),
+            parm: step.parm.duplicate(alloc)?,
+            files: files_of(alloc, step, root, owner)?,
+            writes: 0,
+        })
+    }
+
+    /// What the step is to do next (this project's profile).
+    pub fn due(&self) -> NextDue
+        ensures due { result ≡ due_of self.now.parm self.now.state }
+
+        // It has finished exactly where the closing unit is done, with the return code of the step's work.
+        ensures at { (start : StepStart) (taken : ℕ) (closed : Bool) (library : Catalog) → IsStepPlace start taken closed self.now library → DueAt start closed result }
+    {
+        units::due(&self.state, &self.parm)
+    }
+
+    /// The checkpoint or the cancel that is due is done. `written` says that the checkpoint wrote an entry, which counts its
+    /// identifier; the step has at most a million entries.
+    pub fn served(&mut self, written: bool)
+        requires counted { AreCounted self.old }
+        requires entries { written ≡ true → entries_of self.old.state < 1000000 }
+        ensures step { self.new ≡ record self.old { state = served_of self.old.parm written self.old.state } }
+        ensures counted { AreCounted self.new }
+        ensures stands { (start : StepStart) (taken : ℕ) (closed : Bool) (library : Catalog) → IsStepPlace start taken closed self.old library → IsStepPlace start taken closed self.new library }
+    {
+        units::served(&mut self.state, &self.parm, written);
+    }
+
+    /// How far the step has come.
+    pub fn progress(&self) -> Progress<'_>
+        requires { AreCounted self.now }
+        ensures taken { result.taken ≡ taken_of self.now.state }
+        ensures writes { result.writes ≡ self.now.writes }
+        ensures state { result.state.now ≡ self.now.state }
+    {
+        Progress {
+            taken: units::taken_of(&self.state),
+            writes: self.writes,
+            state: &self.state,
+        }
+    }
+
+    /// The answer that `work` would give now, if none of its disk calls failed. Nothing is written, and the step stays where it is.
+    /// It takes no memory. It is called where a unit is due.
+    ///
+    /// `Failed`: only where the disk's faults rose in this call.
+    pub fn ahead<D: Disk>(
+        &self,
+        disk: &mut D,
+        layout: &Layout,
+        library: &Library,
+    ) -> Result<Worked, Failed>
+        requires due { due_of self.now.parm self.now.state ≡ OneUnit }
+        requires counted { AreCounted self.now }
+        requires layout { IsTrue (is_laid_out layout.now) }
+        requires fits { disk_needed layout.now ≤ D.size disk.old }
+        requires stored { AreStored layout.now library.now }
+        requires there { AreThere self.now.files library.now }
+        ensures answer { D.told → IfOk result (λ worked. worked ≡ worked_for library.now self.now (heads_on (D.content disk.old) layout.now library.now self.now)) }
+        ensures looked { IfOk result (HasLooked D.told (D.content disk.old) layout.now self.now library.now) }
+        ensures only_reads { OnlyReads D.content D.may_leave D.moment D.left_since disk.old disk.new }
+        ensures size { D.size disk.new ≡ D.size disk.old }
+        ensures cause { HasCause (D.faults disk.old) (D.faults disk.new) result }
+    {
+        let heads = heads_of(disk, layout, library, &self.files, &self.state)?;
+        let mut state = units::copied(&self.state);
+        let done = units::unit(&mut state, &self.parm, &heads, self.writes);
+        let writes = done.writes.as_slice();
+        Ok(answer(
+            units::taken_of(&state),
+            rewrite_of(library, &self.files, writes),
+            fit(library, &self.files, writes),
+            done.finish,
+        ))
+    }
+
+    /// One unit of the step's work: it reads the next records of the inputs, and writes the unit's records behind the last ones of
+    /// their data sets, whose lengths in the library rise. A record is cut or filled with blanks to the record length. A write
+    /// that has no space isn't made, and ends the program with SB37; the unit's writes before it are made. A rewrite in place
+    /// isn't written here; it counts as a write. One of a place that isn't below the data set's length isn't made. It takes no
+    /// memory. It is called where a unit is due.
+    ///
+    /// `Failed`: only where the disk's faults rose in this call; then the step doesn't go on.
+    pub fn work<D: Disk>(
+        &mut self,
+        disk: &mut D,
+        layout: &Layout,
+        library: &mut Library,
+    ) -> Result<Worked, Failed>
+        requires due { due_of self.old.parm self.old.state ≡ OneUnit }
+        requires counted { AreCounted self.old }
+        requires layout { IsTrue (is_laid_out layout.now) }
+        requires fits { disk_needed layout.now ≤ D.size disk.old }
+        requires stored { AreStored layout.now library.old }
+        requires there { AreThere self.old.files library.old }
+        ensures answer { D.told → IfOk result (λ worked. worked ≡ worked_for library.old self.old (heads_on (D.content disk.old) layout.now library.old self.old)) }
+        ensures worked { IfOk result (HasWorked D.told (D.content disk.old) (D.content disk.new) layout.now self.old self.new library.old library.new) }
+        ensures counted { IfOk result (λ _. AreCounted self.new) }
+
+        // From wherever the step stands in its job, it goes on as its work does: a record more is taken or the program is closed, with
+        // the writes for it behind those before, or the step ends as its work ends.
+        ensures goes_on { D.told → IfOk result (λ worked. (start : StepStart) (taken : ℕ) → IsStepPlace start taken false self.old library.old
+            → ShowsWithin D.told (D.content disk.old) layout.now start self.old.writes library.old
+            → GoesOn D.told (D.content disk.new) layout.now start taken self.old self.new library.new worked) }
+        ensures stored { AreStored layout.now library.new }
+        ensures there { AreThere self.new.files library.new }
+        ensures files { self.new.files ≡ self.old.files }
+        ensures parm { self.new.parm ≡ self.old.parm }
+
+        // The records that each data set of the library has at entry stay, in every image that a stop may leave.
+        ensures keeps { ChangesKeeping D.told D.content D.may_leave D.moment D.left_since layout.now library.old disk.old disk.new }
+        ensures size { D.size disk.new ≡ D.size disk.old }
+        ensures cause { HasCause (D.faults disk.old) (D.faults disk.new) result }
+    {
+        let heads = heads_of(disk, layout, library, &self.files, &self.state)?;
+        let done = units::unit(&mut self.state, &self.parm, &heads, self.writes);
+        let writes = done.writes.as_slice();
+        let rewrite = rewrite_of(library, &self.files, writes);
+        let put = do_writes(disk, layout, library, &self.files, writes, &rewrite)?;
+        self.writes += put.count;
+        Ok(answer(units::taken_of(&self.state), rewrite, put.fits, done.finish))
+    }
+}

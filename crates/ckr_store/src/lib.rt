@@ -1,9 +1,0 @@
-//! The disk of an open desk: its events, and the records of its data sets, until it fails.
-#![tactic(auto)]
-
-mod error;
-mod stepping;
-mod store;
-
-pub use error::StoreError;
-pub use store::Store;

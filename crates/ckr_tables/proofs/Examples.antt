@@ -1,2 +1,0 @@
--- The tables of worked decks.
-pub mod Rows

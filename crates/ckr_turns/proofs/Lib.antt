@@ -1,6 +1,0 @@
-pub mod Opened
-pub mod Examples
-pub mod Selecting
-pub mod Spelled
-pub mod Queues
-pub mod Behind

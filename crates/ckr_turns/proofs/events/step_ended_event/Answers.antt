@@ -1,7 +1,0 @@
-use Rattle.ckr_turns.proofs.Spelled.{step_ended_spelled}
-use Rattle.ckr_turns.proofs.events.step_ended_event.Goals as goal
-
-pub returns-clause-spelled : goal.returns-clause-spelled
-returns-clause-spelled c =
-    step_ended_spelled c.args.job c.args.step c.args.rc c.args.writes c.args.lengths c.ranges.job.fits c.requires.step c.ranges.step.fits c.ranges.rc.fits
-    c.ranges.writes.fits c.requires.lengths

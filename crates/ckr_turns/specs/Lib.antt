@@ -1,9 +1,0 @@
-pub mod Allocated
-pub mod Choosing
-pub mod Coded
-pub mod Desk
-pub mod Jobs
-pub mod Planned
-pub mod Queueing
-pub mod Spelled
-pub mod Working

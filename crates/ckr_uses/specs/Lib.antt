@@ -1,0 +1,3 @@
+pub mod Disposal
+pub mod SetNames
+pub mod Uses
