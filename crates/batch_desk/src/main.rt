@@ -2,6 +2,7 @@
 #![tactic(auto)]
 
 mod clerk;
+mod failure;
 mod flow;
 mod listing_lines;
 mod orders;
@@ -20,6 +21,7 @@ mod top;
 mod turns;
 mod words;
 
+use crate::failure::{Failure, failure_at};
 use crate::top::batch_desk;
 use crate::words::disk_place;
 use ckr_outside::{FileDisk, StdSink, StdSource};
@@ -27,17 +29,29 @@ use std::fs::{File, OpenOptions};
 use std::process::ExitCode;
 use std::{env, io};
 
-/// The file of the word DISK, which is made where it isn't there. None where there is no such word, or where the file
-/// can't be opened for reading and writing.
-fn disk_file(rt: &HostRuntime, words: &[String]) -> Option<File> {
+/// The word DISK, the path of a file. None where the words are no command.
+fn disk_path(words: &[String]) -> Option<&str> {
     let place = disk_place(words)? as usize;
-    let path = words.get(place)?;
-    OpenOptions::new()
+    Some(words.get(place)?.as_str())
+}
+
+/// The file of this path, which is made where it isn't there, and which is this program's alone until it ends. None where it can't be opened
+/// for reading and writing, or another program has it.
+///
+/// It is never the file of descriptor 0, 1 or 2. Where a standard stream is closed, the system gives the next file that is opened its number,
+/// and the lines of replies would be written over the disk. A duplicate gets a number above these; so the stream stays closed, and its
+/// calls fail.
+fn disk_file(rt: &HostRuntime, path: &str) -> Option<File> {
+    let opened = OpenOptions::new()
         .read(true)
         .write(true)
         .create(true)
-        .open(rt, path.as_str())
-        .ok()
+        .open(rt, path)
+        .ok()?;
+    let file = opened.try_clone().ok()?;
+    drop(opened);
+    file.try_lock().ok()?;
+    Some(file)
 }
 
 fn main(rt: HostRuntime) -> io::Result<ExitCode> {
@@ -45,9 +59,21 @@ fn main(rt: HostRuntime) -> io::Result<ExitCode> {
     for word in env::args(&rt)?.skip(1) {
         words.push(word)?;
     }
-    let disk = FileDisk::new(disk_file(&rt, &words));
+    let path = disk_path(&words).unwrap_or("");
+    let file = disk_file(&rt, path);
+    let is_open = file.is_some();
     let mut source = StdSource::new(rt.reader());
     let mut sink = StdSink::new(io::writer(&rt));
-    let closed = batch_desk(rt.alloc(), &words, &mut source, &mut sink, disk);
+    let closed = batch_desk(
+        rt.alloc(),
+        &words,
+        &mut source,
+        &mut sink,
+        FileDisk::new(file),
+    );
+    if let Some(Failure { of, how }) = failure_at(closed.status, path, is_open) {
+        // Where standard error is closed too, the status alone tells.
+        let _ = eprintln!(rt; "batch_desk: {of}: {how}");
+    }
     Ok(ExitCode::from(closed.status))
 }
