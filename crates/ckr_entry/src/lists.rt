@@ -93,28 +93,3 @@ fn leave(items: &mut Vec<Passed>, name: &DsName)
 {
     items.retain(|one| !one.is_of(name));
 }
-
-impl PartialEq for PassedList {
-    ghost use Rattle.std.specs.Prelude.{nat_eq};
-    ghost use Rattle.std.specs.Ordering.{eq_of_both, on};
-    ghost use Rattle.std.specs.Bool.{beq};
-    ghost use Rattle.std.specs.Cmp.Rules.{comparing};
-    ghost use Rattle.std.specs.Cmp.Lexicographic.{pointwise};
-    ghost use Rattle.std.proofs.Common.{rules};
-    ghost use Rattle.ckr_entry.specs.declared.point.Passed.{Passed as PassedOn};
-
-    ghost eq = { on (λ list. list.items) (pointwise (eq_of_both (on (λ (one : PassedOn). one.name) (pointwise nat_eq)) (on (λ (one : PassedOn). one.made) beq))) };
-
-    ghost laws = { Prim.search (comparing, rules) depth 10 };
-
-    fn eq(&self, other: &Self) -> bool {
-        self.as_slice() == other.as_slice()
-    }
-}
-
-impl Eq for PassedList {
-    ghost use Rattle.std.specs.Cmp.Rules.{comparing};
-    ghost use Rattle.std.proofs.Common.{rules};
-
-    ghost laws = { Prim.search (comparing, rules) depth 10 };
-}

@@ -1,15 +1,16 @@
 //! A point of a run: where its step stands, and what the tables had of its data sets.
-ghost use Rattle.std.specs.Prelude.{◌≡◌};
+ghost use Rattle.std.specs.Prelude.{◌≡◌, ◌≤◌, length};
 ghost use Rattle.ckr_library.specs.NameMaps.{same_name};
 
 use crate::{Marks, PassedList};
-use ckr_base::{CheckId, DsName, Name8};
+use arrayvec::ArrayVec;
+use ckr_base::{CheckId, DsName, Name8, Rec};
 use ckr_library::Stamp;
 use ckr_match::MatchState;
 use ckr_programs::ProgState;
 
 /// What the tables had of a data set at a point.
-#[derive(Clone, Copy, PartialEq, Eq)]
+#[derive(Clone, Copy)]
 pub struct Present {
     /// The number of the volume of its first part, counted from 0.
     pub volume: u8,
@@ -26,7 +27,7 @@ pub struct Present {
 }
 
 /// What a point says of a name.
-#[derive(PartialEq, Eq, Drop)]
+#[derive(Drop)]
 pub struct Mark {
     pub name: DsName,
     /// None where there was no data set of this name.
@@ -34,7 +35,7 @@ pub struct Mark {
 }
 
 /// A data set that a step of a run has passed on to a later one (IBM GC28-6704).
-#[derive(PartialEq, Eq, Drop)]
+#[derive(Drop)]
 pub struct Passed {
     pub name: DsName,
     /// Whether the run made it, or a step of an earlier run that it continues.
@@ -51,7 +52,7 @@ impl Passed {
 }
 
 /// Where the program of a step stands.
-#[derive(PartialEq, Eq, Drop)]
+#[derive(Drop)]
 pub enum State {
     /// Of COPY, SELECT, PRINT and IEFBR14.
     Plain(ProgState),
@@ -59,8 +60,71 @@ pub enum State {
     Matched(MatchState),
 }
 
+impl State {
+    /// The same state again, which takes no memory.
+    pub fn copied(&self) -> State
+        ensures { result ≡ self.now }
+    {
+        match self {
+            State::Plain(state) => State::Plain(*state),
+            State::Matched(state) => State::Matched(copy_of(state)),
+        }
+    }
+}
+
+/// The same state of a program of two inputs.
+fn copy_of(state: &MatchState) -> MatchState
+    ensures { result ≡ state.now }
+{
+    MatchState {
+        kind: state.kind,
+        first: state.first,
+        second: state.second,
+        rejects: state.rejects,
+        entries: state.entries,
+        checkpointed: state.checkpointed,
+        cancelled: state.cancelled,
+        closed: state.closed,
+        first_key: key_of(state.first_key.as_slice()),
+        second_key: key_of(state.second_key.as_slice()),
+        held: held_copy(&state.held),
+        last: last_copy(&state.last),
+    }
+}
+
+/// The record that is held, again.
+fn held_copy(held: &Option<Rec>) -> Option<Rec>
+    ensures { result ≡ held.now }
+{
+    match held {
+        None => None,
+        Some(image) => Some(image.copied()),
+    }
+}
+
+/// The last master with its place, again.
+fn last_copy(last: &Option<(u32, Rec)>) -> Option<(u32, Rec)>
+    ensures { result ≡ last.now }
+{
+    match last {
+        None => None,
+        Some((place, image)) => Some((*place, image.copied())),
+    }
+}
+
+/// A key of these bytes.
+pub(crate) fn key_of(bytes: &[u8]) -> ArrayVec<u8, 32>
+    requires { length bytes.now ≤ 32 }
+    ensures { result.items ≡ bytes.now }
+{
+    match ArrayVec::try_from(bytes) {
+        Ok(key) => key,
+        Err(_) => unreachable!(),
+    }
+}
+
 /// Where a run stood at the start of a step, or at a checkpoint in it.
-#[derive(PartialEq, Eq, Drop)]
+#[derive(Drop)]
 pub struct Point {
     /// The identifier of the checkpoint; None at the start of a step.
     pub id: Option<CheckId>,

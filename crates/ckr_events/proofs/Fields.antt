@@ -3,8 +3,8 @@ use Rattle.std.proofs.Common.{◌≡◌, ◌==◌, ◌||◌, ℕ, Bool, true, co
 use Rattle.ckr_base.specs.Grammar.{is_ds_name, is_check_id}
 use Rattle.ckr_fields.specs.Bytes.{AreBytes, Takes, BothWays}
 use Rattle.ckr_fields.specs.Fields.{byte_at, byte, two_bytes, four_bytes, judged, between, ◌&◌, check_id, record_bytes, optional, flag, code, blocks}
-use Rattle.ckr_events.proofs.FieldSteps.{bind_ok, ok_is}
-use Rattle.ckr_events.proofs.FieldLaws.{byte_both, two_bytes_both, four_bytes_both, judged_both, both_both, depending_both, text_both, short_text_both, optional_both, flag_both, code_both, items_both, blocks_both, seen_both, made_again, IsTagged, none_tagged, is_tagged, if_tag}
+use Rattle.ckr_fields.proofs.Steps.{bind_ok, ok_is}
+use Rattle.ckr_fields.proofs.Laws.{byte_both, two_bytes_both, four_bytes_both, judged_both, both_both, depending_both, text_both, short_text_both, optional_both, flag_both, code_both, items_both, blocks_both, seen_both, made_again, IsTagged, none_tagged, is_tagged, if_tag}
 use Rattle.ckr_events.specs.Format.{from_one, length_list, lengths_at, lengths, piece_parts, piece_at, piece, piece_list, all_made, pieces_at, pieces, made_parts, made_at, made, made_list_at, made_list, coded, number_if_at, number_if, numbers_of, allocation, coded_at, allocation_at, ending_at, ending, job, submitted, selected, denied, started, rewritten, checkpointed, step_ended, restarted, held, ended}
 use Rattle.ckr_events.specs.declared.event.Ending.{Ending}
 use Rattle.ckr_events.specs.declared.event.Ending.TheVariants.{Completed, Coded, Allocation}

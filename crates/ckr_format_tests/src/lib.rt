@@ -12,6 +12,8 @@ mod columns;
 #[cfg(test)]
 mod decks;
 #[cfg(test)]
+mod entries;
+#[cfg(test)]
 mod events;
 #[cfg(test)]
 mod fields;

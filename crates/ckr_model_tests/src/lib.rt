@@ -6,8 +6,6 @@ mod allocation;
 #[cfg(test)]
 mod desk;
 #[cfg(test)]
-mod entry;
-#[cfg(test)]
 mod follows;
 #[cfg(test)]
 mod matching;

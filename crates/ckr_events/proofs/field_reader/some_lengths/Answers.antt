@@ -3,7 +3,7 @@ use Rattle.std.proofs.Common.{ℕ, arith}
 use Rattle.std.proofs.lemmas.Result.{err_from_is_err_and}
 use Rattle.arrayvec.specs.ArrayVec.{ArrayVec}
 use Rattle.ckr_fields.specs.Fields.{number_at, times_at}
-use Rattle.ckr_events.proofs.FieldLoop.{goes_on, ends, is_done}
+use Rattle.ckr_fields.proofs.Loops.{goes_on, ends, is_done}
 use Rattle.ckr_events.proofs.field_reader.some_lengths.Goals as goal
 
 pub returns-in_err-length : goal.returns-in_err-length

@@ -1,7 +1,7 @@
 use Rattle.std.proofs.Common.{◌≡◌, ◌-◌, length}
 use Rattle.std.specs.Int.{w32}
 use Rattle.ckr_fields.specs.Fields.{number_at, times_at}
-use Rattle.ckr_events.proofs.FieldLoop.{with_front}
+use Rattle.ckr_fields.proofs.Loops.{with_front}
 use Rattle.ckr_events.proofs.field_reader.some_lengths.Given as goal
 
 abbrev pub invariant-loop : goal.invariant-loop

@@ -2,7 +2,7 @@ use Rattle.std.proofs.Common.{arith}
 use Rattle.std.proofs.lemmas.Result.{err_from_is_err_and}
 use Rattle.arrayvec.specs.ArrayVec.{ArrayVec}
 use Rattle.ckr_fields.specs.Fields.{times_at}
-use Rattle.ckr_events.proofs.FieldLoop.{goes_on, ends, is_done}
+use Rattle.ckr_fields.proofs.Loops.{goes_on, ends, is_done}
 use Rattle.ckr_events.specs.Format.{made_at}
 use Rattle.ckr_events.specs.declared.event.Made.{Made}
 use Rattle.ckr_events.proofs.field_reader.some_made.Goals as goal

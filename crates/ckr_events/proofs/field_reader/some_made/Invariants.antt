@@ -1,6 +1,6 @@
 use Rattle.std.proofs.Common.{◌≡◌, ◌-◌, length}
 use Rattle.ckr_fields.specs.Fields.{times_at}
-use Rattle.ckr_events.proofs.FieldLoop.{with_front}
+use Rattle.ckr_fields.proofs.Loops.{with_front}
 use Rattle.ckr_events.specs.Format.{made_at}
 use Rattle.ckr_events.proofs.field_reader.some_made.Given as goal
 

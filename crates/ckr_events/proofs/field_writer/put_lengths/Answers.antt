@@ -1,6 +1,6 @@
 use Rattle.std.proofs.Common.{arith}
 use Rattle.std.specs.Int.{w32, to_be_bytes}
-use Rattle.ckr_events.proofs.FieldLoop.{one_more_spelled}
+use Rattle.ckr_fields.proofs.Loops.{one_more_spelled}
 use Rattle.ckr_events.proofs.field_writer.put_lengths.Goals as goal
 
 pub loop-number-preserved : goal.loop-number-preserved

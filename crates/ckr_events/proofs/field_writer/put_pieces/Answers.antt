@@ -1,5 +1,5 @@
 use Rattle.std.proofs.Common.{arith}
-use Rattle.ckr_events.proofs.FieldLoop.{one_more_spelled}
+use Rattle.ckr_fields.proofs.Loops.{one_more_spelled}
 use Rattle.ckr_events.specs.Format.{piece}
 use Rattle.ckr_events.proofs.field_writer.put_pieces.Goals as goal
 

@@ -11,7 +11,7 @@ use Rattle.ckr_base.specs.declared.code.Code.TheVariants.{System, User}
 use Rattle.ckr_fields.specs.Bytes.{AreBytes, Takes, BothWays}
 use Rattle.ckr_fields.specs.Fields.{Field, byte_at, byte, number_at, two_bytes, four_bytes, judged_at, judged, between, depending, ◌&◌, bytes_at, text_at, text, short_text, starts_with_zero, optional_at, optional, flag_at, flag, code_at, code, times_at, items, each_fits, spell_each, blocks, seen_at, seen}
 use Rattle.ckr_fields.specs.Readers.{◌>>=◌}
-use Rattle.ckr_events.proofs.FieldSteps.{bind_ok, guard_ok, test_ok, ok_is, AreBytes-drop, AreBytes-take, AreBytes-rest, takes_then}
+use Rattle.ckr_fields.proofs.Steps.{bind_ok, guard_ok, test_ok, ok_is, AreBytes-drop, AreBytes-take, AreBytes-rest, takes_then}
 
 -- ---- numbers
 
