@@ -7,6 +7,7 @@ use Rattle.ckr_cards.specs.Session.{Handed, first_session, handed_by, session_be
 use Rattle.batch_desk.specs.declared.flow.Flow.{Flow}
 use Rattle.batch_desk.specs.declared.stop.Stop.{Stop}
 use Rattle.batch_desk.specs.Calls.{all_fit}
+use Rattle.batch_desk.specs.Events.{events_told}
 use Rattle.batch_desk.specs.Service.{View, Serves, StopsWithin, seen}
 use Rattle.batch_desk.specs.Sessions.{standing_of, HasWholeCards}
 use Rattle.batch_desk.specs.Stream.{is_line_end, requests_of, text_of, has_refusal}
@@ -56,21 +57,26 @@ module _ {D : Type 0} (content : D → List ℕ) where
     pub serves : Serves first (seen content f.session.clerk) (handed_within first_session (map strip_carriage_return parts)) [] text
     pub written : Appends start now text
 
+  -- the events that came meanwhile
+  abbrev pub told_so_far : {first : View} {taken : List ℕ} {f : Flow D} {start now : Option (List ℕ)} → StreamProgress first taken f start now → List (List ℕ)
+  told_so_far {first} p = events_told first.state (handed_within first_session (map strip_carriage_return p.parts))
+
   -- the piece is served, whatever was served before
   abbrev pub Carries : Flow D → Flow D → List ℕ → Option (List ℕ) → Option (List ℕ) → Type 0
   Carries f g piece old new = (first : View) (taken : List ℕ) (start : Option (List ℕ)) → StreamProgress first taken f start old → StreamProgress first (taken ++ piece) g start new
 
   -- the serving stops within the piece, however the stream goes on behind it
-  abbrev pub Breaks : Stop → ℕ → ℕ → Flow D → List ℕ → Option (List ℕ) → Option (List ℕ) → Type 0
-  Breaks stop before now f piece old new = (first : View) (taken : List ℕ) (start : Option (List ℕ)) → StreamProgress first taken f start old
-      → (rest : List ℕ) → StopsWithin stop before now first.state (requests_of (taken ++ piece ++ rest)) start new
+  abbrev pub Breaks : Stop → ℕ → ℕ → Flow D → List ℕ → Option (List ℕ) → Option (List ℕ) → List (List ℕ) → List (List ℕ) → Type 0
+  Breaks stop before now f piece old new came kept = (first : View) (taken : List ℕ) (start : Option (List ℕ)) → (p : StreamProgress first taken f start old)
+      → (rest : List ℕ) → StopsWithin stop before now first.state (requests_of (taken ++ piece ++ rest)) start new (told_so_far p ++ came) (told_so_far p ++ kept)
 
-  -- the stream ends here: all of its text is written, and it is known whether a line or a deck was refused
-  abbrev pub Finishes : Flow D → Bool → Option (List ℕ) → Option (List ℕ) → Type 0
-  Finishes f refused old new = (first : View) (all : List ℕ) (start : Option (List ℕ)) → first.refused ≡ false → StreamProgress first all f start old
+  -- the stream ends here: all of its text is written, its events came, and it is known whether a line or a deck was refused
+  abbrev pub Finishes : Flow D → View → Bool → Option (List ℕ) → Option (List ℕ) → Type 0
+  Finishes f end refused old new = (first : View) (all : List ℕ) (start : Option (List ℕ)) → first.refused ≡ false → StreamProgress first all f start old
       → (all_fit first.state (requests_of all) ≡ true) × Appends start new (text_of first.state all) × (refused ≡ has_refusal first.state all)
+      × (end.events ≡ first.events ++ events_told first.state (requests_of all))
 
   -- the stream ends here, and the serving stops within its last requests
-  abbrev pub FinishBreaks : Stop → ℕ → ℕ → Flow D → Option (List ℕ) → Option (List ℕ) → Type 0
-  FinishBreaks stop before now f old new = (first : View) (all : List ℕ) (start : Option (List ℕ)) → StreamProgress first all f start old
-      → StopsWithin stop before now first.state (requests_of all) start new
+  abbrev pub FinishBreaks : Stop → ℕ → ℕ → Flow D → Option (List ℕ) → Option (List ℕ) → List (List ℕ) → List (List ℕ) → Type 0
+  FinishBreaks stop before now f old new came kept = (first : View) (all : List ℕ) (start : Option (List ℕ)) → (p : StreamProgress first all f start old)
+      → StopsWithin stop before now first.state (requests_of all) start new (told_so_far p ++ came) (told_so_far p ++ kept)

@@ -1,9 +1,10 @@
 pub mod Orders
 pub mod Calls
+pub mod Events
 pub mod Listings
 pub mod Texts
-pub mod Turns
 pub mod Service
+pub mod Turns
 pub mod Stops
 pub mod Sessions
 pub mod Stream

@@ -1,36 +1,37 @@
--- What a stop leaves of the disk, whenever it comes while requests are served.
-use Rattle.std.specs.Prelude.{◌≡◌, ℕ, List, ◌++◌, Result, Ok, Err}
+-- What a stop leaves of the disk, whenever it comes while requests are served, and what the disk has then.
+use Rattle.std.specs.Prelude.{◌≡◌, ℕ, List, ◌++◌}
 use Rattle.ckr_outside.specs.Disk.{EachSince}
 use Rattle.ckr_desk.specs.Model.OpenImages.{event_records}
-use Rattle.ckr_desk.specs.Soundness.{Sound}
-use Rattle.ckr_desk.specs.Model.Layout.{Layout}
+use Rattle.ckr_desk.specs.Soundness.{HasKept}
 use Rattle.ckr_desk.specs.State.{DeskView}
 
--- a stop leaves a sound image that lacks none of the events before
-pub record IsKeptFrom (layout : Layout) (size : ℕ) (before : List (List ℕ)) (image : List ℕ) : Type 0 where
-  pub sound : Sound size image
-  pub more : List (List ℕ)
-  pub events : event_records layout image ≡ before ++ more
+-- These events came, of which these were kept, and of both this is so. `Each` says what a stop leaves, by the events that came, and `Has` what
+-- the disk has in the end, by those that were kept.
+pub record Comes (Each Has : List (List ℕ) → Type 0) (So : List (List ℕ) → List (List ℕ) → Type 0) : Type 0 where
+  pub came : List (List ℕ)
+  pub kept : List (List ℕ)
+  pub so : So came kept
+  pub each : Each came
+  pub has : Has kept
 
 module _ {D : Type 0} (content : D → List ℕ) (moment : D → ℕ) (left_since : D → ℕ → List ℕ → Type 0) (size : D → ℕ) where
-  -- a stop at any moment from one desk to the other leaves a disk that opens, has what its events have committed, and lacks no
-  -- event of the first
-  abbrev pub WithinTo : DeskView D → D → Type 0
-  WithinTo old new = EachSince moment left_since old.store.disk new
-      (IsKeptFrom old.store.layout (size old.store.disk) (event_records old.store.layout (content old.store.disk)))
+  -- a stop at any moment from a desk to a disk leaves a sound image with the events of the desk, and the first of those that came then
+  abbrev pub KeepsTo : DeskView D → D → List (List ℕ) → Type 0
+  KeepsTo old new came = EachSince moment left_since old.store.disk new
+      (HasKept old.store.layout (size old.store.disk) (event_records old.store.layout (content old.store.disk)) came)
 
-  abbrev pub Within : DeskView D → DeskView D → Type 0
-  Within old new = WithinTo old new.store.disk
+  -- the disk reads the events of the desk, and these
+  abbrev pub Has : DeskView D → D → List (List ℕ) → Type 0
+  Has old new kept = event_records old.store.layout (content new) ≡ event_records old.store.layout (content old.store.disk) ++ kept
 
-  -- so it is, and these events came
+  -- from one desk to the other these events came
   pub record Goes (old new : DeskView D) : Type 0 where
-    pub within : Within old new
+    pub came : List (List ℕ)
+    pub each : KeepsTo old new.store.disk came
+    pub has : Has old new.store.disk came
     pub same_layout : new.store.layout ≡ old.store.layout
     pub same_size : size new.store.disk ≡ size old.store.disk
-    pub came : List (List ℕ)
-    pub events : event_records old.store.layout (content new.store.disk) ≡ event_records old.store.layout (content old.store.disk) ++ came
 
-  -- by whether the requests were served to their end
-  abbrev pub GoesBy : {T E : Type 0} → Result T E → DeskView D → DeskView D → Type 0
-  GoesBy (Ok x) old new = Goes old new
-  GoesBy (Err e) old new = Within old new
+  -- from a desk to a disk it came to this
+  abbrev pub Stopped : DeskView D → D → (List (List ℕ) → List (List ℕ) → Type 0) → Type 0
+  Stopped old new So = Comes (KeepsTo old new) (Has old new) So

@@ -1,14 +1,17 @@
 -- Turns one after another, and the lines that are told of them.
-use Rattle.std.specs.Prelude.{◌≡◌, ℕ, false, List, [], ◌++◌, Option, None, Some}
+use Rattle.std.specs.Prelude.{◌≡◌, ◌⊎◌, ℕ, false, List, [], ◌++◌, length, Option, None, Some}
 use Rattle.std.specs.List.{flat_map}
 use Rattle.ckr_desk.specs.Model.Plans.{IsToldReply}
-use Rattle.ckr_desk.specs.Turn.{turn_fits}
+use Rattle.ckr_desk.specs.Requests.{spelled}
+use Rattle.ckr_desk.specs.Turn.{event_of_turn, turn_fits}
 use Rattle.ckr_desk.specs.State.{RoomyDesk}
 use Rattle.ckr_desk.specs.Model.Reply.{Reply}
 use Rattle.ckr_desk.specs.Model.Layout.{Layout}
 use Rattle.batch_desk.specs.declared.stop.Halt.{Halt}
 use Rattle.batch_desk.specs.declared.stop.Halt.TheVariants as Halts
 use Rattle.batch_desk.specs.Calls.{BrokenOff, plain_turn, turns, turns_fit, after_turns}
+use Rattle.batch_desk.specs.Events.{behind_turns, turn_event, turns_events}
+use Rattle.batch_desk.specs.Service.{ComesTo}
 use Rattle.batch_desk.specs.Texts.{answer_text, run_text, before_runs, runs_of, with_waiting}
 
 -- the replies that wait have texts
@@ -24,8 +27,8 @@ module _ (layout : Layout) (initiator : ℕ) where
     pub joins : (runs : List (Reply × ℕ)) → with_waiting waiting (before_runs reply 1 runs) ≡ ended ++ with_waiting now_waiting runs
     pub waits : now_waiting ≡ None → ⊥
 
-  -- From one state to another, with so many turns left, some were made: the replies to them, and the runs that have ended.
-  pub record Turns (n m : ℕ) (first state : RoomyDesk) (waiting : Option (Reply × ℕ)) (before now : List ℕ) : Type 0 where
+  -- From one state to another, with so many turns left, some were made: the replies to them, the runs that have ended, and their events.
+  pub record Turns (n m : ℕ) (first state : RoomyDesk) (waiting : Option (Reply × ℕ)) (before now : List ℕ) (had have : List (List ℕ)) : Type 0 where
     pub made : List Reply
     pub ended : List (Reply × ℕ)
     pub replies : turns initiator n first ≡ made ++ turns initiator m state
@@ -34,25 +37,31 @@ module _ (layout : Layout) (initiator : ℕ) where
     pub joins : (rest : List Reply) → runs_of (made ++ rest) ≡ ended ++ with_waiting waiting (runs_of rest)
     pub written : now ≡ before ++ flat_map (run_text layout initiator) ended
     pub none : waiting ≡ None → ended ≡ []
+    pub behind : state ≡ behind_turns initiator (length made) first
+    pub events : have ≡ had ++ turns_events initiator (length made) first
 
-  -- of so many turns the first ones were made, and their replies are told
-  pub record FirstTurns (count : ℕ) (state : RoomyDesk) (before now : List ℕ) : Type 0 where
+  -- Of so many turns the first ones were made, and their replies are told. `came` are their events and the one of the next; of these were kept
+  -- all, or all but the last.
+  pub record FirstTurns (count : ℕ) (state : RoomyDesk) (before now : List ℕ) (came kept : List (List ℕ)) : Type 0 where
     pub replies : List Reply
     pub later : List Reply
     pub given : turns initiator count state ≡ replies ++ later
     pub told : now ≡ before ++ answer_text (BrokenOff layout initiator replies)
+    pub came_is : came ≡ turns_events initiator (length replies) state ++ turn_event initiator (length replies) state
+    pub kept_is : (kept ≡ came) ⊎ (kept ≡ turns_events initiator (length replies) state)
 
-  -- what is told where not all of so many turns were made
-  abbrev pub TurnsHalt : Halt → ℕ → RoomyDesk → List ℕ → List ℕ → Type 0
-  TurnsHalt Halts.Memory count state before now = Unit {0}
-  TurnsHalt Halts.Book count state before now =
+  -- what is told where not all of so many turns were made, and which events came and were kept
+  abbrev pub TurnsHalt : Halt → ℕ → RoomyDesk → List ℕ → List ℕ → List (List ℕ) → List (List ℕ) → Type 0
+  TurnsHalt Halts.Memory count state before now came kept = ComesTo (turns_events initiator (length (turns initiator count state)) state) came kept
+  TurnsHalt Halts.Book count state before now came kept =
       (turns_fit initiator count state ≡ false) × (now ≡ before ++ answer_text (BrokenOff layout initiator (turns initiator count state)))
-  TurnsHalt Halts.Disk count state before now = FirstTurns count state before now
-  TurnsHalt Halts.Misread count state before now = ⊥
+      × (came ≡ turns_events initiator (length (turns initiator count state)) state) × (kept ≡ came)
+  TurnsHalt Halts.Disk count state before now came kept = FirstTurns count state before now came kept
+  TurnsHalt Halts.Misread count state before now came kept = ⊥
 
--- a turn that wasn't made: whether the book has room for its event
-abbrev pub TurnHalt : Halt → ℕ → RoomyDesk → Type 0
-TurnHalt Halts.Memory initiator state = Unit {0}
-TurnHalt Halts.Book initiator state = turn_fits state (plain_turn initiator) ≡ false
-TurnHalt Halts.Disk initiator state = Unit {0}
-TurnHalt Halts.Misread initiator state = ⊥
+-- a turn that wasn't made: whether the book has room for its event, and whether that came
+abbrev pub TurnHalt : Halt → ℕ → RoomyDesk → List (List ℕ) → List (List ℕ) → Type 0
+TurnHalt Halts.Memory initiator state came kept = (came ≡ []) × (kept ≡ [])
+TurnHalt Halts.Book initiator state came kept = (turn_fits state (plain_turn initiator) ≡ false) × (came ≡ []) × (kept ≡ [])
+TurnHalt Halts.Disk initiator state came kept = (came ≡ spelled (event_of_turn state (plain_turn initiator))) × ((kept ≡ came) ⊎ (kept ≡ []))
+TurnHalt Halts.Misread initiator state came kept = ⊥

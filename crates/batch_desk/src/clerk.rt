@@ -1,10 +1,10 @@
 //! The requests of a stream, one after another.
 ghost use Rattle.std.specs.Prelude.{◌≡◌, ◌<◌, ◌≤◌, ◌%◌, ◌*◌, ◌||◌, length, [], ◌∷◌, ◌++◌, OnOk, IfErr, None, false, true};
 ghost use Rattle.ckr_desk.specs.Model.Listing.{listed, records_of};
-ghost use Rattle.ckr_desk.specs.Requests.{behind_call, call_fits};
+ghost use Rattle.ckr_desk.specs.Requests.{behind_call, call_fits, event_in, spelled};
 ghost use Rattle.ckr_desk.specs.Soundness.{IsTrusted, state_of};
 ghost use Rattle.ckr_desk.specs.Submit.{is_queued, purge_call};
-ghost use Rattle.batch_desk.specs.Stops.{Goes, GoesBy};
+ghost use Rattle.batch_desk.specs.Stops.{Goes, Has, Stopped};
 ghost use Rattle.ckr_cards.specs.Session.Handed.{Deck, Order as Command, Refusal};
 ghost use Rattle.batch_desk.specs.Calls.{Accepted, DeckRefused, JobsListed, LineRefused, Listed, Purged, SetsListed, lines_of, name_in, list_answer, purge_answer, is_refusal};
 ghost use Rattle.batch_desk.specs.Texts.{answer_text};
@@ -86,10 +86,11 @@ impl<D: Disk> Clerk<D> {
         requires is_open { self.old.desk.store.fault ≡ None }
         ensures serves { IsTrusted D.told D.content D.may_leave self.old.desk → OnOk result (Serves (seen D.content self.old) (seen D.content self.new) (Deck cards.now ∷ []) out.old out.new) }
         ensures trusted { OnOk result (IsTrusted D.told D.content D.may_leave self.old.desk → IsTrusted D.told D.content D.may_leave self.new.desk) }
-        ensures goes { IsTrusted D.told D.content D.may_leave self.old.desk → GoesBy D.content D.moment D.left_since D.size result self.old.desk self.new.desk }
+        ensures goes { IsTrusted D.told D.content D.may_leave self.old.desk → OnOk result (Goes D.content D.moment D.left_since D.size self.old.desk self.new.desk) }
         ensures is_open { OnOk result (self.new.desk.store.fault ≡ None) }
         ensures later { D.faults self.old.desk.store.disk ≤ D.faults self.new.desk.store.disk }
-        ensures halt { IsTrusted D.told D.content D.may_leave self.old.desk → IfErr result (λ halt. HaltsSo halt (state_of D.content self.old.desk) (Deck cards.now ∷ []) out.old out.new) }
+        ensures size { D.size self.new.desk.store.disk ≡ D.size self.old.desk.store.disk }
+        ensures halt { IsTrusted D.told D.content D.may_leave self.old.desk → IfErr result (λ halt. Stopped D.content D.moment D.left_since D.size self.old.desk self.new.desk.store.disk (HaltsSo halt (state_of D.content self.old.desk) (Deck cards.now ∷ []) out.old out.new)) }
         ensures cause { IfErr result (λ halt. HaltCause (IsTrusted D.told D.content D.may_leave self.old.desk) halt (D.faults self.old.desk.store.disk) (D.faults self.new.desk.store.disk)) }
     {
         match self.desk.submit(cards) {
@@ -132,10 +133,11 @@ impl<D: Disk> Clerk<D> {
         requires is_open { self.old.desk.store.fault ≡ None }
         ensures serves { IsTrusted D.told D.content D.may_leave self.old.desk → OnOk result (Serves (seen D.content self.old) (seen D.content self.new) (Command number text.now ∷ []) out.old out.new) }
         ensures trusted { OnOk result (IsTrusted D.told D.content D.may_leave self.old.desk → IsTrusted D.told D.content D.may_leave self.new.desk) }
-        ensures goes { IsTrusted D.told D.content D.may_leave self.old.desk → GoesBy D.content D.moment D.left_since D.size result self.old.desk self.new.desk }
+        ensures goes { IsTrusted D.told D.content D.may_leave self.old.desk → OnOk result (Goes D.content D.moment D.left_since D.size self.old.desk self.new.desk) }
         ensures is_open { OnOk result (self.new.desk.store.fault ≡ None) }
         ensures later { D.faults self.old.desk.store.disk ≤ D.faults self.new.desk.store.disk }
-        ensures halt { IsTrusted D.told D.content D.may_leave self.old.desk → IfErr result (λ halt. HaltsSo halt (state_of D.content self.old.desk) (Command number text.now ∷ []) out.old out.new) }
+        ensures size { D.size self.new.desk.store.disk ≡ D.size self.old.desk.store.disk }
+        ensures halt { IsTrusted D.told D.content D.may_leave self.old.desk → IfErr result (λ halt. Stopped D.content D.moment D.left_since D.size self.old.desk self.new.desk.store.disk (HaltsSo halt (state_of D.content self.old.desk) (Command number text.now ∷ []) out.old out.new)) }
         ensures cause { IfErr result (λ halt. HaltCause (IsTrusted D.told D.content D.may_leave self.old.desk) halt (D.faults self.old.desk.store.disk) (D.faults self.new.desk.store.disk)) }
     {
         let _layout = self.desk.layout();
@@ -193,11 +195,14 @@ impl<D: Disk> Clerk<D> {
         ensures after { IsTrusted D.told D.content D.may_leave self.old.desk → OnOk result (state_of D.content self.new.desk ≡ behind_call (state_of D.content self.old.desk) (purge_call self.old.desk.jobs.tables.desk job)) }
         ensures refused { OnOk result (self.new.refused ≡ (self.old.refused || is_refusal (purge_answer number job (is_queued self.old.desk.jobs.tables.desk job)))) }
         ensures text { OnOk result (out.new ≡ out.old ++ answer_text (purge_answer number job (is_queued self.old.desk.jobs.tables.desk job))) }
+        ensures events { IsTrusted D.told D.content D.may_leave self.old.desk → OnOk result (Has D.content D.moment D.left_since D.size self.old.desk self.new.desk.store.disk (spelled (event_in (purge_call self.old.desk.jobs.tables.desk job)))) }
+        ensures layout { OnOk result (self.new.desk.store.layout ≡ self.old.desk.store.layout) }
         ensures trusted { OnOk result (IsTrusted D.told D.content D.may_leave self.old.desk → IsTrusted D.told D.content D.may_leave self.new.desk) }
-        ensures goes { IsTrusted D.told D.content D.may_leave self.old.desk → GoesBy D.content D.moment D.left_since D.size result self.old.desk self.new.desk }
+        ensures goes { IsTrusted D.told D.content D.may_leave self.old.desk → OnOk result (Goes D.content D.moment D.left_since D.size self.old.desk self.new.desk) }
         ensures is_open { OnOk result (self.new.desk.store.fault ≡ None) }
         ensures later { D.faults self.old.desk.store.disk ≤ D.faults self.new.desk.store.disk }
-        ensures halt { IsTrusted D.told D.content D.may_leave self.old.desk → IfErr result (λ halt. PurgeHalt halt (call_fits (state_of D.content self.old.desk) (purge_call self.old.desk.jobs.tables.desk job)) out.old out.new) }
+        ensures size { D.size self.new.desk.store.disk ≡ D.size self.old.desk.store.disk }
+        ensures halt { IsTrusted D.told D.content D.may_leave self.old.desk → IfErr result (λ halt. Stopped D.content D.moment D.left_since D.size self.old.desk self.new.desk.store.disk (PurgeHalt halt (call_fits (state_of D.content self.old.desk) (purge_call self.old.desk.jobs.tables.desk job)) (spelled (event_in (purge_call self.old.desk.jobs.tables.desk job))) out.old out.new)) }
         ensures cause { IfErr result (λ halt. HaltCause (IsTrusted D.told D.content D.may_leave self.old.desk) halt (D.faults self.old.desk.store.disk) (D.faults self.new.desk.store.disk)) }
     {
         match self.desk.purge(job) {
@@ -216,11 +221,14 @@ impl<D: Disk> Clerk<D> {
         ensures state { IsTrusted D.told D.content D.may_leave self.old.desk → OnOk result (state_of D.content self.new.desk ≡ state_of D.content self.old.desk) }
         ensures refused { IsTrusted D.told D.content D.may_leave self.old.desk → OnOk result (self.new.refused ≡ (self.old.refused || is_refusal (list_answer number (records_of (state_of D.content self.old.desk).desk name.now)))) }
         ensures text { IsTrusted D.told D.content D.may_leave self.old.desk → OnOk result (out.new ≡ out.old ++ answer_text (list_answer number (records_of (state_of D.content self.old.desk).desk name.now))) }
+        ensures events { IsTrusted D.told D.content D.may_leave self.old.desk → OnOk result (Has D.content D.moment D.left_since D.size self.old.desk self.new.desk.store.disk []) }
+        ensures layout { OnOk result (self.new.desk.store.layout ≡ self.old.desk.store.layout) }
         ensures trusted { OnOk result (IsTrusted D.told D.content D.may_leave self.old.desk → IsTrusted D.told D.content D.may_leave self.new.desk) }
-        ensures goes { IsTrusted D.told D.content D.may_leave self.old.desk → GoesBy D.content D.moment D.left_since D.size result self.old.desk self.new.desk }
+        ensures goes { IsTrusted D.told D.content D.may_leave self.old.desk → OnOk result (Goes D.content D.moment D.left_since D.size self.old.desk self.new.desk) }
         ensures is_open { OnOk result (self.new.desk.store.fault ≡ None) }
         ensures later { D.faults self.old.desk.store.disk ≤ D.faults self.new.desk.store.disk }
-        ensures halt { IsTrusted D.told D.content D.may_leave self.old.desk → IfErr result (λ halt. ListHalt halt out.old out.new) }
+        ensures size { D.size self.new.desk.store.disk ≡ D.size self.old.desk.store.disk }
+        ensures halt { IsTrusted D.told D.content D.may_leave self.old.desk → IfErr result (λ halt. Stopped D.content D.moment D.left_since D.size self.old.desk self.new.desk.store.disk (ListHalt halt out.old out.new)) }
         ensures cause { IfErr result (λ halt. HaltCause (IsTrusted D.told D.content D.may_leave self.old.desk) halt (D.faults self.old.desk.store.disk) (D.faults self.new.desk.store.disk)) }
     {
         match self.desk.records(name) {
@@ -238,8 +246,9 @@ impl<D: Disk> Clerk<D> {
         requires is_open { self.old.desk.store.fault ≡ None }
         ensures serves { OnOk result (Serves (seen D.content self.old) (seen D.content self.new) (Refusal number ∷ []) out.old out.new) }
         ensures desk { self.new.desk ≡ self.old.desk }
-        ensures goes { IsTrusted D.told D.content D.may_leave self.old.desk → Goes D.content D.moment D.left_since D.size self.old.desk self.new.desk }
-        ensures halt { IfErr result (λ halt. halt ≡ Halt.Memory) }
+        ensures goes { IsTrusted D.told D.content D.may_leave self.old.desk → OnOk result (Goes D.content D.moment D.left_since D.size self.old.desk self.new.desk) }
+        ensures halt { IsTrusted D.told D.content D.may_leave self.old.desk → IfErr result (λ halt. Stopped D.content D.moment D.left_since D.size self.old.desk self.new.desk.store.disk (HaltsSo halt (state_of D.content self.old.desk) (Refusal number ∷ []) out.old out.new)) }
+        ensures memory { IfErr result (λ halt. halt ≡ Halt.Memory) }
     {
         let _layout = self.desk.layout();
         self.refuse_line(number, out)

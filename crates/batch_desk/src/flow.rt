@@ -5,7 +5,7 @@ ghost use Rattle.ckr_outside.specs.Front.{AppendsFront};
 ghost use Rattle.ckr_outside.specs.Faults.{Rose};
 ghost use Rattle.ckr_cards.specs.Session.{first_session};
 ghost use Rattle.ckr_desk.specs.Soundness.{IsTrusted};
-ghost use Rattle.batch_desk.specs.Stops.{GoesBy};
+ghost use Rattle.batch_desk.specs.Stops.{Goes, Stopped};
 ghost use Rattle.ckr_desk.specs.Soundness.{state_of};
 ghost use Rattle.batch_desk.specs.Service.{Serves, HaltsSo, HaltCause, StopsWithin, RestWritten, Caused, seen};
 ghost use Rattle.batch_desk.specs.Sessions.{HasWholeCards, standing_of};
@@ -78,11 +78,12 @@ impl<D: Disk> Flow<D> {
         requires is_open { self.old.session.clerk.desk.store.fault ≡ None }
         ensures ok { IsTrusted D.told D.content D.may_leave self.old.session.clerk.desk → OnOk result (EndsLine D.content self.old self.new (K.written sink.old) (K.written sink.new)) }
         ensures trusted { OnOk result (IsTrusted D.told D.content D.may_leave self.old.session.clerk.desk → IsTrusted D.told D.content D.may_leave self.new.session.clerk.desk) }
-        ensures goes { IsTrusted D.told D.content D.may_leave self.old.session.clerk.desk → GoesBy D.content D.moment D.left_since D.size result self.old.session.clerk.desk self.new.session.clerk.desk }
+        ensures goes { IsTrusted D.told D.content D.may_leave self.old.session.clerk.desk → OnOk result (Goes D.content D.moment D.left_since D.size self.old.session.clerk.desk self.new.session.clerk.desk) }
         ensures is_open { OnOk result (self.new.session.clerk.desk.store.fault ≡ None) }
-        ensures err { IsTrusted D.told D.content D.may_leave self.old.session.clerk.desk → IfErr result (λ stop. StopsWithin stop (K.faults sink.old) (K.faults sink.new) (state_of D.content self.old.session.clerk.desk) (line_requests self.old) (K.written sink.old) (K.written sink.new)) }
+        ensures err { IsTrusted D.told D.content D.may_leave self.old.session.clerk.desk → IfErr result (λ stop. Stopped D.content D.moment D.left_since D.size self.old.session.clerk.desk self.new.session.clerk.desk.store.disk (StopsWithin stop (K.faults sink.old) (K.faults sink.new) (state_of D.content self.old.session.clerk.desk) (line_requests self.old) (K.written sink.old) (K.written sink.new))) }
         ensures sink_later { K.faults sink.old ≤ K.faults sink.new }
         ensures disk_later { D.faults self.old.session.clerk.desk.store.disk ≤ D.faults self.new.session.clerk.desk.store.disk }
+        ensures size { D.size self.new.session.clerk.desk.store.disk ≡ D.size self.old.session.clerk.desk.store.disk }
         ensures cause { IfErr result (λ stop. Caused (IsTrusted D.told D.content D.may_leave self.old.session.clerk.desk) stop (K.faults sink.old) (K.faults sink.new) (D.faults self.old.session.clerk.desk.store.disk) (D.faults self.new.session.clerk.desk.store.disk)) }
         ensures cuts { OnOk result (CutsLine self.old self.new) }
         ensures whole { OnOk result (HasWholeCards self.new.session) }
@@ -105,11 +106,12 @@ impl<D: Disk> Flow<D> {
         requires is_open { self.old.session.clerk.desk.store.fault ≡ None }
         ensures ok { IsTrusted D.told D.content D.may_leave self.old.session.clerk.desk → OnOk result (Carries D.content self.old self.new (byte ∷ []) (K.written sink.old) (K.written sink.new)) }
         ensures trusted { OnOk result (IsTrusted D.told D.content D.may_leave self.old.session.clerk.desk → IsTrusted D.told D.content D.may_leave self.new.session.clerk.desk) }
-        ensures goes { IsTrusted D.told D.content D.may_leave self.old.session.clerk.desk → GoesBy D.content D.moment D.left_since D.size result self.old.session.clerk.desk self.new.session.clerk.desk }
+        ensures goes { IsTrusted D.told D.content D.may_leave self.old.session.clerk.desk → OnOk result (Goes D.content D.moment D.left_since D.size self.old.session.clerk.desk self.new.session.clerk.desk) }
         ensures is_open { OnOk result (self.new.session.clerk.desk.store.fault ≡ None) }
-        ensures err { IsTrusted D.told D.content D.may_leave self.old.session.clerk.desk → IfErr result (λ stop. Breaks D.content stop (K.faults sink.old) (K.faults sink.new) self.old (byte ∷ []) (K.written sink.old) (K.written sink.new)) }
+        ensures err { IsTrusted D.told D.content D.may_leave self.old.session.clerk.desk → IfErr result (λ stop. Stopped D.content D.moment D.left_since D.size self.old.session.clerk.desk self.new.session.clerk.desk.store.disk (Breaks D.content stop (K.faults sink.old) (K.faults sink.new) self.old (byte ∷ []) (K.written sink.old) (K.written sink.new))) }
         ensures sink_later { K.faults sink.old ≤ K.faults sink.new }
         ensures disk_later { D.faults self.old.session.clerk.desk.store.disk ≤ D.faults self.new.session.clerk.desk.store.disk }
+        ensures size { D.size self.new.session.clerk.desk.store.disk ≡ D.size self.old.session.clerk.desk.store.disk }
         ensures cause { IfErr result (λ stop. Caused (IsTrusted D.told D.content D.may_leave self.old.session.clerk.desk) stop (K.faults sink.old) (K.faults sink.new) (D.faults self.old.session.clerk.desk.store.disk) (D.faults self.new.session.clerk.desk.store.disk)) }
         ensures few { OnOk result (self.new.session.number + length self.new.partial.items ≤ self.old.session.number + length self.old.partial.items + 1) }
         ensures whole { OnOk result (HasWholeCards self.new.session) }
@@ -129,11 +131,12 @@ impl<D: Disk> Flow<D> {
         requires is_open { self.old.session.clerk.desk.store.fault ≡ None }
         ensures ok { IsTrusted D.told D.content D.may_leave self.old.session.clerk.desk → OnOk result (Carries D.content self.old self.new piece.now (K.written sink.old) (K.written sink.new)) }
         ensures trusted { OnOk result (IsTrusted D.told D.content D.may_leave self.old.session.clerk.desk → IsTrusted D.told D.content D.may_leave self.new.session.clerk.desk) }
-        ensures goes { IsTrusted D.told D.content D.may_leave self.old.session.clerk.desk → GoesBy D.content D.moment D.left_since D.size result self.old.session.clerk.desk self.new.session.clerk.desk }
+        ensures goes { IsTrusted D.told D.content D.may_leave self.old.session.clerk.desk → OnOk result (Goes D.content D.moment D.left_since D.size self.old.session.clerk.desk self.new.session.clerk.desk) }
         ensures is_open { OnOk result (self.new.session.clerk.desk.store.fault ≡ None) }
-        ensures err { IsTrusted D.told D.content D.may_leave self.old.session.clerk.desk → IfErr result (λ stop. Breaks D.content stop (K.faults sink.old) (K.faults sink.new) self.old piece.now (K.written sink.old) (K.written sink.new)) }
+        ensures err { IsTrusted D.told D.content D.may_leave self.old.session.clerk.desk → IfErr result (λ stop. Stopped D.content D.moment D.left_since D.size self.old.session.clerk.desk self.new.session.clerk.desk.store.disk (Breaks D.content stop (K.faults sink.old) (K.faults sink.new) self.old piece.now (K.written sink.old) (K.written sink.new))) }
         ensures sink_later { K.faults sink.old ≤ K.faults sink.new }
         ensures disk_later { D.faults self.old.session.clerk.desk.store.disk ≤ D.faults self.new.session.clerk.desk.store.disk }
+        ensures size { D.size self.new.session.clerk.desk.store.disk ≡ D.size self.old.session.clerk.desk.store.disk }
         ensures cause { IfErr result (λ stop. Caused (IsTrusted D.told D.content D.may_leave self.old.session.clerk.desk) stop (K.faults sink.old) (K.faults sink.new) (D.faults self.old.session.clerk.desk.store.disk) (D.faults self.new.session.clerk.desk.store.disk)) }
         ensures few { OnOk result (self.new.session.number + length self.new.partial.items ≤ self.old.session.number + length self.old.partial.items + length piece.now) }
         ensures whole { OnOk result (HasWholeCards self.new.session) }
@@ -150,13 +153,14 @@ impl<D: Disk> Flow<D> {
         requires few { self.old.session.number < 2 ^ 25 }
         requires whole { HasWholeCards self.old.session }
         requires is_open { self.old.session.clerk.desk.store.fault ≡ None }
-        ensures ok { IsTrusted D.told D.content D.may_leave self.old.session.clerk.desk → IfOk result (λ refused. Finishes D.content self.old refused (K.written sink.old) (K.written sink.new)) }
+        ensures ok { IsTrusted D.told D.content D.may_leave self.old.session.clerk.desk → IfOk result (λ refused. Finishes D.content self.old (seen D.content self.new.session.clerk) refused (K.written sink.old) (K.written sink.new)) }
         ensures trusted { OnOk result (IsTrusted D.told D.content D.may_leave self.old.session.clerk.desk → IsTrusted D.told D.content D.may_leave self.new.session.clerk.desk) }
-        ensures goes { IsTrusted D.told D.content D.may_leave self.old.session.clerk.desk → GoesBy D.content D.moment D.left_since D.size result self.old.session.clerk.desk self.new.session.clerk.desk }
+        ensures goes { IsTrusted D.told D.content D.may_leave self.old.session.clerk.desk → OnOk result (Goes D.content D.moment D.left_since D.size self.old.session.clerk.desk self.new.session.clerk.desk) }
         ensures is_open { OnOk result (self.new.session.clerk.desk.store.fault ≡ None) }
-        ensures err { IsTrusted D.told D.content D.may_leave self.old.session.clerk.desk → IfErr result (λ stop. FinishBreaks D.content stop (K.faults sink.old) (K.faults sink.new) self.old (K.written sink.old) (K.written sink.new)) }
+        ensures err { IsTrusted D.told D.content D.may_leave self.old.session.clerk.desk → IfErr result (λ stop. Stopped D.content D.moment D.left_since D.size self.old.session.clerk.desk self.new.session.clerk.desk.store.disk (FinishBreaks D.content stop (K.faults sink.old) (K.faults sink.new) self.old (K.written sink.old) (K.written sink.new))) }
         ensures sink_later { K.faults sink.old ≤ K.faults sink.new }
         ensures disk_later { D.faults self.old.session.clerk.desk.store.disk ≤ D.faults self.new.session.clerk.desk.store.disk }
+        ensures size { D.size self.new.session.clerk.desk.store.disk ≡ D.size self.old.session.clerk.desk.store.disk }
         ensures cause { IfErr result (λ stop. Caused (IsTrusted D.told D.content D.may_leave self.old.session.clerk.desk) stop (K.faults sink.old) (K.faults sink.new) (D.faults self.old.session.clerk.desk.store.disk) (D.faults self.new.session.clerk.desk.store.disk)) }
     {
         let mut out = Text::new(self.session.clerk.alloc);
@@ -176,10 +180,11 @@ impl<D: Disk> Flow<D> {
         requires is_open { self.old.session.clerk.desk.store.fault ≡ None }
         ensures serves { IsTrusted D.told D.content D.may_leave self.old.session.clerk.desk → OnOk result (Serves (seen D.content self.old.session.clerk) (seen D.content self.new.session.clerk) (end_requests self.old) out.old out.new) }
         ensures trusted { OnOk result (IsTrusted D.told D.content D.may_leave self.old.session.clerk.desk → IsTrusted D.told D.content D.may_leave self.new.session.clerk.desk) }
-        ensures goes { IsTrusted D.told D.content D.may_leave self.old.session.clerk.desk → GoesBy D.content D.moment D.left_since D.size result self.old.session.clerk.desk self.new.session.clerk.desk }
+        ensures goes { IsTrusted D.told D.content D.may_leave self.old.session.clerk.desk → OnOk result (Goes D.content D.moment D.left_since D.size self.old.session.clerk.desk self.new.session.clerk.desk) }
         ensures is_open { OnOk result (self.new.session.clerk.desk.store.fault ≡ None) }
         ensures later { D.faults self.old.session.clerk.desk.store.disk ≤ D.faults self.new.session.clerk.desk.store.disk }
-        ensures halt { IsTrusted D.told D.content D.may_leave self.old.session.clerk.desk → IfErr result (λ halt. HaltsSo halt (state_of D.content self.old.session.clerk.desk) (end_requests self.old) out.old out.new) }
+        ensures size { D.size self.new.session.clerk.desk.store.disk ≡ D.size self.old.session.clerk.desk.store.disk }
+        ensures halt { IsTrusted D.told D.content D.may_leave self.old.session.clerk.desk → IfErr result (λ halt. Stopped D.content D.moment D.left_since D.size self.old.session.clerk.desk self.new.session.clerk.desk.store.disk (HaltsSo halt (state_of D.content self.old.session.clerk.desk) (end_requests self.old) out.old out.new)) }
         ensures cause { IfErr result (λ halt. HaltCause (IsTrusted D.told D.content D.may_leave self.old.session.clerk.desk) halt (D.faults self.old.session.clerk.desk.store.disk) (D.faults self.new.session.clerk.desk.store.disk)) }
     {
         if self.partial.is_empty() {

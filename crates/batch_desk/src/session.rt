@@ -2,7 +2,7 @@
 ghost use Rattle.std.specs.Prelude.{◌≡◌, ◌<◌, ◌≤◌, ◌+◌, ◌*◌, ◌%◌, ◌^◌, [], ◌++◌, OnOk, IfErr, None, false, length};
 ghost use Rattle.ckr_cards.specs.Session.{first_session, handed_deck, handed_before, handed_alone, handed_with, session_behind};
 ghost use Rattle.ckr_desk.specs.Soundness.{IsTrusted};
-ghost use Rattle.batch_desk.specs.Stops.{GoesBy};
+ghost use Rattle.batch_desk.specs.Stops.{Goes, Stopped};
 ghost use Rattle.ckr_desk.specs.Soundness.{state_of};
 ghost use Rattle.batch_desk.specs.Service.{HaltsSo, HaltCause, Serves, seen};
 ghost use Rattle.batch_desk.specs.Sessions.{standing_of, HasWholeCards, cards_left, cards_with};
@@ -33,10 +33,11 @@ fn end_deck<D: Disk>(clerk: &mut Clerk<D>, deck: &mut Vec<u8>, out: &mut Text) -
     requires is_open { clerk.old.desk.store.fault ≡ None }
     ensures serves { IsTrusted D.told D.content D.may_leave clerk.old.desk → OnOk result (Serves (seen D.content clerk.old) (seen D.content clerk.new) (handed_deck deck.old.items) out.old out.new) }
     ensures trusted { OnOk result (IsTrusted D.told D.content D.may_leave clerk.old.desk → IsTrusted D.told D.content D.may_leave clerk.new.desk) }
-    ensures goes { IsTrusted D.told D.content D.may_leave clerk.old.desk → GoesBy D.content D.moment D.left_since D.size result clerk.old.desk clerk.new.desk }
+    ensures goes { IsTrusted D.told D.content D.may_leave clerk.old.desk → OnOk result (Goes D.content D.moment D.left_since D.size clerk.old.desk clerk.new.desk) }
     ensures is_open { OnOk result (clerk.new.desk.store.fault ≡ None) }
     ensures later { D.faults clerk.old.desk.store.disk ≤ D.faults clerk.new.desk.store.disk }
-    ensures halt { IsTrusted D.told D.content D.may_leave clerk.old.desk → IfErr result (λ halt. HaltsSo halt (state_of D.content clerk.old.desk) (handed_deck deck.old.items) out.old out.new) }
+    ensures size { D.size clerk.new.desk.store.disk ≡ D.size clerk.old.desk.store.disk }
+    ensures halt { IsTrusted D.told D.content D.may_leave clerk.old.desk → IfErr result (λ halt. Stopped D.content D.moment D.left_since D.size clerk.old.desk clerk.new.desk.store.disk (HaltsSo halt (state_of D.content clerk.old.desk) (handed_deck deck.old.items) out.old out.new)) }
     ensures cause { IfErr result (λ halt. HaltCause (IsTrusted D.told D.content D.may_leave clerk.old.desk) halt (D.faults clerk.old.desk.store.disk) (D.faults clerk.new.desk.store.disk)) }
     ensures deck { OnOk result (deck.new.items ≡ []) }
 {
@@ -61,10 +62,11 @@ fn end_before<D: Disk>(
     requires is_open { clerk.old.desk.store.fault ≡ None }
     ensures serves { IsTrusted D.told D.content D.may_leave clerk.old.desk → OnOk result (Serves (seen D.content clerk.old) (seen D.content clerk.new) (handed_before kind deck.old.items) out.old out.new) }
     ensures trusted { OnOk result (IsTrusted D.told D.content D.may_leave clerk.old.desk → IsTrusted D.told D.content D.may_leave clerk.new.desk) }
-    ensures goes { IsTrusted D.told D.content D.may_leave clerk.old.desk → GoesBy D.content D.moment D.left_since D.size result clerk.old.desk clerk.new.desk }
+    ensures goes { IsTrusted D.told D.content D.may_leave clerk.old.desk → OnOk result (Goes D.content D.moment D.left_since D.size clerk.old.desk clerk.new.desk) }
     ensures is_open { OnOk result (clerk.new.desk.store.fault ≡ None) }
     ensures later { D.faults clerk.old.desk.store.disk ≤ D.faults clerk.new.desk.store.disk }
-    ensures halt { IsTrusted D.told D.content D.may_leave clerk.old.desk → IfErr result (λ halt. HaltsSo halt (state_of D.content clerk.old.desk) (handed_before kind deck.old.items) out.old out.new) }
+    ensures size { D.size clerk.new.desk.store.disk ≡ D.size clerk.old.desk.store.disk }
+    ensures halt { IsTrusted D.told D.content D.may_leave clerk.old.desk → IfErr result (λ halt. Stopped D.content D.moment D.left_since D.size clerk.old.desk clerk.new.desk.store.disk (HaltsSo halt (state_of D.content clerk.old.desk) (handed_before kind deck.old.items) out.old out.new)) }
     ensures cause { IfErr result (λ halt. HaltCause (IsTrusted D.told D.content D.may_leave clerk.old.desk) halt (D.faults clerk.old.desk.store.disk) (D.faults clerk.new.desk.store.disk)) }
     ensures deck { OnOk result (deck.new.items ≡ cards_left kind deck.old.items) }
 {
@@ -101,10 +103,11 @@ fn serve_line<D: Disk>(
     requires is_open { clerk.old.desk.store.fault ≡ None }
     ensures serves { IsTrusted D.told D.content D.may_leave clerk.old.desk → OnOk result (Serves (seen D.content clerk.old) (seen D.content clerk.new) (handed_alone kind number text.now) out.old out.new) }
     ensures trusted { OnOk result (IsTrusted D.told D.content D.may_leave clerk.old.desk → IsTrusted D.told D.content D.may_leave clerk.new.desk) }
-    ensures goes { IsTrusted D.told D.content D.may_leave clerk.old.desk → GoesBy D.content D.moment D.left_since D.size result clerk.old.desk clerk.new.desk }
+    ensures goes { IsTrusted D.told D.content D.may_leave clerk.old.desk → OnOk result (Goes D.content D.moment D.left_since D.size clerk.old.desk clerk.new.desk) }
     ensures is_open { OnOk result (clerk.new.desk.store.fault ≡ None) }
     ensures later { D.faults clerk.old.desk.store.disk ≤ D.faults clerk.new.desk.store.disk }
-    ensures halt { IsTrusted D.told D.content D.may_leave clerk.old.desk → IfErr result (λ halt. HaltsSo halt (state_of D.content clerk.old.desk) (handed_alone kind number text.now) out.old out.new) }
+    ensures size { D.size clerk.new.desk.store.disk ≡ D.size clerk.old.desk.store.disk }
+    ensures halt { IsTrusted D.told D.content D.may_leave clerk.old.desk → IfErr result (λ halt. Stopped D.content D.moment D.left_since D.size clerk.old.desk clerk.new.desk.store.disk (HaltsSo halt (state_of D.content clerk.old.desk) (handed_alone kind number text.now) out.old out.new)) }
     ensures cause { IfErr result (λ halt. HaltCause (IsTrusted D.told D.content D.may_leave clerk.old.desk) halt (D.faults clerk.old.desk.store.disk) (D.faults clerk.new.desk.store.disk)) }
 {
     let _layout = clerk.desk.layout();
@@ -146,10 +149,11 @@ impl<D: Disk> Session<D> {
         requires is_open { self.old.clerk.desk.store.fault ≡ None }
         ensures serves { IsTrusted D.told D.content D.may_leave self.old.clerk.desk → OnOk result (Serves (seen D.content self.old.clerk) (seen D.content self.new.clerk) (handed_with (standing_of self.old) text.now) out.old out.new) }
         ensures trusted { OnOk result (IsTrusted D.told D.content D.may_leave self.old.clerk.desk → IsTrusted D.told D.content D.may_leave self.new.clerk.desk) }
-        ensures goes { IsTrusted D.told D.content D.may_leave self.old.clerk.desk → GoesBy D.content D.moment D.left_since D.size result self.old.clerk.desk self.new.clerk.desk }
+        ensures goes { IsTrusted D.told D.content D.may_leave self.old.clerk.desk → OnOk result (Goes D.content D.moment D.left_since D.size self.old.clerk.desk self.new.clerk.desk) }
         ensures is_open { OnOk result (self.new.clerk.desk.store.fault ≡ None) }
         ensures later { D.faults self.old.clerk.desk.store.disk ≤ D.faults self.new.clerk.desk.store.disk }
-        ensures halt { IsTrusted D.told D.content D.may_leave self.old.clerk.desk → IfErr result (λ halt. HaltsSo halt (state_of D.content self.old.clerk.desk) (handed_with (standing_of self.old) text.now) out.old out.new) }
+        ensures size { D.size self.new.clerk.desk.store.disk ≡ D.size self.old.clerk.desk.store.disk }
+        ensures halt { IsTrusted D.told D.content D.may_leave self.old.clerk.desk → IfErr result (λ halt. Stopped D.content D.moment D.left_since D.size self.old.clerk.desk self.new.clerk.desk.store.disk (HaltsSo halt (state_of D.content self.old.clerk.desk) (handed_with (standing_of self.old) text.now) out.old out.new)) }
         ensures cause { IfErr result (λ halt. HaltCause (IsTrusted D.told D.content D.may_leave self.old.clerk.desk) halt (D.faults self.old.clerk.desk.store.disk) (D.faults self.new.clerk.desk.store.disk)) }
         ensures standing { OnOk result (standing_of self.new ≡ session_behind (standing_of self.old) text.now) }
         ensures whole { OnOk result (HasWholeCards self.new) }
@@ -168,10 +172,11 @@ impl<D: Disk> Session<D> {
         requires is_open { self.old.clerk.desk.store.fault ≡ None }
         ensures serves { IsTrusted D.told D.content D.may_leave self.old.clerk.desk → OnOk result (Serves (seen D.content self.old.clerk) (seen D.content self.new.clerk) (handed_deck self.old.deck.items) out.old out.new) }
         ensures trusted { OnOk result (IsTrusted D.told D.content D.may_leave self.old.clerk.desk → IsTrusted D.told D.content D.may_leave self.new.clerk.desk) }
-        ensures goes { IsTrusted D.told D.content D.may_leave self.old.clerk.desk → GoesBy D.content D.moment D.left_since D.size result self.old.clerk.desk self.new.clerk.desk }
+        ensures goes { IsTrusted D.told D.content D.may_leave self.old.clerk.desk → OnOk result (Goes D.content D.moment D.left_since D.size self.old.clerk.desk self.new.clerk.desk) }
         ensures is_open { OnOk result (self.new.clerk.desk.store.fault ≡ None) }
         ensures later { D.faults self.old.clerk.desk.store.disk ≤ D.faults self.new.clerk.desk.store.disk }
-        ensures halt { IsTrusted D.told D.content D.may_leave self.old.clerk.desk → IfErr result (λ halt. HaltsSo halt (state_of D.content self.old.clerk.desk) (handed_deck self.old.deck.items) out.old out.new) }
+        ensures size { D.size self.new.clerk.desk.store.disk ≡ D.size self.old.clerk.desk.store.disk }
+        ensures halt { IsTrusted D.told D.content D.may_leave self.old.clerk.desk → IfErr result (λ halt. Stopped D.content D.moment D.left_since D.size self.old.clerk.desk self.new.clerk.desk.store.disk (HaltsSo halt (state_of D.content self.old.clerk.desk) (handed_deck self.old.deck.items) out.old out.new)) }
         ensures cause { IfErr result (λ halt. HaltCause (IsTrusted D.told D.content D.may_leave self.old.clerk.desk) halt (D.faults self.old.clerk.desk.store.disk) (D.faults self.new.clerk.desk.store.disk)) }
     {
         end_deck(&mut self.clerk, &mut self.deck, out)

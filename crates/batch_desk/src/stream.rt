@@ -3,7 +3,7 @@ ghost use Rattle.std.specs.Prelude.{◌≡◌, ◌<◌, ◌≤◌, ◌+◌, ◌*
 ghost use Rattle.std.specs.Io.KnownBytes.{Consumes, Keeps, IsAtEnd};
 ghost use Rattle.ckr_outside.specs.Faults.{Rose};
 ghost use Rattle.ckr_desk.specs.Soundness.{IsTrusted};
-ghost use Rattle.batch_desk.specs.Stops.{GoesBy, Within, WithinTo};
+ghost use Rattle.batch_desk.specs.Stops.{Goes, Has, KeepsTo};
 ghost use Rattle.ckr_desk.specs.Soundness.{state_of};
 ghost use Rattle.batch_desk.specs.Flows.{IsBegun};
 ghost use Rattle.batch_desk.specs.Service.{seen};
@@ -43,15 +43,17 @@ fn feed_all<S: Source, K: Sink, D: Disk>(
     requires is_open { flow.old.session.clerk.desk.store.fault ≡ None }
     ensures ok { OnOk result (FedAll D.content (IsTrusted D.told D.content D.may_leave flow.old.session.clerk.desk) (seen D.content flow.old.session.clerk) flow.new (S.left source.old) (S.left source.new) (K.written sink.old) (K.written sink.new)) }
     ensures trusted { OnOk result (IsTrusted D.told D.content D.may_leave flow.old.session.clerk.desk → IsTrusted D.told D.content D.may_leave flow.new.session.clerk.desk) }
-    ensures goes { IsTrusted D.told D.content D.may_leave flow.old.session.clerk.desk → GoesBy D.content D.moment D.left_since D.size result flow.old.session.clerk.desk flow.new.session.clerk.desk }
+    ensures goes { IsTrusted D.told D.content D.may_leave flow.old.session.clerk.desk → OnOk result (Goes D.content D.moment D.left_since D.size flow.old.session.clerk.desk flow.new.session.clerk.desk) }
     ensures is_open { OnOk result (flow.new.session.clerk.desk.store.fault ≡ None) }
     ensures few { OnOk result (flow.new.session.number < 2 ^ 25) }
     ensures whole { OnOk result (HasWholeCards flow.new.session) }
-    ensures stop { IfErr result (λ stop. IsStopped (IsTrusted D.told D.content D.may_leave flow.old.session.clerk.desk) (state_of D.content flow.old.session.clerk.desk) stop
+    ensures stop { IfErr result (λ stop. IsStopped (IsTrusted D.told D.content D.may_leave flow.old.session.clerk.desk)
+        (KeepsTo D.content D.moment D.left_since D.size flow.old.session.clerk.desk flow.new.session.clerk.desk.store.disk) (Has D.content D.moment D.left_since D.size flow.old.session.clerk.desk flow.new.session.clerk.desk.store.disk) (state_of D.content flow.old.session.clerk.desk) stop
         (faults_of (S.faults source.old) (S.faults source.new) (K.faults sink.old) (K.faults sink.new) (D.faults flow.old.session.clerk.desk.store.disk) (D.faults flow.new.session.clerk.desk.store.disk)) (S.left source.old) (S.left source.new) (K.written sink.old) (K.written sink.new)) }
     ensures source_later { S.faults source.old ≤ S.faults source.new }
     ensures sink_later { K.faults sink.old ≤ K.faults sink.new }
     ensures disk_later { D.faults flow.old.session.clerk.desk.store.disk ≤ D.faults flow.new.session.clerk.desk.store.disk }
+    ensures size { D.size flow.new.session.clerk.desk.store.disk ≡ D.size flow.old.session.clerk.desk.store.disk }
 {
     let _layout = flow.session.clerk.desk.layout();
     let mut buffer = [0u8; PIECE_BYTES];
@@ -84,12 +86,13 @@ pub fn serve<S: Source, K: Sink, D: Disk>(
     desk: Desk<D>,
 ) -> Served<D>
     requires is_open { desk.store.fault ≡ None }
-    ensures served { Serving (IsTrusted D.told D.content D.may_leave desk) (state_of D.content desk) result.outcome
+    ensures served { Serving (IsTrusted D.told D.content D.may_leave desk)
+        (KeepsTo D.content D.moment D.left_since D.size desk result.disk) (Has D.content D.moment D.left_since D.size desk result.disk) (state_of D.content desk) result.outcome
         (faults_of (S.faults source.old) (S.faults source.new) (K.faults sink.old) (K.faults sink.new) (D.faults desk.store.disk) (D.faults result.disk)) (S.left source.old) (S.left source.new) (K.written sink.old) (K.written sink.new) }
-    ensures within { IsTrusted D.told D.content D.may_leave desk → WithinTo D.content D.moment D.left_since D.size desk result.disk }
     ensures source_later { S.faults source.old ≤ S.faults source.new }
     ensures sink_later { K.faults sink.old ≤ K.faults sink.new }
     ensures disk_later { D.faults desk.store.disk ≤ D.faults result.disk }
+    ensures size { D.size result.disk ≡ D.size desk.store.disk }
 {
     let mut flow = Flow::new(alloc, desk);
     let outcome = serve_on(&mut flow, source, sink);
@@ -108,12 +111,13 @@ fn serve_on<S: Source, K: Sink, D: Disk>(
 ) -> Result<bool, Stop>
     requires begun { IsBegun flow.old }
     requires is_open { flow.old.session.clerk.desk.store.fault ≡ None }
-    ensures served { Serving (IsTrusted D.told D.content D.may_leave flow.old.session.clerk.desk) (state_of D.content flow.old.session.clerk.desk) result
+    ensures served { Serving (IsTrusted D.told D.content D.may_leave flow.old.session.clerk.desk)
+        (KeepsTo D.content D.moment D.left_since D.size flow.old.session.clerk.desk flow.new.session.clerk.desk.store.disk) (Has D.content D.moment D.left_since D.size flow.old.session.clerk.desk flow.new.session.clerk.desk.store.disk) (state_of D.content flow.old.session.clerk.desk) result
         (faults_of (S.faults source.old) (S.faults source.new) (K.faults sink.old) (K.faults sink.new) (D.faults flow.old.session.clerk.desk.store.disk) (D.faults flow.new.session.clerk.desk.store.disk)) (S.left source.old) (S.left source.new) (K.written sink.old) (K.written sink.new) }
-    ensures within { IsTrusted D.told D.content D.may_leave flow.old.session.clerk.desk → Within D.content D.moment D.left_since D.size flow.old.session.clerk.desk flow.new.session.clerk.desk }
     ensures source_later { S.faults source.old ≤ S.faults source.new }
     ensures sink_later { K.faults sink.old ≤ K.faults sink.new }
     ensures disk_later { D.faults flow.old.session.clerk.desk.store.disk ≤ D.faults flow.new.session.clerk.desk.store.disk }
+    ensures size { D.size flow.new.session.clerk.desk.store.disk ≡ D.size flow.old.session.clerk.desk.store.disk }
 {
     feed_all(flow, source, sink)?;
     flow.end(sink)

@@ -1,8 +1,10 @@
 //! The top call.
-ghost use Rattle.std.specs.Prelude.{◌≡◌, ◌≤◌, ◌↔◌, Ok, map, string_bytes};
+ghost use Rattle.std.specs.Prelude.{◌≡◌, ◌≤◌, ◌↔◌, ◌++◌, Ok, map, string_bytes};
 ghost use Rattle.std.specs.Io.KnownBytes.{Keeps};
-ghost use Rattle.ckr_desk.specs.Soundness.{AllSound, IsSafe, desk_opening};
-ghost use Rattle.ckr_desk_format.specs.Formats.{IsFormatted};
+ghost use Rattle.ckr_desk.specs.FirstSync.{FromSync, IsLeft};
+ghost use Rattle.ckr_desk.specs.Model.OpenImages.{event_records};
+ghost use Rattle.ckr_desk.specs.Soundness.{AllSound, HasKept, Sound, desk_opening};
+ghost use Rattle.ckr_desk_format.specs.Formats.{IsFormatted, FormatsBy};
 ghost use Rattle.ckr_outside.specs.Disk.{EachSince};
 ghost use Rattle.batch_desk.specs.Feeds.{faults_of};
 ghost use Rattle.batch_desk.specs.Words.{command_of};
@@ -61,12 +63,18 @@ fn run<S: Source, K: Sink, D: Disk>(
     sink: &mut K,
     disk: D,
 ) -> Closed<D>
-    ensures run { HasRun D.told (AllSound D.told D.may_leave D.size disk) (desk_opening (D.content disk) (D.size disk)) result.status
+    ensures run { HasRun D.told (AllSound D.told D.may_leave D.size disk) (desk_opening (D.content disk) (D.size disk))
+        (λ error. IsLeft D.content D.may_leave D.moment D.left_since D.size D.told (AllSound D.told D.may_leave D.size disk) error disk result.disk)
+        (λ layout came. FromSync D.content D.may_leave D.moment D.left_since disk result.disk (HasKept layout (D.size disk) (event_records layout (D.content disk)) came))
+        (λ layout kept. event_records layout (D.content result.disk) ≡ event_records layout (D.content disk) ++ kept)
+        result.status
         (faults_of (S.faults source.old) (S.faults source.new) (K.faults sink.old) (K.faults sink.new) (D.faults disk) (D.faults result.disk))
         (S.left source.old) (S.left source.new) (K.written sink.old) (K.written sink.new) }
+    ensures size { D.size result.disk ≡ D.size disk }
 
-    // A stop at any moment leaves a disk that opens, has what its events have committed, and lacks no event.
-    ensures safe { AllSound D.told D.may_leave D.size disk → EachSince D.moment D.left_since disk result.disk (IsSafe (D.may_leave disk) (D.content disk) (D.size disk)) }
+    // A stop at any moment leaves a sound image; and the disk that is handed back is sound as the one was that was handed in.
+    ensures safe { AllSound D.told D.may_leave D.size disk → EachSince D.moment D.left_since disk result.disk (Sound (D.size disk)) }
+    ensures sound { AllSound D.told D.may_leave D.size disk → AllSound D.told D.may_leave D.size result.disk }
 {
     match Desk::open_on(alloc, disk) {
         Ok(desk) => {
@@ -105,7 +113,8 @@ fn format<S: Source, K: Sink, D: Disk>(
     sink: &mut K,
     mut disk: D,
 ) -> Closed<D>
-    ensures formatted { HasFormatted D.told (D.size disk) (IsFormatted D.told (D.content result.disk) (D.may_leave result.disk) (D.size result.disk)) (result.disk ≡ disk)
+    ensures formatted { HasFormatted D.told (D.size disk) (IsFormatted D.told (D.content result.disk) (D.may_leave result.disk) (D.size result.disk))
+        (FormatsBy D.told D.content D.may_leave D.moment D.left_since (D.size disk) disk result.disk) (result.disk ≡ disk)
         (AllSound D.told D.may_leave D.size result.disk) result.status
         (faults_of (S.faults source.old) (S.faults source.new) (K.faults sink.old) (K.faults sink.new) (D.faults disk) (D.faults result.disk))
         (S.left source.old) (S.left source.new) (K.written sink.old) (K.written sink.new) }
@@ -140,18 +149,28 @@ pub fn batch_desk<S: Source, K: Sink, D: Disk>(
     ensures words { command_of (map string_bytes words.now) ≡ Err WordsError.Refused → (result.status ≡ 1) × (result.disk ≡ disk)
         × Keeps (S.left source.old) (S.left source.new) × Keeps (K.written sink.old) (K.written sink.new) }
     ensures formatted { command_of (map string_bytes words.now) ≡ Ok Command.Format →
-        HasFormatted D.told (D.size disk) (IsFormatted D.told (D.content result.disk) (D.may_leave result.disk) (D.size result.disk)) (result.disk ≡ disk)
+        HasFormatted D.told (D.size disk) (IsFormatted D.told (D.content result.disk) (D.may_leave result.disk) (D.size result.disk))
+        (FormatsBy D.told D.content D.may_leave D.moment D.left_since (D.size disk) disk result.disk) (result.disk ≡ disk)
         (AllSound D.told D.may_leave D.size result.disk) result.status
         (faults_of (S.faults source.old) (S.faults source.new) (K.faults sink.old) (K.faults sink.new) (D.faults disk) (D.faults result.disk))
         (S.left source.old) (S.left source.new) (K.written sink.old) (K.written sink.new) }
     ensures run { command_of (map string_bytes words.now) ≡ Ok Command.Run →
-        HasRun D.told (AllSound D.told D.may_leave D.size disk) (desk_opening (D.content disk) (D.size disk)) result.status
+        HasRun D.told (AllSound D.told D.may_leave D.size disk) (desk_opening (D.content disk) (D.size disk))
+        (λ error. IsLeft D.content D.may_leave D.moment D.left_since D.size D.told (AllSound D.told D.may_leave D.size disk) error disk result.disk)
+        (λ layout came. FromSync D.content D.may_leave D.moment D.left_since disk result.disk (HasKept layout (D.size disk) (event_records layout (D.content disk)) came))
+        (λ layout kept. event_records layout (D.content result.disk) ≡ event_records layout (D.content disk) ++ kept)
+        result.status
         (faults_of (S.faults source.old) (S.faults source.new) (K.faults sink.old) (K.faults sink.new) (D.faults disk) (D.faults result.disk))
         (S.left source.old) (S.left source.new) (K.written sink.old) (K.written sink.new) }
 
-    // Of a run: a stop at any moment leaves a disk that opens, has what its events have committed, and lacks no event.
+    ensures size { command_of (map string_bytes words.now) ≡ Ok Command.Run → D.size result.disk ≡ D.size disk }
+
+    // Of a run: a stop at any moment leaves a sound image; and the disk that is handed back is sound as the one was that was handed in, so
+    // that it may be run again, any number of times.
     ensures safe { command_of (map string_bytes words.now) ≡ Ok Command.Run → AllSound D.told D.may_leave D.size disk →
-        EachSince D.moment D.left_since disk result.disk (IsSafe (D.may_leave disk) (D.content disk) (D.size disk)) }
+        EachSince D.moment D.left_since disk result.disk (Sound (D.size disk)) }
+    ensures sound { command_of (map string_bytes words.now) ≡ Ok Command.Run → AllSound D.told D.may_leave D.size disk →
+        AllSound D.told D.may_leave D.size result.disk }
 {
     match read_words(words) {
         Ok(Command::Run) => run(alloc, source, sink, disk),

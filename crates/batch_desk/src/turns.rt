@@ -1,11 +1,13 @@
 //! Turns, and the lines for their replies.
-ghost use Rattle.std.specs.Prelude.{◌≡◌, ◌<◌, ◌≤◌, ◌+◌, ◌-◌, ◌^◌, ◌++◌, ◌∷◌, [], OnOk, IfOk, IfErr, Some, None, true};
+ghost use Rattle.std.specs.Prelude.{◌≡◌, ◌<◌, ◌≤◌, ◌+◌, ◌-◌, ◌^◌, ◌++◌, ◌∷◌, [], OnOk, IfOk, IfErr, Some, None, length, true};
 ghost use Rattle.std.specs.List.{flat_map};
 ghost use Rattle.ckr_desk.specs.Model.Plans.{IsToldReply};
-ghost use Rattle.ckr_desk.specs.Turn.{behind_turn, reply_of, turn_fits};
+ghost use Rattle.ckr_desk.specs.Requests.{spelled};
+ghost use Rattle.ckr_desk.specs.Turn.{behind_turn, event_of_turn, reply_of, turn_fits};
 ghost use Rattle.ckr_desk.specs.Soundness.{IsTrusted, state_of};
-ghost use Rattle.batch_desk.specs.Stops.{GoesBy};
+ghost use Rattle.batch_desk.specs.Stops.{Goes, Has, Stopped};
 ghost use Rattle.batch_desk.specs.Calls.{Turned, plain_turn, turns, turns_fit, after_turns, is_idle};
+ghost use Rattle.batch_desk.specs.Events.{turns_events};
 ghost use Rattle.batch_desk.specs.Service.{HaltCause};
 ghost use Rattle.batch_desk.specs.Texts.{answer_text, run_text, goes_on, is_same_work, is_work, work_in, before_runs, with_waiting, waiting_count, told_runs};
 ghost use Rattle.batch_desk.specs.Turns.{Adds, IsToldWaiting, TurnHalt, TurnsHalt};
@@ -124,10 +126,12 @@ fn one_turn<D: Disk>(desk: &mut Desk<D>, initiator: u8) -> Result<Reply, Halt>
     ensures after { IsTrusted D.told D.content D.may_leave desk.old → OnOk result (state_of D.content desk.new ≡ behind_turn (state_of D.content desk.old) (plain_turn initiator)) }
     ensures is_open { OnOk result (desk.new.store.fault ≡ None) }
     ensures layout { desk.new.store.layout ≡ desk.old.store.layout }
+    ensures events { IsTrusted D.told D.content D.may_leave desk.old → OnOk result (Has D.content D.moment D.left_since D.size desk.old desk.new.store.disk (spelled (event_of_turn (state_of D.content desk.old) (plain_turn initiator)))) }
     ensures trusted { OnOk result (IsTrusted D.told D.content D.may_leave desk.old → IsTrusted D.told D.content D.may_leave desk.new) }
-    ensures goes { IsTrusted D.told D.content D.may_leave desk.old → GoesBy D.content D.moment D.left_since D.size result desk.old desk.new }
+    ensures goes { IsTrusted D.told D.content D.may_leave desk.old → OnOk result (Goes D.content D.moment D.left_since D.size desk.old desk.new) }
     ensures later { D.faults desk.old.store.disk ≤ D.faults desk.new.store.disk }
-    ensures halt { IsTrusted D.told D.content D.may_leave desk.old → IfErr result (λ halt. TurnHalt halt initiator (state_of D.content desk.old)) }
+    ensures size { D.size desk.new.store.disk ≡ D.size desk.old.store.disk }
+    ensures halt { IsTrusted D.told D.content D.may_leave desk.old → IfErr result (λ halt. Stopped D.content D.moment D.left_since D.size desk.old desk.new.store.disk (TurnHalt halt initiator (state_of D.content desk.old))) }
     ensures cause { IfErr result (λ halt. HaltCause (IsTrusted D.told D.content D.may_leave desk.old) halt (D.faults desk.old.store.disk) (D.faults desk.new.store.disk)) }
 {
     let turn = Turn {
@@ -159,10 +163,14 @@ pub fn turned<D: Disk>(
     ensures text { IsTrusted D.told D.content D.may_leave desk.old → OnOk result (out.new ≡ out.old ++ answer_text (Turned desk.old.store.layout initiator (turns initiator count (state_of D.content desk.old)))) }
     ensures after { IsTrusted D.told D.content D.may_leave desk.old → OnOk result (state_of D.content desk.new ≡ after_turns initiator count (state_of D.content desk.old)) }
     ensures is_open { OnOk result (desk.new.store.fault ≡ None) }
+    ensures layout { OnOk result (desk.new.store.layout ≡ desk.old.store.layout) }
+    ensures events { IsTrusted D.told D.content D.may_leave desk.old → OnOk result (Has D.content D.moment D.left_since D.size desk.old desk.new.store.disk
+        (turns_events initiator (length (turns initiator count (state_of D.content desk.old))) (state_of D.content desk.old))) }
     ensures trusted { OnOk result (IsTrusted D.told D.content D.may_leave desk.old → IsTrusted D.told D.content D.may_leave desk.new) }
-    ensures goes { IsTrusted D.told D.content D.may_leave desk.old → GoesBy D.content D.moment D.left_since D.size result desk.old desk.new }
+    ensures goes { IsTrusted D.told D.content D.may_leave desk.old → OnOk result (Goes D.content D.moment D.left_since D.size desk.old desk.new) }
     ensures later { D.faults desk.old.store.disk ≤ D.faults desk.new.store.disk }
-    ensures halt { IsTrusted D.told D.content D.may_leave desk.old → IfErr result (λ halt. TurnsHalt desk.old.store.layout initiator halt count (state_of D.content desk.old) out.old out.new) }
+    ensures size { D.size desk.new.store.disk ≡ D.size desk.old.store.disk }
+    ensures halt { IsTrusted D.told D.content D.may_leave desk.old → IfErr result (λ halt. Stopped D.content D.moment D.left_since D.size desk.old desk.new.store.disk (TurnsHalt desk.old.store.layout initiator halt count (state_of D.content desk.old) out.old out.new)) }
     ensures cause { IfErr result (λ halt. HaltCause (IsTrusted D.told D.content D.may_leave desk.old) halt (D.faults desk.old.store.disk) (D.faults desk.new.store.disk)) }
 {
     let _layout = desk.layout();

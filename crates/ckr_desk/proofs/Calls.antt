@@ -4,3 +4,5 @@ pub mod Events
 pub mod RequestStops
 pub mod Requests
 pub mod Records
+pub mod FullBooks
+pub mod OneEvent

@@ -5,3 +5,5 @@ pub mod LastRecord
 pub mod RecordTest
 pub mod Trust
 pub mod FreshDisks
+pub mod RunRecords
+pub mod Syncs

@@ -6,6 +6,7 @@ pub mod Errors
 pub mod Opening
 pub mod Replay
 pub mod Soundness
+pub mod FirstSync
 pub mod Submit
 pub mod Rewrite
 pub mod Units

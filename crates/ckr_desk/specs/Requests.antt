@@ -1,5 +1,5 @@
 -- What the calls beside turns come to, from where the desk stands.
-use Rattle.std.specs.Prelude.{◌≡◌, ℕ, ◌+◌, ◌-◌, Bool, true, false, nat_le, List, [], ◌∷◌, length, Option, Some, None}
+use Rattle.std.specs.Prelude.{◌≡◌, ◌<◌, ℕ, ◌+◌, ◌-◌, Bool, true, nat_le, List, [], ◌∷◌, length, Option, Some, None, Result, Err}
 use Rattle.ckr_events.specs.declared.event.Event.{Event}
 use Rattle.ckr_events.specs.Event.{spelling}
 use Rattle.ckr_outside.specs.Faults.{Rose}
@@ -23,6 +23,12 @@ room_behind room (Some event) = room - (length (spelling event) + 5)
 abbrev pub spelled : Option Event → List (List ℕ)
 spelled None = []
 spelled (Some event) = spelling event ∷ []
+
+-- the event of a call that may have come, by its answer: want of memory and a full book keep none
+abbrev pub came_by : {T : Type 0} → Result T DeskError → List (List ℕ) → List (List ℕ)
+came_by (Err NoMemory) came = []
+came_by (Err (BookFull need left)) came = []
+came_by _ came = came
 
 -- ---- a call that is one event with its deck, or none
 
@@ -53,10 +59,20 @@ MayFail before now stopped (BookFull need room) = Unit {0}
 MayFail before now stopped (Stopped fault) = stopped ≡ Some fault
 MayFail before now stopped Misread = Unit {0}
 
--- where the disk is trusted: whether the book has room for the call's event
-abbrev pub FailsBy : Bool → DeskError → Type 0
-FailsBy fits NoMemory = Unit {0}
-FailsBy fits DiskFault = Unit {0}
-FailsBy fits (BookFull need room) = fits ≡ false
-FailsBy fits (Stopped fault) = Unit {0}
-FailsBy fits Misread = ⊥
+-- the book is full, by its room and the event of the call: what the event needs, and the room that is left, which is less
+abbrev pub IsFull : ℕ → Option Event → ℕ → ℕ → Type 0
+IsFull room None need left = ⊥
+IsFull room (Some event) need left = (need ≡ need_of event) × (left ≡ room) × (left < need)
+
+-- on any disk: the numbers of a full book
+abbrev pub TellsFull : ℕ → Option Event → DeskError → Type 0
+TellsFull room event (BookFull need left) = IsFull room event need left
+TellsFull room event _ = Unit {0}
+
+-- where the disk is trusted: the room of the book, and the event of the call, if it has one
+abbrev pub FailsBy : ℕ → Option Event → DeskError → Type 0
+FailsBy room event NoMemory = Unit {0}
+FailsBy room event DiskFault = Unit {0}
+FailsBy room event (BookFull need left) = IsFull room event need left
+FailsBy room event (Stopped fault) = Unit {0}
+FailsBy room event Misread = ⊥

@@ -1,17 +1,16 @@
 -- Which images of a disk are sound, and what a desk keeps of its disk.
-use Rattle.std.specs.Prelude.{◌≡◌, ◌⊎◌, ℕ, List, [], ◌∷◌, ◌++◌, Option, Result, Ok, Err}
+use Rattle.std.specs.Prelude.{◌≡◌, ℕ, List, [], ◌∷◌, ◌++◌, Option, Result, Ok, Err}
 use Rattle.std.specs.List.{flat_map}
 use Rattle.ckr_book.specs.Book.{room_of}
 use Rattle.ckr_events.specs.declared.event.Event.{Event}
 use Rattle.ckr_events.specs.Event.{event_of}
 use Rattle.ckr_desk_memory.specs.Replay.{deck_of}
-use Rattle.ckr_desk_turn.specs.Invariant.{HasRuns}
 use Rattle.ckr_desk_refines.specs.Commits.{HasCommitted}
 use Rattle.ckr_outside.specs.Disk.{EachSince}
+use Rattle.ckr_points.specs.Events.{AreSound}
 use Rattle.ckr_points.specs.Office.{Office, office}
 use Rattle.ckr_points.specs.Restart.{Decked}
 use Rattle.ckr_points.specs.Rows.{no_tables}
-use Rattle.ckr_points_invariant.specs.Invariant.{IsKept}
 use Rattle.ckr_desk_refines.specs.Standing.{StandsForDesk, desk_seen}
 use Rattle.ckr_desk_store.specs.OpenImages.{event_records}
 use Rattle.ckr_desk_turn.specs.Desk.{opened as opened_desk}
@@ -51,14 +50,13 @@ desk_opening image size = desk_of_opened image (opening_of image size)
 
 -- ---- sound images
 
--- An image opens; its events are kept, and are those of plain runs; and it has what they have committed, once the record is written again
--- that the last of them tells.
+-- An image opens, so that its events are those of what the desk runs; each of them may come and carries what its job gives; and the image
+-- has what they have committed, once the record is written again that the last of them tells.
 pub record Sound (size : ℕ) (image : List ℕ) : Type 0 where
   pub layout : Layout
   pub room : ℕ
   pub opens : opening_of image size ≡ Ok (opened_at layout (office_on layout image).tables room)
-  pub kept : IsKept layout (office_on layout image)
-  pub runs : HasRuns (office_on layout image)
+  pub events : AreSound layout (events_in (event_records layout image))
   pub committed : HasCommittedAgain layout (office_on layout image) (last_on layout image) image
   pub last : HasLast (office_on layout image) (last_on layout image)
 
@@ -66,12 +64,6 @@ pub record Sound (size : ℕ) (image : List ℕ) : Type 0 where
 pub record AllSound {D : Type 0} (told : Type 0) (may_leave : D → List ℕ → Type 0) (size : D → ℕ) (disk : D) : Type 0 where
   pub tells : told
   pub sound : (image : List ℕ) → may_leave disk image → Sound (size disk) image
-
--- An image that a stop may leave from a disk on that reads these bytes: it is one that the disk might have left before, or one that lacks
--- none of the events that the disk reads; and it is sound.
-pub record IsSafe (before : List ℕ → Type 0) (content : List ℕ) (size : ℕ) (image : List ℕ) : Type 0 where
-  pub sound : Sound size image
-  pub lacks_none : before image ⊎ ((opened : Opened) → opening_of content size ≡ Ok opened → (more : List (List ℕ)) × (event_records opened.layout image ≡ event_records opened.layout content ++ more))
 
 -- a stop leaves a sound image that has the events before, and the first of those that came then
 pub record HasKept (layout : Layout) (size : ℕ) (before came : List (List ℕ)) (image : List ℕ) : Type 0 where
@@ -92,11 +84,12 @@ module _ {D : Type 0} (content : D → List ℕ) where
   }
 
 module _ {D : Type 0} (told : Type 0) (content : D → List ℕ) (may_leave : D → List ℕ → Type 0) where
-  -- The disk tells what it holds. Its events have brought about the tables; the jobs in memory stand for the desk of the events; and each image has what
+  -- The disk tells what it holds. Its events are sound and have brought about the tables; the jobs in memory stand for the desk of the events; and each image has what
   -- the events have committed.
   pub record IsTrusted (desk : DeskView D) : Type 0 where
     pub tells : told
     pub opens : behind_records desk.store.layout no_tables 0 (event_records desk.store.layout (content desk.store.disk)) ≡ Ok desk.jobs.tables.desk
+    pub events : AreSound desk.store.layout (events_in (event_records desk.store.layout (content desk.store.disk)))
     pub stands : StandsForDesk desk.store.layout desk.jobs (content desk.store.disk) (state_of content desk).desk
     pub last : HasLast (office_on desk.store.layout (content desk.store.disk)) (last_on desk.store.layout (content desk.store.disk))
     pub committed : (image : List ℕ) → may_leave desk.store.disk image → HasCommitted desk.store.layout (office_on desk.store.layout (content desk.store.disk)) image

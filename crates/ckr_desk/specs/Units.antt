@@ -1,7 +1,5 @@
 -- A unit of a running step, and what goes on behind what a turn comes to, on any disk.
-use Rattle.std.specs.Prelude.{◌≡◌, ◌⊎◌, ◌++◌, ◌∷◌, [], ℕ, Bool, true, false, List, find, IfErr, IfOk, OnOk, Option, Some, None, Result}
-use Rattle.ckr_base.specs.declared.programs.NextDue.{NextDue}
-use Rattle.ckr_base.specs.declared.programs.NextDue.TheVariants as Dues
+use Rattle.std.specs.Prelude.{◌≡◌, ◌⊎◌, ◌++◌, ◌∷◌, [], ℕ, Bool, true, false, List, find, IfErr, IfOk, IsSome, OnOk, Option, Some, None, Result}
 use Rattle.ckr_events.specs.declared.event.Event.{Event}
 use Rattle.ckr_events.specs.Event.{spelling}
 use Rattle.ckr_desk_memory.specs.EventChanges.{is_of_run, without_first}
@@ -16,7 +14,6 @@ use Rattle.ckr_desk_refines.specs.Moves.{HasSameRecords}
 use Rattle.ckr_steps.specs.declared.step_run.Worked.{Worked}
 use Rattle.ckr_steps.specs.Places.{GoesOn, ShowsWithin, IsStepPlace}
 use Rattle.ckr_steps.specs.StepUnit.{HasWorked}
-use Rattle.ckr_steps.specs.Units.{due_of}
 use Rattle.ckr_steps.specs.Writes.{ChangesKeeping, StemsKeeping}
 use Rattle.ckr_desk_store.specs.OpenImages.{event_records, Opens}
 use Rattle.ckr_points_tables.specs.Invariant.{is_plain_event}
@@ -28,20 +25,13 @@ use Rattle.ckr_desk_turn.specs.declared.reply.Turn.{Turn}
 use Rattle.ckr_desk_turn.specs.Plans.{plan_of}
 use Rattle.ckr_volumes.specs.declared.layout.Layout.{Layout}
 use Rattle.ckr_desk.specs.declared.error.DeskError.{DeskError}
-use Rattle.ckr_desk.specs.declared.error.DeskError.TheVariants.{DiskFault, Misread}
+use Rattle.ckr_desk.specs.declared.error.DeskError.TheVariants.{DiskFault, Misread, NoMemory}
 use Rattle.ckr_desk.specs.Calls.{HasGoneOn, IsLeftBy, may_follow, may_keep}
 use Rattle.ckr_desk.specs.Soundness.{IsTrusted, KeepsWithin, state_of}
 use Rattle.ckr_desk.specs.State.{DeskView}
 use Rattle.ckr_desk.specs.Rewrite.{CannotWrite, IsWrittenBy, LacksAtMost, OpensSame}
-use Rattle.ckr_desk.specs.Requests.{FailsBy, spelled}
+use Rattle.ckr_desk.specs.Requests.{FailsBy, came_by, spelled}
 use Rattle.ckr_desk.specs.Turn.{behind_turn, event_of_turn, reply_of, turn_fits}
-use Rattle.ckr_desk.specs.declared.preparation.Ready.{Ready}
-
-abbrev pub is_unit : NextDue → Bool
-is_unit Dues.Unit = true
-is_unit Dues.Checkpoint = false
-is_unit Dues.Cancel = false
-is_unit (Dues.Finished rc) = false
 
 -- the plan is what the turn tells of the unit, where its run is within a step of its deck
 abbrev pub IsToldOf : Layout → TablesModel → RunningStepView → Worked → Plan → Type 0
@@ -68,19 +58,10 @@ module _ {D : Type 0} (told : Type 0) (content : D → List ℕ) (may_leave : D 
     pub store : new.store ≡ record old.store { disk = new.store.disk }
     pub planned : IsToldOf old.store.layout old.jobs.tables.desk moved worked plan
 
--- why a unit wasn't done: the disk failed, or none is due
-abbrev pub NotUnit : ℕ → ℕ → Bool → DeskError → Type 0
-NotUnit before now due DiskFault = Rose before now
-NotUnit before now due Misread = due ≡ false
-NotUnit before now due _ = ⊥
-
--- the same of the running step of a run, if it has one
-abbrev pub NoUnitIn : ℕ → ℕ → Option RunningStepView → DeskError → Type 0
-NoUnitIn before now None error = error ≡ Misread
-NoUnitIn before now (Some on) error = NotUnit before now (is_unit (due_of on.step.parm on.step.state)) error
-
-abbrev pub NoUnit : ℕ → ℕ → ℕ → List RunningStepView → DeskError → Type 0
-NoUnit before now run running error = NoUnitIn before now (find (is_of_run run) running) error
+-- why a unit wasn't done: the disk failed
+abbrev pub NotUnit : ℕ → ℕ → DeskError → Type 0
+NotUnit before now DiskFault = Rose before now
+NotUnit before now _ = ⊥
 
 -- ---- what a stop leaves
 
@@ -122,19 +103,35 @@ abbrev pub HasGoneBehind : {D : Type 0} → Type 0 → (D → List ℕ) → Opti
 HasGoneBehind told content None old new = new ≡ old
 HasGoneBehind told content (Some event) old new = HasGoneOn event None old new × (told → HasWrittenBehind content event old new)
 
--- why what a turn comes to wasn't done, where its event was ready, or wasn't
-abbrev pub NotTold : {D : Type 0} → (D → ℕ) → Event → Option Ready → DeskView D → DeskView D → DeskError → Type 0
-NotTold faults event ready old new DiskFault = Rose (faults old.store.disk) (faults new.store.disk)
-NotTold faults event ready old new Misread =
-    (ready ≡ None) ⊎ ((is_plain_event event ≡ false) ⊎ ((may_follow event None old ≡ false) ⊎ CannotWrite event (after_event event None old.jobs.tables.desk)))
-NotTold faults event ready old new _ = ⊥
+-- the event of a plan, if it has one, is plain
+abbrev pub IsPlainPlan : Plan → Type 0
+IsPlainPlan (Rest reply) = Unit {0}
+IsPlainPlan (Tell reply event) = is_plain_event event ≡ true
+IsPlainPlan (Work job) = Unit {0}
 
-abbrev pub NotBehind : {D : Type 0} → (D → ℕ) → Plan → Option Ready → DeskView D → DeskView D → DeskError → Type 0
-NotBehind faults (Rest reply) ready old new error = ⊥
-NotBehind faults (Tell reply event) ready old new error = NotTold faults event ready old new error
-NotBehind faults (Work job) ready old new error = error ≡ Misread
+-- a plan that tells a plain event or none
+abbrev pub IsPlainTold : Plan → Type 0
+IsPlainTold (Rest reply) = Unit {0}
+IsPlainTold (Tell reply event) = is_plain_event event ≡ true
+IsPlainTold (Work job) = ⊥
+
+-- why what a turn comes to wasn't done
+abbrev pub NotTold : {D : Type 0} → (D → ℕ) → Event → DeskView D → DeskView D → DeskError → Type 0
+NotTold faults event old new DiskFault = Rose (faults old.store.disk) (faults new.store.disk)
+NotTold faults event old new Misread = (may_follow event None old ≡ false) ⊎ CannotWrite event (after_event event None old.jobs.tables.desk)
+NotTold faults event old new _ = ⊥
+
+abbrev pub NotBehind : {D : Type 0} → (D → ℕ) → Plan → DeskView D → DeskView D → DeskError → Type 0
+NotBehind faults (Rest reply) old new error = ⊥
+NotBehind faults (Tell reply event) old new error = NotTold faults event old new error
+NotBehind faults (Work job) old new error = ⊥
 
 -- ---- a turn
+
+-- there is no memory only where the turn tells an event
+abbrev pub TakesBy : Option Event → DeskError → Type 0
+TakesBy event NoMemory = IsSome event
+TakesBy event _ = Unit {0}
 
 -- the desk is trusted, and this is what the turn comes to
 pub record IsPlanned {D : Type 0} (told : Type 0) (content : D → List ℕ) (may_leave : D → List ℕ → Type 0) (desk : DeskView D) (turn : Turn) (plan : Plan) : Type 0 where
@@ -149,5 +146,7 @@ pub record HasTurned {D : Type 0} (told : Type 0) (content : D → List ℕ) (ma
   pub fits : OnOk result (turn_fits (state_of content old) turn ≡ true)
   pub after : OnOk result (state_of content new ≡ behind_turn (state_of content old) turn)
   pub trusted : OnOk result (IsTrusted told content may_leave new)
-  pub cause : IfErr result (FailsBy (turn_fits (state_of content old) turn))
-  pub kept : KeepsWithin content moment left_since size old new (spelled (event_of_turn (state_of content old) turn))
+  pub events : OnOk result (event_records old.store.layout (content new.store.disk) ≡ event_records old.store.layout (content old.store.disk) ++ spelled (event_of_turn (state_of content old) turn))
+  pub cause : IfErr result (FailsBy (state_of content old).room (event_of_turn (state_of content old) turn))
+  pub takes : IfErr result (TakesBy (event_of_turn (state_of content old) turn))
+  pub kept : KeepsWithin content moment left_since size old new (came_by result (spelled (event_of_turn (state_of content old) turn)))

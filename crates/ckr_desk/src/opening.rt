@@ -14,9 +14,10 @@ ghost use Rattle.ckr_volumes.specs.Header.{header_of, IsHeader};
 ghost use Rattle.ckr_volumes.specs.Layouts.{is_laid_out};
 ghost use Rattle.ckr_desk.specs.Opening.{opening_of};
 ghost use Rattle.ckr_desk.specs.Calls.{HasSameJobs};
+ghost use Rattle.ckr_desk.specs.FirstSync.{FromSync, IsLeft};
 ghost use Rattle.ckr_desk.specs.Replay.{IsReplayed, IsReplayedTo, GoneOn, LastGone, ReplayCause, EventCause, OpenCause, IsFound};
 ghost use Rattle.ckr_desk.specs.Replay.{HasFailedAgain, IsLackingAgain, IsWrittenAgain, fits_in, has_record};
-ghost use Rattle.ckr_desk.specs.Soundness.{AllSound, IsSafe, IsTrusted, desk_opening, events_in, last_on, state_of};
+ghost use Rattle.ckr_desk.specs.Soundness.{AllSound, HasKept, IsTrusted, desk_opening, events_in, last_on, state_of};
 ghost use Rattle.ckr_desk.specs.State.{opened_of};
 
 use crate::{Desk, OpenError, Opening};
@@ -155,6 +156,7 @@ fn read_disk<D: Disk>(alloc: Global, disk: &mut D) -> Result<Found, OpenError>
     ensures failed { IfOk result (λ found. found.jobs.failed ≡ failed_in found.jobs.tables.desk) }
     ensures running { IfOk result (λ found. found.jobs.running ≡ []) }
     ensures settled { OnOk result (Only (D.content disk.new) (D.may_leave disk.new)) }
+    ensures synced { OnOk result (FromSync D.content D.may_leave D.moment D.left_since disk.old disk.new (λ image. image ≡ D.content disk.old)) }
     ensures only_reads { OnlyReads D.content D.may_leave D.moment D.left_since disk.old disk.new }
     ensures size { D.size disk.new ≡ D.size disk.old }
     ensures faults { D.faults disk.old ≤ D.faults disk.new }
@@ -199,6 +201,7 @@ impl<D: Disk> Desk<D> {
         ensures running { IfOk result (λ found. found.desk.jobs.running ≡ []) }
         ensures is_open { IfOk result (λ found. found.desk.store.fault ≡ None) }
         ensures settled { IfOk result (λ found. Only (D.content found.desk.store.disk) (D.may_leave found.desk.store.disk)) }
+        ensures synced { IfOk result (λ found. FromSync D.content D.may_leave D.moment D.left_since disk found.desk.store.disk (λ image. image ≡ D.content disk)) }
         ensures only_reads { IfOk result (λ found. OnlyReads D.content D.may_leave D.moment D.left_since disk found.desk.store.disk) }
         ensures left { IfErr result (λ opening. OnlyReads D.content D.may_leave D.moment D.left_since disk opening.disk) }
         ensures size { IfOk result (λ found. D.size found.desk.store.disk ≡ D.size disk) }
@@ -291,8 +294,9 @@ impl<D: Disk> Desk<D> {
     /// have failed.
     ///
     /// `OpenError`: `NoMemory`, and `Fault` only where the disk's faults rose in this call; the causes behind them exactly by the bytes
-    /// that the disk reads, the first one in their order (this project's profile). A stop at any moment leaves an image that the disk
-    /// might have left before, or one that lacks none of the events that the disk reads.
+    /// that the disk reads, the first one in their order (this project's profile). Until the first sync has succeeded a stop leaves an image
+    /// that the disk might have left before, and from then on a sound one with exactly the events that the disk reads. A disk that isn't
+    /// opened was only read, unless it failed while that record was written again.
     pub fn open_on(alloc: Global, disk: D) -> Result<Desk<D>, Opening<D>>
         ensures opened { AllSound D.told D.may_leave D.size disk → IfOk result (λ desk. desk_opening (D.content disk) (D.size disk) ≡ Ok (state_of D.content desk)) }
         ensures trusted { AllSound D.told D.may_leave D.size disk → IfOk result (λ desk. IsTrusted D.told D.content D.may_leave desk) }
@@ -307,13 +311,13 @@ impl<D: Disk> Desk<D> {
         ensures never_falls_left { IfErr result (λ opening. D.faults disk ≤ D.faults opening.disk) }
         ensures cause { IfErr result (λ opening. OpenCause (Rose (D.faults disk) (D.faults opening.disk)) D.told
             (desk_opening (D.content disk) (D.size disk)) opening.error) }
-        ensures kept { AllSound D.told D.may_leave D.size disk → IfOk result (λ desk. EachSince D.moment D.left_since disk desk.store.disk
-            (IsSafe (D.may_leave disk) (D.content disk) (D.size disk))) }
-        ensures kept_left { AllSound D.told D.may_leave D.size disk → IfErr result (λ opening. EachSince D.moment D.left_since disk opening.disk
-            (IsSafe (D.may_leave disk) (D.content disk) (D.size disk))) }
+        ensures kept { AllSound D.told D.may_leave D.size disk → IfOk result (λ desk. FromSync D.content D.may_leave D.moment D.left_since disk desk.store.disk
+            (HasKept desk.store.layout (D.size disk) (event_records desk.store.layout (D.content disk)) [])) }
+        ensures left { IfErr result (λ opening. IsLeft D.content D.may_leave D.moment D.left_since D.size D.told (AllSound D.told D.may_leave D.size disk)
+            opening.error disk opening.disk) }
         ensures events { AllSound D.told D.may_leave D.size disk → IfOk result (λ desk.
             desk_opening (D.content desk.store.disk) (D.size disk) ≡ desk_opening (D.content disk) (D.size disk)) }
-        ensures records { AllSound D.told D.may_leave D.size disk → IfOk result (λ desk.
+        ensures records { D.told → IfOk result (λ desk.
             event_records desk.store.layout (D.content desk.store.disk) ≡ event_records desk.store.layout (D.content disk)) }
     {
         let Read { mut desk, last } = Desk::read_on(alloc, disk)?;

@@ -1,28 +1,28 @@
 //! What goes on behind what a turn comes to.
 ghost use Rattle.std.specs.Prelude.{◌≡◌, ◌≤◌, IfErr, IfOk, OnOk, None};
-ghost use Rattle.ckr_desk_memory.specs.Plans.{IsSpelledPlan, IsToldReply};
+ghost use Rattle.ckr_desk_memory.specs.Plans.{HasUnitDue, IsSpelledPlan, IsToldReply};
 ghost use Rattle.ckr_outside.specs.Disk.{EachSince};
 ghost use Rattle.ckr_desk_refines.specs.Moves.{event_in, reply_in};
 ghost use Rattle.ckr_desk.specs.Calls.{IsSettledBehind};
 ghost use Rattle.ckr_desk.specs.Requests.{MayFail};
-ghost use Rattle.ckr_desk.specs.Preparation.{IsReadyIf};
+ghost use Rattle.ckr_desk.specs.Preparation.{IsReadyFor};
 ghost use Rattle.ckr_desk.specs.NoChange.{HasHalted, StaysBy};
-ghost use Rattle.ckr_desk.specs.Units.{HasGoneBehind, HasTurned, IsLeftBehind, IsPlanned, NotBehind};
+ghost use Rattle.ckr_desk.specs.Units.{HasGoneBehind, HasTurned, IsLeftBehind, IsPlainPlan, IsPlainTold, IsPlanned, NotBehind};
 ghost use Rattle.ckr_desk_turn.specs.declared.reply.Turn.{Turn as TurnOf};
 
 use crate::preparation::Ready;
 use crate::{Desk, DeskError};
 use ckr_desk_turn::{Plan, Reply};
 use ckr_outside::Disk;
-use ckr_points_tables::is_plain;
 
 impl<D: Disk> Desk<D> {
-    /// Goes on behind what a turn comes to: its event, if it tells one, is kept with what is ready for it, and the record that it tells of is
-    /// written. It takes no memory.
+    /// Goes on behind what a turn comes to, which is no unit: its event, if it tells one, is kept with what is ready for it, and the record
+    /// that it tells of is written. It takes no memory.
     pub(crate) fn go_on(&mut self, plan: Plan, ready: Option<Ready>) -> Result<Reply, DeskError>
         requires is_open { self.old.store.fault ≡ None }
         requires spelled { IsSpelledPlan plan }
-        requires ready { IsReadyIf (event_in plan) self.old ready }
+        requires plain { IsPlainTold plan }
+        requires ready { IsReadyFor (event_in plan) self.old ready }
         ensures reply { IfOk result (λ reply. reply ≡ reply_in plan) }
         ensures spelled { IfOk result IsToldReply }
         ensures gone { OnOk result (HasGoneBehind D.told D.content (event_in plan) self.old self.new) }
@@ -32,24 +32,19 @@ impl<D: Disk> Desk<D> {
         ensures layout { self.new.store.layout ≡ self.old.store.layout }
         ensures size { D.size self.new.store.disk ≡ D.size self.old.store.disk }
         ensures faults { D.faults self.old.store.disk ≤ D.faults self.new.store.disk }
-        ensures cause { IfErr result (NotBehind D.faults plan ready self.old self.new) }
+        ensures cause { IfErr result (NotBehind D.faults plan self.old self.new) }
         ensures halted { IfErr result (HasHalted D.faults self.new.store) }
     {
         let _layout = self.store.layout();
         match plan {
             Plan::Rest(reply) => Ok(reply),
             Plan::Tell { reply, event } => {
-                let Some(ready) = ready else {
-                    return Err(DeskError::Misread);
-                };
-                if !is_plain(&event) {
-                    return Err(DeskError::Misread);
-                }
+                let Some(ready) = ready else { unreachable!() };
                 self.tell_ready(&event, None, ready)?;
                 self.rewrite(&event)?;
                 Ok(reply)
             }
-            Plan::Work { .. } => Err(DeskError::Misread),
+            Plan::Work { .. } => unreachable!(),
         }
     }
 
@@ -57,6 +52,8 @@ impl<D: Disk> Desk<D> {
     pub(crate) fn carry_out(&mut self, plan: Plan) -> Result<Reply, DeskError>
         requires is_open { self.old.store.fault ≡ None }
         requires spelled { IsSpelledPlan plan }
+        requires plain { IsPlainPlan plan }
+        requires works { HasUnitDue self.old.jobs plan }
         ensures turned { (turn : TurnOf) → IsPlanned D.told D.content D.may_leave self.old turn plan → HasTurned D.told D.content D.may_leave D.moment D.left_since D.size turn self.old self.new result }
         ensures spelled { IfOk result IsToldReply }
         ensures is_open { OnOk result (self.new.store.fault ≡ None) }

@@ -1,5 +1,6 @@
 //! The records of a data set as they stand on the disk.
-ghost use Rattle.std.specs.Prelude.{◌≡◌, ◌≤◌, ◌<◌, ◌∷◌, [], ◌++◌, Err, None, IfOk, IfErr, IfSome, OnOk, true};
+ghost use Rattle.std.specs.Prelude.{◌≡◌, ◌≤◌, ◌<◌, ◌∷◌, [], ◌++◌, Err, None, IfOk, IfErr, IfSome, OnOk};
+ghost use Rattle.ckr_book.specs.Book.{room_of};
 ghost use Rattle.ckr_outside.specs.Disk.{OnlyReads};
 ghost use Rattle.ckr_volumes.specs.Records.{record_at, records_on};
 ghost use Rattle.ckr_volumes.specs.Layouts.{StandsIn};
@@ -77,7 +78,7 @@ impl<D: Disk> Desk<D> {
         ensures faults { D.faults self.old.store.disk ≤ D.faults self.new.store.disk }
         ensures stopped { IfSome self.old.store.fault (λ fault. result ≡ Err (DeskError.Stopped fault)) }
         ensures may_fail { IfErr result (MayFail (D.faults self.old.store.disk) (D.faults self.new.store.disk) self.old.store.fault) }
-        ensures cause { IsTrusted D.told D.content D.may_leave self.old → IfErr result (FailsBy true) }
+        ensures cause { IsTrusted D.told D.content D.may_leave self.old → IfErr result (FailsBy (room_of self.old.store.book) None) }
         ensures stays { IfErr result (StaysBy D.content D.may_leave D.faults self.old self.new) }
 
         // A stop at any moment leaves a sound image with the same events.

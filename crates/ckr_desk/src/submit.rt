@@ -2,6 +2,7 @@
 ghost use Rattle.std.specs.Prelude.{◌≡◌, ◌≤◌, ◌<◌, ◌*◌, ◌%◌, ◌++◌, ◌∷◌, [], Err, IfErr, IfOk, IfSome, MatchOption, None, OnOk, Some, length, true};
 ghost use Rattle.ckr_events.specs.declared.event.Event.TheVariants as Events;
 ghost use Rattle.ckr_events.specs.Event.{spelling};
+ghost use Rattle.ckr_book.specs.Book.{room_of};
 ghost use Rattle.ckr_outside.specs.Disk.{EachSince, Only};
 ghost use Rattle.ckr_desk_refines.specs.Moves.{HasSameRecords};
 ghost use Rattle.ckr_points_decks.specs.Cards.{kept_of_stored};
@@ -10,7 +11,7 @@ ghost use Rattle.ckr_desk_store.specs.OpenImages.{event_records};
 ghost use Rattle.ckr_points_decks.specs.Form.{submission_of};
 ghost use Rattle.ckr_points_decks.specs.declared.submit.Submission.TheVariants as Decks;
 ghost use Rattle.ckr_desk.specs.NoChange.{StaysBy};
-ghost use Rattle.ckr_desk.specs.Requests.{FailsBy, MayFail, behind_call, call_fits, event_in, spelled};
+ghost use Rattle.ckr_desk.specs.Requests.{FailsBy, MayFail, TellsFull, behind_call, call_fits, came_by, event_in, spelled};
 ghost use Rattle.ckr_desk.specs.Soundness.{IsTrusted, KeepsWithin, state_of};
 ghost use Rattle.ckr_desk.specs.Calls.{HasDone, HasGoneOn, IsLeftBy, IsLeftByCall, IsSettledBehind, NotDone, NotKept, with_event};
 ghost use Rattle.ckr_desk.specs.Submit.{answer_to, call_by, number_for, submit_answer, submit_call};
@@ -134,6 +135,8 @@ impl<D: Disk> Desk<D> {
         ensures answer { IfOk result (λ answer. answer ≡ submit_answer self.old.jobs.tables.desk cards.now) }
         ensures fits { IsTrusted D.told D.content D.may_leave self.old → OnOk result (call_fits (state_of D.content self.old) (submit_call self.old.jobs.tables.desk cards.now) ≡ true) }
         ensures after { IsTrusted D.told D.content D.may_leave self.old → OnOk result (state_of D.content self.new ≡ behind_call (state_of D.content self.old) (submit_call self.old.jobs.tables.desk cards.now)) }
+        ensures told { D.told → OnOk result (event_records self.old.store.layout (D.content self.new.store.disk)
+            ≡ event_records self.old.store.layout (D.content self.old.store.disk) ++ spelled (event_in (submit_call self.old.jobs.tables.desk cards.now))) }
         ensures trusted { IsTrusted D.told D.content D.may_leave self.old → OnOk result (IsTrusted D.told D.content D.may_leave self.new) }
         ensures is_open { OnOk result (self.new.store.fault ≡ None) }
         ensures layout { self.new.store.layout ≡ self.old.store.layout }
@@ -141,12 +144,13 @@ impl<D: Disk> Desk<D> {
         ensures faults { D.faults self.old.store.disk ≤ D.faults self.new.store.disk }
         ensures stopped { IfSome self.old.store.fault (λ fault. result ≡ Err (DeskError.Stopped fault)) }
         ensures may_fail { IfErr result (MayFail (D.faults self.old.store.disk) (D.faults self.new.store.disk) self.old.store.fault) }
-        ensures cause { IsTrusted D.told D.content D.may_leave self.old → IfErr result (FailsBy (call_fits (state_of D.content self.old) (submit_call self.old.jobs.tables.desk cards.now))) }
+        ensures cause { IsTrusted D.told D.content D.may_leave self.old → IfErr result (FailsBy (room_of self.old.store.book) (event_in (submit_call self.old.jobs.tables.desk cards.now))) }
+        ensures full { IfErr result (TellsFull (room_of self.old.store.book) (event_in (submit_call self.old.jobs.tables.desk cards.now))) }
         ensures stays { IfErr result (StaysBy D.content D.may_leave D.faults self.old self.new) }
 
-        // A stop at any moment leaves a sound image with the events before the call, or with its one event too.
+        // A stop at any moment leaves a sound image with the events before the call, or with its one event too; with none where it found no memory, or no room in the book.
         ensures kept { self.old.store.fault ≡ None → IsTrusted D.told D.content D.may_leave self.old
-            → KeepsWithin D.content D.moment D.left_since D.size self.old self.new (spelled (event_in (submit_call self.old.jobs.tables.desk cards.now))) }
+            → KeepsWithin D.content D.moment D.left_since D.size self.old self.new (came_by result (spelled (event_in (submit_call self.old.jobs.tables.desk cards.now)))) }
     {
         let _layout = self.store.layout();
         self.hand_in(cards)

@@ -20,8 +20,14 @@ pub record TookTooMany (left rest : Option (List ℕ)) : Type 0 where
   pub given : Consumes left rest taken
   pub many : length taken ≡ 16_777_217
 
--- why the source wasn't read to its end
+-- the source gave no more than a stream may have
+pub record TookSome (left rest : Option (List ℕ)) : Type 0 where
+  pub taken : List ℕ
+  pub given : Consumes left rest taken
+  pub few : length taken ≤ 16_777_216
+
+-- why the source wasn't read to its end, and what it gave
 abbrev pub StoppedBy : StreamStop → ℕ → ℕ → Option (List ℕ) → Option (List ℕ) → Type 0
-StoppedBy Source before now left rest = Rose before now
-StoppedBy Memory before now left rest = Unit {0}
+StoppedBy Source before now left rest = Rose before now × TookSome left rest
+StoppedBy Memory before now left rest = TookSome left rest
 StoppedBy Limit before now left rest = TookTooMany left rest

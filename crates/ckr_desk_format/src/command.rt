@@ -1,10 +1,10 @@
 //! The command that formats a disk.
-ghost use Rattle.std.specs.Prelude.{◌≡◌, IfOk};
+ghost use Rattle.std.specs.Prelude.{◌≡◌, IfOk, MatchResult};
 ghost use Rattle.ckr_outside.specs.Disk.{ChangesWithin};
 ghost use Rattle.ckr_outside.specs.Faults.{Rose};
 ghost use Rattle.ckr_volumes.specs.Header.{IsHeader};
 ghost use Rattle.ckr_desk_format.specs.Texts.{said_text};
-ghost use Rattle.ckr_desk_format.specs.Formats.{IsFormatted, Carried, Ends, CausedBy, outcome_of};
+ghost use Rattle.ckr_desk_format.specs.Formats.{IsFormatted, FormatsBy, Carried, Ends, CausedBy, outcome_of};
 
 use crate::CardRefusal;
 use crate::lines::read_cards;
@@ -46,6 +46,8 @@ fn carry_out<K: Sink, D: Disk>(
     ensures carried { Carried result said (IsFormatted D.told (D.content disk.new) (D.may_leave disk.new) (D.size disk.new)) (disk.new ≡ disk.old)
         (K.written sink.old) (K.written sink.new) }
     ensures changes { ChangesWithin D.told D.content D.may_leave D.moment D.left_since 0 513 disk.old disk.new }
+    ensures stays { MatchResult said (FormatsBy D.told D.content D.may_leave D.moment D.left_since (D.size disk.old) disk.old disk.new)
+        (λ refusal. disk.new ≡ disk.old) }
     ensures cause { CausedBy result ⊥ (Rose (K.faults sink.old) (K.faults sink.new)) (Rose (D.faults disk.old) (D.faults disk.new)) }
 {
     match said {
@@ -79,7 +81,8 @@ fn outcome_of(stop: StreamStop) -> FormatOutcome
 }
 
 /// Formats the disk by the installation cards of the source, and writes one line. The source is read to its end, and
-/// the line is made, before the disk is called.
+/// the line is made, before the disk is called. A stop at any moment leaves the disk as it was, but for the header's
+/// gate, or one that isn't formatted, or one that is formatted as the cards say, with an empty book.
 ///
 /// - `Formatted`: the disk is formatted as the cards say. Every image that a stop may leave of it is so, and has an
 ///   empty book. The line says its volumes, units and initiators.
@@ -95,7 +98,8 @@ pub fn format_disk<S: Source, K: Sink, D: Disk>(
     disk: &mut D,
 ) -> FormatOutcome
     ensures ends { Ends result (S.left source.old) (S.left source.new) (D.size disk.old)
-        (IsFormatted D.told (D.content disk.new) (D.may_leave disk.new) (D.size disk.new)) (disk.new ≡ disk.old)
+        (IsFormatted D.told (D.content disk.new) (D.may_leave disk.new) (D.size disk.new))
+        (FormatsBy D.told D.content D.may_leave D.moment D.left_since (D.size disk.old) disk.old disk.new) (disk.new ≡ disk.old)
         (K.written sink.old) (K.written sink.new) }
 
     // Outside the header and the first gate of the book no byte changes, also in what a stop leaves.

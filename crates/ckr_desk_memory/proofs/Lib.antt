@@ -1,6 +1,8 @@
 pub use Rattle.ckr_points_follows.proofs.RewriteCounts
 pub mod FoundRuns
 pub mod Plans
+pub mod DueUnits
+pub mod WorkPlans
 pub mod RuleCases
 pub mod FailedRuns
 pub mod RecordCounts

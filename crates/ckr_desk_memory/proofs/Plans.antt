@@ -1,5 +1,5 @@
 -- A turn's plan, case by case.
-use Rattle.std.proofs.Common.{◌≡◌, ◌==◌, ◌≤◌, ◌<◌, ℕ, zero, suc, Bool, true, false, cond, nat_eq, refl, ap, sym, ◌∙◌, subst, IsSome, List, [], ◌∷◌, find, length, pred, slice_get, Option, None, Some, Result, Ok, Err, arith}
+use Rattle.std.proofs.Common.{IfErr, ◌≡◌, ◌==◌, ◌≤◌, ◌<◌, ℕ, zero, suc, Bool, true, false, cond, nat_eq, refl, ap, sym, ◌∙◌, subst, IsSome, List, [], ◌∷◌, find, length, pred, slice_get, Option, None, Some, Result, Ok, Err, arith}
 use Rattle.std.specs.List.{list_any, AllByRecursion}
 use Rattle.std.specs.Option.{is_some, option_eq, option_map, option_map_or}
 use Rattle.std.proofs.lemmas.Bool.{false≢true}
@@ -38,7 +38,7 @@ use Rattle.ckr_desk_turn.specs.declared.plan.Plan.{Plan}
 use Rattle.ckr_desk_turn.specs.declared.plan.Plan.TheVariants.{Rest, Tell, Work}
 use Rattle.ckr_desk_turn.specs.declared.reply.How.TheVariants.{Completed, Allocation as AllocationHow}
 use Rattle.ckr_desk_turn.specs.declared.reply.Reply.TheVariants.{Idle, NothingToFail, Started, JobEnded}
-use Rattle.ckr_desk_turn.specs.Allocation.{cause_numbers, items_in}
+use Rattle.ckr_desk_turn.specs.Allocation.{allocation_of, cause_numbers, items_in}
 use Rattle.ckr_desk_turn.specs.Select.{is_on, next_run, run_on_initiator}
 use Rattle.ckr_desk_turn.specs.Codes.{code_plan, reached_by}
 use Rattle.ckr_desk_turn.specs.Jobs.{TurnJobs, TurnStep, is_failed, running_in}
@@ -48,7 +48,7 @@ use Rattle.ckr_desk_turn.proofs.Queue.Select.{selection_is_next}
 use Rattle.ckr_desk_turn.proofs.RunEnd.{refused-inside}
 use Rattle.ckr_volumes.specs.declared.layout.Layout.{Layout}
 use Rattle.ckr_desk_memory.specs.Invariant.{IsAcceptedRow, IsAnyPlaceOf, IsPlacedRow}
-use Rattle.ckr_desk_memory.specs.Plans.{next_step, row_for, IsKnown}
+use Rattle.ckr_desk_memory.specs.Plans.{next_step, row_for, IsKnown, Tells}
 use Rattle.ckr_desk_memory.specs.View.{JobsView, RunningStepView, finished_by, jobs_of, lengths_of_row, running_of}
 use Rattle.ckr_desk_memory.proofs.Starts.Steps.{row-among, step-among}
 use Rattle.ckr_desk_memory.proofs.FoundRuns.{found-run, known-is, known-row, lengths-known, running-found}
@@ -326,3 +326,24 @@ on-run tables numbered initiator job is =
 
 pub on-none : (tables : TablesModel) (initiator : ℕ) → None ≡ run_on initiator tables → run_on_initiator tables initiator ≡ None
 on-none tables initiator is = none-numbered (run_on_initiator tables initiator) (is ∙ ap (option_map (λ (row : RunRow). row.number)) (on-same initiator tables.runs))
+
+-- ---- what tells an event
+
+either-tells : (r : Result (List Made) Refusal) (f : Refusal → Plan) (g : List Made → Plan) → ((x : Refusal) → Tells (f x)) → ((x : List Made) → Tells (g x))
+    → Tells (elim r as (λ _. Plan) [ Err refusal ↦ f refusal | Ok items ↦ g items ])
+either-tells (Err refusal) f g first second = first refusal
+either-tells (Ok items) f g first second = second items
+
+some-tells : (o : Option OwnedStep) (none : Plan) (f : OwnedStep → Plan) → Tells none → ((x : OwnedStep) → Tells (f x)) → Tells (elim o as (λ _. Plan) [ None ↦ none | Some x ↦ f x ])
+some-tells None none f first second = first
+some-tells (Some x) none f first second = second x
+
+-- a run that is between two steps always does
+pub between-tells : (layout : Layout) (jobs : TurnJobs) (row : RunRow) (number : ℕ) → Tells (between_plan layout jobs row number)
+between-tells layout jobs row number =
+    some-tells (step_of_run row number) _ _ tt (λ owned. either-tells (allocation_of layout row owned number jobs.tables) _ _ (λ refusal. tt) (λ items. tt))
+
+-- so it does where there is no memory
+pub if-tells : {T E : Type 0} (result : Result T E) (plan : Plan) → Tells plan → IfErr result (λ _. Tells plan)
+if-tells (Ok x) plan tells = tt
+if-tells (Err error) plan tells = tells

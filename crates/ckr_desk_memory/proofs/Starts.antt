@@ -1,5 +1,6 @@
 pub mod Steps
 pub mod Names
 pub mod NewStep
+pub mod Cancels
 pub mod Sets
 pub mod ProgramSets

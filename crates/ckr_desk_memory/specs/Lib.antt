@@ -1,4 +1,5 @@
 pub mod EventChanges
+pub mod Extents
 pub mod RunningSteps
 pub mod Invariant
 pub mod Parts

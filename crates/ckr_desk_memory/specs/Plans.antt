@@ -1,8 +1,10 @@
 -- What a turn comes to, by the jobs in memory.
-use Rattle.std.specs.Prelude.{◌≡◌, ◌≤◌, ℕ, Bool, true, false, IsSome, [], Option, None, Some, pred, slice_get}
+use Rattle.std.specs.Prelude.{◌≡◌, ◌≤◌, ℕ, Bool, true, false, IsSome, [], find, Option, None, Some, pred, slice_get}
 use Rattle.std.specs.List.{AllByRecursion}
 use Rattle.ckr_base.specs.declared.code.Code.{Code}
-use Rattle.ckr_events.specs.declared.event.Event.TheVariants.{Rewritten as RewrittenEvent}
+use Rattle.ckr_base.specs.declared.programs.NextDue.TheVariants.{Unit as OneUnit}
+use Rattle.ckr_events.specs.declared.event.Event.{Event}
+use Rattle.ckr_events.specs.declared.event.Event.TheVariants.{Rewritten as RewrittenEvent, Ended as EndedEvent}
 use Rattle.ckr_meaning.specs.EffectiveJob.{OwnedStep, plain_job}
 use Rattle.ckr_meaning.specs.declared.place.Place.{Place}
 use Rattle.ckr_meaning.specs.declared.place.Place.TheVariants.{Before, Opened, Within}
@@ -10,7 +12,10 @@ use Rattle.ckr_points.specs.declared.run.RunState.TheVariants.{On}
 use Rattle.ckr_points.specs.Rows.{RunRow, TablesModel, run_of, step_of_run}
 use Rattle.ckr_steps.specs.declared.step_run.Worked.{Worked}
 use Rattle.ckr_steps.specs.declared.step_run.Worked.TheVariants.{Went, Rewrite, Abend}
-use Rattle.ckr_steps.specs.StepUnit.{AreCounted}
+use Rattle.ckr_steps.specs.declared.unit_ahead.UnitAhead.{UnitAhead}
+use Rattle.ckr_steps.specs.StepUnit.{AreCounted, behind_ahead}
+use Rattle.ckr_steps.specs.Units.{due_of}
+use Rattle.ckr_steps.specs.Writes.{grown}
 use Rattle.ckr_points_decks.specs.DeckLimits.{FitsAllocation, IsWithinLimits}
 use Rattle.ckr_points_tables.specs.declared.run_table.RunTable.{RunTable}
 use Rattle.ckr_points_tables.specs.Invariant.{HasRoom}
@@ -26,7 +31,8 @@ use Rattle.ckr_desk_turn.specs.Jobs.{TurnStep, step_name_of}
 use Rattle.ckr_desk_turn.specs.Spelling.{IsCode, IsSpelled}
 use Rattle.ckr_volumes.specs.declared.layout.Layout.{Layout}
 use Rattle.ckr_desk_memory.specs.declared.run_code.CodePlace.{CodePlace}
-use Rattle.ckr_desk_memory.specs.View.{RunningStepView}
+use Rattle.ckr_desk_memory.specs.EventChanges.{is_of_run}
+use Rattle.ckr_desk_memory.specs.View.{JobsView, RunningStepView}
 
 -- a run by its number and by what the tables keep of it; a plan asks no more of its line
 abbrev pub row_for : ℕ → RunTable → RunRow
@@ -93,13 +99,44 @@ HasPlanRoom tables (Rest reply) = Unit {0}
 HasPlanRoom tables (Tell reply event) = HasRoom tables event
 HasPlanRoom tables (Work job) = Unit {0}
 
+-- where it is a unit, the running step of its run is there, and a unit of it is due
+abbrev pub HasUnitDue : JobsView → Plan → Type 0
+HasUnitDue jobs (Rest reply) = Unit {0}
+HasUnitDue jobs (Tell reply event) = Unit {0}
+HasUnitDue jobs (Work job) = (on : RunningStepView) × (find (is_of_run job) jobs.running ≡ Some on) × (due_of on.step.parm on.step.state ≡ OneUnit)
+
+-- it tells an event
+abbrev pub Tells : Plan → Type 0
+Tells (Rest reply) = ⊥
+Tells (Tell reply event) = Unit {0}
+Tells (Work job) = ⊥
+
+-- what a unit tells, if it tells an event: a rewrite in place, or the end of its run
+abbrev pub is_unit_event : Event → Bool
+is_unit_event (RewrittenEvent job taken writes lengths place image) = true
+is_unit_event (EndedEvent job ending) = true
+is_unit_event _ = false
+
+abbrev pub IsUnitPlan : Plan → Type 0
+IsUnitPlan (Rest reply) = Unit {0}
+IsUnitPlan (Tell reply event) = is_unit_event event ≡ true
+IsUnitPlan (Work job) = ⊥
+
 -- the code with which a unit ends, if it ends its step, has a spelling
 abbrev pub IsWorkedCode : Worked → Type 0
 IsWorkedCode (Went taken) = Unit {0}
 IsWorkedCode (Rewrite place image taken) = Unit {0}
 IsWorkedCode (Abend code) = IsCode code
 
--- what a turn tells of a unit that was done, with the running step behind it
+-- a running step behind a unit that was worked out, with its data sets
+abbrev pub behind_unit : RunningStepView → UnitAhead → RunningStepView
+behind_unit on ahead = record {
+  run = on.run;
+  step = behind_ahead on.step ahead;
+  sets = record on.sets { sets = grown on.step.files ahead.writes.items on.sets.sets };
+}
+
+-- what a turn tells of a unit, with the running step behind it
 abbrev pub told_by : Layout → RunRow → TurnStep → Worked → Plan
 told_by layout row step (Went taken) = Rest (WorkedReply row.number (step_name_of row) step.taken)
 told_by layout row step (Rewrite place image taken) =

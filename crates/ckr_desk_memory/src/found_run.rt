@@ -17,7 +17,7 @@ ghost use Rattle.ckr_desk_turn.specs.Codes.{reached_by};
 ghost use Rattle.ckr_desk_turn.specs.Jobs.{is_failed};
 ghost use Rattle.ckr_volumes.specs.declared.layout.Layout.{Layout as LayoutOfDisk};
 
-use crate::run_code::{CodePlace, lengths_of, place_of};
+use crate::run_code::{CodePlace, Extents, lengths_of, place_of};
 use crate::{Jobs, RunningStep};
 use ckr_base::Name8;
 use ckr_jcl::Dd;
@@ -120,11 +120,11 @@ impl Jobs {
         match self.running_in(run) {
             Some(on) => CodePlace {
                 writes: on.step.progress().writes,
-                lengths: lengths_of(&on.sets, run, table),
+                lengths: lengths_of(&Extents::Now(&on.sets), run, table),
             },
             None => CodePlace {
                 writes: writes_in(place_of(table)),
-                lengths: lengths_of(self.tables.library(), run, table),
+                lengths: lengths_of(&Extents::Now(self.tables.library()), run, table),
             },
         }
     }

@@ -1,10 +1,10 @@
 //! What a turn comes to.
-ghost use Rattle.std.specs.Prelude.{◌≡◌, ◌≤◌, IfOk, IsSome, OnOk, None, Some, length};
+ghost use Rattle.std.specs.Prelude.{◌≡◌, ◌≤◌, IfErr, IfOk, IsSome, OnOk, None, Some, length};
 ghost use Rattle.std.specs.List.{AllByRecursion};
 ghost use Rattle.std.specs.Option.{option_map_or};
 ghost use Rattle.ckr_events.specs.declared.event.Event.TheVariants.{StepEnded as StepEndedEvent};
 ghost use Rattle.ckr_desk_memory.specs.Invariant.{AreJobs, IsAcceptedRow};
-ghost use Rattle.ckr_desk_memory.specs.Plans.{next_step, row_for, HasCounts, HasDd, HasPlanRoom, IsAnyCode, IsKnown, IsSpelledPlan};
+ghost use Rattle.ckr_desk_memory.specs.Plans.{next_step, row_for, HasCounts, HasDd, HasPlanRoom, HasUnitDue, IsAnyCode, IsKnown, IsSpelledPlan, Tells};
 ghost use Rattle.ckr_desk_memory.specs.View.{jobs_of, lengths_of_row};
 ghost use Rattle.ckr_meaning.specs.EffectiveJob.{OwnedStep};
 ghost use Rattle.ckr_points.specs.Follows.{own_step};
@@ -17,7 +17,7 @@ ghost use Rattle.ckr_desk_turn.specs.Jobs.{is_failed, running_in, step_name_of};
 ghost use Rattle.ckr_desk_turn.specs.Plans.{allocation_ended, between_plan, chosen_plan, fail_plan, free_plan, plan_of, run_plan, running_plan};
 ghost use Rattle.ckr_desk_turn.specs.Spelling.{IsCode};
 
-use crate::run_code::{code_plan, lengths_of, place_of};
+use crate::run_code::{Extents, code_plan, lengths_of, place_of};
 use crate::{Jobs, RunningStep};
 use ckr_base::{Code, Name8, NextDue, NoMemory};
 use ckr_desk_turn::{
@@ -58,7 +58,7 @@ fn step_ended(on: &RunningStep, run: u32, table: &RunTable, rc: u16) -> Plan
             number,
             rc,
             on.step.progress().writes,
-            lengths_of(&on.sets, run, table),
+            lengths_of(&Extents::Now(&on.sets), run, table),
         ),
     }
 }
@@ -80,6 +80,12 @@ impl Jobs {
         ensures failed { self.new.failed ≡ self.old.failed }
         ensures jobs { AreJobs layout.now self.new }
         ensures room { IfOk result (HasPlanRoom self.new.tables) }
+
+        // A unit is due where the turn comes to one.
+        ensures works { IfOk result (HasUnitDue self.new) }
+
+        // A turn that tells no event takes no memory.
+        ensures tells { IfErr result (λ _. Tells (plan_of layout.now (jobs_of self.old) turn)) }
     {
         let plan = self.planned(layout, turn)?;
         self.room_for(&plan)?;
@@ -92,6 +98,7 @@ impl Jobs {
         ensures running { self.new.running ≡ self.old.running }
         ensures failed { self.new.failed ≡ self.old.failed }
         ensures room { OnOk result (HasPlanRoom self.new.tables plan.now) }
+        ensures tells { IfErr result (λ _. Tells plan.now) }
     {
         match plan {
             Plan::Tell { event, .. } => self.tables.make_room(event),
@@ -109,6 +116,7 @@ impl Jobs {
         ensures tables { self.new.tables.desk ≡ self.old.tables.desk }
         ensures running { self.new.running ≡ self.old.running }
         ensures failed { self.new.failed ≡ self.old.failed }
+        ensures tells { IfErr result (λ _. Tells (plan_of layout.now (jobs_of self.old) turn)) }
     {
         match self.tables.on_initiator(turn.initiator) {
             Some(job) => self.run_plan(layout, job, turn.fail),
@@ -126,6 +134,7 @@ impl Jobs {
         ensures tables { self.new.tables.desk ≡ self.old.tables.desk }
         ensures running { self.new.running ≡ self.old.running }
         ensures failed { self.new.failed ≡ self.old.failed }
+        ensures tells { (row : RunRow) → run_of self.old.tables.desk job ≡ Some row → IfErr result (λ _. Tells (run_plan layout.now (jobs_of self.old) fail row)) }
     {
         match self.next_step(job, fail) {
             Some(number) => self.between(layout, job, number),
@@ -222,6 +231,7 @@ impl Jobs {
         ensures tables { self.new.tables.desk ≡ self.old.tables.desk }
         ensures running { self.new.running ≡ self.old.running }
         ensures failed { self.new.failed ≡ self.old.failed }
+        ensures tells { (row : RunRow) → IfErr result (λ _. Tells (between_plan layout.now (jobs_of self.old) row number)) }
     {
         let Some(name) = self.step_name(job, number) else {
             return Ok(Plan::Tell {

@@ -4,6 +4,7 @@ ghost use Rattle.std.specs.List.{list_any, AllByRecursion};
 ghost use Rattle.ckr_base.specs.CodeText.{same_code};
 ghost use Rattle.ckr_points_library.specs.Holdings.{owned};
 ghost use Rattle.ckr_events.specs.Format.{length_list};
+ghost use Rattle.ckr_desk_memory.specs.Extents.{sets_of, AreShort};
 ghost use Rattle.ckr_desk_memory.specs.Plans.{reached_seen, row_for, IsSpelledPlan};
 ghost use Rattle.ckr_desk_memory.specs.View.{length_in, lengths_in, lengths_of_row};
 ghost use Rattle.ckr_points.specs.RuleCases.{auto_case, rd_in_effect, since_point, since_start};
@@ -13,6 +14,7 @@ ghost use Rattle.ckr_points_decks.specs.DeckLimits.{IsWithinLimits};
 ghost use Rattle.ckr_desk_turn.specs.Codes.{code_plan, rule_for};
 ghost use Rattle.ckr_desk_turn.specs.Spelling.{IsCode};
 
+use crate::RunningStep;
 use arrayvec::ArrayVec;
 use ckr_base::{Code, DsName};
 use ckr_desk_turn::{How, Plan, Reply, coded_event};
@@ -23,6 +25,7 @@ use ckr_points::step_in;
 use ckr_points_library::output_name;
 use ckr_points_tables::{RunTable, place_now, point_at, step_at};
 use ckr_rules::{AutoCase, Rule, Verdict, automatic};
+use ckr_steps::UnitAhead;
 use ckr_volumes::Layout;
 
 /// How far a run has come.
@@ -41,41 +44,54 @@ pub(crate) fn place_of(table: &RunTable) -> Place
     place_now(table)
 }
 
+/// Whose lengths are asked: those of a library, or those behind a unit of a running step that was worked out and isn't done yet.
+#[derive(Drop)]
+pub(crate) enum Extents<'a> {
+    Now(&'a Library),
+    Behind(&'a RunningStep, &'a UnitAhead),
+}
+
 /// The length of a data set, and 0 where it isn't there.
-fn length_in(sets: &Library, name: &DsName) -> u32
-    ensures { result ≡ length_in sets.now.sets name.now }
+fn length_in(extents: &Extents<'_>, name: &DsName) -> u32
+    requires { AreShort extents.now }
+    ensures { result ≡ length_in (sets_of extents.now) name.now }
 {
-    match sets.get(name) {
-        Some(set) => set.length,
-        None => 0,
+    match extents {
+        Extents::Now(sets) => match sets.get(name) {
+            Some(set) => set.length,
+            None => 0,
+        },
+        Extents::Behind(on, ahead) => on.step.length_behind(ahead, &on.sets, name),
     }
 }
 
 /// The lengths of a step's outputs, in the order of the DDs.
-fn lengths_in(sets: &Library, run: u32, step: &Step) -> ArrayVec<u32, 16>
+fn lengths_in(extents: &Extents<'_>, run: u32, step: &Step) -> ArrayVec<u32, 16>
     requires run { run ≤ 9999999 }
     requires few { length step.now.dds ≤ 16 }
-    ensures lengths { result.items ≡ lengths_in sets.now.sets run (owned step.now run []) }
+    requires short { AreShort extents.now }
+    ensures lengths { result.items ≡ lengths_in (sets_of extents.now) run (owned step.now run []) }
     ensures fits { length_list.fits result.items }
 {
     let mut lengths = ArrayVec::new();
     for dd in step.dds.as_slice() {
         if let Some(name) = output_name(dd, run, run, step) {
-            lengths.push(length_in(sets, &name));
+            lengths.push(length_in(extents, &name));
         }
     }
     lengths
 }
 
 /// Those of the step that a run is before or in; none where there is no such step.
-pub(crate) fn lengths_of(sets: &Library, run: u32, table: &RunTable) -> ArrayVec<u32, 16>
+pub(crate) fn lengths_of(extents: &Extents<'_>, run: u32, table: &RunTable) -> ArrayVec<u32, 16>
     requires run { run ≤ 9999999 }
     requires within { AllByRecursion IsWithinLimits table.now.job.steps }
-    ensures lengths { result.items ≡ lengths_of_row sets.now.sets (row_for run table.now) }
+    requires short { AreShort extents.now }
+    ensures lengths { result.items ≡ lengths_of_row (sets_of extents.now) (row_for run table.now) }
     ensures fits { length_list.fits result.items }
 {
     match step_at(&table.job, step_in(place_of(table))) {
-        Some(step) => lengths_in(sets, run, step),
+        Some(step) => lengths_in(extents, run, step),
         None => ArrayVec::new(),
     }
 }

@@ -1,88 +1,92 @@
-//! What a turn tells of a unit that was done.
+//! What a turn tells of a unit that was worked out.
 ghost use Rattle.std.specs.Prelude.{◌≡◌, ◌≤◌, IfSome, Some};
 ghost use Rattle.std.specs.List.{AllByRecursion};
 ghost use Rattle.ckr_events.specs.Format.{length_list};
+ghost use Rattle.ckr_desk_memory.specs.Extents.{IsShort};
 ghost use Rattle.ckr_desk_memory.specs.Invariant.{IsAcceptedRow};
 ghost use Rattle.ckr_desk_memory.specs.Parts.{step_seen};
-ghost use Rattle.ckr_desk_memory.specs.Plans.{reached_seen, row_for, told_by, IsSpelledPlan, IsToldReply, IsWorkedCode};
+ghost use Rattle.ckr_desk_memory.specs.Plans.{behind_unit, reached_seen, row_for, told_by, IsSpelledPlan, IsToldReply, IsUnitPlan, IsWorkedCode};
 ghost use Rattle.ckr_desk_memory.specs.View.{lengths_of_row, running_of};
 ghost use Rattle.ckr_meaning.specs.EffectiveJob.{OwnedStep};
 ghost use Rattle.ckr_points.specs.Restart.{place_of as place_of_row, step_in as step_in_place};
 ghost use Rattle.ckr_points.specs.Rows.{run_of, step_of_run, RunRow};
-ghost use Rattle.ckr_steps.specs.StepUnit.{AreCounted};
+ghost use Rattle.ckr_steps.specs.StepUnit.{AreCounted, behind_ahead};
 ghost use Rattle.ckr_steps.specs.Units.{taken_of};
 ghost use Rattle.ckr_points_decks.specs.DeckLimits.{IsWithinLimits};
 ghost use Rattle.ckr_desk_turn.specs.Jobs.{step_name_of};
 
-use crate::run_code::{CodePlace, code_plan, lengths_of, place_of};
+use crate::run_code::{CodePlace, Extents, code_plan, lengths_of, place_of};
 use crate::{Jobs, RunningStep};
 use ckr_desk_turn::{Plan, Reply, rewritten_event};
 use ckr_points::step_in;
 use ckr_points_tables::{RunTable, step_at};
-use ckr_steps::Worked;
+use ckr_steps::{UnitAhead, Worked};
 use ckr_volumes::Layout;
 
 /// The reply to a unit of a running step that goes on. None where its run is within no step of its deck.
-fn worked_reply(on: &RunningStep, table: &RunTable) -> Option<Reply>
-    requires { AreCounted on.now.step }
-    ensures reply { let row = row_for on.now.run table.now in (own : OwnedStep) → step_of_run row (step_in_place (place_of_row row)) ≡ Some own → result ≡ Some (Reply.Worked on.now.run (step_name_of row) (taken_of on.now.step.state)) }
+fn worked_reply(on: &RunningStep, ahead: &UnitAhead, table: &RunTable) -> Option<Reply>
+    requires { AreCounted (behind_ahead on.now.step ahead.now) }
+    ensures reply { let row = row_for on.now.run table.now in (own : OwnedStep) → step_of_run row (step_in_place (place_of_row row)) ≡ Some own → result ≡ Some (Reply.Worked on.now.run (step_name_of row) (taken_of (behind_ahead on.now.step ahead.now).state)) }
     ensures told { IfSome result IsToldReply }
 {
     let own = step_at(&table.job, step_in(place_of(table)))?;
     Some(Reply::Worked {
         job: on.run,
         step: own.name.copied(),
-        taken: on.step.progress().taken,
+        taken: on.step.progress_behind(ahead).taken,
     })
 }
 
-/// How far a running step has come.
-fn reached_on(on: &RunningStep, table: &RunTable) -> CodePlace
+/// How far a running step comes by a unit that was worked out.
+fn reached_by(on: &RunningStep, ahead: &UnitAhead, table: &RunTable) -> CodePlace
     requires run { on.now.run ≤ 9999999 }
     requires within { AllByRecursion IsWithinLimits table.now.job.steps }
-    requires counted { AreCounted on.now.step }
-    ensures reached { reached_seen result ≡ record { writes = on.now.step.writes; lengths = lengths_of_row on.now.sets.sets (row_for on.now.run table.now) } }
+    requires counted { AreCounted (behind_ahead on.now.step ahead.now) }
+    requires short { IsShort on.now.sets }
+    ensures reached { let moved = behind_unit (step_seen on.now) ahead.now in reached_seen result ≡ record { writes = moved.step.writes; lengths = lengths_of_row moved.sets.sets (row_for on.now.run table.now) } }
     ensures fits { length_list.fits result.lengths.items }
 {
     CodePlace {
-        writes: on.step.progress().writes,
-        lengths: lengths_of(&on.sets, on.run, table),
+        writes: on.step.progress_behind(ahead).writes,
+        lengths: lengths_of(&Extents::Behind(on, ahead), on.run, table),
     }
 }
 
 impl Jobs {
-    /// What a turn tells of a unit that was done, by what it came to, with the running step behind it: the records taken, with the
-    /// rewrite in place if the unit made one, or the end of the run by the code with which the unit ended it. The code is at most
+    /// What a turn tells of a unit that was worked out and isn't done yet, exactly as it tells it behind the unit: the records taken, with
+    /// the rewrite in place if the unit makes one, or the end of the run by the code with which the unit ends it. The code is at most
     /// 4095. Its run is within a step of its deck; else the turn tells nothing (IBM GC28-6704; the replies are this project's profile).
-    pub fn told(&self, layout: &Layout, on: &RunningStep, worked: Worked) -> Plan
+    pub fn told(&self, layout: &Layout, on: &RunningStep, ahead: &UnitAhead) -> Plan
         requires rows { AllByRecursion IsAcceptedRow self.now.tables.desk.runs }
-        requires counted { AreCounted on.now.step }
-        requires code { IsWorkedCode worked }
+        requires counted { AreCounted (behind_ahead on.now.step ahead.now) }
+        requires short { IsShort on.now.sets }
+        requires code { IsWorkedCode ahead.now.worked }
         ensures plan { (row : RunRow) (own : OwnedStep) → run_of self.now.tables.desk on.now.run ≡ Some row → step_of_run row (step_in_place (place_of_row row)) ≡ Some own
-            → result ≡ told_by layout.now row (running_of self.now.tables.desk (step_seen on.now)) worked }
+            → result ≡ told_by layout.now row (running_of self.now.tables.desk (behind_unit (step_seen on.now) ahead.now)) ahead.now.worked }
         ensures spelled { IsSpelledPlan result }
+        ensures unit { IsUnitPlan result }
     {
         let Some(table) = self.known(on.run) else {
             return Plan::Rest(Reply::Idle);
         };
-        let Some(reply) = worked_reply(on, table) else {
+        let Some(reply) = worked_reply(on, ahead, table) else {
             return Plan::Rest(Reply::Idle);
         };
-        let reached = reached_on(on, table);
-        match worked {
+        let reached = reached_by(on, ahead, table);
+        match &ahead.worked {
             Worked::Went { .. } => Plan::Rest(reply),
             Worked::Rewrite { place, image, .. } => Plan::Tell {
                 reply,
                 event: rewritten_event(
                     on.run,
-                    on.step.progress().taken,
+                    on.step.progress_behind(ahead).taken,
                     reached.writes,
                     reached.lengths,
-                    place,
-                    image,
+                    *place,
+                    image.copied(),
                 ),
             },
-            Worked::Abend(code) => code_plan(layout, on.run, table, code, reached),
+            Worked::Abend(code) => code_plan(layout, on.run, table, *code, reached),
         }
     }
 }

@@ -3,7 +3,6 @@ pub mod Lengths
 pub mod OtherSteps
 pub mod StepLists
 pub mod OwnStep
-pub mod Cancels
 pub mod Plans
 pub mod DueUnits
 pub mod Outcomes

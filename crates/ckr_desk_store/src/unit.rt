@@ -5,9 +5,9 @@ ghost use Rattle.ckr_outside.specs.Disk.{EachSince, OnlyReads};
 ghost use Rattle.ckr_meaning.specs.StepRun.{StepStart};
 ghost use Rattle.ckr_steps.specs.Inputs.{AreStored, AreThere};
 ghost use Rattle.ckr_steps.specs.Places.{GoesOn, ShowsWithin, IsStepPlace};
-ghost use Rattle.ckr_steps.specs.StepUnit.{AreCounted, HasLooked, HasWorked, heads_on, worked_for};
+ghost use Rattle.ckr_steps.specs.StepUnit.{AreCounted, HasWorked, HasWorkedOut, behind_ahead, heads_on, worked_for};
 ghost use Rattle.ckr_steps.specs.Units.{due_of};
-ghost use Rattle.ckr_steps.specs.Writes.{ChangesKeeping};
+ghost use Rattle.ckr_steps.specs.Writes.{ChangesKeeping, grown};
 ghost use Rattle.ckr_desk_store.specs.Answers.{DiskCause};
 ghost use Rattle.ckr_desk_store.specs.OpenImages.{event_records, Opens};
 
@@ -15,21 +15,21 @@ use crate::Store;
 use crate::error::StoreError;
 use ckr_library::Library;
 use ckr_outside::Disk;
-use ckr_steps::{StepRun, Worked};
+use ckr_steps::{StepRun, UnitAhead, Worked};
 
 impl<D: Disk> Store<D> {
-    /// The answer that `work` would give now, if none of its disk calls failed. Nothing is written, and the step stays where it is.
-    /// It takes no memory. It is called where a unit is due.
+    /// Works the next unit of a running step out: it reads the next records of the step's inputs. Nothing is written, and the step stays
+    /// where it is. It takes no memory. It is called where a unit is due.
     ///
     /// `DiskFault`: only where the disk's faults rose in this call; then the store has stopped. `Stopped`: exactly where
     /// it had stopped before.
-    pub fn ahead(&mut self, step: &StepRun, sets: &Library) -> Result<Worked, StoreError>
+    pub fn ahead(&mut self, step: &StepRun, sets: &Library) -> Result<UnitAhead, StoreError>
         requires due { due_of step.now.parm step.now.state ≡ OneUnit }
         requires counted { AreCounted step.now }
         requires stored { AreStored self.old.layout sets.now }
         requires there { AreThere step.now.files sets.now }
-        ensures answer { D.told → IfOk result (λ worked. worked ≡ worked_for sets.now step.now (heads_on (D.content self.old.disk) self.old.layout sets.now step.now)) }
-        ensures looked { IfOk result (HasLooked D.told (D.content self.old.disk) self.old.layout step.now sets.now) }
+        ensures answer { D.told → IfOk result (λ ahead. ahead.worked ≡ worked_for sets.now step.now (heads_on (D.content self.old.disk) self.old.layout sets.now step.now)) }
+        ensures ahead { IfOk result (HasWorkedOut D.told (D.content self.old.disk) self.old.layout step.now sets.now) }
         ensures kept { IfOk result (λ _. self.new ≡ record self.old { disk = self.new.disk }) }
 
         // A stop at any moment leaves a disk that opens with the same events.
@@ -47,7 +47,7 @@ impl<D: Disk> Store<D> {
             return Err(StoreError::Stopped { fault });
         }
         match step.ahead(&mut self.disk, &self.layout, sets) {
-            Ok(worked) => Ok(worked),
+            Ok(ahead) => Ok(ahead),
             Err(_) => {
                 self.fault = Some(self.disk.faults());
                 Err(StoreError::DiskFault)
@@ -55,18 +55,24 @@ impl<D: Disk> Store<D> {
         }
     }
 
-    /// One unit of the work of a running step, with its own data sets, whose lengths rise. A rewrite in place isn't written here. No
-    /// record below a length at entry, none of a data set apart from these, and no event changes in any image. It takes no
-    /// memory. It is called where a unit is due.
+    /// Does a unit of a running step that was worked out from where the step stands, with the step's own data sets, whose lengths rise.
+    /// Nothing is read, and a rewrite in place isn't written here. No record below a length at entry, none of a data set apart from these,
+    /// and no event changes in any image. It takes no memory. Answers what the unit came to.
     ///
     /// `DiskFault`: only where the disk's faults rose in this call; then the store has stopped, and the step doesn't go on.
     /// `Stopped`: exactly where it had stopped before.
-    pub fn work(&mut self, step: &mut StepRun, sets: &mut Library) -> Result<Worked, StoreError>
-        requires due { due_of step.old.parm step.old.state ≡ OneUnit }
-        requires counted { AreCounted step.old }
+    pub fn work(
+        &mut self,
+        step: &mut StepRun,
+        sets: &mut Library,
+        ahead: UnitAhead,
+    ) -> Result<Worked, StoreError>
         requires stored { AreStored self.old.layout sets.old }
         requires there { AreThere step.old.files sets.old }
-        ensures answer { D.told → IfOk result (λ worked. worked ≡ worked_for sets.old step.old (heads_on (D.content self.old.disk) self.old.layout sets.old step.old)) }
+        requires ahead { HasWorkedOut D.told (D.content self.old.disk) self.old.layout step.old sets.old ahead }
+        ensures answer { IfOk result (λ worked. worked ≡ ahead.worked) }
+        ensures behind { OnOk result (step.new ≡ behind_ahead step.old ahead) }
+        ensures lengths { OnOk result (sets.new.sets ≡ grown step.old.files ahead.writes.items sets.old.sets) }
         ensures worked { IfOk result (HasWorked D.told (D.content self.old.disk) (D.content self.new.disk) self.old.layout step.old step.new sets.old sets.new) }
         ensures counted { IfOk result (λ _. AreCounted step.new) }
         ensures goes_on { D.told → IfOk result (λ worked. (start : StepStart) (taken : ℕ) → IsStepPlace start taken false step.old sets.old
@@ -94,7 +100,7 @@ impl<D: Disk> Store<D> {
         if let Some(fault) = self.fault {
             return Err(StoreError::Stopped { fault });
         }
-        match step.work(&mut self.disk, &self.layout, sets) {
+        match step.work(&mut self.disk, &self.layout, sets, ahead) {
             Ok(worked) => Ok(worked),
             Err(_) => {
                 self.fault = Some(self.disk.faults());

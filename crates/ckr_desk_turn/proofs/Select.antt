@@ -22,6 +22,7 @@ use Rattle.ckr_points_decks.specs.Form.{is_run}
 use Rattle.ckr_points.specs.declared.run.RunState.{RunState}
 use Rattle.ckr_points.specs.declared.run.RunState.TheVariants.{On, Queued, Purged}
 use Rattle.ckr_points.specs.Tables.{after_submitted, queued_run}
+use Rattle.ckr_points.specs.Events.{IsNext}
 use Rattle.ckr_points.specs.Follows.{is_running, state_number}
 use Rattle.ckr_points.specs.Office.{Leg, Office, leg_of, office_after}
 use Rattle.ckr_points.specs.Restart.{place_of, step_in}
@@ -132,11 +133,11 @@ purged-keeps desk is job row at queued =
 
 -- ---- submitted
 
-last_row : (runs : List RunRow) (row : RunRow) → slice_get (runs ++ row ∷ []) (length runs) ≡ Some row
+pub last_row : (runs : List RunRow) (row : RunRow) → slice_get (runs ++ row ∷ []) (length runs) ≡ Some row
 last_row [] row = refl
 last_row (first ∷ rest) row = last_row rest row
 
-front_row : (runs : List RunRow) (row : RunRow) (place : ℕ) → place ≢ length runs → slice_get (runs ++ row ∷ []) place ≡ slice_get runs place
+pub front_row : (runs : List RunRow) (row : RunRow) (place : ℕ) → place ≢ length runs → slice_get (runs ++ row ∷ []) place ≡ slice_get runs place
 front_row [] row zero apart = absurd (apart refl)
 front_row [] row (suc place) apart = refl
 front_row (first ∷ rest) row zero apart = refl
@@ -173,6 +174,16 @@ stored-keeps desk is cards deck some accepted runs =
     by : (kept : List ℕ) → length kept ≡ 80 * (length cards / 81) → IsDesk (submitted_desk kept deck desk)
     by [] long = absurd (omega (arith, long, some))
     by (first ∷ kept) long = submitted-keeps desk is cards first kept deck accepted runs
+
+-- its event may come, and carries what the job gives
+pub stored-comes : (desk : DeskModel) (cards : List ℕ) (deck : Job) → 81 ≤ length cards → stored_deck cards ≡ Ok deck
+    → IsNext desk.layout desk.office (SubmittedEvent (suc (length desk.office.tables.runs)) (kept_of_stored cards), Some deck)
+stored-comes desk cards deck some accepted =
+    by (kept_of_stored cards) (kept_long cards)
+  where
+    by : (kept : List ℕ) → length kept ≡ 80 * (length cards / 81) → IsNext desk.layout desk.office (SubmittedEvent (suc (length desk.office.tables.runs)) kept, Some deck)
+    by [] long = absurd (omega (arith, long, some))
+    by (first ∷ kept) long = record { may = submitted_comes desk first kept deck; carried = job_formed cards deck (suc (length desk.office.tables.runs)) accepted }
 
 -- ---- selected
 

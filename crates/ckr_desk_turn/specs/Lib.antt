@@ -9,3 +9,4 @@ pub mod Plans
 pub mod Queue
 pub mod Spelling
 pub mod Units
+pub mod RunEvents

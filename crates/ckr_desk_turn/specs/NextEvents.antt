@@ -4,16 +4,14 @@ use Rattle.ckr_events.specs.declared.event.Event.{Event}
 use Rattle.ckr_meaning.specs.declared.place.Place.TheVariants.{Within}
 use Rattle.ckr_meaning.specs.StepRun.{StepStart}
 use Rattle.ckr_points.specs.declared.run.RunState.TheVariants.{On}
-use Rattle.ckr_points.specs.Payload.{carries}
+use Rattle.ckr_points.specs.Events.{IsNext}
 use Rattle.ckr_points.specs.Office.{Office}
 use Rattle.ckr_points.specs.Restart.{place_of}
 use Rattle.ckr_points.specs.Rows.{RunRow, run_of}
-use Rattle.ckr_points.specs.Soundness.{may_come}
 use Rattle.ckr_desk_turn.specs.Desk.{DeskModel, start_of}
 
-pub record Comes (desk : DeskModel) (event : Event) : Type 0 where
-  pub may : may_come desk.layout desk.office (event, None) ≡ true
-  pub carried : carries desk.layout desk.office event None ≡ true
+abbrev pub Comes : DeskModel → Event → Type 0
+Comes desk event = IsNext desk.layout desk.office (event, None)
 
 -- a run on an initiator, within its step behind so many committed writes
 pub record IsWithinStep (office : Office) (run : ℕ) (row : RunRow) (number committed : ℕ) (start : StepStart) : Type 0 where

@@ -64,13 +64,15 @@ fn refused_cards(rt: HostRuntime) -> Result<(), Fail> {
 #[test]
 fn each_call_of_the_outside_fails_in_turn(rt: HostRuntime) -> Result<(), Fail> {
     let alloc = rt.alloc();
+    // Formatting makes seven calls: the gate and a sync, the fields, the book's gate and a sync, the gate and a sync.
     let table = [
         ([0, NEVER, NEVER], FormatOutcome::SourceFailed, 0),
         ([1, NEVER, NEVER], FormatOutcome::SourceFailed, 0),
-        ([NEVER, 0, NEVER], FormatOutcome::SinkFailed, 6),
+        ([NEVER, 0, NEVER], FormatOutcome::SinkFailed, 7),
         ([NEVER, NEVER, 0], FormatOutcome::DiskFailed, 1),
-        ([NEVER, NEVER, 3], FormatOutcome::DiskFailed, 4),
-        ([NEVER, NEVER, 5], FormatOutcome::DiskFailed, 6),
+        ([NEVER, NEVER, 1], FormatOutcome::DiskFailed, 2),
+        ([NEVER, NEVER, 4], FormatOutcome::DiskFailed, 5),
+        ([NEVER, NEVER, 6], FormatOutcome::DiskFailed, 7),
     ];
     for (failing, outcome, calls) in table {
         let (answer, sink, disk) = ended(alloc, CARDS.to_vec(alloc)?, 500_512, failing)?;

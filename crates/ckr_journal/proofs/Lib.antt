@@ -1,1 +1,2 @@
 pub mod FreshDisks
+pub mod FormatStages

@@ -1,3 +1,4 @@
 pub mod Events
 pub mod Layouts
 pub mod EventReads
+pub mod FormatStops

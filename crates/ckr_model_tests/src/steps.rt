@@ -274,10 +274,8 @@ fn unit<R: Abort, D: Disk>(
     ensures there { AreThere step.new.files library.new }
     ensures size { D.size disk.new ≡ D.size disk.old }
 {
-    let expected = step.ahead(disk, layout, library)?;
-    let worked = step.work(disk, layout, library)?;
-    assert!(rt; worked == expected);
-    match worked {
+    let ahead = step.ahead(disk, layout, library)?;
+    match step.work(disk, layout, library, ahead)? {
         Worked::Went { taken } => {
             assert!(rt; taken == step.progress().taken);
             Ok(None)

@@ -2,6 +2,7 @@ pub mod Tables
 pub mod Follows
 pub mod Freshness
 pub mod Payload
+pub mod Events
 pub mod RuleCases
 pub mod Marks
 pub mod Office

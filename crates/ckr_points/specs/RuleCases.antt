@@ -1,5 +1,5 @@
 -- The cases of the rules, as they are read off the tables.
-use Rattle.std.specs.Prelude.{ℕ, suc, pred, ◌==◌, Bool, true, false, ◌&&◌, not, if◌then◌else◌, List, [], ◌∷◌, filter, position, slice_get, Option, None, Some}
+use Rattle.std.specs.Prelude.{ℕ, suc, pred, ◌+◌, ◌==◌, Bool, true, false, ◌&&◌, not, if◌then◌else◌, List, [], ◌∷◌, drop, filter, position, slice_get, Option, None, Some}
 use Rattle.std.specs.Option.{option_map, option_map_or, option_or, is_some}
 use Rattle.std.specs.List.{list_all, list_any, last_or}
 use Rattle.std.specs.Cmp.Lexicographic.{pointwise}
@@ -110,9 +110,11 @@ is_ended Ended = true
 is_ended Denied = false
 is_ended Purged = false
 
--- the number of the step of that name in a run, or 0
+-- the number of the step of that name among those that a run executed itself, from its restart step on; or 0
 abbrev pub number_named : RunRow → Name → ℕ
-number_named row name = option_map_or (λ before. suc before) (position (λ owned. same_name owned.step.name name) row.job.steps) 0
+number_named row name =
+    let before = pred row.earlier_step in
+    option_map_or (λ place. suc (before + place)) (position (λ owned. same_name owned.step.name name) (drop before row.job.steps)) 0
 
 -- a deferred restart as it is judged: the deck's step, the earlier run with its step and its point, the entry
 pub record Wanted : Type 0 where

@@ -1,9 +1,9 @@
--- A list of events, and one more.
-use Rattle.std.proofs.Common.{◌≡◌, true, List, [], ◌∷◌, ◌++◌, refl}
+-- A list of sound events: its fronts, and one event more.
+use Rattle.std.proofs.Common.{◌≡◌, List, [], ◌∷◌, ◌++◌, refl}
 use Rattle.ckr_volumes.specs.declared.layout.Layout.{Layout}
+use Rattle.ckr_points.specs.Events.{AreSound, AreSoundFrom, IsNext}
 use Rattle.ckr_points.specs.Office.{Office, no_office, office, office_after, office_from}
 use Rattle.ckr_points.specs.Restart.{Decked}
-use Rattle.ckr_points.specs.Soundness.{AreSound, AreSoundFrom, IsSoundOffice, may_come}
 
 -- the office of the events with one more is the office behind it
 from_more : (events : List Decked) (event : Decked) (now : Office) → office_from (events ++ event ∷ []) now ≡ office_after event (office_from events now)
@@ -13,10 +13,18 @@ from_more (first ∷ rest) event now = from_more rest event (office_after first 
 pub office-more : (events : List Decked) (event : Decked) → office (events ++ event ∷ []) ≡ office_after event (office events)
 office-more events event = from_more events event no_office
 
-sound_from : (layout : Layout) (events : List Decked) (event : Decked) (now : Office) → AreSoundFrom layout now events → may_come layout (office_from events now) event ≡ true → IsSoundOffice layout (office_after event (office_from events now)) → AreSoundFrom layout now (events ++ event ∷ [])
-sound_from layout [] event now are may sound = (are, may, sound)
-sound_from layout (first ∷ rest) event now are may sound = (are.0, are.1, sound_from layout rest event (office_after first now) are.2 may sound)
+sound_more : (layout : Layout) (events : List Decked) (event : Decked) (now : Office) → AreSoundFrom layout now events → IsNext layout (office_from events now) event → AreSoundFrom layout now (events ++ event ∷ [])
+sound_more layout [] event now are next = (next, tt)
+sound_more layout (first ∷ rest) event now are next = (are.0, sound_more layout rest event (office_after first now) are.1 next)
 
--- sound events stay sound with one that may come, if the office behind it is
-pub sound-more : (layout : Layout) (events : List Decked) (event : Decked) → AreSound layout events → may_come layout (office events) event ≡ true → IsSoundOffice layout (office_after event (office events)) → AreSound layout (events ++ event ∷ [])
-sound-more layout events event are may sound = sound_from layout events event no_office are may sound
+-- sound events stay sound with one that comes so
+pub sound-more : (layout : Layout) (events : List Decked) (event : Decked) → AreSound layout events → IsNext layout (office events) event → AreSound layout (events ++ event ∷ [])
+sound-more layout events event are next = sound_more layout events event no_office are next
+
+front_sound : (layout : Layout) (front more : List Decked) (now : Office) → AreSoundFrom layout now (front ++ more) → AreSoundFrom layout now front
+front_sound layout [] more now are = tt
+front_sound layout (first ∷ rest) more now are = (are.0, front_sound layout rest more (office_after first now) are.1)
+
+-- a front of sound events is sound
+pub sound-front : (layout : Layout) (front more : List Decked) → AreSound layout (front ++ more) → AreSound layout front
+sound-front layout front more are = front_sound layout front more no_office are

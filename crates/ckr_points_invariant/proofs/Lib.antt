@@ -1,6 +1,7 @@
 pub mod WaitingRuns
 pub mod EventLaws
 pub mod EventList
+pub mod SoundEvents
 pub mod RowChanges
 pub mod Soundness
 pub mod Library
@@ -13,4 +14,5 @@ pub mod Holders
 pub mod RunEnd
 pub mod Writes
 pub mod Marks
+pub mod Points
 pub mod Start

@@ -114,7 +114,7 @@ kept-passed layout office kept =
     each-implies (IsKnownLeg office) (PassedAgrees office) office.legs
     (λ leg is row row_at holds.
     let holder : IsHolder office leg.number row leg = record { row_at = row_at; holds = holds; leg_at = is.found } in
-    ap (passed_there office) (
+    ap (passed_there office row) (
     (kept.places leg.number row leg holder).passed
     ∙ sym (ap (λ (standing : Stock LibrarySet). standing.passed) (standing-is office leg.number row leg row_at is.found) ∙ at-passed leg.job leg.start (place_of row))))
     kept.legs

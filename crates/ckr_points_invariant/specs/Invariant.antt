@@ -1,5 +1,5 @@
 -- When the events are kept: what the tables keep from event to event beside what is sound, so that it follows for one more event.
-use Rattle.std.specs.Prelude.{◌≡◌, ◌≢◌, ◌≤◌, ◌<◌, ℕ, pred, ◌==◌, Bool, true, false, ◌||◌, [], take, length, None, Some}
+use Rattle.std.specs.Prelude.{◌≡◌, ◌≢◌, ◌≤◌, ◌<◌, ℕ, pred, ◌==◌, Bool, true, false, ◌||◌, List, [], flat_map, take, length, None, Some}
 use Rattle.std.specs.Option.{option_map, option_map_or, is_some, is_none}
 use Rattle.std.specs.List.{list_all, list_any, AllByRecursion}
 use Rattle.ckr_uses.specs.Uses.{is_of, is_shared, leaves, uses_of}
@@ -25,8 +25,8 @@ use Rattle.ckr_points.specs.RuleCases.{is_ended}
 use Rattle.ckr_points.specs.Marks.{own_names}
 use Rattle.ckr_points.specs.Office.{Leg, Office, is_holder, leg_of, passed_made, standing_at}
 use Rattle.ckr_points.specs.Restart.{place_of, step_in}
-use Rattle.ckr_points.specs.Rows.{RunRow, TableSet, TablesModel, run_of}
-use Rattle.ckr_points.specs.Soundness.{AreLaidOut, IsPrefix, marks_of_entries, marks_of_row, stamped_writes}
+use Rattle.ckr_points.specs.Rows.{KeptEntry, RunRow, StartPoint, TableSet, TablesModel, run_of}
+use Rattle.ckr_points.specs.Soundness.{AreLaidOut, IsPrefix, stamped_writes}
 
 -- a data set as the tables and a library both have it; one of checkpoints has no length here
 pub record Shape : Type 0 where
@@ -207,10 +207,15 @@ pub record IsShortMark (office : Office) (name : Name) (present : Present) : Typ
 abbrev pub IsMarkedShort : Office → Mark → Type 0
 IsMarkedShort office mark = (present : Present) → mark.present ≡ Some present → IsShortMark office mark.name present
 
+-- something holds of the points of each run, and of the entries of each data set
+pub record PointsHold (R : ℕ → List StartPoint → Type 0) (E : List KeptEntry → Type 0) (tables : TablesModel) : Type 0 where
+  pub rows : AllByRecursion (λ (row : RunRow). R row.number row.points) tables.runs
+  pub entries : EachEntry (λ (table : TableSet). E table.entries) tables.sets
+
 -- something holds of each mark of the points of the tables
-pub record MarksHold (P : Mark → Type 0) (tables : TablesModel) : Type 0 where
-  pub rows : AllByRecursion (λ row. AllByRecursion P (marks_of_row row)) tables.runs
-  pub entries : EachEntry (λ table. AllByRecursion P (marks_of_entries table)) tables.sets
+abbrev pub MarksHold : (Mark → Type 0) → TablesModel → Type 0
+MarksHold P tables =
+    PointsHold (λ run points. AllByRecursion P (flat_map (λ point. point.marks) points)) (λ entries. AllByRecursion P (flat_map (λ entry. entry.point.marks) entries)) tables
 
 -- what the ended jobs left, what a selected run has at each place to which its job comes, and the marks of all points
 pub record AreStamped (office : Office) : Type 0 where

@@ -1,1 +1,3 @@
 pub mod Invariant
+pub mod Continuations
+pub mod Points

@@ -1,6 +1,7 @@
 pub mod Lists
 pub mod Names
 pub mod Growth
+pub mod Lengths
 pub mod Rooms
 pub mod UnitWrites
 pub mod Counts

@@ -1,8 +1,9 @@
 -- The writes of a unit one after another.
-use Rattle.std.proofs.Common.{◌≡◌, ◌≤◌, ℕ, Bool, true, false, List, [], ◌∷◌, Option, Some, None, refl, ap, sym, ◌∙◌, subst, arith, length}
+use Rattle.std.proofs.Common.{◌≡◌, ◌≤◌, ℕ, Bool, true, false, List, [], ◌∷◌, Option, Some, None, refl, ap, sym, ◌∙◌, subst, arith, filter, length, take}
 use Rattle.std.specs.Prelude.{if◌then◌else◌, IsTrue}
 use Rattle.std.specs.Option.{option_map_or, is_some}
 use Rattle.std.proofs.lemmas.Bool.{false≢true}
+use Rattle.ckr_base.specs.declared.programs.Heads.{Heads}
 use Rattle.ckr_base.specs.declared.programs.Output.{Output}
 use Rattle.ckr_base.specs.declared.programs.Output.TheVariants.{Main, Rejects, InPlace}
 use Rattle.ckr_base.specs.declared.programs.Write.{Write}
@@ -12,9 +13,12 @@ use Rattle.ckr_library.specs.NameMaps.{Name}
 use Rattle.ckr_volumes.specs.declared.layout.Layout.{Layout}
 use Rattle.ckr_meaning.specs.LibrarySet.{Library}
 use Rattle.ckr_meaning.specs.Program.{OutputRoom, room_behind, fitting}
+use Rattle.ckr_meaning.proofs.FittingWrites.{fitting-front}
 use Rattle.ckr_steps.specs.declared.files.Files.{Files}
+use Rattle.ckr_steps.specs.declared.step_run.StepRun.{StepRun}
 use Rattle.ckr_steps.specs.Inputs.{IsSetThere, AreThere}
-use Rattle.ckr_steps.specs.Writes.{end_set, room_of, rewrite_of, done_unless, done_of, grown_in, Shows, put_one, put_all}
+use Rattle.ckr_steps.specs.StepUnit.{done_for, writes_for}
+use Rattle.ckr_steps.specs.Writes.{count_of, count_unless, end_set, is_behind, room_at, room_of, rewrite_of, done_unless, done_of, grown_in, Shows, put_one, put_all}
 use Rattle.ckr_steps.proofs.Growth.{IsGrown}
 use Rattle.ckr_steps.proofs.Rooms.{grown_in-grown}
 
@@ -55,13 +59,78 @@ grown_first files old new first fits there more is =
 pub left_first : (fits : Bool) (found : Option OutputRoom) (left : OutputRoom) → fits ≡ true → (IsTrue fits → found ≡ Some left) → found ≡ Some left
 left_first fits found left more is = is more
 
--- a rewrite is a write
-pub rewrite_some : (catalog : Catalog) (files : Files) (writes : List Write) (rewrite : ℕ × List ℕ) → rewrite_of catalog files writes ≡ Some rewrite → 1 ≤ length writes
-unfolding rewrite_of
-rewrite_some catalog files [] rewrite is = absurd (some-not-none rewrite (sym is))
-rewrite_some catalog files (write ∷ writes) rewrite is = omega arith
+-- where there is a rewrite, nothing is done
+pub done_none : (catalog : Catalog) (files : Files) (writes : List Write) (rewrites : Bool) → rewrites ≡ is_some (rewrite_of catalog files writes) → rewrites ≡ true → [] ≡ done_of catalog files writes
+unfolding done_of
+done_none catalog files writes rewrites is made = by (rewrite_of catalog files writes) (sym is ∙ made)
+  where
+    by : (rewrite : Option (ℕ × List ℕ)) → is_some rewrite ≡ true → [] ≡ done_unless rewrite (fitting writes (room_of catalog files))
+    by None made = absurd (false≢true made)
+    by (Some rewrite) made = refl
 
 -- where there is none, what fits is done
 pub done_all : (catalog : Catalog) (files : Files) (writes : List Write) → rewrite_of catalog files writes ≡ None → done_of catalog files writes ≡ fitting writes (room_of catalog files)
 unfolding done_of
 done_all catalog files writes none = ap (λ rewrite. done_unless rewrite (fitting writes (room_of catalog files))) none
+
+done_front : (catalog : Catalog) (files : Files) (writes : List Write) (rewrites : Bool) → rewrites ≡ is_some (rewrite_of catalog files writes) → rewrites ≡ false
+    → take (length (fitting writes (room_of catalog files))) writes ≡ done_of catalog files writes
+done_front catalog files writes rewrites is none =
+    fitting-front writes (room_of catalog files) ∙ sym (done_all catalog files writes (none_of (rewrite_of catalog files writes) (sym none ∙ is)))
+
+pub done_count : (catalog : Catalog) (files : Files) (writes : List Write) (rewrites : Bool) → rewrites ≡ is_some (rewrite_of catalog files writes) → rewrites ≡ false
+    → (count main rejects : ℕ) → main ≡ room_at catalog files.main → rejects ≡ room_at catalog files.rejects → count ≡ length (fitting writes (record { main = main; rejects = rejects }))
+    → take count writes ≡ done_of catalog files writes
+unfolding room_of
+done_count catalog files writes rewrites is none count main rejects first second so =
+    ap (λ n. take n writes)
+    (so
+    ∙ ap (λ n. length (fitting writes (record { main = n; rejects = rejects }))) first
+    ∙ ap (λ n. length (fitting writes (record { main = room_at catalog files.main; rejects = n }))) second)
+    ∙ done_front catalog files writes rewrites is none
+
+-- what fits, fits again
+fitting-again : (writes : List Write) (room : OutputRoom) → fitting (fitting writes room) room ≡ fitting writes room
+fitting-again [] room = refl
+fitting-again (write ∷ writes) room = by (fitting-again writes) (room_behind write.output room) refl
+  where
+    by : ((l : OutputRoom) → fitting (fitting writes l) l ≡ fitting writes l) → (left : Option OutputRoom) → room_behind write.output room ≡ left
+        → fitting (option_map_or (λ l. write ∷ fitting writes l) left []) room ≡ option_map_or (λ l. write ∷ fitting writes l) left []
+    by more None is = refl
+    by more (Some l) is = ap (λ left. option_map_or (λ m. write ∷ fitting (fitting writes l) m) left []) is ∙ ap (λ others. write ∷ others) (more l)
+
+-- what is done has space
+pub done_fits : (catalog : Catalog) (files : Files) (writes : List Write) → fitting (done_of catalog files writes) (room_of catalog files) ≡ done_of catalog files writes
+unfolding done_of
+done_fits catalog files writes = by (rewrite_of catalog files writes)
+  where
+    by : (rewrite : Option (ℕ × List ℕ)) → fitting (done_unless rewrite (fitting writes (room_of catalog files))) (room_of catalog files) ≡ done_unless rewrite (fitting writes (room_of catalog files))
+    by None = fitting-again writes (room_of catalog files)
+    by (Some rewrite) = refl
+
+pub done_fits-for : (catalog : Catalog) (step : StepRun) (heads : Heads) (writes : List Write) → writes ≡ done_for catalog step heads → fitting writes (room_of catalog step.files) ≡ writes
+unfolding done_for
+done_fits-for catalog step heads writes are = ap (λ w. fitting w (room_of catalog step.files)) are ∙ done_fits catalog step.files (writes_for step heads) ∙ sym are
+
+-- how many are counted
+pub count_one : (catalog : Catalog) (files : Files) (writes : List Write) (rewrites : Bool) → rewrites ≡ is_some (rewrite_of catalog files writes) → rewrites ≡ true → 1 ≡ count_of catalog files writes
+unfolding count_of
+count_one catalog files writes rewrites is made = by (rewrite_of catalog files writes) (sym is ∙ made)
+  where
+    by : (rewrite : Option (ℕ × List ℕ)) → is_some rewrite ≡ true → 1 ≡ count_unless rewrite (fitting writes (room_of catalog files))
+    by None made = absurd (false≢true made)
+    by (Some rewrite) made = refl
+
+pub count_all : (catalog : Catalog) (files : Files) (writes : List Write) (rewrites : Bool) → rewrites ≡ is_some (rewrite_of catalog files writes) → rewrites ≡ false
+    → length (filter is_behind (done_of catalog files writes)) ≡ count_of catalog files writes
+unfolding count_of
+count_all catalog files writes rewrites is none =
+    let without = none_of (rewrite_of catalog files writes) (sym none ∙ is) in
+    ap (λ w. length (filter is_behind w)) (done_all catalog files writes without)
+    ∙ sym (ap (λ rewrite. count_unless rewrite (fitting writes (room_of catalog files))) without)
+
+-- a rewrite is a write
+pub rewrite_some : (catalog : Catalog) (files : Files) (writes : List Write) (rewrites : Bool) → rewrites ≡ is_some (rewrite_of catalog files writes) → rewrites ≡ true → 1 ≤ length writes
+unfolding rewrite_of
+rewrite_some catalog files [] rewrites is made = absurd (false≢true (sym is ∙ made))
+rewrite_some catalog files (write ∷ writes) rewrites is made = omega arith

@@ -9,6 +9,7 @@ use Rattle.ckr_volumes.specs.declared.layout.Layout.{Layout}
 use Rattle.ckr_meaning.specs.LibrarySet.{Library}
 use Rattle.ckr_steps.specs.declared.step_run.StepRun.{StepRun}
 use Rattle.ckr_steps.specs.declared.step_run.Worked.{Worked}
+use Rattle.ckr_steps.specs.declared.unit_ahead.UnitAhead.{UnitAhead}
 use Rattle.ckr_steps.specs.Units.{unit_of, state_of, taken_of, IsCounted}
 use Rattle.ckr_steps.specs.Inputs.{heads_of}
 use Rattle.ckr_steps.specs.Writes.{answer_of, done_of, count_of, grown, Shows, put_all}
@@ -61,6 +62,25 @@ pub record HasWorked (told : Type 0) (before after : List ℕ) (layout : Layout)
   pub read : told → heads ≡ heads_on before layout library old
   pub done : HasDone heads old new library library' worked
   pub written : HasWritten told before after layout heads old library library'
+
+-- ---- a unit that was worked out
+
+-- the step behind it
+abbrev pub behind_ahead : StepRun → UnitAhead → StepRun
+behind_ahead step ahead = record step { state = ahead.state; writes = step.writes + ahead.count }
+
+-- it is the unit for these heads: its answer, the step behind it, and its writes as far as they are done
+pub record IsUnitFor (library : Catalog) (step : StepRun) (heads : Heads) (ahead : UnitAhead) : Type 0 where
+  pub answer : ahead.worked ≡ worked_for library step heads
+  pub behind : behind_ahead step ahead ≡ behind_unit library step heads
+  pub writes : ahead.writes.items ≡ done_for library step heads
+  pub counted : AreCounted (behind_ahead step ahead)
+
+-- it was worked out for some heads, those that the disk reads where it tells
+pub record HasWorkedOut (told : Type 0) (image : List ℕ) (layout : Layout) (step : StepRun) (library : Catalog) (ahead : UnitAhead) : Type 0 where
+  pub heads : Heads
+  pub read : told → heads ≡ heads_on image layout library step
+  pub unit : IsUnitFor library step heads ahead
 
 -- the answer is that to the unit for some heads, those that the disk reads where it tells
 pub record HasLooked (told : Type 0) (image : List ℕ) (layout : Layout) (step : StepRun) (library : Catalog) (worked : Worked) : Type 0 where

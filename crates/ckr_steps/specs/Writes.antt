@@ -12,7 +12,7 @@ use Rattle.ckr_outside.specs.Disk.{EachSince}
 use Rattle.ckr_library.specs.declared.sets.Content.TheVariants.{Plain}
 use Rattle.ckr_library.specs.declared.sets.DataSet.{DataSet}
 use Rattle.ckr_library.specs.Catalog.{Holding, Catalog, set_of, with_length}
-use Rattle.ckr_library.specs.NameMaps.{Name, Named, entry_at, with_changed}
+use Rattle.ckr_library.specs.NameMaps.{Name, Named, entry_at, same_name, with_changed}
 use Rattle.ckr_volumes.specs.declared.layout.Layout.{Layout}
 use Rattle.ckr_volumes.specs.Records.{records_on}
 use Rattle.ckr_volumes.specs.Layouts.{StandsIn, front_of, lie_apart}
@@ -105,6 +105,13 @@ grown_in (Some name) sets = with_changed name longer sets
 abbrev pub grown : Files → List Write → Named Holding → Named Holding
 grown files [] sets = sets
 grown files (write ∷ writes) sets = grown files writes (grown_in (end_set files write.output) sets)
+
+-- the writes that go behind the last record of this data set
+abbrev pub gains : Files → Name → Write → Bool
+gains files name write = option_map_or (same_name name) (end_set files write.output) false
+
+abbrev pub gained : Files → Name → List Write → ℕ
+gained files name writes = length (filter (gains files name) writes)
 
 -- ---- the records behind the writes
 

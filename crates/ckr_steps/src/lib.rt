@@ -4,8 +4,10 @@
 mod files;
 mod heads;
 mod step_run;
+mod unit_ahead;
 mod unit_writes;
 mod units;
 
 pub use files::{Files, RecordSource};
 pub use step_run::{Progress, StepRun, Worked};
+pub use unit_ahead::UnitAhead;

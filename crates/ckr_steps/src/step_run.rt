@@ -1,8 +1,11 @@
 //! A running step.
-ghost use Rattle.std.specs.Prelude.{◌≡◌, ◌≤◌, ◌<◌, ℕ, Bool, true, false, IsTrue, IfOk};
+ghost use Rattle.std.specs.Prelude.{◌≡◌, ◌≤◌, ◌<◌, ℕ, Bool, true, false, IsTrue, IfOk, OnOk, Some};
+ghost use Rattle.std.specs.Option.{option_map_or};
 ghost use Rattle.ckr_base.specs.declared.programs.NextDue.TheVariants.{Unit as OneUnit};
 ghost use Rattle.ckr_outside.specs.Disk.{OnlyReads, HasCause};
-ghost use Rattle.ckr_library.specs.Catalog.{Catalog};
+ghost use Rattle.ckr_library.specs.declared.sets.DataSet.{DataSet as OneSet};
+ghost use Rattle.ckr_library.specs.Catalog.{Catalog, Holding, set_of};
+ghost use Rattle.ckr_library.specs.NameMaps.{Name, entry_at};
 ghost use Rattle.ckr_meaning.specs.StepRun.{StepStart};
 ghost use Rattle.ckr_programs.specs.Ranges.{IsInRange};
 ghost use Rattle.ckr_volumes.specs.declared.layout.Layout.{Layout as OneLayout};
@@ -10,22 +13,20 @@ ghost use Rattle.ckr_volumes.specs.Layouts.{is_laid_out, disk_needed};
 ghost use Rattle.ckr_steps.specs.Files.{files_of};
 ghost use Rattle.ckr_steps.specs.Units.{first_state, due_of, served_of, taken_of, entries_of};
 ghost use Rattle.ckr_steps.specs.Inputs.{AreStored, AreThere};
-ghost use Rattle.ckr_steps.specs.Writes.{worked_by, ChangesKeeping};
+ghost use Rattle.ckr_steps.specs.Writes.{grown, ChangesKeeping};
 
 use crate::files::{Files, files_of};
 use crate::heads::heads_of;
-use crate::unit_writes::{do_writes, fit, rewrite_of};
+use crate::unit_ahead::{UnitAhead, gained};
+use crate::unit_writes::put_all;
 use crate::units;
-use ckr_base::{Code, Duplicate, Finish, NextDue, NoMemory, Rec};
+use ckr_base::{Code, DsName, Duplicate, NextDue, NoMemory, Rec};
 use ckr_entry::State;
 use ckr_jcl::{Parm, Step};
 use ckr_library::Library;
 use ckr_outside::{Disk, Failed};
 use ckr_volumes::Layout;
 use std::alloc::Global;
-
-/// A write has no space in its data set.
-const NO_SPACE: Code = Code::System(0xB37);
 
 /// What a unit of a step's work came to.
 #[derive(PartialEq, Eq, Drop)]
@@ -60,28 +61,8 @@ pub struct StepRun {
     writes: u32,
 }
 
-/// What is answered to a unit behind which so many records are taken.
-fn answer(taken: u32, rewrite: Option<(u32, Rec)>, fits: bool, finish: Option<Finish>) -> Worked
-    ensures { result ≡ worked_by taken rewrite fits finish }
-{
-    if let Some((place, image)) = rewrite {
-        return Worked::Rewrite {
-            place,
-            image,
-            taken,
-        };
-    }
-    if !fits {
-        return Worked::Abend(NO_SPACE);
-    }
-    match finish {
-        Some(Finish::Abend(code)) => Worked::Abend(code),
-        Some(Finish::Returned(_)) | None => Worked::Went { taken },
-    }
-}
-
 impl StepRun {
-    ghost use Rattle.ckr_steps.specs.StepUnit.{AreCounted, heads_on, worked_for, HasWorked, HasLooked};
+    ghost use Rattle.ckr_steps.specs.StepUnit.{AreCounted, behind_ahead, heads_on, worked_for, HasWorked, HasWorkedOut};
     ghost use Rattle.ckr_steps.specs.Places.{files_at, MayStart, IsStepPlace, ShowsWithin, GoesOn, DueAt, HasFewCards, HasMade};
 
     /// A step that starts, by the numbers of the run's root and of the run that owns the step, each at most 9,999,999. It keeps
@@ -146,8 +127,33 @@ impl StepRun {
         }
     }
 
-    /// The answer that `work` would give now, if none of its disk calls failed. Nothing is written, and the step stays where it is.
-    /// It takes no memory. It is called where a unit is due.
+    /// How far the step comes by a unit that was worked out.
+    pub fn progress_behind<'a>(&self, ahead: &'a UnitAhead) -> Progress<'a>
+        requires { AreCounted (behind_ahead self.now ahead.now) }
+        ensures taken { result.taken ≡ taken_of (behind_ahead self.now ahead.now).state }
+        ensures writes { result.writes ≡ (behind_ahead self.now ahead.now).writes }
+        ensures state { result.state.now ≡ (behind_ahead self.now ahead.now).state }
+    {
+        Progress {
+            taken: units::taken_of(&ahead.state),
+            writes: self.writes + ahead.count,
+            state: &ahead.state,
+        }
+    }
+
+    /// The length of one of the step's data sets behind a unit that was worked out, and 0 where there is no such data set.
+    pub fn length_behind(&self, ahead: &UnitAhead, library: &Library, name: &DsName) -> u32
+        requires { (name : Name) (set : OneSet) → set_of library.now name ≡ Some set → set.length ≤ 1000000 }
+        ensures { result ≡ option_map_or (λ (holding : Holding). holding.set.length) (entry_at (grown self.now.files ahead.now.writes.items library.now.sets) name.now) 0 }
+    {
+        match library.get(name) {
+            Some(set) => set.length + gained(ahead.writes.as_slice(), &self.files, name),
+            None => 0,
+        }
+    }
+
+    /// Works the next unit out: it reads the next records of the inputs. Nothing is written, and the step stays where it is. It takes no
+    /// memory. It is called where a unit is due.
     ///
     /// `Failed`: only where the disk's faults rose in this call.
     pub fn ahead<D: Disk>(
@@ -155,15 +161,15 @@ impl StepRun {
         disk: &mut D,
         layout: &Layout,
         library: &Library,
-    ) -> Result<Worked, Failed>
+    ) -> Result<UnitAhead, Failed>
         requires due { due_of self.now.parm self.now.state ≡ OneUnit }
         requires counted { AreCounted self.now }
         requires layout { IsTrue (is_laid_out layout.now) }
         requires fits { disk_needed layout.now ≤ D.size disk.old }
         requires stored { AreStored layout.now library.now }
         requires there { AreThere self.now.files library.now }
-        ensures answer { D.told → IfOk result (λ worked. worked ≡ worked_for library.now self.now (heads_on (D.content disk.old) layout.now library.now self.now)) }
-        ensures looked { IfOk result (HasLooked D.told (D.content disk.old) layout.now self.now library.now) }
+        ensures answer { D.told → IfOk result (λ ahead. ahead.worked ≡ worked_for library.now self.now (heads_on (D.content disk.old) layout.now library.now self.now)) }
+        ensures ahead { IfOk result (HasWorkedOut D.told (D.content disk.old) layout.now self.now library.now) }
         ensures only_reads { OnlyReads D.content D.may_leave D.moment D.left_since disk.old disk.new }
         ensures size { D.size disk.new ≡ D.size disk.old }
         ensures cause { HasCause (D.faults disk.old) (D.faults disk.new) result }
@@ -171,20 +177,13 @@ impl StepRun {
         let heads = heads_of(disk, layout, library, &self.files, &self.state)?;
         let mut state = units::copied(&self.state);
         let done = units::unit(&mut state, &self.parm, &heads, self.writes);
-        let writes = done.writes.as_slice();
-        Ok(answer(
-            units::taken_of(&state),
-            rewrite_of(library, &self.files, writes),
-            fit(library, &self.files, writes),
-            done.finish,
-        ))
+        Ok(UnitAhead::of(library, &self.files, state, done))
     }
 
-    /// One unit of the step's work: it reads the next records of the inputs, and writes the unit's records behind the last ones of
-    /// their data sets, whose lengths in the library rise. A record is cut or filled with blanks to the record length. A write
-    /// that has no space isn't made, and ends the program with SB37; the unit's writes before it are made. A rewrite in place
-    /// isn't written here; it counts as a write. One of a place that isn't below the data set's length isn't made. It takes no
-    /// memory. It is called where a unit is due.
+    /// Does a unit that was worked out from where the step stands: its records are written behind the last ones of their data sets, whose
+    /// lengths in the library rise. A record is cut or filled with blanks to the record length. A write that has no space isn't made, and
+    /// the program has ended with SB37; the unit's writes before it are made. A rewrite in place isn't written here; it counts as a write.
+    /// One of a place that isn't below the data set's length isn't made. Nothing is read, and no memory is taken. Answers what the unit came to.
     ///
     /// `Failed`: only where the disk's faults rose in this call; then the step doesn't go on.
     pub fn work<D: Disk>(
@@ -192,16 +191,18 @@ impl StepRun {
         disk: &mut D,
         layout: &Layout,
         library: &mut Library,
+        ahead: UnitAhead,
     ) -> Result<Worked, Failed>
-        requires due { due_of self.old.parm self.old.state ≡ OneUnit }
-        requires counted { AreCounted self.old }
         requires layout { IsTrue (is_laid_out layout.now) }
         requires fits { disk_needed layout.now ≤ D.size disk.old }
         requires stored { AreStored layout.now library.old }
         requires there { AreThere self.old.files library.old }
-        ensures answer { D.told → IfOk result (λ worked. worked ≡ worked_for library.old self.old (heads_on (D.content disk.old) layout.now library.old self.old)) }
+        requires ahead { HasWorkedOut D.told (D.content disk.old) layout.now self.old library.old ahead }
+        ensures answer { IfOk result (λ worked. worked ≡ ahead.worked) }
+        ensures behind { OnOk result (self.new ≡ behind_ahead self.old ahead) }
+        ensures lengths { OnOk result (library.new.sets ≡ grown self.old.files ahead.writes.items library.old.sets) }
         ensures worked { IfOk result (HasWorked D.told (D.content disk.old) (D.content disk.new) layout.now self.old self.new library.old library.new) }
-        ensures counted { IfOk result (λ _. AreCounted self.new) }
+        ensures counted { OnOk result (AreCounted self.new) }
 
         // From wherever the step stands in its job, it goes on as its work does: a record more is taken or the program is closed, with
         // the writes for it behind those before, or the step ends as its work ends.
@@ -218,12 +219,15 @@ impl StepRun {
         ensures size { D.size disk.new ≡ D.size disk.old }
         ensures cause { HasCause (D.faults disk.old) (D.faults disk.new) result }
     {
-        let heads = heads_of(disk, layout, library, &self.files, &self.state)?;
-        let done = units::unit(&mut self.state, &self.parm, &heads, self.writes);
-        let writes = done.writes.as_slice();
-        let rewrite = rewrite_of(library, &self.files, writes);
-        let put = do_writes(disk, layout, library, &self.files, writes, &rewrite)?;
-        self.writes += put.count;
-        Ok(answer(units::taken_of(&self.state), rewrite, put.fits, done.finish))
+        let UnitAhead {
+            worked,
+            state,
+            writes,
+            count,
+        } = ahead;
+        self.state = state;
+        self.writes += count;
+        put_all(disk, layout, library, &self.files, writes.as_slice())?;
+        Ok(worked)
     }
 }

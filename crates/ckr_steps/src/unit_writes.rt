@@ -1,5 +1,5 @@
 //! The writes of a unit, each behind the last record of its data set.
-ghost use Rattle.std.specs.Prelude.{◌≡◌, ◌≤◌, ◌<◌, ◌+◌, ◌∷◌, [], ◌++◌, ℕ, List, false, IsTrue, length, filter, nat_lt, if◌then◌else◌, OnOk, IfOk, Some, None};
+ghost use Rattle.std.specs.Prelude.{◌≡◌, ◌≤◌, ◌<◌, ◌+◌, ◌∷◌, [], ◌++◌, ℕ, List, IsTrue, length, filter, take, nat_lt, if◌then◌else◌, OnOk, IfOk, Some};
 ghost use Rattle.std.specs.Option.{is_some};
 ghost use Rattle.ckr_base.specs.Columns.{fitted};
 ghost use Rattle.ckr_outside.specs.Disk.{ChangesWithin, HasCause};
@@ -14,20 +14,13 @@ ghost use Rattle.ckr_meaning.specs.Program.{room_behind, room_after, fitting};
 ghost use Rattle.ckr_meaning.specs.StepRun.{extended, changed_in};
 ghost use Rattle.ckr_steps.specs.Files.{set_of_source};
 ghost use Rattle.ckr_steps.specs.Inputs.{AreStored, AreThere, IsSetThere, IsSourceThere};
-ghost use Rattle.ckr_steps.specs.Writes.{rewrite_first, end_set, room_at, room_of, is_behind, rewrite_of, done_of, count_of, longer, grown_in, grown, Shows, put_one, put_all, ChangesKeeping};
+ghost use Rattle.ckr_steps.specs.Writes.{rewrite_first, end_set, room_at, room_of, is_behind, rewrite_of, done_of, longer, grown_in, grown, Shows, put_one, put_all, ChangesKeeping};
 
 use crate::files::{Files, RecordSource};
 use ckr_base::{DsName, Output, Rec, Write, fitted};
 use ckr_library::{DataSet, Library};
 use ckr_outside::{Disk, Failed};
 use ckr_volumes::{Layout, write_record};
-
-/// How many of a unit's writes were done, and whether all had space.
-#[derive(Clone, Copy)]
-pub(crate) struct Put {
-    pub(crate) count: u32,
-    pub(crate) fits: bool,
-}
 
 /// Writes the record behind the last one of a data set that has space for it.
 fn write_next<D: Disk>(
@@ -157,24 +150,20 @@ fn is_behind(write: &Write) -> bool
 }
 
 /// Does the writes of a unit up to the first one that has no space.
-fn put_all<D: Disk>(
+pub(crate) fn put_all<D: Disk>(
     disk: &mut D,
     layout: &Layout,
     library: &mut Library,
     files: &Files,
     writes: &[Write],
-) -> Result<Put, Failed>
+) -> Result<(), Failed>
     requires layout { IsTrue (is_laid_out layout.now) }
     requires fits { disk_needed layout.now ≤ D.size disk.old }
     requires stored { AreStored layout.now library.old }
     requires there { AreThere files.now library.old }
-    requires few { length writes.now ≤ 4 }
-    ensures fits { IfOk result (λ put. put.fits ≡ is_some (room_after writes.now (room_of library.old files.now))) }
-    ensures count { IfOk result (λ put. put.count ≡ length (filter is_behind (fitting writes.now (room_of library.old files.now)))) }
-    ensures few { IfOk result (λ put. put.count ≤ length writes.now) }
-    ensures sets { IfOk result (λ put. library.new.sets ≡ grown files.now (fitting writes.now (room_of library.old files.now)) library.old.sets) }
+    ensures sets { OnOk result (library.new.sets ≡ grown files.now (fitting writes.now (room_of library.old files.now)) library.old.sets) }
     ensures shows { (names : List Name) (model : Model) → Shows D.told (D.content disk.old) layout.now names model library.old
-        → IfOk result (λ put. Shows D.told (D.content disk.new) layout.now names (put_all files.now (fitting writes.now (room_of library.old files.now)) model) library.new) }
+        → OnOk result (Shows D.told (D.content disk.new) layout.now names (put_all files.now (fitting writes.now (room_of library.old files.now)) model) library.new) }
     ensures stored { AreStored layout.now library.new }
     ensures there { AreThere files.now library.new }
     ensures keeps { ChangesKeeping D.told D.content D.may_leave D.moment D.left_since layout.now library.old disk.old disk.new }
@@ -182,22 +171,24 @@ fn put_all<D: Disk>(
     ensures cause { HasCause (D.faults disk.old) (D.faults disk.new) result }
 {
     let Some((first, rest)) = writes.split_first() else {
-        return Ok(Put {
-            count: 0,
-            fits: true,
-        });
+        return Ok(());
     };
     if !put_one(disk, layout, library, files, first)? {
-        return Ok(Put {
-            count: 0,
-            fits: false,
-        });
+        return Ok(());
     }
-    let put = put_all(disk, layout, library, files, rest)?;
-    Ok(Put {
-        count: put.count + u32::from(is_behind(first)),
-        fits: put.fits,
-    })
+    put_all(disk, layout, library, files, rest)
+}
+
+/// How many writes go behind a last record.
+pub(crate) fn count_behind(writes: &[Write]) -> u32
+    requires few { length writes.now ≤ 4 }
+    ensures count { result ≡ length (filter is_behind writes.now) }
+    ensures few { result ≤ length writes.now }
+{
+    let Some((first, rest)) = writes.split_first() else {
+        return 0;
+    };
+    count_behind(rest) + u32::from(is_behind(first))
 }
 
 /// The rewrite that a unit's writes begin with, of a data set.
@@ -228,43 +219,6 @@ pub(crate) fn rewrite_of(library: &Library, files: &Files, writes: &[Write]) -> 
     match library.get(name) {
         Some(set) => rewrite_in(set, writes),
         None => None,
-    }
-}
-
-/// Does the writes of a unit, unless they are a rewrite, which isn't done here.
-#[tactic(auto, unfolding(crate::specs::Writes::done_of, crate::specs::Writes::count_of))]
-pub(crate) fn do_writes<D: Disk>(
-    disk: &mut D,
-    layout: &Layout,
-    library: &mut Library,
-    files: &Files,
-    writes: &[Write],
-    rewrite: &Option<(u32, Rec)>,
-) -> Result<Put, Failed>
-    requires layout { IsTrue (is_laid_out layout.now) }
-    requires fits { disk_needed layout.now ≤ D.size disk.old }
-    requires stored { AreStored layout.now library.old }
-    requires there { AreThere files.now library.old }
-    requires few { length writes.now ≤ 4 }
-    requires rewrite { rewrite.now ≡ rewrite_of library.old files.now writes.now }
-    ensures fits { IfOk result (λ put. rewrite.now ≡ None → put.fits ≡ is_some (room_after writes.now (room_of library.old files.now))) }
-    ensures count { IfOk result (λ put. put.count ≡ count_of library.old files.now writes.now) }
-    ensures few { IfOk result (λ put. put.count ≤ length writes.now) }
-    ensures sets { IfOk result (λ put. library.new.sets ≡ grown files.now (done_of library.old files.now writes.now) library.old.sets) }
-    ensures shows { (names : List Name) (model : Model) → Shows D.told (D.content disk.old) layout.now names model library.old
-        → IfOk result (λ put. Shows D.told (D.content disk.new) layout.now names (put_all files.now (done_of library.old files.now writes.now) model) library.new) }
-    ensures stored { AreStored layout.now library.new }
-    ensures there { AreThere files.now library.new }
-    ensures keeps { ChangesKeeping D.told D.content D.may_leave D.moment D.left_since layout.now library.old disk.old disk.new }
-    ensures size { D.size disk.new ≡ D.size disk.old }
-    ensures cause { HasCause (D.faults disk.old) (D.faults disk.new) result }
-{
-    match rewrite {
-        Some(_) => Ok(Put {
-            count: 1,
-            fits: true,
-        }),
-        None => put_all(disk, layout, library, files, writes),
     }
 }
 
@@ -301,6 +255,43 @@ pub(crate) fn fit(library: &Library, files: &Files, writes: &[Write]) -> bool
     ensures { result ≡ is_some (room_after writes.now (room_of library.now files.now)) }
 {
     have_space(
+        writes,
+        room_at(library, &files.main),
+        room_at(library, &files.rejects),
+    )
+}
+
+/// How many of the writes come before the first one that has no space, where the outputs have this much.
+fn count_fitting(writes: &[Write], main: u32, rejects: u32) -> usize
+    ensures count { result ≡ length (fitting writes.now (record { main = main; rejects = rejects })) }
+    ensures few { result ≤ length writes.now }
+{
+    let Some((first, rest)) = writes.split_first() else {
+        return 0;
+    };
+    match first.output {
+        Output::Main if main > 0 => 1 + count_fitting(rest, main - 1, rejects),
+        Output::Rejects if rejects > 0 => 1 + count_fitting(rest, main, rejects - 1),
+        Output::InPlace(_) => 1 + count_fitting(rest, main, rejects),
+        Output::Main | Output::Rejects => 0,
+    }
+}
+
+/// How many of a unit's writes are done: where they begin with a rewrite none, and else those before the first one that has no space.
+#[tactic(auto, unfolding(crate::specs::Writes::done_of, crate::specs::Writes::room_of))]
+pub(crate) fn count_done(
+    library: &Library,
+    files: &Files,
+    writes: &[Write],
+    rewrites: bool,
+) -> usize
+    requires rewrites { rewrites ≡ is_some (rewrite_of library.now files.now writes.now) }
+    ensures { take result writes.now ≡ done_of library.now files.now writes.now }
+{
+    if rewrites {
+        return 0;
+    }
+    count_fitting(
         writes,
         room_at(library, &files.main),
         room_at(library, &files.rejects),

@@ -1,5 +1,5 @@
 -- How the calls on a disk end.
-use Rattle.std.proofs.Common.{◌≡◌, ◌≤◌, ℕ, Bool, List, Option, None, Some, Result, Ok, Err, refl, subst}
+use Rattle.std.proofs.Common.{◌≡◌, ◌≤◌, ℕ, Bool, List, [], Option, None, Some, Result, Ok, Err, refl, ap, subst, arith}
 use Rattle.std.specs.Prelude.{IsOkAnd}
 use Rattle.std.specs.Io.KnownBytes.{Keeps}
 use Rattle.ckr_outside.specs.Faults.{Rose}
@@ -9,12 +9,13 @@ use Rattle.ckr_desk_format.specs.declared.command.FormatOutcome.TheVariants as O
 use Rattle.ckr_desk_format.specs.Formats.{Ends, CausedBy, IsFormatted, CarriedOut}
 use Rattle.ckr_desk.specs.declared.error.OpenError.{OpenError}
 use Rattle.ckr_desk.specs.Replay.{OpenCause}
-use Rattle.ckr_desk.specs.Soundness.{AllSound}
-use Rattle.ckr_desk.specs.State.{RoomyDesk}
+use Rattle.ckr_desk.specs.Opening.{opening_of}
+use Rattle.ckr_desk.specs.Soundness.{AllSound, desk_of_opened, desk_opening}
+use Rattle.ckr_desk.specs.State.{Opened, RoomyDesk}
 use Rattle.batch_desk.specs.declared.stop.Stop.{Stop}
-use Rattle.batch_desk.specs.Feeds.{Serving, faults_of}
-use Rattle.batch_desk.specs.CallEnds.{Ended, NotOpened, HasRun, HasFormatted, opening_status, serving_status, formatting_status}
-use Rattle.batch_desk.proofs.Service.Ends.{serving_from}
+use Rattle.batch_desk.specs.Feeds.{Faults, Serving, faults_of}
+use Rattle.batch_desk.specs.CallEnds.{Ended, NotOpened, HasRun, TakesAtMost, HasFormatted, opening_status, serving_status, formatting_status}
+use Rattle.batch_desk.proofs.Streams.Feeds.{Consumes-nil}
 use Rattle.ckr_desk.proofs.Openings.FreshDisks.{fresh_image}
 
 Keeps-refl : (a : Option (List ℕ)) → Keeps a a
@@ -23,21 +24,39 @@ Keeps-refl (Some xs) = refl
 
 -- ---- a stream
 
-pub run_ended : (told trusted trusted' : Type 0) (opening : Result RoomyDesk OpenError) (state : RoomyDesk) (outcome : Result Bool Stop) (status a b c d before between now : ℕ) (left rest old new : Option (List ℕ))
-    → (trusted' → opening ≡ Ok state) → status ≡ serving_status outcome → before ≤ between → (trusted' → trusted)
-    → Serving trusted state outcome (faults_of a b c d between now) left rest old new → HasRun told trusted' opening status (faults_of a b c d before now) left rest old new
-run_ended told trusted trusted' opening state outcome status a b c d before between now left rest old new opened is later holds s = record {
+takes_served : (trusted : Type 0) (each has : List (List ℕ) → Type 0) (state : RoomyDesk) (outcome : Result Bool Stop) (faults : Faults) (source rest old new : Option (List ℕ))
+    → Serving trusted each has state outcome faults source rest old new → TakesAtMost 16_777_217 source rest
+takes_served trusted each has state (Ok refused) faults source rest old new s = record { taken = s.all; given = s.given; few = omega (arith, s.few) }
+takes_served trusted each has state (Err stop) faults source rest old new s = record { taken = s.taken; given = s.given; few = s.few }
+
+takes_none : (source : Option (List ℕ)) → TakesAtMost 16_777_217 source source
+takes_none source = record { taken = []; given = Consumes-nil source; few = omega arith }
+
+-- a disk that tells what it holds opens in some state of the desk
+opens_told : (image : List ℕ) (size : ℕ) (opened : Opened) → opening_of image size ≡ Ok opened → (desk : RoomyDesk) × (desk_opening image size ≡ Ok desk)
+unfolding desk_opening
+opens_told image size opened is = (_, ap (desk_of_opened image) is)
+
+pub run_ended : (told trusted : Type 0) (image : List ℕ) (size : ℕ) (opened : Opened) (state : RoomyDesk) (leaves : OpenError → Type 0) (each has : Layout → List (List ℕ) → Type 0) (outcome : Result Bool Stop)
+    (status : ℕ) (faults : Faults) (source rest old new : Option (List ℕ))
+    → (told → opening_of image size ≡ Ok opened) → (trusted → desk_opening image size ≡ Ok state) → status ≡ serving_status outcome
+    → Serving trusted (each state.desk.layout) (has state.desk.layout) state outcome faults source rest old new
+    → HasRun told trusted (desk_opening image size) leaves each has status faults source rest old new
+run_ended told trusted image size opened state leaves each has outcome status faults source rest old new reads opens is s = record {
   end = Ended outcome;
   is = is;
-  so = record { state = state; opened = opened; serving = serving_from trusted trusted' state outcome a b c d before between now left rest old new later holds s };
+  takes = takes_served trusted (each state.desk.layout) (has state.desk.layout) state outcome faults source rest old new s;
+  so = record { state = state; opens = λ tells. opens_told image size opened (reads tells); opened = opens; serving = s };
 }
 
-pub run_not_opened : (told trusted : Type 0) (opening : Result RoomyDesk OpenError) (error : OpenError) (status a c before now : ℕ) (left old : Option (List ℕ))
-    → status ≡ opening_status error → OpenCause (Rose before now) told opening error → HasRun told trusted opening status (faults_of a a c c before now) left left old old
-run_not_opened told trusted opening error status a c before now left old is cause = record {
+pub run_not_opened : (told trusted : Type 0) (opening : Result RoomyDesk OpenError) (leaves : OpenError → Type 0) (each has : Layout → List (List ℕ) → Type 0) (error : OpenError) (status a c before now : ℕ)
+    (source old : Option (List ℕ))
+    → status ≡ opening_status error → OpenCause (Rose before now) told opening error → leaves error → HasRun told trusted opening leaves each has status (faults_of a a c c before now) source source old old
+run_not_opened told trusted opening leaves each has error status a c before now source old is cause left = record {
   end = NotOpened error;
   is = is;
-  so = record { cause = cause; takes_nothing = Keeps-refl left; writes_nothing = Keeps-refl old };
+  takes = takes_none source;
+  so = record { cause = cause; left = left; takes_nothing = Keeps-refl source; writes_nothing = Keeps-refl old };
 }
 
 -- ---- formatting
@@ -50,17 +69,17 @@ module _ {D : Type 0} (told : Type 0) (content : D → List ℕ) (may_leave : D 
   }
   all_sound (Err e) holds f = absurd f
 
-  pub has_formatted : (outcome : FormatOutcome) (status bytes a b c d before now : ℕ) (left rest old new : Option (List ℕ)) (same : Type 0)
-      → status ≡ formatting_status outcome → Ends outcome left rest bytes (IsFormatted told (content disk) (may_leave disk) (size disk)) same old new
+  pub has_formatted : (outcome : FormatOutcome) (status bytes a b c d before now : ℕ) (left rest old new : Option (List ℕ)) (formats : Layout → Type 0) (same : Type 0)
+      → status ≡ formatting_status outcome → Ends outcome left rest bytes (IsFormatted told (content disk) (may_leave disk) (size disk)) formats same old new
       → CausedBy outcome (Rose a b) (Rose c d) (Rose before now)
-      → HasFormatted told bytes (IsFormatted told (content disk) (may_leave disk) (size disk)) same (AllSound told may_leave size disk) status (faults_of a b c d before now) left rest old new
-  has_formatted outcome status bytes a b c d before now left rest old new same is ends cause = record {
+      → HasFormatted told bytes (IsFormatted told (content disk) (may_leave disk) (size disk)) formats same (AllSound told may_leave size disk) status (faults_of a b c d before now) left rest old new
+  has_formatted outcome status bytes a b c d before now left rest old new formats same is ends cause = record {
     outcome = outcome;
     is = is;
     ends = ends;
     cause = cause;
     opens = λ formatted holds.
-        (let done : CarriedOut Outcomes.Formatted left rest bytes (IsFormatted told (content disk) (may_leave disk) (size disk)) same old new =
-        subst (λ (o : FormatOutcome). Ends o left rest bytes (IsFormatted told (content disk) (may_leave disk) (size disk)) same old new) formatted ends in
+        (let done : CarriedOut Outcomes.Formatted left rest bytes (IsFormatted told (content disk) (may_leave disk) (size disk)) formats same old new =
+        subst (λ (o : FormatOutcome). Ends o left rest bytes (IsFormatted told (content disk) (may_leave disk) (size disk)) formats same old new) formatted ends in
         all_sound _ holds done.carried.0);
   }

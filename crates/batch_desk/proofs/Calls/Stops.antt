@@ -1,78 +1,211 @@
--- What a stop leaves, one call after another.
-use Rattle.std.proofs.Common.{◌≡◌, ◌≤◌, ◌++◌, [], ℕ, List, Result, Ok, Err, IsErrAnd, refl, ap, sym, ◌∙◌, subst, append_assoc, append-nil}
-use Rattle.ckr_outside.specs.Moments.{and_then, in_other_words}
+-- What a stop leaves, and which events came, one call after another.
+use Rattle.std.proofs.Common.{◌≡◌, ◌≤◌, ◌++◌, [], ◌∷◌, ◌⊎◌, ℕ, List, length, Result, Ok, Err, OnOk, IfErr, IsErrAnd, refl, ap, sym, ◌∙◌, subst, append_assoc, append-nil}
+use Rattle.std.proofs.lemmas.List.{append_cancel_left}
+use Rattle.ckr_outside.specs.Moments.{and_then}
+use Rattle.ckr_desk.specs.declared.error.DeskError.{DeskError}
+use Rattle.ckr_desk.specs.declared.error.DeskError.TheVariants.{NoMemory, DiskFault, BookFull}
 use Rattle.ckr_desk.specs.Model.Layout.{Layout}
 use Rattle.ckr_desk.specs.Model.OpenImages.{event_records}
+use Rattle.ckr_desk.specs.NoChange.{StaysBy}
+use Rattle.ckr_desk.specs.Requests.{came_by}
 use Rattle.ckr_desk.specs.Soundness.{HasKept, KeepsWithin}
 use Rattle.ckr_desk.specs.State.{DeskView}
-use Rattle.batch_desk.specs.Stops.{IsKeptFrom, Within, Goes, GoesBy}
+use Rattle.batch_desk.specs.Stops.{Comes, Goes, Has, KeepsTo, Stopped}
+use Rattle.batch_desk.proofs.Service.Events.{front_of_few}
 
-kept_from : (layout : Layout) (size : ℕ) (before came : List (List ℕ)) (image : List ℕ) → HasKept layout size before came image → IsKeptFrom layout size before image
-kept_from layout size before came image has = record { sound = has.sound; more = has.front; events = has.events }
+-- an image with the first of the events that came, and of more
+pub kept_more : (layout : Layout) (size : ℕ) (before came more : List (List ℕ)) (image : List ℕ) → HasKept layout size before came image → HasKept layout size before (came ++ more) image
+kept_more layout size before came more image has = record {
+  sound = has.sound;
+  front = has.front;
+  more = has.more ++ more;
+  split = ap (λ l. l ++ more) has.split ∙ append_assoc has.front has.more more;
+  events = has.events;
+}
+
+kept_behind : (layout : Layout) (size : ℕ) (before first came : List (List ℕ)) (image : List ℕ) → HasKept layout size (before ++ first) came image → HasKept layout size before (first ++ came) image
+kept_behind layout size before first came image has = record {
+  sound = has.sound;
+  front = first ++ has.front;
+  more = has.more;
+  split = ap (λ l. first ++ l) has.split ∙ sym (append_assoc first has.front has.more);
+  events = has.events ∙ append_assoc before first has.front;
+}
+
+-- the events behind a call, with the layout behind it
+pub came_there : {D : Type 0} (content : D → List ℕ) (old new : DeskView D) (came : List (List ℕ)) → new.store.layout ≡ old.store.layout
+    → event_records old.store.layout (content new.store.disk) ≡ event_records old.store.layout (content old.store.disk) ++ came
+    → event_records new.store.layout (content new.store.disk) ≡ event_records old.store.layout (content old.store.disk) ++ came
+came_there content old new came layout told = ap (λ (l : Layout). event_records l (content new.store.disk)) layout ∙ told
 
 module _ {D : Type 0} (content : D → List ℕ) (moment : D → ℕ) (left_since : D → ℕ → List ℕ → Type 0) (size : D → ℕ) where
-  pub within_of : (old new : DeskView D) (came : List (List ℕ)) → KeepsWithin content moment left_since size old new came → Within content moment left_since size old new
-  within_of old new came kept =
-      in_other_words moment left_since old.store.disk new.store.disk _ _ kept
-      (λ image has. kept_from old.store.layout (size old.store.disk) (event_records old.store.layout (content old.store.disk)) came image has)
+  abbrev events_of : DeskView D → List (List ℕ)
+  events_of desk = event_records desk.store.layout (content desk.store.disk)
 
   -- nothing is done
   pub goes_nowhere : (desk : DeskView D) → KeepsWithin content moment left_since size desk desk [] → Goes content moment left_since size desk desk
-  goes_nowhere desk kept = record { within = within_of desk desk [] kept; same_layout = refl; same_size = refl; came = []; events = sym (append-nil (event_records desk.store.layout (content desk.store.disk))) }
+  goes_nowhere desk kept = record { came = []; each = kept; has = sym (append-nil (events_of desk)); same_layout = refl; same_size = refl }
 
-  -- a call of the desk, on a disk of which a read gives one of the images
-  pub goes_done : (may_leave : D → List ℕ → Type 0) (old new : DeskView D) (came : List (List ℕ)) → may_leave new.store.disk (content new.store.disk)
-      → ((t : ℕ) (image : List ℕ) → t ≤ moment new.store.disk → may_leave new.store.disk image → left_since new.store.disk t image)
-      → new.store.layout ≡ old.store.layout → size new.store.disk ≡ size old.store.disk
-      → KeepsWithin content moment left_since size old new came → Goes content moment left_since size old new
-  goes_done may_leave old new came reads counts same_layout same_size kept =
-      let has = kept.each (content new.store.disk) (counts (moment old.store.disk) (content new.store.disk) kept.later reads) in
-      record {
-        within = within_of old new came kept;
-        same_layout = same_layout;
-        same_size = same_size;
-        came = has.front;
-        events = has.events;
-      }
+  -- a call of the desk
+  pub goes_done : (old new : DeskView D) (came : List (List ℕ)) → new.store.layout ≡ old.store.layout → size new.store.disk ≡ size old.store.disk
+      → KeepsWithin content moment left_since size old new came → Has content moment left_since size old new.store.disk came → Goes content moment left_since size old new
+  goes_done old new came same_layout same_size kept has = record { came = came; each = kept; has = has; same_layout = same_layout; same_size = same_size }
 
-  kept_before : (a b : DeskView D) (goes : Goes content moment left_since size a b) (image : List ℕ)
-      → IsKeptFrom b.store.layout (size b.store.disk) (event_records b.store.layout (content b.store.disk)) image
-      → IsKeptFrom a.store.layout (size a.store.disk) (event_records a.store.layout (content a.store.disk)) image
-  kept_before a b goes image kept =
-      let in_layout = subst (λ (l : Layout). IsKeptFrom l (size b.store.disk) (event_records l (content b.store.disk)) image) goes.same_layout kept in
-      let here = subst (λ (n : ℕ). IsKeptFrom a.store.layout n (event_records a.store.layout (content b.store.disk)) image) goes.same_size in_layout in
-      record {
-        sound = here.sound;
-        more = goes.came ++ here.more;
-        events = here.events ∙ ap (λ l. l ++ here.more) goes.events ∙ append_assoc (event_records a.store.layout (content a.store.disk)) goes.came here.more;
-      }
+  -- which events came, by those behind
+  pub came_is : (a b : DeskView D) (goes : Goes content moment left_since size a b) (came : List (List ℕ)) → events_of b ≡ events_of a ++ came → goes.came ≡ came
+  came_is a b goes came behind =
+      append_cancel_left (events_of a) goes.came came
+      (sym goes.has ∙ ap (λ (l : Layout). event_records l (content b.store.disk)) (sym goes.same_layout) ∙ behind)
 
-  pub within_then : (a b c : DeskView D) → Goes content moment left_since size a b → Within content moment left_since size b c → Within content moment left_since size a c
-  within_then a b c first second =
-      and_then moment left_since a.store.disk b.store.disk c.store.disk _ _ _ first.within second (λ image kept. kept) (kept_before a b first)
+  pub events_behind : (a b : DeskView D) (goes : Goes content moment left_since size a b) → events_of b ≡ events_of a ++ goes.came
+  events_behind a b goes = ap (λ (l : Layout). event_records l (content b.store.disk)) goes.same_layout ∙ goes.has
+
+  -- exactly these came
+  pub came_exactly : (a b : DeskView D) (goes : Goes content moment left_since size a b) (came : List (List ℕ)) → events_of b ≡ events_of a ++ came
+      → KeepsTo content moment left_since size a b.store.disk came × Has content moment left_since size a b.store.disk came
+  came_exactly a b goes came behind =
+      let same : goes.came ≡ came = came_is a b goes came behind in
+      (subst (KeepsTo content moment left_since size a b.store.disk) same goes.each, subst (Has content moment left_since size a b.store.disk) same goes.has)
+
+  kept_from : (a b : DeskView D) (goes : Goes content moment left_since size a b) (came : List (List ℕ)) (image : List ℕ)
+      → HasKept b.store.layout (size b.store.disk) (events_of b) came image → HasKept a.store.layout (size a.store.disk) (events_of a) (goes.came ++ came) image
+  kept_from a b goes came image kept =
+      kept_behind a.store.layout (size a.store.disk) (events_of a) goes.came came image
+      (subst (λ (events : List (List ℕ)). HasKept a.store.layout (size a.store.disk) events came image) goes.has
+      (subst (λ (n : ℕ). HasKept a.store.layout n (event_records a.store.layout (content b.store.disk)) came image) goes.same_size
+      (subst (λ (l : Layout). HasKept l (size b.store.disk) (event_records l (content b.store.disk)) came image) goes.same_layout kept)))
+
+  pub each_then : (a b : DeskView D) (c : D) (goes : Goes content moment left_since size a b) (came : List (List ℕ)) → KeepsTo content moment left_since size b c came
+      → KeepsTo content moment left_since size a c (goes.came ++ came)
+  each_then a b c goes came second =
+      and_then moment left_since a.store.disk b.store.disk c _ _ (HasKept a.store.layout (size a.store.disk) (events_of a) (goes.came ++ came)) goes.each second
+      (λ image kept. kept_more a.store.layout (size a.store.disk) (events_of a) goes.came came image kept)
+      (kept_from a b goes came)
+
+  pub has_then : (a b : DeskView D) (c : D) (goes : Goes content moment left_since size a b) (kept : List (List ℕ)) → Has content moment left_since size b c kept
+      → Has content moment left_since size a c (goes.came ++ kept)
+  has_then a b c goes kept second =
+      subst (λ (l : Layout). event_records l (content c) ≡ event_records l (content b.store.disk) ++ kept) goes.same_layout second
+      ∙ ap (λ l. l ++ kept) goes.has ∙ append_assoc (events_of a) goes.came kept
 
   pub goes_then : (a b c : DeskView D) → Goes content moment left_since size a b → Goes content moment left_since size b c → Goes content moment left_since size a c
   goes_then a b c first second = record {
-    within = within_then a b c first second.within;
+    came = first.came ++ second.came;
+    each = each_then a b c.store.disk first second.came second.each;
+    has = has_then a b c.store.disk first second.came second.has;
     same_layout = second.same_layout ∙ first.same_layout;
     same_size = second.same_size ∙ first.same_size;
-    came = first.came ++ second.came;
-    events = (let later = subst (λ (l : Layout). event_records l (content c.store.disk) ≡ event_records l (content b.store.disk) ++ second.came) first.same_layout second.events in
-        later ∙ ap (λ l. l ++ second.came) first.events ∙ append_assoc (event_records a.store.layout (content a.store.disk)) first.came second.came);
   }
 
-  pub goes_then_by : {T E : Type 0} (r : Result T E) (a b c : DeskView D) → Goes content moment left_since size a b → GoesBy content moment left_since size r b c → GoesBy content moment left_since size r a c
-  goes_then_by (Ok x) a b c first second = goes_then a b c first second
-  goes_then_by (Err e) a b c first second = within_then a b c first second
+  -- of a call's result
+  pub goes_then_on : {T E : Type 0} (r : Result T E) (a b c : DeskView D) → Goes content moment left_since size a b → OnOk r (Goes content moment left_since size b c) → OnOk r (Goes content moment left_since size a c)
+  goes_then_on (Ok x) a b c first second = goes_then a b c first second
+  goes_then_on (Err e) a b c first second = tt
 
-  pub goes_by : {T E : Type 0} (r : Result T E) (a b : DeskView D) → Goes content moment left_since size a b → GoesBy content moment left_since size r a b
-  goes_by (Ok x) a b goes = goes
-  goes_by (Err e) a b goes = goes.within
+  pub goes_on_to : {T E : Type 0} (r : Result T E) (a b b' : DeskView D) → b' ≡ b → Goes content moment left_since size a b → OnOk r (Goes content moment left_since size a b')
+  goes_on_to (Ok x) a b b' is goes = subst (λ (d : DeskView D). Goes content moment left_since size a d) (sym is) goes
+  goes_on_to (Err e) a b b' is goes = tt
 
-  -- the exit of a `?` that hands an error on
-  pub handed_within : {T E : Type 0} (r : Result T E) (error : E) (a b : DeskView D) → IsErrAnd r (λ e. e ≡ error) → Within content moment left_since size a b → GoesBy content moment left_since size r a b
-  handed_within (Ok x) error a b is within = absurd is
-  handed_within (Err e) error a b is within = within
+  -- ---- stopped
 
-  pub goes_by_to : {T E : Type 0} (r : Result T E) (a b b' : DeskView D) → b' ≡ b → Goes content moment left_since size a b → GoesBy content moment left_since size r a b'
-  goes_by_to r a b b' is goes = subst (λ (d : DeskView D). GoesBy content moment left_since size r a d) (sym is) (goes_by r a b goes)
+  pub stopped_behind : (a b : DeskView D) (c : D) (goes : Goes content moment left_since size a b) (came : List (List ℕ)) (So So' : List (List ℕ) → List (List ℕ) → Type 0)
+      → events_of b ≡ events_of a ++ came → ((more kept : List (List ℕ)) → So more kept → So' (came ++ more) (came ++ kept))
+      → Stopped content moment left_since size b c So → Stopped content moment left_since size a c So'
+  stopped_behind a b c goes came So So' behind so stopped = record {
+    came = goes.came ++ stopped.came;
+    kept = goes.came ++ stopped.kept;
+    so = subst (λ (l : List (List ℕ)). So' (l ++ stopped.came) (l ++ stopped.kept)) (sym (came_is a b goes came behind)) (so stopped.came stopped.kept stopped.so);
+    each = each_then a b c goes stopped.came stopped.each;
+    has = has_then a b c goes stopped.kept stopped.has;
+  }
+
+  -- nothing more came
+  pub stopped_here : (a b : DeskView D) (goes : Goes content moment left_since size a b) (came : List (List ℕ)) (So : List (List ℕ) → List (List ℕ) → Type 0)
+      → events_of b ≡ events_of a ++ came → So came came → Stopped content moment left_since size a b.store.disk So
+  stopped_here a b goes came So behind so = record {
+    came = goes.came;
+    kept = goes.came;
+    so = subst (λ (l : List (List ℕ)). So l l) (sym (came_is a b goes came behind)) so;
+    each = goes.each;
+    has = goes.has;
+  }
+
+  -- in other words
+  pub stopped_so : (a : DeskView D) (c : D) (So So' : List (List ℕ) → List (List ℕ) → Type 0) → ((came kept : List (List ℕ)) → So came kept → So' came kept)
+      → Stopped content moment left_since size a c So → Stopped content moment left_since size a c So'
+  stopped_so a c So So' so stopped = record { came = stopped.came; kept = stopped.kept; so = so stopped.came stopped.kept stopped.so; each = stopped.each; has = stopped.has }
+
+  -- of a call's result
+  pub stopped_on : {T E : Type 0} (r : Result T E) (a : DeskView D) (c : D) (So So' : E → List (List ℕ) → List (List ℕ) → Type 0) → ((e : E) (came kept : List (List ℕ)) → So e came kept → So' e came kept)
+      → IfErr r (λ e. Stopped content moment left_since size a c (So e)) → IfErr r (λ e. Stopped content moment left_since size a c (So' e))
+  stopped_on (Ok x) a c So So' so stopped = tt
+  stopped_on (Err e) a c So So' so stopped = stopped_so a c (So e) (So' e) (so e) stopped
+
+  -- ---- a call of the desk that wasn't done
+
+  -- the disk reads as before
+  pub nothing_came : (old new : DeskView D) (So : List (List ℕ) → List (List ℕ) → Type 0) → KeepsWithin content moment left_since size old new [] → content new.store.disk ≡ content old.store.disk → So [] []
+      → Stopped content moment left_since size old new.store.disk So
+  nothing_came old new So kept reads so = record {
+    came = [];
+    kept = [];
+    so = so;
+    each = kept;
+    has = ap (event_records old.store.layout) reads ∙ sym (append-nil (events_of old));
+  }
+
+  -- there was no memory
+  pub without_memory : (T : Type 0) (may_leave : D → List ℕ → Type 0) (faults : D → ℕ) (old new : DeskView D) (error : DeskError) (came : List (List ℕ)) (So : List (List ℕ) → List (List ℕ) → Type 0) → error ≡ NoMemory
+      → KeepsWithin content moment left_since size old new (came_by {T = T} (Err error) came) → StaysBy content may_leave faults old new error → So [] [] → Stopped content moment left_since size old new.store.disk So
+  without_memory T may_leave faults old new error came So is kept stays so =
+      nothing_came old new So (subst (λ (e : DeskError). KeepsWithin content moment left_since size old new (came_by {T = T} (Err e) came)) is kept)
+      (subst (StaysBy content may_leave faults old new) is stays).reads so
+
+  -- the book was full
+  pub with_full_book : (T : Type 0) (may_leave : D → List ℕ → Type 0) (faults : D → ℕ) (old new : DeskView D) (error : DeskError) (need left : ℕ) (came : List (List ℕ)) (So : List (List ℕ) → List (List ℕ) → Type 0)
+      → error ≡ BookFull need left
+      → KeepsWithin content moment left_since size old new (came_by {T = T} (Err error) came) → StaysBy content may_leave faults old new error → So [] [] → Stopped content moment left_since size old new.store.disk So
+  with_full_book T may_leave faults old new error need left came So is kept stays so =
+      nothing_came old new So (subst (λ (e : DeskError). KeepsWithin content moment left_since size old new (came_by {T = T} (Err e) came)) is kept)
+      (subst (StaysBy content may_leave faults old new) is stays).reads so
+
+  -- the disk failed, of which a read gives one of the images: its event was kept or it wasn't
+  pub with_failed_disk : (may_leave : D → List ℕ → Type 0) (old new : DeskView D) (came : List (List ℕ)) (So : List (List ℕ) → List (List ℕ) → Type 0) → may_leave new.store.disk (content new.store.disk)
+      → ((t : ℕ) (image : List ℕ) → t ≤ moment new.store.disk → may_leave new.store.disk image → left_since new.store.disk t image)
+      → length came ≤ 1 → KeepsWithin content moment left_since size old new came → ((kept : List (List ℕ)) → (kept ≡ came) ⊎ (kept ≡ []) → So came kept)
+      → Stopped content moment left_since size old new.store.disk So
+  with_failed_disk may_leave old new came So reads counts few kept so =
+      let has = kept.each (content new.store.disk) (counts (moment old.store.disk) (content new.store.disk) kept.later reads) in
+      record {
+        came = came;
+        kept = has.front;
+        so = so has.front (front_of_few came has.front has.more few has.split);
+        each = kept;
+        has = has.events;
+      }
+
+  -- the event of a call that the disk failed in
+  pub failed_kept : (T : Type 0) (old new : DeskView D) (error : DeskError) (came : List (List ℕ)) → error ≡ DiskFault → KeepsWithin content moment left_since size old new (came_by {T = T} (Err error) came)
+      → KeepsWithin content moment left_since size old new came
+  failed_kept T old new error came is kept = subst (λ (e : DeskError). KeepsWithin content moment left_since size old new (came_by {T = T} (Err e) came)) is kept
+
+  -- the events behind a call's result
+  pub events_on : {T E : Type 0} (r : Result T E) (a b : DeskView D) (came : List (List ℕ)) → OnOk r (b.store.layout ≡ a.store.layout) → OnOk r (Has content moment left_since size a b.store.disk came)
+      → OnOk r (events_of b ≡ events_of a ++ came)
+  events_on (Ok x) a b came layout has = ap (λ (l : Layout). event_records l (content b.store.disk)) layout ∙ has
+  events_on (Err e) a b came layout has = tt
+
+  pub same_events : (a b : DeskView D) → b ≡ a → events_of b ≡ events_of a ++ []
+  same_events a b is = ap events_of is ∙ sym (append-nil (events_of a))
+
+  -- a call that tells no event
+  pub has_none : (may_leave : D → List ℕ → Type 0) (old new : DeskView D) → may_leave new.store.disk (content new.store.disk)
+      → ((t : ℕ) (image : List ℕ) → t ≤ moment new.store.disk → may_leave new.store.disk image → left_since new.store.disk t image)
+      → KeepsWithin content moment left_since size old new [] → Has content moment left_since size old new.store.disk []
+  has_none may_leave old new reads counts kept =
+      let has = kept.each (content new.store.disk) (counts (moment old.store.disk) (content new.store.disk) kept.later reads) in
+      has.events ∙ ap (λ l. events_of old ++ l) (none has.front has.more has.split)
+    where
+      none : (front more : List (List ℕ)) → ◌≡◌ {A = List (List ℕ)} [] (front ++ more) → front ≡ []
+      none [] more is = refl
+      none (x ∷ xs) more is = cc

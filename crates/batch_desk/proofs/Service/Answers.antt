@@ -1,26 +1,25 @@
 -- What the clerk answers to one request.
-use Rattle.std.proofs.Common.{◌≡◌, ℕ, Bool, true, false, ◌||◌, ◌&&◌, List, [], ◌∷◌, ◌++◌, Result, Ok, Err, OnOk, IfErr, refl, sym, ap, subst, ◌∙◌, append-nil}
-use Rattle.std.proofs.lemmas.Bool.{false≢true}
+use Rattle.std.proofs.Common.{◌≡◌, ◌⊎◌, ℕ, Bool, true, false, cond, ◌||◌, ◌&&◌, List, [], ◌∷◌, ◌++◌, length, Result, Ok, Err, OnOk, ⊎_elim, inl, inr, refl, sym, ap, subst, ◌∙◌, append-nil}
 use Rattle.ckr_base.proofs.Bools.{or-false, or-true}
 use Rattle.ckr_desk.specs.Model.Rows.{TablesModel}
 use Rattle.ckr_cards.specs.Session.{Handed}
 use Rattle.ckr_cards.specs.Session.Handed.{Deck, Order as Command}
-use Rattle.ckr_desk.specs.Requests.{FailsBy, call_fits}
-use Rattle.ckr_desk.specs.declared.error.DeskError.{DeskError}
-use Rattle.ckr_desk.specs.declared.error.DeskError.TheVariants.{BookFull, Misread}
+use Rattle.ckr_desk.specs.Requests.{call_fits, event_in, spelled}
 use Rattle.ckr_desk.specs.Soundness.{IsTrusted, state_of}
 use Rattle.ckr_desk.specs.State.{RoomyDesk, DeskView}
 use Rattle.ckr_desk.specs.Submit.{purge_call, submit_answer}
 use Rattle.ckr_desk.specs.Model.Submitted.{Submitted}
 use Rattle.ckr_desk.specs.Model.Submitted.TheVariants.{Job, Refused}
 use Rattle.batch_desk.specs.declared.orders.Order.{Order}
-use Rattle.batch_desk.specs.declared.orders.Order.TheVariants.{Turns, Purge}
+use Rattle.batch_desk.specs.declared.orders.Order.TheVariants.{Turns, ListOf, Purge}
 use Rattle.batch_desk.specs.declared.stop.Halt.{Halt}
 use Rattle.batch_desk.specs.declared.stop.Halt.TheVariants as Halts
 use Rattle.batch_desk.specs.Calls.{Answer, Accepted, DeckRefused, BrokenOff, fits, after_order, broken_off, replies_of, replies_to, initiator_of, name_in, answer_to_deck, behind_deck, deck_answer, deck_fits, lines_of, order_answer, order_fits, order_in, tables_of, is_refusal}
+use Rattle.batch_desk.specs.Events.{deck_event, purge_event, order_events, request_events, events_told, order_events_before, order_event_at, events_before, event_at}
 use Rattle.batch_desk.specs.Texts.{answer_text}
 use Rattle.batch_desk.specs.Turns.{TurnsHalt}
-use Rattle.batch_desk.specs.Service.{View, Serves, HaltsSo, ListHalt, PurgeHalt}
+use Rattle.batch_desk.specs.Service.{View, ComesTo, Serves, HaltsSo, ListHalt, PurgeHalt}
+use Rattle.batch_desk.proofs.Service.Events.{comes_all, events_told-one}
 use Rattle.batch_desk.proofs.Service.Order.{serves_one, text_to-one}
 
 -- the tables in memory are those behind the events
@@ -36,7 +35,11 @@ answer_is s cards given tables is tables_are = ap (λ g. answer_to_deck g (lines
 
 -- where the tables in memory are these, those of the state
 module _ (a b : View) (cards : List ℕ) (given : Submitted) (old new : TablesModel) (state : b.state ≡ behind_deck a.state cards) (is_old : old ≡ tables_of a.state) (is_new : new ≡ tables_of b.state)
-    (answered : given ≡ submit_answer old cards) where
+    (answered : given ≡ submit_answer old cards) (came : b.events ≡ a.events ++ deck_event a.state cards) where
+  -- the book had room for its event
+  came-one : deck_fits a.state cards ≡ true → b.events ≡ a.events ++ request_events a.state (Deck cards)
+  came-one fit = came ∙ ap (λ (f : Bool). a.events ++ cond f (deck_event a.state cards) []) (sym fit)
+
   same_answer : answer_to_deck given (lines_of new) ≡ deck_answer a.state cards
   same_answer =
       answer_is a.state cards given new (answered ∙ ap (λ (t : TablesModel). submit_answer t cards) is_old)
@@ -49,7 +52,7 @@ module _ (a b : View) (cards : List ℕ) (given : Submitted) (old new : TablesMo
   deck_accepted r number t u fit is refused text =
       let same : Accepted number (name_in number (lines_of new)) ≡ deck_answer a.state cards = ap (λ g. answer_to_deck g (lines_of new)) (sym is) ∙ same_answer in
       serves_one r a b (Deck cards) t u fit state
-      (refused ∙ sym (or-false a.refused) ∙ ap (λ x. a.refused || is_refusal x) same)
+      (refused ∙ sym (or-false a.refused) ∙ ap (λ x. a.refused || is_refusal x) same) (came-one fit)
       (subst (λ (x : Answer). OnOk r (u ≡ t ++ answer_text x)) same text)
 
   pub deck_refused : {E : Type 0} (r : Result (Unit {0}) E) (number card : ℕ) (t u : List ℕ) → deck_fits a.state cards ≡ true
@@ -58,21 +61,24 @@ module _ (a b : View) (cards : List ℕ) (given : Submitted) (old new : TablesMo
   deck_refused r number card t u fit is refused text =
       let same : DeckRefused number card ≡ deck_answer a.state cards = ap (λ g. answer_to_deck g (lines_of new)) (sym is) ∙ same_answer in
       serves_one r a b (Deck cards) t u fit state
-      (refused ∙ sym (or-true a.refused) ∙ ap (λ x. a.refused || is_refusal x) same)
+      (refused ∙ sym (or-true a.refused) ∙ ap (λ x. a.refused || is_refusal x) same) (came-one fit)
       (subst (λ (x : Answer). OnOk r (u ≡ t ++ answer_text x)) same text)
 
 -- ---- a request that isn't served
 
--- the book has no room for it, and none of its replies was given
-pub request_full : (s : RoomyDesk) (request : Handed) (t u : List ℕ) → fits s request ≡ false → u ≡ t ++ answer_text (broken_off s request (replies_of s request)) → HaltsSo Halts.Book s (request ∷ []) t u
-request_full s request t u full text = (ap (λ f. f && true) full, text ∙ ap (λ l. t ++ l) (sym (text_to-one s request full)))
+-- the book has no room for it, and these of its replies were given
+pub request_full : (s : RoomyDesk) (request : Handed) (t u : List ℕ) (came kept : List (List ℕ)) → fits s request ≡ false → u ≡ t ++ answer_text (broken_off s request (replies_of s request))
+    → came ≡ request_events s request → kept ≡ came → HaltsSo Halts.Book s (request ∷ []) t u came kept
+request_full s request t u came kept full text came_is kept_is =
+    (ap (λ f. f && true) full, text ∙ ap (λ l. t ++ l) (sym (text_to-one s request full)), came_is ∙ sym (events_told-one s request), kept_is)
 
-pub deck_full : (s : RoomyDesk) (cards t : List ℕ) → deck_fits s cards ≡ false → HaltsSo Halts.Book s (Deck cards ∷ []) t t
-deck_full s cards t full = request_full s (Deck cards) t t full (sym (append-nil t))
+pub deck_full : (s : RoomyDesk) (cards t : List ℕ) → deck_fits s cards ≡ false → HaltsSo Halts.Book s (Deck cards ∷ []) t t [] []
+deck_full s cards t full = request_full s (Deck cards) t t [] [] full (sym (append-nil t)) (sym (ap (λ (f : Bool). cond f (deck_event s cards) []) full)) refl
 
 -- the disk failed, and none of its replies was given
-pub broken_at_once : (s : RoomyDesk) (request : Handed) (t : List ℕ) → answer_text (broken_off s request []) ≡ [] → HaltsSo Halts.Disk s (request ∷ []) t t
-broken_at_once s request t nothing = (
+pub broken_at_once : (s : RoomyDesk) (request : Handed) (t : List ℕ) (came kept : List (List ℕ)) → answer_text (broken_off s request []) ≡ [] → came ≡ events_before s request 0 ++ event_at s request 0
+    → (kept ≡ came) ⊎ (kept ≡ events_before s request 0) → HaltsSo Halts.Disk s (request ∷ []) t t came kept
+broken_at_once s request t came kept nothing came_is kept_is = (
   [],
   sym (append-nil t),
   record {
@@ -85,25 +91,36 @@ broken_at_once s request t nothing = (
     later = replies_of s request;
     given = refl;
     told = sym nothing;
+    came_is = came_is;
+    kept_is = kept_is;
   },
 )
 
-pub memory_halt_on : {T : Type 0} (r : Result T Halt) (s : RoomyDesk) (requests : List Handed) (t u : List ℕ) → IfErr r (λ halt. halt ≡ Halts.Memory) → IfErr r (λ halt. HaltsSo halt s requests t u)
-memory_halt_on (Ok x) s requests t u is = tt
-memory_halt_on (Err halt) s requests t u is = subst (λ (h : Halt). HaltsSo h s requests t u) (sym is) tt
+-- there was no memory, behind events that came or before any
+pub comes_one : (s : RoomyDesk) (request : Handed) (came kept : List (List ℕ)) → ComesTo (request_events s request) came kept → ComesTo (events_told s (request ∷ [])) came kept
+comes_one s request came kept c = subst (λ (events : List (List ℕ)). ComesTo events came kept) (sym (events_told-one s request)) c
+
+pub comes_none : (events : List (List ℕ)) → ComesTo events [] []
+comes_none events = comes_all events events [] refl
+
+pub comes_with : (fits : Bool) (came : List (List ℕ)) → fits ≡ true → ComesTo (cond fits came []) came came
+comes_with fits came fit = comes_all (cond fits came []) [] came (ap (λ (f : Bool). cond f came []) fit ∙ sym (append-nil came))
 
 -- ---- a command: the order is what the line asks for
 
 module _ (s : RoomyDesk) (number : ℕ) (line : List ℕ) (order : Order) (reads : order ≡ order_in s line) where
-  pub turns_not_served : (halt : Halt) (initiator n : ℕ) (t u : List ℕ) → order ≡ Turns initiator n
-      → TurnsHalt s.desk.layout initiator halt n s t u → HaltsSo halt s (Command number line ∷ []) t u
-  turns_not_served Halts.Memory initiator n t u is why = tt
-  turns_not_served Halts.Misread initiator n t u is why = absurd why
-  turns_not_served Halts.Book initiator n t u is why =
+  turns_not_served : (halt : Halt) (initiator n : ℕ) (t u : List ℕ) → order ≡ Turns initiator n → (came kept : List (List ℕ))
+      → TurnsHalt s.desk.layout initiator halt n s t u came kept → HaltsSo halt s (Command number line ∷ []) t u came kept
+  turns_not_served Halts.Memory initiator n t u is came kept why =
       let same : Turns initiator n ≡ order_in s line = sym is ∙ reads in
-      request_full s (Command number line) t u (sym (ap (order_fits s) same) ∙ why.0)
+      comes_one s (Command number line) came kept (subst (λ (events : List (List ℕ)). ComesTo events came kept) (ap (order_events s) same) why)
+  turns_not_served Halts.Misread initiator n t u is came kept why = absurd why
+  turns_not_served Halts.Book initiator n t u is came kept why =
+      let same : Turns initiator n ≡ order_in s line = sym is ∙ reads in
+      request_full s (Command number line) t u came kept (sym (ap (order_fits s) same) ∙ why.0)
       (why.1 ∙ ap (λ o. t ++ answer_text (BrokenOff s.desk.layout (initiator_of o) (replies_to s o))) same)
-  turns_not_served Halts.Disk initiator n t u is why =
+      (why.2 ∙ ap (order_events s) same) why.3
+  turns_not_served Halts.Disk initiator n t u is came kept why =
       let same : Turns initiator n ≡ order_in s line = sym is ∙ reads in (
         answer_text (BrokenOff s.desk.layout initiator why.replies),
         why.told,
@@ -117,48 +134,58 @@ module _ (s : RoomyDesk) (number : ℕ) (line : List ℕ) (order : Order) (reads
           later = why.later;
           given = sym (ap (replies_to s) same) ∙ why.given;
           told = ap (λ o. answer_text (BrokenOff s.desk.layout (initiator_of o) why.replies)) same;
+          came_is = why.came_is ∙ ap (λ o. order_events_before s o (length why.replies) ++ order_event_at s o (length why.replies)) same;
+          kept_is = ⊎_elim (λ its. inl its) (λ less. inr (less ∙ ap (λ o. order_events_before s o (length why.replies)) same)) why.kept_is;
         },
       )
 
-  pub turns_not_served_on : (r : Result (Unit {0}) Halt) (initiator n : ℕ) (t u : List ℕ) → order ≡ Turns initiator n
-      → IfErr r (λ halt. TurnsHalt s.desk.layout initiator halt n s t u) → IfErr r (λ halt. HaltsSo halt s (Command number line ∷ []) t u)
-  turns_not_served_on (Ok x) initiator n t u is why = tt
-  turns_not_served_on (Err halt) initiator n t u is why = turns_not_served halt initiator n t u is why
+  pub turns_halted_so : (initiator n : ℕ) (t u : List ℕ) → order ≡ Turns initiator n → (halt : Halt) (came kept : List (List ℕ))
+      → TurnsHalt s.desk.layout initiator halt n s t u came kept → HaltsSo halt s (Command number line ∷ []) t u came kept
+  turns_halted_so initiator n t u is halt came kept why = turns_not_served halt initiator n t u is came kept why
 
-  list_not_served : (halt : Halt) (t u : List ℕ) → ListHalt halt t u → HaltsSo halt s (Command number line ∷ []) t u
-  list_not_served Halts.Memory t u why = tt
-  list_not_served Halts.Book t u why = absurd why
-  list_not_served Halts.Disk t u why = subst (λ (w : List ℕ). HaltsSo Halts.Disk s (Command number line ∷ []) t w) (sym why) (broken_at_once s (Command number line) t refl)
-  list_not_served Halts.Misread t u why = absurd why
+  pub list_halted_so : (name : _) (t u : List ℕ) → order ≡ ListOf name → (halt : Halt) (came kept : List (List ℕ)) → ListHalt halt t u came kept → HaltsSo halt s (Command number line ∷ []) t u came kept
+  list_halted_so name t u is Halts.Memory came kept why =
+      subst (λ (c : List (List ℕ)). ComesTo (events_told s (Command number line ∷ [])) c kept) (sym why.0)
+      (subst (ComesTo (events_told s (Command number line ∷ [])) []) (sym why.1) (comes_none (events_told s (Command number line ∷ []))))
+  list_halted_so name t u is Halts.Book came kept why = absurd why
+  list_halted_so name t u is Halts.Disk came kept why =
+      let same : ListOf name ≡ order_in s line = sym is ∙ reads in
+      subst (λ (w : List ℕ). HaltsSo Halts.Disk s (Command number line ∷ []) t w came kept) (sym why.0)
+      (broken_at_once s (Command number line) t came kept refl (why.1 ∙ ap (λ o. order_events_before s o 0 ++ order_event_at s o 0) same) (inl (why.2 ∙ sym why.1)))
+  list_halted_so name t u is Halts.Misread came kept why = absurd why
 
-  pub list_not_served_on : (r : Result (Unit {0}) Halt) (t u : List ℕ) → IfErr r (λ halt. ListHalt halt t u) → IfErr r (λ halt. HaltsSo halt s (Command number line ∷ []) t u)
-  list_not_served_on (Ok x) t u why = tt
-  list_not_served_on (Err halt) t u why = list_not_served halt t u why
-
-  purge_not_served : (halt : Halt) (job : ℕ) (t u : List ℕ) → order ≡ Purge job → PurgeHalt halt (call_fits s (purge_call (tables_of s) job)) t u → HaltsSo halt s (Command number line ∷ []) t u
-  purge_not_served Halts.Memory job t u is why = tt
-  purge_not_served Halts.Book job t u is why =
+  purge_not_served : (halt : Halt) (job : ℕ) (t u : List ℕ) → order ≡ Purge job → (came kept : List (List ℕ)) → PurgeHalt halt (call_fits s (purge_call (tables_of s) job)) (purge_event s job) t u came kept
+      → HaltsSo halt s (Command number line ∷ []) t u came kept
+  purge_not_served Halts.Memory job t u is came kept why =
       let same : Purge job ≡ order_in s line = sym is ∙ reads in
-      request_full s (Command number line) t u (sym (ap (order_fits s) same) ∙ why.0)
+      comes_one s (Command number line) came kept (subst (λ (events : List (List ℕ)). ComesTo events came kept) (ap (order_events s) same) why)
+  purge_not_served Halts.Book job t u is came kept why =
+      let same : Purge job ≡ order_in s line = sym is ∙ reads in
+      request_full s (Command number line) t u came kept (sym (ap (order_fits s) same) ∙ why.0)
       (why.1 ∙ sym (append-nil t) ∙ ap (λ o. t ++ answer_text (BrokenOff s.desk.layout (initiator_of o) (replies_to s o))) same)
-  purge_not_served Halts.Disk job t u is why = subst (λ (w : List ℕ). HaltsSo Halts.Disk s (Command number line ∷ []) t w) (sym why) (broken_at_once s (Command number line) t refl)
-  purge_not_served Halts.Misread job t u is why = absurd why
+      (why.2 ∙ ap (λ (f : Bool). cond f (purge_event s job) []) (sym why.0) ∙ ap (order_events s) same) (why.3 ∙ sym why.2)
+  purge_not_served Halts.Disk job t u is came kept why =
+      let same : Purge job ≡ order_in s line = sym is ∙ reads in
+      subst (λ (w : List ℕ). HaltsSo Halts.Disk s (Command number line ∷ []) t w came kept) (sym why.0)
+      (broken_at_once s (Command number line) t came kept refl (why.1 ∙ ap (λ o. order_events_before s o 0 ++ order_event_at s o 0) same)
+      (⊎_elim (λ its. inl its) (λ none. inr (none ∙ ap (λ o. order_events_before s o 0) same)) why.2))
+  purge_not_served Halts.Misread job t u is came kept why = absurd why
 
-  pub purge_not_served_on : (r : Result (Unit {0}) Halt) (tables : TablesModel) (job : ℕ) (t u : List ℕ) → tables ≡ tables_of s → order ≡ Purge job
-      → IfErr r (λ halt. PurgeHalt halt (call_fits s (purge_call tables job)) t u) → IfErr r (λ halt. HaltsSo halt s (Command number line ∷ []) t u)
-  purge_not_served_on (Ok x) tables job t u are is why = tt
-  purge_not_served_on (Err halt) tables job t u are is why =
-      purge_not_served halt job t u is (subst (λ (w : TablesModel). PurgeHalt halt (call_fits s (purge_call w job)) t u) are why)
+  pub purge_halted_so : (tables : TablesModel) (job : ℕ) (t u : List ℕ) → tables ≡ tables_of s → order ≡ Purge job → (halt : Halt) (came kept : List (List ℕ))
+      → PurgeHalt halt (call_fits s (purge_call tables job)) (spelled (event_in (purge_call tables job))) t u came kept → HaltsSo halt s (Command number line ∷ []) t u came kept
+  purge_halted_so tables job t u are is halt came kept why =
+      purge_not_served halt job t u is came kept (subst (λ (w : TablesModel). PurgeHalt halt (call_fits s (purge_call w job)) (spelled (event_in (purge_call w job))) t u came kept) are why)
 
 -- a command that is served to its end
 pub order_served : {E : Type 0} (r : Result (Unit {0}) E) (a b : View) (number : ℕ) (line : List ℕ) (told : Order) (t u : List ℕ) → told ≡ order_in a.state line
-    → order_fits a.state told ≡ true → b.state ≡ after_order a.state told → b.refused ≡ (a.refused || is_refusal (order_answer a.state number told))
+    → order_fits a.state told ≡ true → b.state ≡ after_order a.state told → b.refused ≡ (a.refused || is_refusal (order_answer a.state number told)) → b.events ≡ a.events ++ order_events a.state told
     → OnOk r (u ≡ t ++ answer_text (order_answer a.state number told)) → OnOk r (Serves a b (Command number line ∷ []) t u)
-order_served r a b number line told t u same fit state refused text =
+order_served r a b number line told t u same fit state refused came text =
     serves_one r a b (Command number line) t u
     (ap (order_fits a.state) (sym same) ∙ fit)
     (state ∙ ap (after_order a.state) same)
     (refused ∙ ap (λ o. a.refused || is_refusal (order_answer a.state number o)) same)
+    (came ∙ ap (λ o. a.events ++ order_events a.state o) same)
     (subst (λ (o : Order). OnOk r (u ≡ t ++ answer_text (order_answer a.state number o))) same text)
 
 -- one that refuses nothing
@@ -168,17 +195,7 @@ order_kept refused refused' same = same ∙ sym (or-false refused)
 -- the same of a call's result
 pub order_served_on : {E : Type 0} (r : Result (Unit {0}) E) (a b : View) (number : ℕ) (line : List ℕ) (told : Order) (t u : List ℕ) → told ≡ order_in a.state line
     → OnOk r (order_fits a.state told ≡ true) → OnOk r (b.state ≡ after_order a.state told) → OnOk r (b.refused ≡ (a.refused || is_refusal (order_answer a.state number told)))
+    → OnOk r (b.events ≡ a.events ++ order_events a.state told)
     → OnOk r (u ≡ t ++ answer_text (order_answer a.state number told)) → OnOk r (Serves a b (Command number line ∷ []) t u)
-order_served_on {E = E} (Ok x) a b number line told t u same fit state refused text = order_served {E = E} (Ok x) a b number line told t u same fit state refused text
-order_served_on (Err e) a b number line told t u same fit state refused text = tt
-
--- ---- why a call of the desk failed
-
-pub fails_full : (fits : Bool) (error : DeskError) (need room : ℕ) → error ≡ BookFull need room → FailsBy fits error → fits ≡ false
-fails_full fits error need room is cause = subst (FailsBy fits) is cause
-
-pub fails_not_full : (error : DeskError) (need room : ℕ) → error ≡ BookFull need room → FailsBy true error → ⊥
-fails_not_full error need room is cause = false≢true (sym (fails_full true error need room is cause))
-
-pub fails_not_misread : (fits : Bool) (error : DeskError) → error ≡ Misread → FailsBy fits error → ⊥
-fails_not_misread fits error is cause = subst (FailsBy fits) is cause
+order_served_on {E = E} (Ok x) a b number line told t u same fit state refused came text = order_served {E = E} (Ok x) a b number line told t u same fit state refused came text
+order_served_on (Err e) a b number line told t u same fit state refused came text = tt

@@ -1,5 +1,5 @@
 -- Requests that aren't served to their end.
-use Rattle.std.proofs.Common.{◌≡◌, ◌≤◌, ℕ, Bool, true, false, ◌&&◌, List, [], ◌∷◌, ◌++◌, Option, Result, Ok, Err, OnOk, IfErr, IsErrAnd, inl, inr, refl, sym, ap, subst, ◌∙◌, append_assoc, append-nil, arith}
+use Rattle.std.proofs.Common.{◌≡◌, ◌≤◌, ℕ, Bool, true, false, ◌&&◌, List, [], ◌∷◌, ◌++◌, Option, length, Result, Ok, Err, OnOk, IfErr, IsErrAnd, ⊎_elim, inl, inr, refl, sym, ap, subst, ◌∙◌, append_assoc, append-nil, arith}
 use Rattle.std.specs.Io.KnownBytes.{Appends}
 use Rattle.ckr_base.proofs.KnownBytes.{Appends-nil, Appends-trans}
 use Rattle.ckr_outside.specs.Faults.{Rose}
@@ -11,15 +11,17 @@ use Rattle.batch_desk.specs.declared.stop.Halt.TheVariants as Halts
 use Rattle.batch_desk.specs.declared.stop.Stop.{Stop}
 use Rattle.batch_desk.specs.declared.stop.Stop.TheVariants as Stops
 use Rattle.batch_desk.specs.Calls.{after_all, all_fit, replies_of, broken_off}
+use Rattle.batch_desk.specs.Events.{events_told, events_before, event_at}
 use Rattle.batch_desk.specs.Texts.{answer_text}
 use Rattle.batch_desk.specs.Service.{View, Serves, BreaksOff, HaltsSo, HaltCause, WritesSo, StopsWithin, Caused, RestWritten, text_to}
 use Rattle.batch_desk.proofs.Service.Order.{Serves-append, all_fit-append, after_all-append, text_to-append, text_to-full}
+use Rattle.batch_desk.proofs.Service.Events.{events_told-append, events_told-full, comes_behind, comes_before}
 
 -- ---- behind requests that were served, and before others
 
-pub breaks_off_behind : (s s' : RoomyDesk) (xs ys : List Handed) (text : List ℕ) → all_fit s xs ≡ true → s' ≡ after_all s xs → BreaksOff s' ys text
-    → BreaksOff s (xs ++ ys) (text_to s xs ++ text)
-breaks_off_behind s s' xs ys text fit is off = record {
+pub breaks_off_behind : (s s' : RoomyDesk) (xs ys : List Handed) (text : List ℕ) (came kept : List (List ℕ)) → all_fit s xs ≡ true → s' ≡ after_all s xs → BreaksOff s' ys text came kept
+    → BreaksOff s (xs ++ ys) (text_to s xs ++ text) (events_told s xs ++ came) (events_told s xs ++ kept)
+breaks_off_behind s s' xs ys text came kept fit is off = record {
   served = xs ++ off.served;
   broken = off.broken;
   more = off.more;
@@ -33,10 +35,32 @@ breaks_off_behind s s' xs ys text fit is off = record {
       ∙ sym (append_assoc (text_to s xs) (text_to (after_all s xs) off.served) (answer_text (broken_off (after_all (after_all s xs) off.served) off.broken off.replies)))
       ∙ ap (λ t. t ++ answer_text (broken_off (after_all (after_all s xs) off.served) off.broken off.replies)) (sym (text_to-append s xs off.served fit))
       ∙ ap (λ st. text_to s (xs ++ off.served) ++ answer_text (broken_off st off.broken off.replies)) (sym (after_all-append s xs off.served));
+  came_is = ap (λ c. events_told s xs ++ c) off.came_is
+      ∙ ap (λ st. events_told s xs ++ ((events_told s' off.served ++ events_before st off.broken given) ++ event_at st off.broken given)) behind
+      ∙ sym (append_assoc (events_told s xs) (events_told s' off.served ++ events_before end off.broken given) (event_at end off.broken given))
+      ∙ ap (λ l. l ++ event_at end off.broken given) before;
+  kept_is = ⊎_elim
+      (λ same. inl (ap (λ c. events_told s xs ++ c) same))
+      (λ less. inr (ap (λ c. events_told s xs ++ c) less ∙ ap (λ st. events_told s xs ++ (events_told s' off.served ++ events_before st off.broken given)) behind ∙ before))
+      off.kept_is;
 }
+  where
+    given : ℕ
+    given = length off.replies
 
-pub breaks_off_before : (s : RoomyDesk) (xs ys : List Handed) (text : List ℕ) → BreaksOff s xs text → BreaksOff s (xs ++ ys) text
-breaks_off_before s xs ys text off = record {
+    end : RoomyDesk
+    end = after_all s (xs ++ off.served)
+
+    behind : after_all s' off.served ≡ end
+    behind = ap (λ st. after_all st off.served) is ∙ sym (after_all-append s xs off.served)
+
+    before : events_told s xs ++ (events_told s' off.served ++ events_before end off.broken given) ≡ events_told s (xs ++ off.served) ++ events_before end off.broken given
+    before =
+        sym (append_assoc (events_told s xs) (events_told s' off.served) (events_before end off.broken given))
+        ∙ ap (λ l. l ++ events_before end off.broken given) (ap (λ st. events_told s xs ++ events_told st off.served) is ∙ sym (events_told-append s xs off.served fit))
+
+pub breaks_off_before : (s : RoomyDesk) (xs ys : List Handed) (text : List ℕ) (came kept : List (List ℕ)) → BreaksOff s xs text came kept → BreaksOff s (xs ++ ys) text came kept
+breaks_off_before s xs ys text came kept off = record {
   served = off.served;
   broken = off.broken;
   more = off.more ++ ys;
@@ -46,6 +70,8 @@ breaks_off_before s xs ys text off = record {
   later = off.later;
   given = off.given;
   told = off.told;
+  came_is = off.came_is;
+  kept_is = off.kept_is;
 }
 
 full_behind : (s s' : RoomyDesk) (xs ys : List Handed) → all_fit s xs ≡ true → s' ≡ after_all s xs → all_fit s' ys ≡ false → all_fit s (xs ++ ys) ≡ false
@@ -55,27 +81,40 @@ full_behind s s' xs ys fit is full =
 full_before : (s : RoomyDesk) (xs ys : List Handed) → all_fit s xs ≡ false → all_fit s (xs ++ ys) ≡ false
 full_before s xs ys full = all_fit-append s xs ys ∙ ap (λ r. r && all_fit (after_all s xs) ys) full
 
-pub halts_behind : (halt : Halt) (a b : View) (xs ys : List Handed) (t u v : List ℕ) → Serves a b xs t u → HaltsSo halt b.state ys u v → HaltsSo halt a.state (xs ++ ys) t v
-halts_behind Halts.Memory a b xs ys t u v first so = tt
-halts_behind Halts.Book a b xs ys t u v first so = (
+-- the events behind others that came
+came_behind : (s s' : RoomyDesk) (xs ys : List Handed) (came : List (List ℕ)) → all_fit s xs ≡ true → s' ≡ after_all s xs → came ≡ events_told s' ys → events_told s xs ++ came ≡ events_told s (xs ++ ys)
+came_behind s s' xs ys came fit is came_is =
+    ap (λ l. events_told s xs ++ l) came_is ∙ ap (λ st. events_told s xs ++ events_told st ys) is ∙ sym (events_told-append s xs ys fit)
+
+pub halts_behind : (halt : Halt) (a b : View) (xs ys : List Handed) (t u v : List ℕ) (came kept : List (List ℕ)) → Serves a b xs t u → HaltsSo halt b.state ys u v came kept
+    → HaltsSo halt a.state (xs ++ ys) t v (events_told a.state xs ++ came) (events_told a.state xs ++ kept)
+halts_behind Halts.Memory a b xs ys t u v came kept first so = comes_behind a.state b.state xs ys came kept first.fits first.state so
+halts_behind Halts.Book a b xs ys t u v came kept first so = (
   full_behind a.state b.state xs ys first.fits first.state so.0,
   so.1 ∙ ap (λ w. w ++ text_to b.state ys) first.text
       ∙ append_assoc t (text_to a.state xs) (text_to b.state ys)
       ∙ ap (λ st. t ++ (text_to a.state xs ++ text_to st ys)) first.state
       ∙ ap (λ w. t ++ w) (sym (text_to-append a.state xs ys first.fits)),
+  came_behind a.state b.state xs ys came first.fits first.state so.2,
+  ap (λ l. events_told a.state xs ++ l) so.3,
 )
-halts_behind Halts.Misread a b xs ys t u v first so = absurd so
-halts_behind Halts.Disk a b xs ys t u v first so = (
+halts_behind Halts.Misread a b xs ys t u v came kept first so = absurd so
+halts_behind Halts.Disk a b xs ys t u v came kept first so = (
   text_to a.state xs ++ so.0,
   so.1 ∙ ap (λ w. w ++ so.0) first.text ∙ append_assoc t (text_to a.state xs) so.0,
-  breaks_off_behind a.state b.state xs ys so.0 first.fits first.state so.2,
+  breaks_off_behind a.state b.state xs ys so.0 came kept first.fits first.state so.2,
 )
 
-pub halts_before : (halt : Halt) (s : RoomyDesk) (xs ys : List Handed) (t v : List ℕ) → HaltsSo halt s xs t v → HaltsSo halt s (xs ++ ys) t v
-halts_before Halts.Memory s xs ys t v so = tt
-halts_before Halts.Book s xs ys t v so = (full_before s xs ys so.0, so.1 ∙ ap (λ w. t ++ w) (sym (text_to-full s xs ys so.0)))
-halts_before Halts.Misread s xs ys t v so = absurd so
-halts_before Halts.Disk s xs ys t v so = (so.0, so.1, breaks_off_before s xs ys so.0 so.2)
+pub halts_before : (halt : Halt) (s : RoomyDesk) (xs ys : List Handed) (t v : List ℕ) (came kept : List (List ℕ)) → HaltsSo halt s xs t v came kept → HaltsSo halt s (xs ++ ys) t v came kept
+halts_before Halts.Memory s xs ys t v came kept so = comes_before s xs ys came kept so
+halts_before Halts.Book s xs ys t v came kept so = (
+  full_before s xs ys so.0,
+  so.1 ∙ ap (λ w. t ++ w) (sym (text_to-full s xs ys so.0)),
+  so.2 ∙ sym (events_told-full s xs ys so.0),
+  so.3,
+)
+halts_before Halts.Misread s xs ys t v came kept so = absurd so
+halts_before Halts.Disk s xs ys t v came kept so = (so.0, so.1, breaks_off_before s xs ys so.0 came kept so.2)
 
 -- ---- what is written
 
@@ -105,15 +144,15 @@ writes_earlier before between now old new u later so = elim so [
 ]
 
 -- the sink's faults are counted from an earlier moment on
-pub stops_earlier : (stop : Stop) (before between now : ℕ) (s : RoomyDesk) (xs : List Handed) (old new : Option (List ℕ)) → before ≤ between
-    → StopsWithin stop between now s xs old new → StopsWithin stop before now s xs old new
-stops_earlier Stops.Source before between now s xs old new later so = so
-stops_earlier Stops.Limit before between now s xs old new later so = so
-stops_earlier Stops.Sink before between now s xs old new later so = so
-stops_earlier Stops.Memory before between now s xs old new later so = so
-stops_earlier Stops.Book before between now s xs old new later so = (so.0, writes_earlier before between now old new (text_to s xs) later so.1)
-stops_earlier Stops.Misread before between now s xs old new later so = absurd so
-stops_earlier Stops.Disk before between now s xs old new later so = (so.0, so.1, writes_earlier before between now old new so.0 later so.2)
+pub stops_earlier : (stop : Stop) (before between now : ℕ) (s : RoomyDesk) (xs : List Handed) (old new : Option (List ℕ)) (came kept : List (List ℕ)) → before ≤ between
+    → StopsWithin stop between now s xs old new came kept → StopsWithin stop before now s xs old new came kept
+stops_earlier Stops.Source before between now s xs old new came kept later so = so
+stops_earlier Stops.Limit before between now s xs old new came kept later so = so
+stops_earlier Stops.Sink before between now s xs old new came kept later so = so
+stops_earlier Stops.Memory before between now s xs old new came kept later so = so
+stops_earlier Stops.Book before between now s xs old new came kept later so = (so.0, writes_earlier before between now old new (text_to s xs) later so.1, so.2, so.3)
+stops_earlier Stops.Misread before between now s xs old new came kept later so = absurd so
+stops_earlier Stops.Disk before between now s xs old new came kept later so = (so.0, so.1, writes_earlier before between now old new so.0 later so.2)
 
 -- counted from an earlier moment on, and of a disk that is trusted where this one is
 pub cause_earlier : (trusted trusted' : Type 0) (stop : Stop) (before between now before' between' now' : ℕ) → before ≤ between → before' ≤ between' → (trusted' → trusted)
@@ -143,41 +182,57 @@ stops_front s s' xs ys more start old new fit is first front = by_rest (all_fit 
         AppendsFront-behind start old new (text_to s xs) (text_to s' ys) [] _ first front
         (text_to-full s (xs ++ ys) more (full_behind s s' xs ys fit is rest) ∙ whole ∙ sym (append-nil (text_to s xs ++ text_to s' ys)))
 
-pub stops_behind : (stop : Stop) (before between now : ℕ) (a b : View) (xs ys more : List Handed) (t : List ℕ) (start old new : Option (List ℕ)) → before ≤ between
-    → Serves a b xs [] t → Appends start old t → StopsWithin stop between now b.state ys old new → StopsWithin stop before now a.state ((xs ++ ys) ++ more) start new
-stops_behind Stops.Source before between now a b xs ys more t start old new later first written so = so
-stops_behind Stops.Limit before between now a b xs ys more t start old new later first written so = so
-stops_behind Stops.Sink before between now a b xs ys more t start old new later first written so =
-    stops_front a.state b.state xs ys more start old new first.fits first.state (subst (Appends start old) first.text written) so
-stops_behind Stops.Memory before between now a b xs ys more t start old new later first written so =
-    stops_front a.state b.state xs ys more start old new first.fits first.state (subst (Appends start old) first.text written) so
-stops_behind Stops.Book before between now a b xs ys more t start old new later first written so =
+pub stops_behind : (stop : Stop) (before between now : ℕ) (a b : View) (xs ys more : List Handed) (t : List ℕ) (start old new : Option (List ℕ)) (came kept : List (List ℕ)) → before ≤ between
+    → Serves a b xs [] t → Appends start old t → StopsWithin stop between now b.state ys old new came kept
+    → StopsWithin stop before now a.state ((xs ++ ys) ++ more) start new (events_told a.state xs ++ came) (events_told a.state xs ++ kept)
+stops_behind Stops.Source before between now a b xs ys more t start old new came kept later first written so = so
+stops_behind Stops.Limit before between now a b xs ys more t start old new came kept later first written so = so
+stops_behind Stops.Sink before between now a b xs ys more t start old new came kept later first written so = record {
+  served = xs ++ so.served;
+  more = so.more ++ more;
+  split = ap (λ l. (xs ++ l) ++ more) so.split ∙ ap (λ l. l ++ more) (sym (append_assoc xs so.served so.more)) ∙ append_assoc (xs ++ so.served) so.more more;
+  fits = all_fit-append a.state xs so.served ∙ ap (λ r. r && all_fit (after_all a.state xs) so.served) first.fits ∙ ap (λ st. all_fit st so.served) (sym first.state) ∙ so.fits;
+  written = AppendsFront-behind start old new (text_to a.state xs) (text_to b.state so.served) [] _ (subst (Appends start old) first.text written) so.written
+      (text_to-append a.state xs so.served first.fits ∙ ap (λ st. text_to a.state xs ++ text_to st so.served) (sym first.state) ∙ sym (append-nil (text_to a.state xs ++ text_to b.state so.served)));
+  came_is = came_behind a.state b.state xs so.served came first.fits first.state so.came_is;
+  kept_is = ap (λ l. events_told a.state xs ++ l) so.kept_is;
+}
+stops_behind Stops.Memory before between now a b xs ys more t start old new came kept later first written so = (
+  stops_front a.state b.state xs ys more start old new first.fits first.state (subst (Appends start old) first.text written) so.0,
+  comes_before a.state (xs ++ ys) more (events_told a.state xs ++ came) (events_told a.state xs ++ kept) (comes_behind a.state b.state xs ys came kept first.fits first.state so.1),
+)
+stops_behind Stops.Book before between now a b xs ys more t start old new came kept later first written so =
     let full : all_fit a.state (xs ++ ys) ≡ false = full_behind a.state b.state xs ys first.fits first.state so.0 in
     let text : t ++ text_to b.state ys ≡ text_to a.state ((xs ++ ys) ++ more) =
     ap (λ w. w ++ text_to b.state ys) first.text
     ∙ ap (λ st. text_to a.state xs ++ text_to st ys) first.state
-    ∙ sym (text_to-append a.state xs ys first.fits) ∙ sym (text_to-full a.state (xs ++ ys) more full) in
-    (full_before a.state (xs ++ ys) more full, subst (WritesSo before now start new) text (writes_behind before between now start old new t (text_to b.state ys) later written so.1))
-stops_behind Stops.Misread before between now a b xs ys more t start old new later first written so = absurd so
-stops_behind Stops.Disk before between now a b xs ys more t start old new later first written so = (
+    ∙ sym (text_to-append a.state xs ys first.fits) ∙ sym (text_to-full a.state (xs ++ ys) more full) in (
+      full_before a.state (xs ++ ys) more full,
+      subst (WritesSo before now start new) text (writes_behind before between now start old new t (text_to b.state ys) later written so.1),
+      came_behind a.state b.state xs ys came first.fits first.state so.2 ∙ sym (events_told-full a.state (xs ++ ys) more full),
+      ap (λ l. events_told a.state xs ++ l) so.3,
+    )
+stops_behind Stops.Misread before between now a b xs ys more t start old new came kept later first written so = absurd so
+stops_behind Stops.Disk before between now a b xs ys more t start old new came kept later first written so = (
   t ++ so.0,
-  breaks_off_before a.state (xs ++ ys) more (t ++ so.0)
-      (subst (λ (w : List ℕ). BreaksOff a.state (xs ++ ys) (w ++ so.0)) (sym first.text) (breaks_off_behind a.state b.state xs ys so.0 first.fits first.state so.1)),
+  breaks_off_before a.state (xs ++ ys) more (t ++ so.0) (events_told a.state xs ++ came) (events_told a.state xs ++ kept)
+      (subst (λ (w : List ℕ). BreaksOff a.state (xs ++ ys) (w ++ so.0) (events_told a.state xs ++ came) (events_told a.state xs ++ kept)) (sym first.text)
+      (breaks_off_behind a.state b.state xs ys so.0 came kept first.fits first.state so.1)),
   writes_behind before between now start old new t so.0 later written so.2,
 )
 
 -- ---- what is left of a text is written
 
-pub rest_written : (halt : Halt) (stop : Stop) (before now : ℕ) (s : RoomyDesk) (xs : List Handed) (out : List ℕ) (old new : Option (List ℕ))
-    → HaltsSo halt s xs [] out → RestWritten halt stop before now old new out → StopsWithin stop before now s xs old new
-rest_written Halts.Memory stop before now s xs out old new so rest =
-    subst (λ (w : Stop). StopsWithin w before now s xs old new) (sym rest.0)
-    (subst (λ (end : Option (List ℕ)). AppendsFront old end (text_to s xs)) (sym rest.1) ([], text_to s xs, refl, Appends-nil old))
-rest_written Halts.Book stop before now s xs out old new so rest =
-    subst (λ (w : Stop). StopsWithin w before now s xs old new) (sym rest.0) (so.0, subst (WritesSo before now old new) so.1 rest.1)
-rest_written Halts.Misread stop before now s xs out old new so rest = absurd so
-rest_written Halts.Disk stop before now s xs out old new so rest =
-    subst (λ (w : Stop). StopsWithin w before now s xs old new) (sym rest.0) (so.0, so.2, subst (WritesSo before now old new) so.1 rest.1)
+pub rest_written : (halt : Halt) (stop : Stop) (before now : ℕ) (s : RoomyDesk) (xs : List Handed) (out : List ℕ) (old new : Option (List ℕ)) (came kept : List (List ℕ))
+    → HaltsSo halt s xs [] out came kept → RestWritten halt stop before now old new out → StopsWithin stop before now s xs old new came kept
+rest_written Halts.Memory stop before now s xs out old new came kept so rest =
+    subst (λ (w : Stop). StopsWithin w before now s xs old new came kept) (sym rest.0)
+    (subst (λ (end : Option (List ℕ)). AppendsFront old end (text_to s xs)) (sym rest.1) ([], text_to s xs, refl, Appends-nil old), so)
+rest_written Halts.Book stop before now s xs out old new came kept so rest =
+    subst (λ (w : Stop). StopsWithin w before now s xs old new came kept) (sym rest.0) (so.0, subst (WritesSo before now old new) so.1 rest.1, so.2, so.3)
+rest_written Halts.Misread stop before now s xs out old new came kept so rest = absurd so
+rest_written Halts.Disk stop before now s xs out old new came kept so rest =
+    subst (λ (w : Stop). StopsWithin w before now s xs old new came kept) (sym rest.0) (so.0, so.2, subst (WritesSo before now old new) so.1 rest.1)
 
 pub rest_caused : (trusted : Type 0) (halt : Halt) (stop : Stop) (before now : ℕ) (disk disk' : ℕ) (out : List ℕ) (old new : Option (List ℕ))
     → HaltCause trusted halt disk disk' → RestWritten halt stop before now old new out → Caused trusted stop before now disk disk'
@@ -191,19 +246,6 @@ rest_caused trusted Halts.Misread stop before now disk disk' out old new cause r
 pub serves_on : {E : Type 0} (r : Result (Unit {0}) E) (a b c : View) (xs ys : List Handed) (t u v : List ℕ) → Serves a b xs t u → OnOk r (Serves b c ys u v) → OnOk r (Serves a c (xs ++ ys) t v)
 serves_on (Ok x) a b c xs ys t u v first second = Serves-append a b c xs ys t u v first second
 serves_on (Err e) a b c xs ys t u v first second = tt
-
-pub halts_on : {T : Type 0} (r : Result T Halt) (a b : View) (xs ys : List Handed) (t u v : List ℕ) → Serves a b xs t u → IfErr r (λ halt. HaltsSo halt b.state ys u v) → IfErr r (λ halt. HaltsSo halt a.state (xs ++ ys) t v)
-halts_on (Ok x) a b xs ys t u v first so = tt
-halts_on (Err halt) a b xs ys t u v first so = halts_behind halt a b xs ys t u v first so
-
--- at the exit of a `?` that hands the halt on
-pub halts_before_on : {T : Type 0} (r : Result T Halt) (halt : Halt) (s : RoomyDesk) (xs ys : List Handed) (t v : List ℕ) → IsErrAnd r (λ h. h ≡ halt) → HaltsSo halt s xs t v → IfErr r (λ h. HaltsSo h s (xs ++ ys) t v)
-halts_before_on (Ok x) halt s xs ys t v is so = tt
-halts_before_on (Err h) halt s xs ys t v is so = subst (λ (w : Halt). HaltsSo w s (xs ++ ys) t v) (sym is) (halts_before halt s xs ys t v so)
-
-pub memory_on : {T : Type 0} (r : Result T Halt) (s : RoomyDesk) (xs : List Handed) (t v : List ℕ) → IsErrAnd r (λ h. h ≡ Halts.Memory) → IfErr r (λ h. HaltsSo h s xs t v)
-memory_on (Ok x) s xs t v is = tt
-memory_on (Err h) s xs t v is = subst (λ (w : Halt). HaltsSo w s xs t v) (sym is) tt
 
 pub cause_handed_on : {T : Type 0} (trusted : Type 0) (r : Result T Halt) (halt : Halt) (before now now' : ℕ) → IsErrAnd r (λ h. h ≡ halt) → HaltCause trusted halt before now → now ≡ now' → IfErr r (λ h. HaltCause trusted h before now')
 cause_handed_on trusted (Ok x) halt before now now' is cause same = tt

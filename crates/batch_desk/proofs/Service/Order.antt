@@ -7,8 +7,10 @@ use Rattle.ckr_base.proofs.Bools.{and-first, and-second, or-assoc, or-false}
 use Rattle.ckr_cards.specs.Session.{Handed}
 use Rattle.ckr_desk.specs.State.{RoomyDesk}
 use Rattle.batch_desk.specs.Calls.{Answer, answer, after, fits, replies_of, calls, after_all, all_fit, is_refusal, broken_off}
+use Rattle.batch_desk.specs.Events.{events_told, request_events}
 use Rattle.batch_desk.specs.Texts.{answer_text}
 use Rattle.batch_desk.specs.Service.{View, Serves, text_to}
+use Rattle.batch_desk.proofs.Service.Events.{events_told-append, events_told-one}
 
 -- ---- what fits
 
@@ -65,7 +67,7 @@ text_to-full s xs ys e = ap (flat_map answer_text) (calls-full s xs ys e)
 -- ---- what is served
 
 pub Serves-nil : (a : View) (t : List ℕ) → Serves a a [] t t
-Serves-nil a t = record { fits = refl; state = refl; refused = or_false a.refused; text = sym (append-nil t) }
+Serves-nil a t = record { fits = refl; state = refl; refused = or_false a.refused; events = sym (append-nil a.events); text = sym (append-nil t) }
   where
     or_false : (b : Bool) → b ≡ (b || false)
     or_false true = refl
@@ -83,6 +85,11 @@ Serves-append a b c xs ys t u v first second =
           ∙ ap (λ s. a.refused || list_any is_refusal (calls a.state xs) || list_any is_refusal (calls s ys)) from
           ∙ or-assoc a.refused (list_any is_refusal (calls a.state xs)) (list_any is_refusal (calls (after_all a.state xs) ys))
           ∙ ap (λ r. a.refused || r) (sym (ap (list_any is_refusal) both ∙ list_any-append is_refusal (calls a.state xs) (calls (after_all a.state xs) ys)));
+      events = second.events
+          ∙ ap (λ e. e ++ events_told b.state ys) first.events
+          ∙ ap (λ s. (a.events ++ events_told a.state xs) ++ events_told s ys) from
+          ∙ append_assoc a.events (events_told a.state xs) (events_told (after_all a.state xs) ys)
+          ∙ ap (λ e. a.events ++ e) (sym (events_told-append a.state xs ys first.fits));
       text = second.text
           ∙ ap (λ w. w ++ text_to b.state ys) first.text
           ∙ ap (λ s. t ++ text_to a.state xs ++ text_to s ys) from
@@ -93,20 +100,22 @@ Serves-append a b c xs ys t u v first second =
 pub Serves-from : (a b c : View) (xs ys : List Handed) (t u : List ℕ) → Serves a b xs [] t → Serves b c ys [] u → Serves a c (xs ++ ys) [] (t ++ u)
 Serves-from a b c xs ys t u first second =
     Serves-append a b c xs ys [] t (t ++ u) first
-    (record { fits = second.fits; state = second.state; refused = second.refused; text = ap (λ l. t ++ l) second.text })
+    (record { fits = second.fits; state = second.state; refused = second.refused; events = second.events; text = ap (λ l. t ++ l) second.text })
 
 -- ---- one request
 
 -- where its answer is told
 pub serves_one : {E : Type 0} (r : Result (Unit {0}) E) (a b : View) (request : Handed) (t u : List ℕ) → fits a.state request ≡ true → b.state ≡ after a.state request
-    → b.refused ≡ (a.refused || is_refusal (answer a.state request)) → OnOk r (u ≡ t ++ answer_text (answer a.state request)) → OnOk r (Serves a b (request ∷ []) t u)
-serves_one (Err e) a b request t u fit state refused text = tt
-serves_one (Ok x) a b request t u fit state refused text =
+    → b.refused ≡ (a.refused || is_refusal (answer a.state request)) → b.events ≡ a.events ++ request_events a.state request
+    → OnOk r (u ≡ t ++ answer_text (answer a.state request)) → OnOk r (Serves a b (request ∷ []) t u)
+serves_one (Err e) a b request t u fit state refused came text = tt
+serves_one (Ok x) a b request t u fit state refused came text =
     let called : calls a.state (request ∷ []) ≡ answer a.state request ∷ [] = ap (call_and a.state request []) fit in
     record {
       fits = ap (λ f. f && true) fit;
       state = state;
       refused = refused ∙ ap (λ b. a.refused || b) (sym (ap (list_any is_refusal) called ∙ or-false (is_refusal (answer a.state request))));
+      events = came ∙ ap (λ e. a.events ++ e) (sym (events_told-one a.state request));
       text = text ∙ ap (λ l. t ++ l) (sym (ap (flat_map answer_text) called ∙ append-nil (answer_text (answer a.state request))));
     }
 

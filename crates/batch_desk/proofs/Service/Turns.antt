@@ -1,12 +1,14 @@
 -- Runs of replies, and turns.
-use Rattle.std.proofs.Common.{◌≡◌, ◌+◌, ◌==◌, ◌&&◌, ℕ, suc, zero, Bool, true, false, cond, List, [], ◌∷◌, ◌++◌, Option, None, Some, bytes_eq, refl, sym, ap, subst, ◌∙◌, append_assoc, append-nil, arith}
+use Rattle.std.proofs.Common.{◌≡◌, ◌≤◌, ◌⊎◌, ◌+◌, ◌==◌, ◌&&◌, ℕ, length, ⊎_elim, inl, inr, suc, zero, Bool, true, false, cond, List, [], ◌∷◌, ◌++◌, Option, None, Some, bytes_eq, refl, sym, ap, subst, ◌∙◌, append_assoc, append-nil, arith}
 use Rattle.std.specs.List.{flat_map}
 use Rattle.std.proofs.lemmas.Bool.{false≢true}
 use Rattle.std.proofs.lemmas.Bool.Decides.{Decides-eqb}
 use Rattle.std.proofs.lemmas.Grind.{flat_map-append}
 use Rattle.std.proofs.lemmas.Slice.Eq.{bytes_eq-Decides}
 use Rattle.ckr_base.proofs.Bools.{and-first, and-second}
-use Rattle.ckr_desk.specs.Turn.{behind_turn, reply_of, turn_fits}
+use Rattle.ckr_desk.proofs.Calls.OneEvent.{turn-few}
+use Rattle.ckr_desk.specs.Requests.{spelled}
+use Rattle.ckr_desk.specs.Turn.{behind_turn, event_of_turn, reply_of, turn_fits}
 use Rattle.ckr_desk.specs.State.{RoomyDesk}
 use Rattle.ckr_desk.specs.Model.Reply.{Reply}
 use Rattle.ckr_desk.specs.Model.Layout.{Layout}
@@ -14,6 +16,9 @@ use Rattle.batch_desk.specs.Texts.{goes_on, is_same_work, work_in, before_runs, 
 use Rattle.batch_desk.specs.Calls.{Turned, BrokenOff, plain_turn, turns, after_turns, turns_fit, is_idle}
 use Rattle.batch_desk.specs.declared.stop.Halt.{Halt}
 use Rattle.batch_desk.specs.declared.stop.Halt.TheVariants as Halts
+use Rattle.batch_desk.specs.Events.{behind_turns, turns_events}
+use Rattle.batch_desk.specs.Service.{ComesTo}
+use Rattle.batch_desk.proofs.Service.Events.{behind_turns-more, comes_all, length-more, turns_events-front, turns_events-more}
 use Rattle.batch_desk.specs.Turns.{Adds, Turns, FirstTurns, TurnHalt, TurnsHalt}
 
 abbrev Waiting : Type 0
@@ -110,8 +115,8 @@ module _ (layout : Layout) (initiator : ℕ) where
 
   -- ---- turns
 
-  pub turns_begun : (n : ℕ) (s : RoomyDesk) (text : List ℕ) → Turns layout initiator n n s s None text text
-  turns_begun n s text = record {
+  pub turns_begun : (n : ℕ) (s : RoomyDesk) (text : List ℕ) (had : List (List ℕ)) → Turns layout initiator n n s s None text text had had
+  turns_begun n s text had = record {
     made = [];
     ended = [];
     replies = refl;
@@ -120,7 +125,20 @@ module _ (layout : Layout) (initiator : ℕ) where
     joins = λ rest. refl;
     written = sym (append-nil text);
     none = λ is. refl;
+    behind = refl;
+    events = sym (append-nil had);
   }
+
+  -- the events of one turn more
+  events_more : (made : List Reply) (reply : Reply) (first s : RoomyDesk) (had mid have : List (List ℕ)) → s ≡ behind_turns initiator (length made) first
+      → mid ≡ had ++ turns_events initiator (length made) first → have ≡ mid ++ spelled (event_of_turn s (plain_turn initiator)) → have ≡ had ++ turns_events initiator (length (made ++ reply ∷ [])) first
+  events_more made reply first s had mid have behind before came =
+      came
+      ∙ ap (λ e. e ++ spelled (event_of_turn s (plain_turn initiator))) before
+      ∙ append_assoc had (turns_events initiator (length made) first) (spelled (event_of_turn s (plain_turn initiator)))
+      ∙ ap (λ st. had ++ (turns_events initiator (length made) first ++ spelled (event_of_turn st (plain_turn initiator)))) behind
+      ∙ ap (λ e. had ++ e) (sym (turns_events-more initiator (length made) first))
+      ∙ ap (λ n. had ++ turns_events initiator n first) (sym (length-more initiator made reply))
 
   one_more : (made rest : List Reply) (reply : Reply) → made ++ (reply ∷ rest) ≡ (made ++ reply ∷ []) ++ rest
   one_more made rest reply = sym (append_assoc made (reply ∷ []) rest)
@@ -160,10 +178,11 @@ module _ (layout : Layout) (initiator : ℕ) where
     fit-none full = ap (λ b. cond b (cond (is_idle (reply_of s (plain_turn initiator))) true (turns_fit initiator m (behind_turn s (plain_turn initiator)))) false) full
 
   -- one turn more, which isn't idle
-  pub turn_made : (n k m : ℕ) (first s s' : RoomyDesk) (reply : Reply) (waiting waiting' : Waiting) (before mid now : List ℕ) → k ≡ suc m
+  pub turn_made : (n k m : ℕ) (first s s' : RoomyDesk) (reply : Reply) (waiting waiting' : Waiting) (before mid now : List ℕ) (had between have : List (List ℕ)) → k ≡ suc m
       → turn_fits s (plain_turn initiator) ≡ true → reply ≡ reply_of s (plain_turn initiator) → s' ≡ behind_turn s (plain_turn initiator) → is_idle reply ≡ false
-      → Turns layout initiator n k first s waiting before mid → Adds layout initiator waiting reply waiting' mid now → Turns layout initiator n m first s' waiting' before now
-  turn_made n k m first s s' reply waiting waiting' before mid now less fits is behind busy h adds =
+      → have ≡ between ++ spelled (event_of_turn s (plain_turn initiator))
+      → Turns layout initiator n k first s waiting before mid had between → Adds layout initiator waiting reply waiting' mid now → Turns layout initiator n m first s' waiting' before now had have
+  turn_made n k m first s s' reply waiting waiting' before mid now had between have less fits is behind busy came h adds =
       let idle : is_idle (reply_of s (plain_turn initiator)) ≡ false = ap is_idle (sym is) ∙ busy in
       record {
         made = h.made ++ reply ∷ [];
@@ -182,13 +201,36 @@ module _ (layout : Layout) (initiator : ℕ) where
         joins = joined_behind h.made h.ended adds.ended waiting waiting' reply h.joins adds.joins;
         written = written_behind h.ended adds.ended before mid now h.written adds.written;
         none = λ none. absurd (adds.waits none);
+        behind = behind ∙ ap (λ st. behind_turn st (plain_turn initiator)) h.behind ∙ sym (behind_turns-more initiator (length h.made) first)
+            ∙ ap (λ j. behind_turns initiator j first) (sym (length-more initiator h.made reply));
+        events = events_more h.made reply first s had between have h.behind h.events came;
       }
 
+  -- the events up to one turn more, where its text isn't told
+  pub turn_counted : (n k m : ℕ) (first s : RoomyDesk) (reply : Reply) (waiting : Waiting) (before mid : List ℕ) (had between have : List (List ℕ)) → k ≡ suc m
+      → turn_fits s (plain_turn initiator) ≡ true → have ≡ between ++ spelled (event_of_turn s (plain_turn initiator)) → Turns layout initiator n k first s waiting before mid had between
+      → (came : List (List ℕ)) × (have ≡ had ++ came) × ComesTo (turns_events initiator (length (turns initiator n first)) first) came came
+  turn_counted n k m first s reply waiting before mid had between have less fits came h =
+      let next = reply_of s (plain_turn initiator) in
+      let rest = cond (is_idle next) [] (turns initiator m (behind_turn s (plain_turn initiator))) in
+      let replies : turns initiator n first ≡ (h.made ++ next ∷ []) ++ rest =
+      h.replies ∙ ap (λ j. h.made ++ turns initiator j s) less ∙ ap (λ l. h.made ++ l) (turns-next s m fits) ∙ one_more h.made rest next in (
+        turns_events initiator (length (h.made ++ next ∷ [])) first,
+        events_more h.made next first s had between have h.behind h.events came,
+        comes_all _ _ _ (turns_events-front initiator n first (h.made ++ next ∷ []) rest replies),
+      )
+
+  -- the events so far
+  pub turns_counted : (n k : ℕ) (first s : RoomyDesk) (waiting : Waiting) (before mid : List ℕ) (had between : List (List ℕ)) → (h : Turns layout initiator n k first s waiting before mid had between)
+      → ComesTo (turns_events initiator (length (turns initiator n first)) first) (turns_events initiator (length h.made) first) (turns_events initiator (length h.made) first)
+  turns_counted n k first s waiting before mid had between h = comes_all _ _ _ (turns_events-front initiator n first h.made (turns initiator k s) h.replies)
+
   -- all turns are made whose replies are these
-  pub record AllMade (n : ℕ) (first s : RoomyDesk) (before now : List ℕ) : Type 0 where
+  pub record AllMade (n : ℕ) (first s : RoomyDesk) (before now : List ℕ) (had have : List (List ℕ)) : Type 0 where
     pub fits : turns_fit initiator n first ≡ true
     pub text : now ≡ before ++ answer_text (Turned layout initiator (turns initiator n first))
     pub after : s ≡ after_turns initiator n first
+    pub events : have ≡ had ++ turns_events initiator (length (turns initiator n first)) first
 
   text_of_all : (made : List Reply) (ended : List (Reply × ℕ)) (waiting : Waiting) (before now final : List ℕ)
       → ((rest : List Reply) → runs_of (made ++ rest) ≡ ended ++ with_waiting waiting (runs_of rest)) → now ≡ before ++ flat_map (run_text layout initiator) ended
@@ -198,10 +240,12 @@ module _ (layout : Layout) (initiator : ℕ) where
       ∙ ap (λ rs. before ++ flat_map (run_text layout initiator) rs) (sym (joins []) ∙ ap runs_of (append-nil made))
 
   -- the last one, which is idle
-  pub turn_idle : (n k m : ℕ) (first s s' : RoomyDesk) (reply : Reply) (waiting waiting' : Waiting) (before mid now final : List ℕ) → k ≡ suc m
+  pub turn_idle : (n k m : ℕ) (first s s' : RoomyDesk) (reply : Reply) (waiting waiting' : Waiting) (before mid now final : List ℕ) (had between have : List (List ℕ)) → k ≡ suc m
       → turn_fits s (plain_turn initiator) ≡ true → reply ≡ reply_of s (plain_turn initiator) → s' ≡ behind_turn s (plain_turn initiator) → is_idle reply ≡ true
-      → Turns layout initiator n k first s waiting before mid → Adds layout initiator waiting reply waiting' mid now → final ≡ now ++ flat_map (run_text layout initiator) (with_waiting waiting' []) → AllMade n first s' before final
-  turn_idle n k m first s s' reply waiting waiting' before mid now final less fits is behind rests h adds last =
+      → have ≡ between ++ spelled (event_of_turn s (plain_turn initiator))
+      → Turns layout initiator n k first s waiting before mid had between → Adds layout initiator waiting reply waiting' mid now → final ≡ now ++ flat_map (run_text layout initiator) (with_waiting waiting' [])
+      → AllMade n first s' before final had have
+  turn_idle n k m first s s' reply waiting waiting' before mid now final had between have less fits is behind rests came h adds last =
       let idle : is_idle (reply_of s (plain_turn initiator)) ≡ true = ap is_idle (sym is) ∙ rests in
       let replies : turns initiator n first ≡ h.made ++ reply ∷ [] =
       h.replies
@@ -215,17 +259,19 @@ module _ (layout : Layout) (initiator : ℕ) where
             (joined_behind h.made h.ended adds.ended waiting waiting' reply h.joins adds.joins) (written_behind h.ended adds.ended before mid now h.written adds.written) last
             ∙ ap (λ rs. before ++ flat_map (run_text layout initiator) (runs_of rs)) (sym replies);
         after = behind ∙ sym (h.after ∙ ap (λ j. after_turns initiator j s) less ∙ after-next s m fits ∙ ap (λ b. cond b (behind_turn s (plain_turn initiator)) (after_turns initiator m (behind_turn s (plain_turn initiator)))) idle);
+        events = events_more h.made reply first s had between have h.behind h.events came ∙ ap (λ (rs : List Reply). had ++ turns_events initiator (length rs) first) (sym replies);
       }
 
   -- as many as were asked for
-  pub turns_made : (n k : ℕ) (first s : RoomyDesk) (waiting : Waiting) (before now final : List ℕ) → k ≡ zero
-      → Turns layout initiator n k first s waiting before now → final ≡ now ++ flat_map (run_text layout initiator) (with_waiting waiting []) → AllMade n first s before final
-  turns_made n k first s waiting before now final none h last =
+  pub turns_made : (n k : ℕ) (first s : RoomyDesk) (waiting : Waiting) (before now final : List ℕ) (had have : List (List ℕ)) → k ≡ zero
+      → Turns layout initiator n k first s waiting before now had have → final ≡ now ++ flat_map (run_text layout initiator) (with_waiting waiting []) → AllMade n first s before final had have
+  turns_made n k first s waiting before now final had have none h last =
       let replies : turns initiator n first ≡ h.made = h.replies ∙ ap (λ j. h.made ++ turns initiator j s) none ∙ append-nil h.made in
       record {
         fits = h.fit ∙ ap (λ j. turns_fit initiator j s) none;
         text = text_of_all h.made h.ended waiting before now final h.joins h.written last ∙ ap (λ rs. before ++ flat_map (run_text layout initiator) (runs_of rs)) (sym replies);
         after = sym (h.after ∙ ap (λ j. after_turns initiator j s) none);
+        events = h.events ∙ ap (λ (rs : List Reply). had ++ turns_events initiator (length rs) first) (sym replies);
       }
 
   broken_text : (made : List Reply) (ended : List (Reply × ℕ)) (waiting : Waiting) (before now final : List ℕ)
@@ -236,30 +282,69 @@ module _ (layout : Layout) (initiator : ℕ) where
       ∙ ap (λ rs. before ++ flat_map (run_text layout initiator) rs) (sym (told_behind ended waiting none) ∙ ap told_runs (sym (joins []) ∙ ap runs_of (append-nil made)))
 
   -- the book has no room for the next one
-  pub turns_full : (n k m : ℕ) (first s : RoomyDesk) (waiting : Waiting) (before now final : List ℕ) → k ≡ suc m → turn_fits s (plain_turn initiator) ≡ false
-      → Turns layout initiator n k first s waiting before now → final ≡ now ++ flat_map (run_text layout initiator) (told_runs (with_waiting waiting []))
-      → (turns_fit initiator n first ≡ false) × (final ≡ before ++ answer_text (BrokenOff layout initiator (turns initiator n first)))
-  turns_full n k m first s waiting before now final less full h last =
-      let replies : turns initiator n first ≡ h.made = h.replies ∙ ap (λ j. h.made ++ turns initiator j s) less ∙ ap (λ l. h.made ++ l) (turns-none s m full) ∙ append-nil h.made in (
+  turns_full : (n k m : ℕ) (first s : RoomyDesk) (waiting : Waiting) (before now final : List ℕ) (had have came kept : List (List ℕ)) → k ≡ suc m → turn_fits s (plain_turn initiator) ≡ false
+      → came ≡ [] → kept ≡ [] → (h : Turns layout initiator n k first s waiting before now had have) → final ≡ now ++ flat_map (run_text layout initiator) (told_runs (with_waiting waiting []))
+      → TurnsHalt layout initiator Halts.Book n first before final (turns_events initiator (length h.made) first ++ came) (turns_events initiator (length h.made) first ++ kept)
+  turns_full n k m first s waiting before now final had have came kept less full came_none kept_none h last =
+      let replies : turns initiator n first ≡ h.made = h.replies ∙ ap (λ j. h.made ++ turns initiator j s) less ∙ ap (λ l. h.made ++ l) (turns-none s m full) ∙ append-nil h.made in
+      let events = turns_events initiator (length h.made) first in (
         h.fit ∙ ap (λ j. turns_fit initiator j s) less ∙ fit-none s m full,
         broken_text h.made h.ended waiting before now final h.joins h.none h.written last ∙ ap (λ rs. before ++ answer_text (BrokenOff layout initiator rs)) (sym replies),
+        ap (λ c. events ++ c) came_none ∙ append-nil events ∙ ap (λ (rs : List Reply). turns_events initiator (length rs) first) (sym replies),
+        ap (λ c. events ++ c) (kept_none ∙ sym came_none),
       )
 
   -- the disk failed
-  pub turns_broken : (n k : ℕ) (first s : RoomyDesk) (waiting : Waiting) (before now final : List ℕ)
-      → Turns layout initiator n k first s waiting before now → final ≡ now ++ flat_map (run_text layout initiator) (told_runs (with_waiting waiting [])) → FirstTurns layout initiator n first before final
-  turns_broken n k first s waiting before now final h last = record {
-    replies = h.made;
-    later = turns initiator k s;
-    given = h.replies;
-    told = broken_text h.made h.ended waiting before now final h.joins h.none h.written last;
-  }
+  turns_broken : (n k : ℕ) (first s : RoomyDesk) (waiting : Waiting) (before now final : List ℕ) (had have came kept : List (List ℕ))
+      → came ≡ spelled (event_of_turn s (plain_turn initiator)) → (kept ≡ came) ⊎ (kept ≡ [])
+      → (h : Turns layout initiator n k first s waiting before now had have) → final ≡ now ++ flat_map (run_text layout initiator) (told_runs (with_waiting waiting []))
+      → FirstTurns layout initiator n first before final (turns_events initiator (length h.made) first ++ came) (turns_events initiator (length h.made) first ++ kept)
+  turns_broken n k first s waiting before now final had have came kept came_is kept_is h last =
+      let events = turns_events initiator (length h.made) first in
+      record {
+        replies = h.made;
+        later = turns initiator k s;
+        given = h.replies;
+        told = broken_text h.made h.ended waiting before now final h.joins h.none h.written last;
+        came_is = ap (λ c. events ++ c) came_is ∙ ap (λ st. events ++ spelled (event_of_turn st (plain_turn initiator))) h.behind;
+        kept_is = ⊎_elim (λ same. inl (ap (λ c. events ++ c) same)) (λ none. inr (ap (λ c. events ++ c) none ∙ append-nil events)) kept_is;
+      }
+
+  -- memory ran out, perhaps behind another halt
+  turns_unsaid : (n k : ℕ) (first s : RoomyDesk) (waiting : Waiting) (before now : List ℕ) (had have came kept : List (List ℕ)) → length came ≤ 1 → (kept ≡ came) ⊎ (kept ≡ [])
+      → (h : Turns layout initiator n k first s waiting before now had have)
+      → ComesTo (turns_events initiator (length (turns initiator n first)) first) (turns_events initiator (length h.made) first ++ came) (turns_events initiator (length h.made) first ++ kept)
+  turns_unsaid n k first s waiting before now had have came kept few kept_is h =
+      let events = turns_events initiator (length h.made) first in
+      record {
+        done = events;
+        more = turns_events initiator (length (turns initiator k s)) (behind_turns initiator (length h.made) first);
+        front = turns_events-front initiator n first h.made (turns initiator k s) h.replies;
+        next = came;
+        few = few;
+        came_is = refl;
+        kept_is = ⊎_elim (λ same. inl (ap (λ c. events ++ c) same)) (λ none. inr (ap (λ c. events ++ c) none ∙ append-nil events)) kept_is;
+      }
+
+  none-few : (came : List (List ℕ)) → came ≡ [] → length came ≤ 1
+  none-few came none = (let long : length came ≡ 0 = ap length none in omega (arith, long))
 
   -- why not all turns were made
-  pub turns_halted : (halt : Halt) (n k m : ℕ) (first s : RoomyDesk) (waiting : Waiting) (before now final : List ℕ) → k ≡ suc m
-      → TurnHalt halt initiator s → Turns layout initiator n k first s waiting before now → final ≡ now ++ flat_map (run_text layout initiator) (told_runs (with_waiting waiting []))
-      → TurnsHalt layout initiator halt n first before final
-  turns_halted Halts.Memory n k m first s waiting before now final less why h last = tt
-  turns_halted Halts.Book n k m first s waiting before now final less why h last = turns_full n k m first s waiting before now final less why h last
-  turns_halted Halts.Disk n k m first s waiting before now final less why h last = turns_broken n k first s waiting before now final h last
-  turns_halted Halts.Misread n k m first s waiting before now final less why h last = absurd why
+  pub turns_halted : (halt : Halt) (n k m : ℕ) (first s : RoomyDesk) (waiting : Waiting) (before now final : List ℕ) (had have came kept : List (List ℕ)) → k ≡ suc m
+      → TurnHalt halt initiator s came kept → (h : Turns layout initiator n k first s waiting before now had have) → final ≡ now ++ flat_map (run_text layout initiator) (told_runs (with_waiting waiting []))
+      → TurnsHalt layout initiator halt n first before final (turns_events initiator (length h.made) first ++ came) (turns_events initiator (length h.made) first ++ kept)
+  turns_halted Halts.Memory n k m first s waiting before now final had have came kept less why h last =
+      turns_unsaid n k first s waiting before now had have came kept (none-few came why.0) (inr why.1) h
+  turns_halted Halts.Book n k m first s waiting before now final had have came kept less why h last = turns_full n k m first s waiting before now final had have came kept less why.0 why.1 why.2 h last
+  turns_halted Halts.Disk n k m first s waiting before now final had have came kept less why h last = turns_broken n k first s waiting before now final had have came kept why.0 why.1 h last
+  turns_halted Halts.Misread n k m first s waiting before now final had have came kept less why h last = absurd why
+
+  -- the same where memory ran out for the text
+  pub turns_halted_unsaid : (halt : Halt) (n k : ℕ) (first s : RoomyDesk) (waiting : Waiting) (before now final : List ℕ) (had have came kept : List (List ℕ))
+      → TurnHalt halt initiator s came kept → (h : Turns layout initiator n k first s waiting before now had have)
+      → TurnsHalt layout initiator Halts.Memory n first before final (turns_events initiator (length h.made) first ++ came) (turns_events initiator (length h.made) first ++ kept)
+  turns_halted_unsaid Halts.Memory n k first s waiting before now final had have came kept why h = turns_unsaid n k first s waiting before now had have came kept (none-few came why.0) (inr why.1) h
+  turns_halted_unsaid Halts.Book n k first s waiting before now final had have came kept why h = turns_unsaid n k first s waiting before now had have came kept (none-few came why.1) (inr why.2) h
+  turns_halted_unsaid Halts.Disk n k first s waiting before now final had have came kept why h =
+      turns_unsaid n k first s waiting before now had have came kept (subst (λ (c : List (List ℕ)). length c ≤ 1) (sym why.0) (turn-few s (plain_turn initiator))) why.1 h
+  turns_halted_unsaid Halts.Misread n k first s waiting before now final had have came kept why h = absurd why

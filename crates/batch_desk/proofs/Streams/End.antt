@@ -1,5 +1,5 @@
 -- The end of a stream.
-use Rattle.std.proofs.Common.{◌≡◌, ◌==◌, ℕ, true, false, ◌||◌, if◌then◌else◌, List, [], ◌∷◌, ◌++◌, length, map, Option, Result, Ok, Err, OnOk, IfErr, sym, ap, subst, ◌∙◌, append-nil, arith}
+use Rattle.std.proofs.Common.{◌≡◌, ◌==◌, ℕ, true, false, ◌||◌, if◌then◌else◌, List, [], ◌∷◌, ◌++◌, length, map, Option, Result, Ok, Err, OnOk, sym, ap, subst, ◌∙◌, append-nil, arith}
 use Rattle.std.specs.List.{list_any}
 use Rattle.std.specs.Str.Lines.{lines, lines_of_parts, strip_carriage_return}
 use Rattle.std.specs.Io.KnownBytes.{Appends}
@@ -8,15 +8,14 @@ use Rattle.ckr_base.proofs.KnownBytes.{Appends-trans}
 use Rattle.ckr_cards.specs.Session.{Handed, first_session, handed_by, session_behind, handed_with, handed_within, handed_deck}
 use Rattle.ckr_cards.proofs.Sessions.{handed_by-append}
 use Rattle.batch_desk.specs.declared.flow.Flow.{Flow}
-use Rattle.batch_desk.specs.declared.stop.Halt.{Halt}
 use Rattle.batch_desk.specs.declared.stop.Stop.{Stop}
 use Rattle.batch_desk.specs.Calls.{calls, is_refusal}
-use Rattle.batch_desk.specs.Service.{View, Serves, HaltsSo, StopsWithin, seen}
+use Rattle.batch_desk.specs.Service.{View, Serves, StopsWithin, seen}
 use Rattle.batch_desk.specs.Sessions.{standing_of}
 use Rattle.batch_desk.specs.Stream.{is_line_end, requests_of}
-use Rattle.batch_desk.specs.Flows.{StreamProgress, Finishes, FinishBreaks, last_lines, end_requests}
+use Rattle.batch_desk.specs.Flows.{StreamProgress, Finishes, FinishBreaks, last_lines, end_requests, told_so_far}
 use Rattle.batch_desk.proofs.Streams.Requests.{requests_of-lines}
-use Rattle.batch_desk.proofs.Service.Halts.{stops_behind, halts_behind}
+use Rattle.batch_desk.proofs.Service.Halts.{stops_behind}
 use Rattle.batch_desk.proofs.Service.Order.{Serves-from, Serves-append}
 use Rattle.batch_desk.proofs.Streams.Pieces.{lines_behind}
 
@@ -35,9 +34,9 @@ module _ {D : Type 0} (content : D → List ℕ) where
       ∙ ap (handed_by first_session) (sym (lines_waiting first all f start now p))
       ∙ sym (requests_of-lines all)
 
-  -- all of the text is written
+  -- all of the text is written, and all events came
   pub finished : (f : Flow D) (g : View) (old new : Option (List ℕ)) (from text : List ℕ) → Serves (seen content f.session.clerk) g (end_requests f) from text → from ≡ [] → Appends old new text
-      → Finishes content f g.refused old new
+      → Finishes content f g g.refused old new
   finished f g old new from text s e w first all start clean p =
       let serves : Serves first g (requests_of all) [] (p.text ++ text) =
       subst (λ (items : List Handed). Serves first g items [] (p.text ++ text)) (requests_of_all first all f start old p)
@@ -46,16 +45,17 @@ module _ {D : Type 0} (content : D → List ℕ) where
         serves.fits,
         subst (Appends start new) serves.text (Appends-trans start old new p.text text p.written w),
         serves.refused ∙ ap (λ r. r || list_any is_refusal (calls first.state (requests_of all))) clean,
+        serves.events,
       )
 
   -- the serving stops within the last requests
-  pub finish_broken : (stop : Stop) (before now : ℕ) (f : Flow D) (old new : Option (List ℕ))
-      → StopsWithin stop before now (seen content f.session.clerk).state (end_requests f) old new → FinishBreaks content stop before now f old new
-  finish_broken stop before now f old new so first all start p =
+  pub finish_broken : (before now : ℕ) (f : Flow D) (old new : Option (List ℕ)) (stop : Stop) (came kept : List (List ℕ))
+      → StopsWithin stop before now (seen content f.session.clerk).state (end_requests f) old new came kept → FinishBreaks content stop before now f old new came kept
+  finish_broken before now f old new stop came kept so first all start p =
       let xs = handed_within first_session (map strip_carriage_return p.parts) in
-      subst (λ (items : List Handed). StopsWithin stop before now first.state items start new)
+      subst (λ (items : List Handed). StopsWithin stop before now first.state items start new (told_so_far content p ++ came) (told_so_far content p ++ kept))
       (append-nil (xs ++ end_requests f) ∙ requests_of_all first all f start old p)
-      (stops_behind stop before before now first (seen content f.session.clerk) xs (end_requests f) [] p.text start old new (omega arith) p.serves p.written so)
+      (stops_behind stop before before now first (seen content f.session.clerk) xs (end_requests f) [] p.text start old new came kept (omega arith) p.serves p.written so)
 
   -- what is asked at the end, where a line waits: it, and then the deck that is open
   pub end_requests_of : (f : Flow D) (line cards : List ℕ) → line ≡ f.partial.items → (length f.partial.items == 0) ≡ false
@@ -75,8 +75,3 @@ module _ {D : Type 0} (content : D → List ℕ) where
 pub served_behind : {T E : Type 0} (r : Result T E) (a b c : View) (xs ys : List Handed) (t u v : List ℕ) → Serves a b xs t u → OnOk r (Serves b c ys u v) → OnOk r (Serves a c (xs ++ ys) t v)
 served_behind (Ok x) a b c xs ys t u v first second = Serves-append a b c xs ys t u v first second
 served_behind (Err e) a b c xs ys t u v first second = tt
-
-pub halted_behind : {T : Type 0} (r : Result T Halt) (a b : View) (xs ys : List Handed) (t u v : List ℕ) → Serves a b xs t u
-    → IfErr r (λ halt. HaltsSo halt b.state ys u v) → IfErr r (λ halt. HaltsSo halt a.state (xs ++ ys) t v)
-halted_behind (Ok x) a b xs ys t u v first so = tt
-halted_behind (Err halt) a b xs ys t u v first so = halts_behind halt a b xs ys t u v first so

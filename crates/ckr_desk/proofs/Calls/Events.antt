@@ -9,11 +9,13 @@ use Rattle.ckr_events.specs.Event.{IsEvent, spelling}
 use Rattle.ckr_jcl.specs.declared.deck.Job.{Job}
 use Rattle.ckr_jcl_decks.specs.Deck.{stored_deck}
 use Rattle.ckr_desk_memory.specs.Replay.{deck_of, goes_on, is_run_by}
-use Rattle.ckr_desk_turn.proofs.Select.{purged-keeps, stored-keeps}
+use Rattle.ckr_desk_turn.proofs.NextEvents.BetweenSteps.{purged_comes}
+use Rattle.ckr_desk_turn.proofs.Select.{purged-keeps, stored-comes, stored-keeps}
 use Rattle.ckr_desk_turn.specs.Invariant.{IsDesk}
 use Rattle.ckr_desk_refines.specs.Commits.{HasCommitted}
 use Rattle.ckr_outside.specs.Disk.{Only}
 use Rattle.ckr_points.specs.declared.run.RunState.TheVariants.{Queued}
+use Rattle.ckr_points.specs.Events.{IsNext}
 use Rattle.ckr_points.specs.Office.{office_after}
 use Rattle.ckr_points.specs.Restart.{after_event}
 use Rattle.ckr_points.specs.Rows.{RunRow, run_of}
@@ -52,6 +54,7 @@ module _ {D : Type 0} (told : Type 0) (content : D → List ℕ) (may_leave : D 
     pub runs : is_run_by event deck ≡ true
     pub plain : is_plain_event event ≡ true
     pub quiet : (tables : _) → rewrite_of tables event ≡ None
+    pub next : IsNext layout desk.office (event, deck)
     pub kept : IsDesk (behind event deck desk)
     pub stand : (new : DeskView D) → HaveMoved event deck old.jobs new.jobs → HasSameRecords layout (content old.store.disk) (content new.store.disk)
         → StandsForDesk layout new.jobs (content new.store.disk) (behind event deck desk)
@@ -63,6 +66,7 @@ module _ {D : Type 0} (told : Type 0) (content : D → List ℕ) (may_leave : D 
       is_event = its.is_event;
       goes = subst (λ d. goes_on layout old.jobs.tables.desk event d ≡ true) (sym its.decked)
           (and_from (is_plain_event event) _ its.plain (and_from (is_run_by event deck) _ its.runs might));
+      next = subst (λ d. IsNext layout desk.office (event, d)) (sym its.decked) its.next;
       office = ap (λ d. office_after (event, d) (office_on layout (content old.store.disk))) (sym its.decked);
       layout_is = refl;
       is_desk = its.kept;
@@ -128,6 +132,7 @@ module _ {D : Type 0} (told : Type 0) (content : D → List ℕ) (may_leave : D 
         runs = and_from (is_run deck) _ runs fit;
         plain = refl;
         quiet = λ tables. refl;
+        next = subst (λ n. IsNext layout desk.office (Submitted n (kept_of_stored cards), Some deck)) (sym number) (stored-comes desk cards deck some accepted);
         kept = subst (λ n. IsDesk (behind (Submitted n (kept_of_stored cards)) (Some deck) desk)) (sym number)
             (stored-keeps desk trusted.stands.is_desk cards deck some accepted runs);
         stand = λ new moved records.
@@ -150,6 +155,7 @@ module _ {D : Type 0} (told : Type 0) (content : D → List ℕ) (may_leave : D 
         runs = refl;
         plain = refl;
         quiet = λ tables. refl;
+        next = record { may = purged_comes desk job row there queued; carried = refl };
         kept = purged-keeps desk trusted.stands.is_desk job row there queued;
         stand = λ new moved records. purged-stands layout old.jobs new.jobs (content old.store.disk) (content new.store.disk) desk job row trusted.stands there queued moved records;
         commits = λ image records. purged-committed layout old.jobs (content old.store.disk) desk job row trusted.stands there queued image records;

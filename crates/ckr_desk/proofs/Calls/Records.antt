@@ -82,12 +82,12 @@ module _ {D : Type 0} (faults : D → ℕ) (old new : StoreView D) where
   reading-may-fail (Stopped fault) cause = absurd cause
   reading-may-fail Misread cause = tt
 
-  pub reading-fails-by : (error : DeskError) → ReadingCause faults old new error → FailsBy true error
-  reading-fails-by NoMemory cause = tt
-  reading-fails-by DiskFault cause = tt
-  reading-fails-by (BookFull need room) cause = absurd cause
-  reading-fails-by (Stopped fault) cause = absurd cause
-  reading-fails-by Misread cause = absurd cause
+  pub reading-fails-by : (room : ℕ) (error : DeskError) → ReadingCause faults old new error → FailsBy room None error
+  reading-fails-by room NoMemory cause = tt
+  reading-fails-by room DiskFault cause = tt
+  reading-fails-by room (BookFull need left) cause = absurd cause
+  reading-fails-by room (Stopped fault) cause = absurd cause
+  reading-fails-by room Misread cause = absurd cause
 
   pub same-layout : (error : DeskError) → ReadingCause faults old new error → new.layout ≡ old.layout
   same-layout NoMemory cause = ap (λ (s : StoreView D). s.layout) cause

@@ -1,9 +1,8 @@
 -- A call that is one event with its deck, or none, on a trusted disk.
-use Rattle.std.proofs.Common.{◌≡◌, ◌≤◌, ◌<◌, ◌*◌, ◌/◌, ℕ, suc, List, [], ◌∷◌, Bool, true, false, cond, length, refl, ap, sym, ◌∙◌, subst, arith, Option, Some, None, Result, Ok, Err, IfErr, OnOk, nat_le}
+use Rattle.std.proofs.Common.{◌≡◌, ◌≤◌, ◌++◌, ◌*◌, ◌/◌, ℕ, suc, List, [], ◌∷◌, Bool, true, false, cond, length, refl, ap, sym, ◌∙◌, subst, arith, append-nil, Option, Some, None, Result, Ok, Err, IfErr, OnOk, nat_le}
 use Rattle.std.proofs.lemmas.Bool.{false≢true, le-leb}
 use Rattle.std.proofs.lemmas.Bool.Decides.{nat_tests}
 use Rattle.ckr_base.proofs.Bools.{and-first}
-use Rattle.ckr_base.proofs.Numbers.{nat_le-beyond}
 use Rattle.ckr_book.specs.Book.{room_of}
 use Rattle.ckr_events.specs.declared.event.Event.TheVariants.{Submitted, Purged}
 use Rattle.ckr_events.specs.Event.{IsEvent}
@@ -34,7 +33,7 @@ use Rattle.ckr_desk.proofs.Images.Soundness.{kept-before}
 use Rattle.ckr_desk.proofs.Calls.Stops.{opens-so}
 use Rattle.ckr_desk.specs.declared.error.DeskError.{DeskError}
 use Rattle.ckr_desk.specs.declared.error.DeskError.TheVariants.{NoMemory, DiskFault, BookFull, Stopped, Misread}
-use Rattle.ckr_desk.specs.Requests.{FailsBy, MayFail, behind_call, call_fits, event_in, spelled}
+use Rattle.ckr_desk.specs.Requests.{FailsBy, MayFail, TellsFull, behind_call, call_fits, came_by, event_in, spelled}
 use Rattle.ckr_desk.specs.Calls.{HasDone, IsLeftByCall, IsSettledBehind, NotDone, may_follow, with_event}
 use Rattle.ckr_desk.specs.Soundness.{HasKept, IsTrusted, KeepsWithin, state_of}
 use Rattle.ckr_desk.specs.State.{DeskView, need_of}
@@ -90,9 +89,26 @@ module _ {D : Type 0} (faults : D → ℕ) (old new : DeskView D) where
   call-stays content may_leave (Some call) (Stopped fault) not = same-unchanged content may_leave old new not.1.jobs not.1.store
   call-stays content may_leave (Some call) Misread not = tt
 
+  pub call-full : (call : Option Decked) (error : DeskError) → NotDone faults call old new error → TellsFull (room_of old.store.book) (event_in call) error
+  call-full None NoMemory not = tt
+  call-full None DiskFault not = tt
+  call-full None (BookFull need room) not = not
+  call-full None (Stopped fault) not = tt
+  call-full None Misread not = tt
+  call-full (Some call) NoMemory not = tt
+  call-full (Some call) DiskFault not = tt
+  call-full (Some call) (BookFull need room) not = (not.0, not.1, not.2)
+  call-full (Some call) (Stopped fault) not = tt
+  call-full (Some call) Misread not = tt
+
   pub call-open : (call : Option Decked) → HasDone call old new → old.store.fault ≡ None → new.store.fault ≡ None
   call-open None done is_open = ap (λ (s : DeskView D). s.store.fault) done ∙ is_open
   call-open (Some call) done is_open = done.is_open ∙ is_open
+
+-- the events behind the call
+pub call-told : (before after : List (List ℕ)) (call : Option Decked) → after ≡ with_event before call → after ≡ before ++ spelled (event_in call)
+call-told before after None is = is ∙ sym (append-nil before)
+call-told before after (Some call) is = is
 
 -- ---- on a trusted disk
 
@@ -109,8 +125,7 @@ module _ {D : Type 0} (told : Type 0) (content : D → List ℕ) (may_leave : D 
   IsCalledSo None = Unit {0}
   IsCalledSo (Some call) = (may_follow call.0 call.1 old ≡ true) × IsCalled told content may_leave size old trusted call.0 call.1
 
-  pub call-cause : (faults : D → ℕ) (new : DeskView D) (call : Option Decked) → IsCalledSo call → (error : DeskError) → NotDone faults call old new error → FailsBy (call_fits (state_of content old) call) error
-  unfolding call_fits
+  pub call-cause : (faults : D → ℕ) (new : DeskView D) (call : Option Decked) → IsCalledSo call → (error : DeskError) → NotDone faults call old new error → FailsBy (room_of old.store.book) (event_in call) error
   call-cause faults new None its NoMemory not = tt
   call-cause faults new None its DiskFault not = tt
   call-cause faults new None its (BookFull need room) not = absurd not
@@ -118,8 +133,7 @@ module _ {D : Type 0} (told : Type 0) (content : D → List ℕ) (may_leave : D 
   call-cause faults new None its Misread not = absurd not
   call-cause faults new (Some call) its NoMemory not = tt
   call-cause faults new (Some call) its DiskFault not = tt
-  call-cause faults new (Some call) its (BookFull need room) not =
-      nat_le-beyond (need_of call.0) (room_of old.store.book) (subst (λ n. room_of old.store.book < n) not.0 (subst (λ n. n < need) not.1 not.2))
+  call-cause faults new (Some call) its (BookFull need room) not = (not.0, not.1, not.2)
   call-cause faults new (Some call) its (Stopped fault) not = tt
   call-cause faults new (Some call) its Misread not = absurd (false≢true (sym not.0 ∙ its.0))
 
@@ -161,6 +175,32 @@ module _ {D : Type 0} (told : Type 0) (content : D → List ℕ) (may_leave : D 
     -- nothing was done
     pub none-kept : ((image : List ℕ) → left_since old.store.disk (moment old.store.disk) image → may_leave old.store.disk image) → KeepsWithin content moment left_since size old old []
     none-kept only = started moment left_since old.store.disk (HasKept layout (size old.store.disk) before []) (λ image left. kept-now image (only image left))
+
+    -- by what was answered: want of memory and a full book leave the disk as it was
+    pub call-kept-by : {T : Type 0} (faults : D → ℕ) (new : DeskView D) (call : Option Decked) (result : Result T DeskError) → IsCalledSo call
+        → ((image : List ℕ) → left_since old.store.disk (moment old.store.disk) image → may_leave old.store.disk image)
+        → EachSince moment left_since old.store.disk new.store.disk (IsLeftByCall content may_leave size call old) → IfErr result (NotDone faults call old new)
+        → KeepsWithin content moment left_since size old new (came_by result (spelled (event_in call)))
+    call-kept-by faults new call result its only left not = by result not
+      where
+        same-store : new.store ≡ old.store → KeepsWithin content moment left_since size old new []
+        same-store same = subst (λ (s : StoreView D). EachSince moment left_since old.store.disk s.disk (HasKept layout (size old.store.disk) before [])) (sym same) (none-kept only)
+
+        memory : (c : Option Decked) → NotDone faults c old new NoMemory → new.store ≡ old.store
+        memory None not = not.store
+        memory (Some decked) not = not.store
+
+        full : (c : Option Decked) (need room : ℕ) → NotDone faults c old new (BookFull need room) → new.store ≡ old.store
+        full None need room not = absurd not
+        full (Some decked) need room not = not.3.store
+
+        by : {T : Type 0} (r : Result T DeskError) → IfErr r (NotDone faults call old new) → KeepsWithin content moment left_since size old new (came_by r (spelled (event_in call)))
+        by (Ok x) not = call-kept new call its left
+        by (Err NoMemory) not = same-store (memory call not)
+        by (Err DiskFault) not = call-kept new call its left
+        by (Err (BookFull need room)) not = same-store (full call need room not)
+        by (Err (Stopped fault)) not = call-kept new call its left
+        by (Err Misread) not = call-kept new call its left
 
     pub reading-kept : (new : DeskView D) → EachSince moment left_since old.store.disk new.store.disk (may_leave old.store.disk) → KeepsWithin content moment left_since size old new []
     reading-kept new reads = in_other_words moment left_since old.store.disk new.store.disk (may_leave old.store.disk) (HasKept layout (size old.store.disk) before []) reads kept-now

@@ -1,15 +1,16 @@
 -- With one event more in the book.
-use Rattle.std.proofs.Common.{◌≡◌, ◌+◌, ◌++◌, ℕ, List, [], ◌∷◌, length, cond, refl, ap, ◌∙◌, subst, append-nil, Option, Some, None, Result, Ok, Err, true}
+use Rattle.std.proofs.Common.{◌≡◌, ◌+◌, ◌++◌, ℕ, List, [], ◌∷◌, length, cond, refl, ap, sym, ◌∙◌, subst, append-nil, Option, Some, None, Result, Ok, Err, true}
 use Rattle.std.proofs.lemmas.Grind.{flat_map-append}
 use Rattle.ckr_events.proofs.Events.{event_again}
 use Rattle.ckr_events.specs.declared.event.Event.{Event}
 use Rattle.ckr_events.specs.declared.event.Event.TheVariants.{Submitted}
 use Rattle.ckr_events.specs.Event.{IsEvent, IsSmall, event_of, spelling}
 use Rattle.ckr_desk_memory.specs.Replay.{deck_of, goes_on, replayed}
+use Rattle.ckr_points.specs.Events.{AreSound, IsNext}
 use Rattle.ckr_points.specs.Office.{office, office_after}
 use Rattle.ckr_points.specs.Restart.{Decked, after_event}
 use Rattle.ckr_points.specs.Rows.{TablesModel, no_tables}
-use Rattle.ckr_points_invariant.proofs.EventList.{office-more}
+use Rattle.ckr_points_invariant.proofs.EventList.{office-more, sound-more}
 use Rattle.ckr_desk_store.specs.OpenImages.{event_records}
 use Rattle.ckr_volumes.specs.declared.layout.Layout.{Layout}
 use Rattle.ckr_desk.specs.Opening.{behind_read, behind_record, behind_records, or_bad}
@@ -34,6 +35,14 @@ office-grown layout old new event is grown =
     ap (λ records. office (events_in records)) grown
     ∙ ap office (events-more (event_records layout old) event is)
     ∙ office-more (events_in (event_records layout old)) (event, deck_of event)
+
+-- sound events of an image are sound with one that comes so
+pub sound-grown : (layout : Layout) (image : List ℕ) (event : Event) → IsEvent event → AreSound layout (events_in (event_records layout image))
+    → IsNext layout (office_on layout image) (event, deck_of event) → AreSound layout (events_in (event_records layout image ++ spelling event ∷ []))
+unfolding office_on
+sound-grown layout image event is sound next =
+    subst (AreSound layout) (sym (events-more (event_records layout image) event is))
+    (sound-more layout (events_in (event_records layout image)) (event, deck_of event) sound next)
 
 unfoldable tables_in : Result TablesModel ℕ → TablesModel
 tables_in (Ok tables) = tables

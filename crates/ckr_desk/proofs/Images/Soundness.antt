@@ -7,21 +7,19 @@ use Rattle.ckr_events.specs.declared.event.Event.{Event}
 use Rattle.ckr_events.specs.declared.event.Event.TheVariants.{Submitted}
 use Rattle.ckr_events.specs.Event.{spelling}
 use Rattle.ckr_desk_memory.specs.Replay.{deck_of}
-use Rattle.ckr_desk_turn.specs.Invariant.{HasRuns, IsDesk}
-use Rattle.ckr_desk_turn.proofs.Opening.{has-runs}
 use Rattle.ckr_desk_refines.specs.Commits.{HasCommitted}
 use Rattle.ckr_library.specs.NameMaps.{Name, same_name}
 use Rattle.ckr_library.proofs.Named.{name-same}
 use Rattle.ckr_outside.specs.Disk.{part}
+use Rattle.ckr_points.specs.Events.{AreSound}
 use Rattle.ckr_points.specs.Office.{Office, model_records, office_with}
 use Rattle.ckr_points.specs.Restart.{after_event}
 use Rattle.ckr_points.specs.Rows.{TableSet, TablesModel, no_tables}
-use Rattle.ckr_points_invariant.specs.Invariant.{IsKept}
 use Rattle.ckr_desk_refines.specs.RewriteRecord.{HasCommittedAgain, HasLast, RewriteRecord, again, any_rewrite, last_event}
 use Rattle.ckr_desk_store.specs.OpenImages.{Opens, event_records}
 use Rattle.ckr_volumes.specs.declared.layout.Layout.{Layout}
 use Rattle.ckr_volumes.specs.Header.{header_of}
-use Rattle.ckr_desk.proofs.Images.NextEvent.{office-grown, office-same, opens-grown, replayed-so}
+use Rattle.ckr_desk.proofs.Images.NextEvent.{office-grown, office-same, opens-grown, replayed-so, sound-grown}
 use Rattle.ckr_desk.proofs.Openings.Answers.{by_its_book}
 use Rattle.ckr_desk.proofs.Trust.Events.{IsComing, last-grown}
 use Rattle.ckr_desk.specs.declared.error.OpenError.{OpenError}
@@ -37,8 +35,8 @@ gate_or end opened is_open = cond is_open (Err (BadBook end)) (Ok opened)
 -- an image that opens to an office, and has what that has committed
 pub sound-at : (layout : Layout) (size : ℕ) (image : List ℕ) (office : Office) → header_of (take 512 image) size ≡ Ok layout → ends_closed (part 512 layout.book image)
     → office_on layout image ≡ office → behind_records layout no_tables 0 (event_records layout image) ≡ Ok office.tables
-    → IsKept layout office → HasRuns office → HasCommittedAgain layout office (last_on layout image) image → HasLast office (last_on layout image) → Sound size image
-sound-at layout size image office head closed is brings kept runs committed last =
+    → AreSound layout (events_in (event_records layout image)) → HasCommittedAgain layout office (last_on layout image) image → HasLast office (last_on layout image) → Sound size image
+sound-at layout size image office head closed is brings events committed last =
     let bytes = part 512 layout.book image in
     let end = end_from 0 bytes in
     let its = opened_at layout office.tables (layout.book - end) in
@@ -47,8 +45,7 @@ sound-at layout size image office head closed is brings kept runs committed last
       room = layout.book - end;
       opens = by_its_book image size layout head ∙ ap (by_end layout bytes) brings ∙ ap (gate_or end its) closed
           ∙ ap (λ (o : Office). Ok (opened_at layout o.tables (layout.book - end))) (sym is);
-      kept = subst (IsKept layout) (sym is) kept;
-      runs = subst HasRuns (sym is) runs;
+      events = events;
       committed = subst (λ o. HasCommittedAgain layout o (last_on layout image) image) (sym is) committed;
       last = subst (λ o. HasLast o (last_on layout image)) (sym is) last;
     }
@@ -88,15 +85,12 @@ module _ {D : Type 0} (told : Type 0) (content : D → List ℕ) (may_leave : D 
   unfolding last_on
   last-same image same = ap (λ records. last_event (events_in records)) same
 
-  desk_now : IsDesk (state_of content old).desk
-  desk_now = trusted.stands.is_desk
-
   -- an image with the same events
   pub kept-before : (came : List (List ℕ)) (image : List ℕ) → OpensSame content size old image → HasCommitted layout office_now image → HasKept layout (size old.store.disk) before came image
   kept-before came image opens committed = record {
     sound = sound-at layout (size old.store.disk) image office_now opens.head opens.closed (office-same layout (content old.store.disk) image opens.list)
         (ap (λ records. behind_records layout no_tables 0 records) opens.list ∙ trusted.opens ∙ ap Ok trusted.stands.tables)
-        desk_now.kept (has-runs _ desk_now)
+        (subst (λ records. AreSound layout (events_in records)) (sym opens.list) trusted.events)
         (subst (λ l. HasCommittedAgain layout office_now l image) (sym (last-same image opens.list)) (again-so layout office_now (last_on layout (content old.store.disk)) image trusted.last committed))
         (subst (HasLast office_now) (sym (last-same image opens.list)) trusted.last);
     front = [];
@@ -118,7 +112,8 @@ module _ {D : Type 0} (told : Type 0) (content : D → List ℕ) (may_leave : D 
               ∙ opens-grown layout before old.jobs.tables.desk (after_event event (deck_of event) old.jobs.tables.desk) event trusted.opens coming.is_event
               (replayed-so layout old.jobs.tables.desk event coming.goes)
               ∙ ap (λ t. Ok (after_event event (deck_of event) t)) trusted.stands.tables ∙ sym (with-tables event office_now (after_event event (deck_of event) office_now.tables)) ∙ ap (λ (o : Office). Ok o.tables) (sym coming.office))
-              (subst (λ l. IsKept l desk.office) coming.layout_is coming.is_desk.kept) (has-runs _ coming.is_desk)
+              (subst (λ records. AreSound layout (events_in records)) (sym opens.list)
+              (sound-grown layout (content old.store.disk) event coming.is_event trusted.events coming.next))
               (subst (λ l. HasCommittedAgain layout desk.office l image) (sym last) committed)
               (subst (HasLast desk.office) (sym last) coming.last);
           front = spelling event ∷ [];

@@ -4,12 +4,10 @@ use Rattle.std.proofs.lemmas.Option.{none-some}
 use Rattle.ckr_book.specs.Next.{NoneAt}
 use Rattle.ckr_book.specs.Records.{starts_open}
 use Rattle.ckr_events.specs.declared.event.Event.{Event}
-use Rattle.ckr_desk_turn.specs.Invariant.{HasRuns}
 use Rattle.ckr_outside.specs.Disk.{part}
+use Rattle.ckr_points.specs.Events.{AreSound}
 use Rattle.ckr_points.specs.Office.{Office, no_office, office}
 use Rattle.ckr_points.specs.Rows.{no_tables}
-use Rattle.ckr_points_invariant.proofs.EventLaws.{no_events}
-use Rattle.ckr_points_invariant.specs.Invariant.{IsKept}
 use Rattle.ckr_desk_refines.specs.RewriteRecord.{HasCommittedAgain, HasLast, last_event}
 use Rattle.ckr_desk_store.specs.OpenImages.{event_records}
 use Rattle.ckr_desk.specs.declared.error.OpenError.{OpenError}
@@ -57,8 +55,7 @@ fresh_sound layout image size header none =
       layout = layout;
       room = layout.book;
       opens = fresh_opening layout image size header none ∙ ap (λ (o : Office). Ok (opened_at layout o.tables layout.book)) back;
-      kept = subst (IsKept layout) back (no_events layout);
-      runs = subst HasRuns back (record { plain = refl; admitted = tt; stepped = refl; spaced = tt; spaced_legs = tt });
+      events = subst (λ (l : List (List ℕ)). AreSound layout (events_in l)) (sym none.records) tt;
       committed = subst (λ (o : Office). HasCommittedAgain layout o (last_on layout image) image) back
           (λ name table found plain. absurd (none-some table found));
       last = subst (λ (e : Option Event). HasLast (office_on layout image) e) (sym (fresh_last layout image none.records))

@@ -1,5 +1,5 @@
 -- A desk that was opened on sound images is trusted, and a stop meanwhile leaves a sound image.
-use Rattle.std.proofs.Common.{◌≡◌, ◌++◌, ◌-◌, ◌⊎◌, ℕ, Bool, true, false, cond, List, [], take, drop, map, Option, Some, None, Result, Ok, Err, inl, inr, ⊎_elim, refl, sym, ap, ◌∙◌, subst, append-nil}
+use Rattle.std.proofs.Common.{◌≡◌, ◌++◌, ◌-◌, ◌⊎◌, ℕ, Bool, true, false, cond, List, [], take, drop, map, Option, Some, None, Result, Ok, Err, ⊎_elim, refl, sym, ap, ◌∙◌, subst, append-nil}
 use Rattle.std.proofs.lemmas.Option.{same_Some}
 use Rattle.ckr_base.proofs.Bools.{bool-cases}
 use Rattle.ckr_base.proofs.Options.{some-not-none}
@@ -9,10 +9,13 @@ use Rattle.ckr_events.specs.declared.event.Event.{Event}
 use Rattle.ckr_desk_memory.specs.EventChanges.{failed_in}
 use Rattle.ckr_desk_memory.specs.View.{RunningStepView}
 use Rattle.ckr_desk_turn.proofs.Opening.{opened-is}
+use Rattle.ckr_desk_turn.proofs.Runs.Lists.{events-kept, events-run}
 use Rattle.ckr_desk_turn.specs.Invariant.{HasRuns, IsDesk}
+use Rattle.ckr_desk_turn.specs.RunEvents.{AreRunEvents}
 use Rattle.ckr_desk_refines.specs.Commits.{HasCommitted}
-use Rattle.ckr_outside.specs.Disk.{EachSince, Only, OnlyReads, part}
+use Rattle.ckr_outside.specs.Disk.{EachSince, Only, part}
 use Rattle.ckr_outside.specs.Moments.{and_then}
+use Rattle.ckr_points.specs.Events.{AreSound}
 use Rattle.ckr_points.specs.Office.{Office}
 use Rattle.ckr_points.specs.Rows.{TablesModel, no_tables}
 use Rattle.ckr_points_invariant.specs.Invariant.{IsKept}
@@ -30,13 +33,15 @@ use Rattle.ckr_desk.proofs.Images.Soundness.{sound-at}
 use Rattle.ckr_desk.proofs.Openings.LastRecord.{IsDue, again-lacking, committed-already, committed-written, due}
 use Rattle.ckr_desk.proofs.Openings.Answers.{by_its_book}
 use Rattle.ckr_desk.proofs.Openings.Lengths.{HaveLengths, office-lengths}
+use Rattle.ckr_desk.proofs.Openings.RunRecords.{run-records}
 use Rattle.ckr_desk.specs.Calls.{HasSameJobs}
+use Rattle.ckr_desk.specs.FirstSync.{FromSync}
 use Rattle.ckr_desk.specs.declared.error.OpenError.{OpenError}
 use Rattle.ckr_desk.specs.declared.error.OpenError.TheVariants.{BadBook}
 use Rattle.ckr_desk.specs.declared.error.OpenError.TheVariants as OpenErrors
 use Rattle.ckr_desk.specs.Opening.{behind_records, by_end, by_header, opened_at, opening_of}
 use Rattle.ckr_desk.specs.Replay.{IsLackingAgain, IsWrittenAgain, IsWrittenIf, LacksLast, OpenCause, has_record}
-use Rattle.ckr_desk.specs.Soundness.{AllSound, IsSafe, IsTrusted, Sound, desk_of_opened, desk_opening, events_in, last_on, office_on, state_of}
+use Rattle.ckr_desk.specs.Soundness.{HasKept, IsTrusted, Sound, desk_of_opened, desk_opening, events_in, last_on, office_on, state_of}
 use Rattle.ckr_desk.specs.State.{Opened, RoomyDesk, DeskView, opened_of}
 
 ok-same : {T : Type 0} (one other : T) → ◌≡◌ {A = Result T OpenError} (Ok one) (Ok other) → one ≡ other
@@ -100,11 +105,19 @@ module _ (image : List ℕ) (size : ℕ) (opened : Opened) (sound : Sound size i
   layout-same : sound.layout ≡ opened.layout
   layout-same = ap (λ (o : Opened). o.layout) same-opened
 
+  events-so : AreSound opened.layout (events_in (event_records opened.layout image))
+  events-so = subst (λ l. AreSound l (events_in (event_records l image))) layout-same sound.events
+
+  run-so : AreRunEvents (events_in (event_records opened.layout image))
+  run-so = run-records opened.layout no_tables 0 (event_records opened.layout image) opened.tables (gives-tables image size opened opens)
+
   kept-so : IsKept opened.layout (office_on opened.layout image)
-  kept-so = subst (λ l. IsKept l (office_on l image)) layout-same sound.kept
+  unfolding office_on
+  kept-so = events-kept opened.layout (events_in (event_records opened.layout image)) events-so run-so
 
   runs-so : HasRuns (office_on opened.layout image)
-  runs-so = subst (λ l. HasRuns (office_on l image)) layout-same sound.runs
+  unfolding office_on
+  runs-so = events-run opened.layout (events_in (event_records opened.layout image)) events-so run-so
 
   again-there : HasCommittedAgain opened.layout (office_on opened.layout image) (last_on opened.layout image) image
   again-there = subst (λ l. HasCommittedAgain l (office_on l image) (last_on l image) image) layout-same sound.committed
@@ -194,6 +207,7 @@ module _ {D : Type 0} (told : Type 0) (content : D → List ℕ) (may_leave : D 
     trusted-opened = record {
       tells = tells;
       opens = brings-new;
+      events = subst (λ records. AreSound new.store.layout (events_in records)) (sym is.events) (events-so (content disk) (size disk) (opened_of new) sound is.opens);
       stands = record {
         layout_is = refl;
         is_desk = desk-new;
@@ -242,9 +256,6 @@ module _ {D : Type 0} (told : Type 0) (content : D → List ℕ) (may_leave : D 
     pub same : content mid.store.disk ≡ content disk
     pub same_size : size mid.store.disk ≡ size disk
 
-  pub safe-before : (disk : D) → AllSound told may_leave size disk → (image : List ℕ) → may_leave disk image → IsSafe (may_leave disk) (content disk) (size disk) image
-  safe-before disk all image may = record { sound = all.sound image may; lacks_none = inl may }
-
   module _ (disk : D) (mid : DeskView D) (last : Option Event) (sound : Sound (size disk) (content disk)) (is : IsReadAs disk mid last) where
     abbrev office-mid : Office
     office-mid = office_on mid.store.layout (content disk)
@@ -271,8 +282,20 @@ module _ {D : Type 0} (told : Type 0) (content : D → List ℕ) (may_leave : D 
         (subst (λ t. LacksLast mid.store.layout t last (content mid.store.disk) image) (sym (tables-so (content disk) (size disk) (opened_of mid) sound is.opens)) lacks)))
         either
 
-    pub safe-lacking : (image : List ℕ) → IsLackingAgain content size last mid image → IsSafe (may_leave disk) (content disk) (size disk) image
-    safe-lacking image left =
+    abbrev Keeps : List ℕ → Type 0
+    Keeps image = HasKept mid.store.layout (size disk) (event_records mid.store.layout (content disk)) [] image
+
+    kept-same : (image : List ℕ) → image ≡ content disk → Keeps image
+    kept-same image same = record {
+      sound = subst (Sound (size disk)) (sym same) sound;
+      front = [];
+      more = [];
+      split = refl;
+      events = ap (event_records mid.store.layout) same ∙ sym (append-nil (event_records mid.store.layout (content disk)));
+    }
+
+    kept-lacking : (image : List ℕ) → IsLackingAgain content size last mid image → Keeps image
+    kept-lacking image left =
         let listed : event_records mid.store.layout image ≡ event_records mid.store.layout (content disk) = left.0.list ∙ ap (event_records mid.store.layout) is.same in
         let lasts : last_on mid.store.layout image ≡ last = last-same mid.store.layout (content disk) image listed ∙ is.last_is in
         record {
@@ -281,21 +304,25 @@ module _ {D : Type 0} (told : Type 0) (content : D → List ℕ) (may_leave : D 
               (office-same mid.store.layout (content disk) image listed)
               (ap (λ records. behind_records mid.store.layout no_tables 0 records) listed ∙ gives-tables (content disk) (size disk) (opened_of mid) is.opens
               ∙ ap (λ (t : TablesModel). Ok t) (sym (tables-so (content disk) (size disk) (opened_of mid) sound is.opens)))
-              (kept-so (content disk) (size disk) (opened_of mid) sound is.opens) (runs-so (content disk) (size disk) (opened_of mid) sound is.opens)
+              (subst (λ records. AreSound mid.store.layout (events_in records)) (sym listed) (events-so (content disk) (size disk) (opened_of mid) sound is.opens))
               (subst (λ l. HasCommittedAgain mid.store.layout office-mid l image) (sym lasts) (committed-lacking image left.1))
               (subst (HasLast office-mid) (sym (last-same mid.store.layout (content disk) image listed)) (last-there (content disk) (size disk) (opened_of mid) sound is.opens));
-          lacks_none = inr (λ opened opens.
-              subst (λ (l : Layout). (more : List (List ℕ)) × (event_records l image ≡ event_records l (content disk) ++ more))
-              (ap (λ (o : Opened). o.layout) (ok-same (opened_of mid) opened (sym is.opens ∙ opens)))
-              ([], listed ∙ sym (append-nil (event_records mid.store.layout (content disk)))));
+          front = [];
+          more = [];
+          split = refl;
+          events = listed ∙ sym (append-nil (event_records mid.store.layout (content disk)));
         }
 
     module _ (moment : D → ℕ) (left_since : D → ℕ → List ℕ → Type 0) where
-      pub kept-opening : (new : D) → AllSound told may_leave size disk → OnlyReads content may_leave moment left_since disk mid.store.disk
-          → EachSince moment left_since mid.store.disk new (IsLackingAgain content size last mid) → EachSince moment left_since disk new (IsSafe (may_leave disk) (content disk) (size disk))
-      kept-opening new all read since =
-          and_then moment left_since disk mid.store.disk new (may_leave disk) (IsLackingAgain content size last mid) (IsSafe (may_leave disk) (content disk) (size disk))
-          read.since since (safe-before disk all) safe-lacking
+      pub kept-opening : (new : D) → FromSync content may_leave moment left_since disk mid.store.disk (λ image. image ≡ content disk)
+          → EachSince moment left_since mid.store.disk new (IsLackingAgain content size last mid) → FromSync content may_leave moment left_since disk new Keeps
+      kept-opening new read since = record {
+        synced = read.synced;
+        reads = read.reads;
+        settled = read.settled;
+        since = and_then moment left_since read.synced mid.store.disk new (λ image. image ≡ content disk) (IsLackingAgain content size last mid) Keeps
+            read.since since kept-same kept-lacking;
+      }
 
   -- ---- the record is written again
 

@@ -6,6 +6,7 @@ use Rattle.ckr_desk_memory.specs.Replay.{deck_of, goes_on}
 use Rattle.ckr_desk_turn.specs.Invariant.{IsDesk}
 use Rattle.ckr_desk_refines.specs.Commits.{HasCommitted}
 use Rattle.ckr_outside.specs.Disk.{Only}
+use Rattle.ckr_points.specs.Events.{AreSound, IsNext}
 use Rattle.ckr_points.specs.Office.{office_after}
 use Rattle.ckr_points.specs.Restart.{Decked, after_event}
 use Rattle.ckr_points.specs.Rows.{no_tables}
@@ -15,7 +16,7 @@ use Rattle.ckr_desk_refines.proofs.Standing.DeskView.{desk-so}
 use Rattle.ckr_desk_store.specs.OpenImages.{event_records}
 use Rattle.ckr_desk_turn.specs.Desk.{DeskModel}
 use Rattle.ckr_volumes.specs.declared.layout.Layout.{Layout}
-use Rattle.ckr_desk.proofs.Images.NextEvent.{events-more, office-grown, opens-grown, replayed-so}
+use Rattle.ckr_desk.proofs.Images.NextEvent.{events-more, office-grown, opens-grown, replayed-so, sound-grown}
 use Rattle.ckr_desk.specs.Opening.{behind_records}
 use Rattle.ckr_desk.specs.Soundness.{IsTrusted, events_in, last_on, office_on, state_of}
 use Rattle.ckr_desk.specs.State.{DeskView}
@@ -38,6 +39,7 @@ module _ {D : Type 0} (told : Type 0) (content : D → List ℕ) (may_leave : D 
   pub record IsComing (event : Event) (old : DeskView D) (desk : DeskModel) : Type 0 where
     pub is_event : IsEvent event
     pub goes : goes_on old.store.layout old.jobs.tables.desk event (deck_of event) ≡ true
+    pub next : IsNext old.store.layout (office_on old.store.layout (content old.store.disk)) (event, deck_of event)
     pub office : desk.office ≡ office_after (event, deck_of event) (office_on old.store.layout (content old.store.disk))
     pub layout_is : desk.layout ≡ old.store.layout
     pub is_desk : IsDesk desk
@@ -73,6 +75,9 @@ module _ {D : Type 0} (told : Type 0) (content : D → List ℕ) (may_leave : D 
           ∙ opens-grown layout (event_records layout (content old.store.disk)) old.jobs.tables.desk (after_event event (deck_of event) old.jobs.tables.desk) event trusted.opens coming.is_event
           (replayed-so layout old.jobs.tables.desk event coming.goes)
           ∙ ap Ok (sym is.tables));
+      events = subst (λ l. AreSound l (events_in (event_records l (content new.store.disk)))) (sym is.layout)
+          (subst (λ records. AreSound layout (events_in records)) (sym is.events)
+          (sound-grown layout (content old.store.disk) event coming.is_event trusted.events coming.next));
       stands = subst (λ d. StandsForDesk new.store.layout new.jobs (content new.store.disk) d) desk-behind
           (subst (λ l. StandsForDesk l new.jobs (content new.store.disk) desk) (sym is.layout) is.stands);
       last = subst (λ l. HasLast (office_on l (content new.store.disk)) (last_on l (content new.store.disk))) (sym is.layout)

@@ -3,6 +3,7 @@ use Rattle.std.proofs.Common.{◌≡◌, ℕ, List, ap, sym, ◌∙◌, subst, O
 use Rattle.ckr_book.specs.Book.{room_of}
 use Rattle.ckr_desk_memory.specs.View.{JobsView, RunningStepView}
 use Rattle.ckr_desk_refines.specs.Commits.{HasCommitted}
+use Rattle.ckr_points.specs.Events.{AreSound}
 use Rattle.ckr_points.specs.Rows.{no_tables}
 use Rattle.ckr_desk_refines.specs.RewriteRecord.{HasLast}
 use Rattle.ckr_desk_refines.specs.Standing.{AllStand, StandsForDesk, step_on}
@@ -10,7 +11,7 @@ use Rattle.ckr_desk_store.specs.OpenImages.{event_records}
 use Rattle.ckr_desk_turn.specs.Desk.{DeskModel}
 use Rattle.ckr_volumes.specs.declared.layout.Layout.{Layout}
 use Rattle.ckr_desk.specs.Opening.{behind_records}
-use Rattle.ckr_desk.specs.Soundness.{IsTrusted, last_on, office_on, state_of}
+use Rattle.ckr_desk.specs.Soundness.{IsTrusted, events_in, last_on, office_on, state_of}
 use Rattle.ckr_desk.specs.State.{RoomyDesk, DeskView}
 
 -- what is seen of the jobs in memory, but for their room
@@ -57,6 +58,8 @@ module _ {D : Type 0} (told : Type 0) (content : D → List ℕ) (may_leave : D 
       opens = subst (λ l. behind_records l no_tables 0 (event_records l (content new.store.disk)) ≡ Ok new.jobs.tables.desk) (sym is.layout)
           (subst (λ bytes. behind_records old.store.layout no_tables 0 (event_records old.store.layout bytes) ≡ Ok new.jobs.tables.desk) (sym is.reads)
           (trusted.opens ∙ ap Ok (sym is.jobs.tables)));
+      events = subst (λ l. AreSound l (events_in (event_records l (content new.store.disk)))) (sym is.layout)
+          (subst (λ bytes. AreSound old.store.layout (events_in (event_records old.store.layout bytes))) (sym is.reads) trusted.events);
       stands = subst (λ (s : RoomyDesk). StandsForDesk new.store.layout new.jobs (content new.store.disk) s.desk) (sym state-same)
           (subst (λ l. StandsForDesk l new.jobs (content new.store.disk) (state_of content old).desk) (sym is.layout)
           (subst (λ bytes. StandsForDesk old.store.layout new.jobs bytes (state_of content old).desk) (sym is.reads)

@@ -12,6 +12,7 @@ use Rattle.ckr_desk_memory.specs.View.{jobs_of}
 use Rattle.ckr_desk_turn.proofs.Turns.Initiator.{turn-keeps}
 use Rattle.ckr_desk_turn.specs.NextEvents.{EventComes}
 use Rattle.ckr_desk_turn.specs.Invariant.{IsDesk, IsTurnOf}
+use Rattle.ckr_points.specs.Events.{IsNext}
 use Rattle.ckr_points.specs.Follows.{follows}
 use Rattle.ckr_points.specs.Office.{office_after}
 use Rattle.ckr_points.specs.Restart.{after_event}
@@ -96,12 +97,16 @@ module _ {D : Type 0} (told : Type 0) (content : D → List ℕ) (may_leave : D 
     kept-so : IsDesk (behind event None desk)
     kept-so = subst (λ (done : TurnDone). IsDesk done.desk) (turned (Tell reply event) planned) (turn-keeps desk turn trusted.stands.is_desk its.above its.below).kept
 
+    comes : EventComes desk (Some event)
+    comes = subst (λ (done : TurnDone). EventComes desk done.event) (turned (Tell reply event) planned) (turn-keeps desk turn trusted.stands.is_desk its.above its.below).comes
+
     pub coming-turn : may_keep event None old ≡ true → IsComing told content may_leave event old (behind event None desk)
     coming-turn might = record {
       is_event = shape.event;
       goes = subst (λ d. goes_on layout old.jobs.tables.desk event d ≡ true) (sym none)
           (and_from (is_plain_event event) _ (quiet-plain event quiet-so)
           (and_from (is_run_by event None) _ (small-runs event shape.small) might));
+      next = subst (λ d. IsNext layout desk.office (event, d)) (sym none) comes;
       office = ap (λ d. office_after (event, d) (office_on layout (content old.store.disk))) (sym none);
       layout_is = refl;
       is_desk = kept-so;
@@ -164,9 +169,6 @@ module _ {D : Type 0} (told : Type 0) (content : D → List ℕ) (may_leave : D 
         left
 
     -- ---- it may come
-
-    comes : EventComes desk (Some event)
-    comes = subst (λ (done : TurnDone). EventComes desk done.event) (turned (Tell reply event) planned) (turn-keeps desk turn trusted.stands.is_desk its.above its.below).comes
 
     pub follows-so : may_follow event None old ≡ true
     follows-so =

@@ -1,5 +1,5 @@
 -- What a turn tells is a plain event.
-use Rattle.std.proofs.Common.{◌≡◌, ℕ, Bool, true, false, List, refl, Option, Some, None, Result, Ok, Err}
+use Rattle.std.proofs.Common.{◌≡◌, ℕ, Bool, true, false, List, refl, subst, sym, Option, Some, None, Result, Ok, Err}
 use Rattle.std.specs.Option.{option_map_or}
 use Rattle.ckr_points_library.specs.declared.cause.Refusal.{Refusal}
 use Rattle.ckr_base.specs.declared.code.Code.{Code}
@@ -23,6 +23,7 @@ use Rattle.ckr_desk_turn.specs.Select.{next_run, run_on_initiator}
 use Rattle.ckr_desk_turn.specs.Jobs.{TurnJobs, TurnStep, is_failed, running_in}
 use Rattle.ckr_desk_turn.specs.Plans.{between_plan, chosen_plan, fail_plan, free_plan, is_within, placed_plan, plan_of, run_plan, running_plan, start_plan}
 use Rattle.ckr_volumes.specs.declared.layout.Layout.{Layout}
+use Rattle.ckr_desk.specs.Units.{IsPlainPlan}
 
 -- the event of a plan, if it has one, is plain and rewrites nothing
 abbrev pub is_quiet : Event → Bool
@@ -85,19 +86,22 @@ module _ (layout : Layout) (jobs : TurnJobs) where
   unfolding plan_of
   plan-quiet turn = any-quiet (run_on_initiator jobs.tables turn.initiator) (run_plan layout jobs turn.fail) _ (free-quiet turn.initiator turn.fail) (run-quiet turn.fail)
 
--- so is what it tells of a unit, but for a rewrite
-abbrev pub IsPlainPlan : Plan → Type 0
-IsPlainPlan (Rest reply) = Unit {0}
-IsPlainPlan (Tell reply event) = is_plain_event event ≡ true
-IsPlainPlan (Work job) = Unit {0}
-
-pub told-plain : (layout : Layout) (row : RunRow) (step : TurnStep) (worked : Worked) → IsPlainPlan (told_by layout row step worked)
-told-plain layout row step (Went taken) = tt
-told-plain layout row step (Rewrite place image taken) = refl
-told-plain layout row step (Abend code) = refl
-
 -- and what is quiet is plain
 pub quiet-plain : (event : Event) → is_quiet event ≡ true → is_plain_event event ≡ true
 quiet-plain (Submitted job cards) quiet = refl
 quiet-plain (Rewritten job taken writes lengths place image) quiet = refl
 quiet-plain _ quiet = quiet
+
+plain-by : (plan : Plan) → IsQuietPlan plan → IsPlainPlan plan
+plain-by (Rest reply) quiet = tt
+plain-by (Tell reply event) quiet = quiet-plain event quiet
+plain-by (Work job) quiet = tt
+
+pub plan-plain : (layout : Layout) (jobs : TurnJobs) (turn : Turn) (plan : Plan) → plan ≡ plan_of layout jobs turn → IsPlainPlan plan
+plan-plain layout jobs turn plan is = plain-by plan (subst IsQuietPlan (sym is) (plan-quiet layout jobs turn))
+
+-- so is what it tells of a unit
+pub told-plain : (layout : Layout) (row : RunRow) (step : TurnStep) (worked : Worked) → IsPlainPlan (told_by layout row step worked)
+told-plain layout row step (Went taken) = tt
+told-plain layout row step (Rewrite place image taken) = refl
+told-plain layout row step (Abend code) = refl

@@ -1,9 +1,9 @@
 -- A turn that is no unit, from the desk as it stood.
-use Rattle.std.proofs.Common.{◌≡◌, ◌<◌, [], ℕ, List, Bool, true, false, refl, ap, sym, ◌∙◌, subst, ⊎_elim, arith, Option, Some, None, Result, Ok, Err, IfOk, nat_le}
+use Rattle.std.proofs.Common.{◌≡◌, ◌<◌, ◌++◌, [], ℕ, List, Bool, true, false, refl, ap, sym, ◌∙◌, subst, ⊎_elim, append-nil, arith, Option, Some, None, Result, Ok, Err, IfOk, IsSome, nat_le}
 use Rattle.std.proofs.lemmas.Bool.{leb-true, true≢false}
 use Rattle.ckr_book.specs.Book.{room_of}
 use Rattle.ckr_events.specs.declared.event.Event.{Event}
-use Rattle.ckr_desk_memory.specs.Plans.{IsSpelledPlan}
+use Rattle.ckr_desk_memory.specs.Plans.{IsSpelledPlan, Tells}
 use Rattle.ckr_desk_memory.specs.View.{jobs_of}
 use Rattle.ckr_desk_turn.specs.Invariant.{IsTurnOf}
 use Rattle.ckr_outside.specs.Disk.{EachSince}
@@ -18,21 +18,19 @@ use Rattle.ckr_desk_turn.specs.Desk.{TurnDone}
 use Rattle.ckr_desk_turn.specs.Plans.{plan_of}
 use Rattle.ckr_desk.proofs.Turns.Preparation.{same-unchanged}
 use Rattle.ckr_desk.proofs.Images.Soundness.{kept-before}
-use Rattle.ckr_desk.proofs.Turns.PlainEvents.{quiet-plain}
 use Rattle.ckr_desk.proofs.Trust.Events.{trusted-behind}
 use Rattle.ckr_desk.proofs.Turns.Events.{behind-turn-so, coming-turn, event-so, follows-so, image-kept, quiet-cannot, quiet-so, state-behind, turn-fits-so, turned}
 use Rattle.ckr_desk.specs.declared.error.DeskError.{DeskError}
 use Rattle.ckr_desk.specs.declared.error.DeskError.TheVariants.{NoMemory, DiskFault, BookFull, Stopped, Misread}
-use Rattle.ckr_desk.specs.Requests.{FailsBy, MayFail, has_room, room_behind, spelled}
+use Rattle.ckr_desk.specs.Requests.{FailsBy, IsFull, MayFail, has_room, room_behind, spelled}
 use Rattle.ckr_desk.specs.Calls.{IsSettledBehind}
-use Rattle.ckr_desk.specs.declared.preparation.Ready.{Ready}
-use Rattle.ckr_desk.specs.Preparation.{IsReadyFor, IsReadyIf, NotReadyFor}
+use Rattle.ckr_desk.specs.Preparation.{NotReadyFor}
 use Rattle.ckr_desk.specs.Rewrite.{OpensSame}
 use Rattle.ckr_desk.specs.NoChange.{HasHalted, IsOfDisk, StaysBy}
 use Rattle.ckr_desk.specs.Turn.{behind_turn, event_of_turn, reply_of, turn_fits}
-use Rattle.ckr_desk.specs.Units.{HasGoneBehind, IsLeftBehind, NotBehind}
+use Rattle.ckr_desk.specs.Units.{HasGoneBehind, IsLeftBehind, IsPlainPlan, IsPlainTold, NotBehind, TakesBy}
 use Rattle.ckr_desk.specs.Soundness.{HasKept, IsTrusted, KeepsWithin, state_of}
-use Rattle.ckr_desk.specs.State.{RoomyDesk, DeskView, need_of}
+use Rattle.ckr_desk.specs.State.{RoomyDesk, DeskView}
 
 abbrev pub is_work : Plan → Bool
 is_work (Rest reply) = false
@@ -51,25 +49,34 @@ if-ok of (Ok x) is = of x is
 if-ok of (Err error) is = tt
 
 -- why it wasn't done, on any disk
-pub go-may-fail : {D : Type 0} (faults : D → ℕ) (old new : DeskView D) (plan : Plan) (ready : Option Ready) (error : DeskError) → NotBehind faults plan ready old new error
-    → MayFail (faults old.store.disk) (faults new.store.disk) old.store.fault error
-go-may-fail faults old new (Rest reply) ready error not = absurd not
-go-may-fail faults old new (Tell reply event) ready NoMemory not = absurd not
-go-may-fail faults old new (Tell reply event) ready DiskFault not = not
-go-may-fail faults old new (Tell reply event) ready (BookFull need room) not = absurd not
-go-may-fail faults old new (Tell reply event) ready (Stopped fault) not = absurd not
-go-may-fail faults old new (Tell reply event) ready Misread not = tt
-go-may-fail faults old new (Work job) ready error not = subst (MayFail (faults old.store.disk) (faults new.store.disk) old.store.fault) (sym not) tt
+pub go-may-fail : {D : Type 0} (faults : D → ℕ) (old new : DeskView D) (plan : Plan) (error : DeskError) → NotBehind faults plan old new error → MayFail (faults old.store.disk) (faults new.store.disk) old.store.fault error
+go-may-fail faults old new (Rest reply) error not = absurd not
+go-may-fail faults old new (Tell reply event) NoMemory not = absurd not
+go-may-fail faults old new (Tell reply event) DiskFault not = not
+go-may-fail faults old new (Tell reply event) (BookFull need room) not = absurd not
+go-may-fail faults old new (Tell reply event) (Stopped fault) not = absurd not
+go-may-fail faults old new (Tell reply event) Misread not = tt
+go-may-fail faults old new (Work job) error not = absurd not
 
 -- only the disk fails then
-pub go-of-disk : {D : Type 0} (faults : D → ℕ) (old new : DeskView D) (plan : Plan) (ready : Option Ready) (error : DeskError) → NotBehind faults plan ready old new error → IsOfDisk error
-go-of-disk faults old new (Rest reply) ready error not = absurd not
-go-of-disk faults old new (Tell reply event) ready NoMemory not = absurd not
-go-of-disk faults old new (Tell reply event) ready DiskFault not = tt
-go-of-disk faults old new (Tell reply event) ready (BookFull need room) not = absurd not
-go-of-disk faults old new (Tell reply event) ready (Stopped fault) not = absurd not
-go-of-disk faults old new (Tell reply event) ready Misread not = tt
-go-of-disk faults old new (Work job) ready error not = subst IsOfDisk (sym not) tt
+pub go-of-disk : {D : Type 0} (faults : D → ℕ) (old new : DeskView D) (plan : Plan) (error : DeskError) → NotBehind faults plan old new error → IsOfDisk error
+go-of-disk faults old new (Rest reply) error not = absurd not
+go-of-disk faults old new (Tell reply event) NoMemory not = absurd not
+go-of-disk faults old new (Tell reply event) DiskFault not = tt
+go-of-disk faults old new (Tell reply event) (BookFull need room) not = absurd not
+go-of-disk faults old new (Tell reply event) (Stopped fault) not = absurd not
+go-of-disk faults old new (Tell reply event) Misread not = tt
+go-of-disk faults old new (Work job) error not = absurd not
+
+-- what is made ready before takes the memory
+pub behind-takes : {D : Type 0} (faults : D → ℕ) (old new : DeskView D) (plan : Plan) (event : Option Event) (error : DeskError) → NotBehind faults plan old new error → TakesBy event error
+behind-takes faults old new (Rest reply) told error not = absurd not
+behind-takes faults old new (Tell reply event) told NoMemory not = absurd not
+behind-takes faults old new (Tell reply event) told DiskFault not = tt
+behind-takes faults old new (Tell reply event) told (BookFull need room) not = tt
+behind-takes faults old new (Tell reply event) told (Stopped fault) not = tt
+behind-takes faults old new (Tell reply event) told Misread not = tt
+behind-takes faults old new (Work job) told error not = absurd not
 
 pub of-disk-stays : {D : Type 0} (content : D → List ℕ) (may_leave : D → List ℕ → Type 0) (faults : D → ℕ) (old new : DeskView D) (error : DeskError) → IsOfDisk error → HasHalted faults new.store error → StaysBy content may_leave faults old new error
 of-disk-stays content may_leave faults old new NoMemory is halted = absurd is
@@ -88,11 +95,17 @@ unready-stays content may_leave faults old new (Some event) (BookFull need room)
 unready-stays content may_leave faults old new (Some event) (Stopped fault) not = absurd not
 unready-stays content may_leave faults old new (Some event) Misread not = absurd not
 
--- what is ready is ready if it is told
-pub ready-if : {D : Type 0} (event : Option Event) (desk : DeskView D) (ready : Option Ready) → IsReadyFor event desk ready → IsReadyIf event desk ready
-ready-if None desk ready is = tt
-ready-if (Some event) desk None is = absurd is
-ready-if (Some event) desk (Some ready) is = is
+-- what a plan tells that is no unit is plain
+pub plain-told : (plan : Plan) → IsPlainPlan plan → is_work plan ≡ false → IsPlainTold plan
+plain-told (Rest reply) plain rests = tt
+plain-told (Tell reply event) plain rests = plain
+plain-told (Work job) plain rests = absurd (true≢false rests)
+
+-- the events behind it
+pub gone-told : {D : Type 0} (told : Type 0) (content : D → List ℕ) (event : Option Event) (old new : DeskView D) → told → HasGoneBehind told content event old new
+    → event_records old.store.layout (content new.store.disk) ≡ event_records old.store.layout (content old.store.disk) ++ spelled event
+gone-told {D} told content None old new tells gone = ap (λ (s : DeskView D). event_records old.store.layout (content s.store.disk)) gone ∙ sym (append-nil (event_records old.store.layout (content old.store.disk)))
+gone-told told content (Some event) old new tells gone = (gone.1 tells).events
 
 abbrev state_with : RoomyDesk → Option Event → Bool
 state_with state event = has_room state.room event
@@ -122,6 +135,12 @@ module _ {D : Type 0} (told : Type 0) (content : D → List ℕ) (may_leave : D 
   go-fits (Rest reply) new is shape rests gone = ap (state_with state) (rest-event reply is)
   go-fits (Tell reply event) new is shape rests gone = turn-fits-so told content may_leave size old trusted turn its reply event is shape.0 new gone.0
   go-fits (Work job) new is shape rests gone = absurd (true≢false rests)
+
+  pub go-told : (plan : Plan) (new : DeskView D) → plan_of old.store.layout (jobs_of old.jobs) turn ≡ plan → IsSpelledPlan plan → is_work plan ≡ false → HasGoneBehind told content (event_in plan) old new
+      → event_records old.store.layout (content new.store.disk) ≡ event_records old.store.layout (content old.store.disk) ++ spelled (event_of_turn state turn)
+  go-told plan new is shape rests gone =
+      subst (λ (e : Option Event). event_records old.store.layout (content new.store.disk) ≡ event_records old.store.layout (content old.store.disk) ++ spelled e) (go-event plan is shape rests)
+      (gone-told told content (event_in plan) old new trusted.tells gone)
 
   rest-state : (reply : Reply) → plan_of old.store.layout (jobs_of old.jobs) turn ≡ Rest reply → state ≡ behind_turn state turn
   unfolding behind_turn event_of_turn
@@ -164,41 +183,46 @@ module _ {D : Type 0} (told : Type 0) (content : D → List ℕ) (may_leave : D 
 
   -- ---- why it wasn't done
 
-  rests-room : (event : Event) (need room : ℕ) → need ≡ need_of event → room ≡ room_of old.store.book → room < need → has_room (room_of old.store.book) (Some event) ≡ false
-  rests-room event need room needed there less = by (nat_le (need_of event) (room_of old.store.book)) refl
-    where
-      by : (b : Bool) → nat_le (need_of event) (room_of old.store.book) ≡ b → nat_le (need_of event) (room_of old.store.book) ≡ false
-      by false is = is
-      by true is = absurd (omega (arith, leb-true (need_of event) (room_of old.store.book) is, needed, there, less))
-
   -- its event isn't ready
   pub go-unready : (plan : Plan) (new : DeskView D) (error : DeskError) → plan_of old.store.layout (jobs_of old.jobs) turn ≡ plan → IsSpelledPlan plan → is_work plan ≡ false
-      → NotReadyFor (event_in plan) old new error → FailsBy (turn_fits state turn) error
-  unfolding turn_fits
+      → NotReadyFor (event_in plan) old new error → FailsBy state.room (event_of_turn state turn) error
   go-unready (Rest reply) new error is shape rests not = absurd not
   go-unready (Tell reply event) new NoMemory is shape rests not = tt
   go-unready (Tell reply event) new DiskFault is shape rests not = absurd not
   go-unready (Tell reply event) new (BookFull need room) is shape rests not =
-      ap (state_with state) (event-so told content may_leave size old trusted turn its reply event is shape.0) ∙ rests-room event need room not.0 not.1 not.2
+      subst (λ (e : Option Event). IsFull state.room e need room) (sym (event-so told content may_leave size old trusted turn its reply event is shape.0)) (not.0, not.1, not.2)
   go-unready (Tell reply event) new (Stopped fault) is shape rests not = absurd not
   go-unready (Tell reply event) new Misread is shape rests not = absurd not
   go-unready (Work job) new error is shape rests not = absurd (true≢false rests)
 
-  pub go-cause : (plan : Plan) (ready : Option Ready) (new : DeskView D) (error : DeskError) → plan_of old.store.layout (jobs_of old.jobs) turn ≡ plan → IsSpelledPlan plan → is_work plan ≡ false
-      → IsReadyFor (event_in plan) old ready → NotBehind faults plan ready old new error → FailsBy (turn_fits state turn) error
-  go-cause (Rest reply) ready new error is shape rests made not = absurd not
-  go-cause (Tell reply event) ready new NoMemory is shape rests made not = absurd not
-  go-cause (Tell reply event) ready new DiskFault is shape rests made not = tt
-  go-cause (Tell reply event) ready new (BookFull need room) is shape rests made not = absurd not
-  go-cause (Tell reply event) ready new (Stopped fault) is shape rests made not = absurd not
-  go-cause (Tell reply event) ready new Misread is shape rests made not = ⊎_elim
-      (λ (none : ready ≡ None). let never : ⊥ = subst (IsReadyFor (Some event) old) none made in never)
-      (λ some. ⊎_elim
-      (λ plain. true≢false (sym (quiet-plain event (quiet-so told content may_leave size old trusted turn its reply event is shape.0)) ∙ plain))
-      (λ more. ⊎_elim
+  -- a plan that tells an event takes memory for it
+  tells-by : (plan : Plan) → plan_of old.store.layout (jobs_of old.jobs) turn ≡ plan → Tells plan → IsSome (event_of_turn state turn)
+  unfolding event_of_turn
+  tells-by (Rest reply) is tells = absurd tells
+  tells-by (Tell reply event) is tells = subst IsSome (sym (ap (λ (done : TurnDone). done.event) (turned told content may_leave size old trusted turn its (Tell reply event) is))) refl
+  tells-by (Work job) is tells = absurd tells
+
+  pub go-tells : Tells (plan_of old.store.layout (jobs_of old.jobs) turn) → IsSome (event_of_turn state turn)
+  go-tells tells = tells-by (plan_of old.store.layout (jobs_of old.jobs) turn) refl tells
+
+  pub unready-takes : (plan : Plan) (new : DeskView D) (error : DeskError) → plan_of old.store.layout (jobs_of old.jobs) turn ≡ plan → NotReadyFor (event_in plan) old new error → TakesBy (event_of_turn state turn) error
+  unready-takes (Rest reply) new error is not = absurd not
+  unready-takes (Tell reply event) new NoMemory is not = tells-by (Tell reply event) is tt
+  unready-takes (Tell reply event) new DiskFault is not = tt
+  unready-takes (Tell reply event) new (BookFull need room) is not = tt
+  unready-takes (Tell reply event) new (Stopped fault) is not = tt
+  unready-takes (Tell reply event) new Misread is not = tt
+  unready-takes (Work job) new error is not = absurd not
+
+  pub go-cause : (plan : Plan) (new : DeskView D) (error : DeskError) → plan_of old.store.layout (jobs_of old.jobs) turn ≡ plan → IsSpelledPlan plan → is_work plan ≡ false
+      → NotBehind faults plan old new error → FailsBy state.room (event_of_turn state turn) error
+  go-cause (Rest reply) new error is shape rests not = absurd not
+  go-cause (Tell reply event) new NoMemory is shape rests not = absurd not
+  go-cause (Tell reply event) new DiskFault is shape rests not = tt
+  go-cause (Tell reply event) new (BookFull need room) is shape rests not = absurd not
+  go-cause (Tell reply event) new (Stopped fault) is shape rests not = absurd not
+  go-cause (Tell reply event) new Misread is shape rests not = ⊎_elim
       (λ unfollowed. true≢false (sym (follows-so told content may_leave size old trusted turn its reply event is shape.0) ∙ unfollowed))
       (λ cannot. quiet-cannot event (quiet-so told content may_leave size old trusted turn its reply event is shape.0) _ cannot)
-      more)
-      some)
       not
-  go-cause (Work job) ready new error is shape rests made not = absurd (true≢false rests)
+  go-cause (Work job) new error is shape rests not = absurd (true≢false rests)

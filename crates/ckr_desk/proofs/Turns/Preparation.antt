@@ -1,5 +1,5 @@
 -- A turn that begins where the disk was only read, and the jobs took memory, from the desk as it stood.
-use Rattle.std.proofs.Common.{◌≡◌, ℕ, List, true, refl, ap, sym, ◌∙◌, subst, Result, Err, IfErr, IfOk, OnOk, map}
+use Rattle.std.proofs.Common.{◌≡◌, ◌++◌, ℕ, List, true, refl, ap, sym, ◌∙◌, subst, Result, Ok, Err, IfErr, IfOk, OnOk, map}
 use Rattle.ckr_book.specs.Book.{room_of}
 use Rattle.ckr_desk_memory.specs.View.{JobsView, RunningStepView, jobs_of, running_of}
 use Rattle.ckr_outside.specs.Disk.{EachSince, OnlyReads}
@@ -16,15 +16,16 @@ use Rattle.ckr_volumes.specs.declared.layout.Layout.{Layout}
 use Rattle.ckr_desk_turn.specs.Invariant.{IsTurnOf}
 use Rattle.ckr_desk.proofs.Images.Soundness.{kept-before}
 use Rattle.ckr_desk.proofs.Trust.Sameness.{AreSame, IsAsBefore, state-same, trusted-same}
-use Rattle.ckr_desk.specs.Requests.{FailsBy, spelled}
+use Rattle.ckr_desk.specs.Requests.{FailsBy, came_by, spelled}
 use Rattle.ckr_desk.specs.Calls.{HasSameJobs}
 use Rattle.ckr_desk.specs.declared.error.DeskError.{DeskError}
+use Rattle.ckr_desk.specs.declared.error.DeskError.TheVariants.{NoMemory, DiskFault, BookFull, Stopped, Misread}
 use Rattle.ckr_desk.specs.Rewrite.{OpensSame}
-use Rattle.ckr_desk.specs.Soundness.{HasKept, IsTrusted, state_of}
+use Rattle.ckr_desk.specs.Soundness.{HasKept, IsTrusted, KeepsWithin, state_of}
 use Rattle.ckr_desk.specs.State.{DeskView, RoomyDesk}
-use Rattle.ckr_desk.specs.NoChange.{IsUnchanged}
+use Rattle.ckr_desk.specs.NoChange.{IsOfDisk, IsUnchanged}
 use Rattle.ckr_desk.specs.Turn.{behind_turn, event_of_turn, reply_of, turn_fits}
-use Rattle.ckr_desk.specs.Units.{HasTurned, IsPlanned}
+use Rattle.ckr_desk.specs.Units.{HasTurned, IsPlanned, TakesBy}
 
 -- a turn sees the same of the jobs
 jobs-same : (old new : JobsView) → AreSame old new → jobs_of new ≡ jobs_of old
@@ -102,16 +103,17 @@ module _ {D : Type 0} (told : Type 0) (content : D → List ℕ) (may_leave : D 
     same : state_of content mid ≡ state_of content old
     same = state-same told content may_leave old mid is
 
-    read-kept : (image : List ℕ) → OpensSame content size old image × may_leave old.store.disk image → HasKept old.store.layout (size old.store.disk) before came image
-    read-kept image left = kept-before told content may_leave size old trusted came image left.0 (trusted.committed image left.1)
+    read-kept : (its : List (List ℕ)) (image : List ℕ) → OpensSame content size old image × may_leave old.store.disk image → HasKept old.store.layout (size old.store.disk) before its image
+    read-kept its image left = kept-before told content may_leave size old trusted its image left.0 (trusted.committed image left.1)
 
-    later-kept : (image : List ℕ) → HasKept mid.store.layout (size mid.store.disk) (event_records mid.store.layout (content mid.store.disk)) (spelled (event_of_turn (state_of content mid) turn)) image
-        → HasKept old.store.layout (size old.store.disk) before came image
-    later-kept image kept =
-        subst (λ (s : RoomyDesk). HasKept old.store.layout (size old.store.disk) before (spelled (event_of_turn s turn)) image) same
-        (subst (λ (bytes : List ℕ). HasKept old.store.layout (size old.store.disk) (event_records old.store.layout bytes) (spelled (event_of_turn (state_of content mid) turn)) image) is.reads
-        (subst (λ (n : ℕ). HasKept old.store.layout n (event_records old.store.layout (content mid.store.disk)) (spelled (event_of_turn (state_of content mid) turn)) image) sized
-        (subst (λ (l : Layout). HasKept l (size mid.store.disk) (event_records l (content mid.store.disk)) (spelled (event_of_turn (state_of content mid) turn)) image) is.layout kept)))
+    later-kept : (result : Result Reply DeskError) (image : List ℕ)
+        → HasKept mid.store.layout (size mid.store.disk) (event_records mid.store.layout (content mid.store.disk)) (came_by result (spelled (event_of_turn (state_of content mid) turn))) image
+        → HasKept old.store.layout (size old.store.disk) before (came_by result came) image
+    later-kept result image kept =
+        subst (λ (s : RoomyDesk). HasKept old.store.layout (size old.store.disk) before (came_by result (spelled (event_of_turn s turn))) image) same
+        (subst (λ (bytes : List ℕ). HasKept old.store.layout (size old.store.disk) (event_records old.store.layout bytes) (came_by result (spelled (event_of_turn (state_of content mid) turn))) image) is.reads
+        (subst (λ (n : ℕ). HasKept old.store.layout n (event_records old.store.layout (content mid.store.disk)) (came_by result (spelled (event_of_turn (state_of content mid) turn))) image) sized
+        (subst (λ (l : Layout). HasKept l (size mid.store.disk) (event_records l (content mid.store.disk)) (came_by result (spelled (event_of_turn (state_of content mid) turn))) image) is.layout kept)))
 
     -- it was done then
     pub turned-before : (new : DeskView D) (result : Result Reply DeskError) → HasTurned told content may_leave moment left_since size turn mid new result → HasTurned told content may_leave moment left_since size turn old new result
@@ -120,20 +122,40 @@ module _ {D : Type 0} (told : Type 0) (content : D → List ℕ) (may_leave : D 
       fits = subst (λ (s : RoomyDesk). OnOk result (turn_fits s turn ≡ true)) same done.fits;
       after = subst (λ (s : RoomyDesk). OnOk result (state_of content new ≡ behind_turn s turn)) same done.after;
       trusted = done.trusted;
-      cause = subst (λ (s : RoomyDesk). IfErr result (FailsBy (turn_fits s turn))) same done.cause;
+      events = subst (λ (s : RoomyDesk). OnOk result (event_records old.store.layout (content new.store.disk) ≡ before ++ spelled (event_of_turn s turn))) same
+          (subst (λ (bytes : List ℕ). OnOk result (event_records old.store.layout (content new.store.disk) ≡ event_records old.store.layout bytes ++ spelled (event_of_turn (state_of content mid) turn))) is.reads
+          (subst (λ (l : Layout). OnOk result (event_records l (content new.store.disk) ≡ event_records l (content mid.store.disk) ++ spelled (event_of_turn (state_of content mid) turn))) is.layout done.events));
+      cause = subst (λ (s : RoomyDesk). IfErr result (FailsBy s.room (event_of_turn s turn))) same done.cause;
+      takes = subst (λ (s : RoomyDesk). IfErr result (TakesBy (event_of_turn s turn))) same done.takes;
       kept = and_then moment left_since old.store.disk mid.store.disk new.store.disk (λ image. OpensSame content size old image × may_leave old.store.disk image)
-          (HasKept mid.store.layout (size mid.store.disk) (event_records mid.store.layout (content mid.store.disk)) (spelled (event_of_turn (state_of content mid) turn)))
-          (HasKept old.store.layout (size old.store.disk) before came) since done.kept read-kept later-kept;
+          (HasKept mid.store.layout (size mid.store.disk) (event_records mid.store.layout (content mid.store.disk)) (came_by result (spelled (event_of_turn (state_of content mid) turn))))
+          (HasKept old.store.layout (size old.store.disk) before (came_by result came)) since done.kept (read-kept (came_by result came)) (later-kept result);
     }
 
+    abbrev its_came : DeskError → List (List ℕ)
+    its_came error = came_by {T = Reply} (Err error) came
+
     -- it wasn't
-    pub turned-not : (error : DeskError) → FailsBy (turn_fits (state_of content old) turn) error → HasTurned told content may_leave moment left_since size turn old mid (Err error)
-    turned-not error cause = record {
+    pub turned-not : (error : DeskError) → FailsBy (state_of content old).room (event_of_turn (state_of content old) turn) error → TakesBy (event_of_turn (state_of content old) turn) error
+        → HasTurned told content may_leave moment left_since size turn old mid (Err error)
+    turned-not error cause takes = record {
       reply = tt;
       fits = tt;
       after = tt;
+      events = tt;
       trusted = tt;
       cause = cause;
+      takes = takes;
       kept = in_other_words moment left_since old.store.disk mid.store.disk (λ image. OpensSame content size old image × may_leave old.store.disk image)
-          (HasKept old.store.layout (size old.store.disk) before came) since read-kept;
+          (HasKept old.store.layout (size old.store.disk) before (its_came error)) since (read-kept (its_came error));
     }
+
+-- ---- what came, where only the disk failed
+pub came-of-disk : {D T : Type 0} (content : D → List ℕ) (moment : D → ℕ) (left_since : D → ℕ → List ℕ → Type 0) (size : D → ℕ) (old new : DeskView D) (its : List (List ℕ))
+    (result : Result T DeskError) → IfErr result IsOfDisk → KeepsWithin content moment left_since size old new its → KeepsWithin content moment left_since size old new (came_by result its)
+came-of-disk content moment left_since size old new its (Ok x) is kept = kept
+came-of-disk content moment left_since size old new its (Err NoMemory) is kept = absurd is
+came-of-disk content moment left_since size old new its (Err DiskFault) is kept = kept
+came-of-disk content moment left_since size old new its (Err (BookFull need room)) is kept = absurd is
+came-of-disk content moment left_since size old new its (Err (Stopped fault)) is kept = absurd is
+came-of-disk content moment left_since size old new its (Err Misread) is kept = kept

@@ -1,42 +1,31 @@
 -- What a turn that works has done, with an event or without one.
-use Rattle.std.proofs.Common.{◌≡◌, ℕ, List, Bool, true, false, find, refl, ap, sym, ◌∙◌, subst, ⊎_elim, Option, Some, None}
+use Rattle.std.proofs.Common.{◌≡◌, ◌++◌, ℕ, List, true, false, find, refl, ap, sym, ◌∙◌, subst, ⊎_elim, Option, Some, None}
 use Rattle.std.proofs.lemmas.Bool.{false≢true}
 use Rattle.ckr_events.specs.declared.event.Event.{Event}
 use Rattle.ckr_desk_memory.specs.EventChanges.{is_of_run}
-use Rattle.ckr_desk_memory.specs.Plans.{IsSpelledPlan, told_by}
-use Rattle.ckr_desk_memory.specs.View.{RunningStepView, jobs_of, running_of}
+use Rattle.ckr_desk_memory.specs.Plans.{IsSpelledPlan}
+use Rattle.ckr_desk_memory.specs.View.{RunningStepView, jobs_of}
 use Rattle.ckr_outside.specs.Disk.{EachSince}
 use Rattle.ckr_outside.specs.Moments.{and_then, in_other_words}
-use Rattle.ckr_points.specs.Rows.{RunRow}
 use Rattle.ckr_desk_refines.specs.Moves.{event_in, reply_in}
-use Rattle.ckr_steps.specs.declared.step_run.Worked.{Worked}
-use Rattle.ckr_steps.specs.declared.step_run.Worked.TheVariants.{Abend, Rewrite, Went}
-use Rattle.ckr_steps.specs.Units.{due_of}
 use Rattle.ckr_desk_store.specs.OpenImages.{event_records}
+use Rattle.ckr_desk_store.specs.State.{StoreView}
 use Rattle.ckr_desk_turn.specs.declared.plan.Plan.{Plan}
 use Rattle.ckr_desk_turn.specs.declared.plan.Plan.TheVariants.{Rest, Tell, Work}
 use Rattle.ckr_desk_turn.specs.declared.reply.Reply.{Reply}
 use Rattle.ckr_desk_turn.specs.declared.reply.Turn.{Turn}
-use Rattle.ckr_desk_turn.specs.Jobs.{TurnStep}
 use Rattle.ckr_desk_turn.specs.Plans.{plan_of}
 use Rattle.ckr_volumes.specs.declared.layout.Layout.{Layout}
-use Rattle.ckr_desk.proofs.Turns.Plans.{is_work}
-use Rattle.ckr_desk.proofs.Units.Turn.{behind-kept, event-so, plan-so, reply-so, rest-state, rest-trusted, row-within, step-is-there, unit-fits, unit-follows, unit-is-due, unit-kept, unit-plain, unit-state, unit-trusted, unit-written}
+use Rattle.ckr_desk.proofs.Turns.Plans.{gone-told}
+use Rattle.ckr_desk.proofs.Units.Turn.{behind-kept, event-so, reply-so, rest-state, rest-trusted, unit-fits, unit-follows, unit-kept, unit-state, unit-trusted, unit-written}
 use Rattle.ckr_desk.specs.Requests.{FailsBy, has_room, spelled}
 use Rattle.ckr_desk.specs.Calls.{IsSettledBehind}
 use Rattle.ckr_desk.specs.declared.error.DeskError.{DeskError}
 use Rattle.ckr_desk.specs.declared.error.DeskError.TheVariants.{NoMemory, DiskFault, BookFull, Stopped, Misread}
-use Rattle.ckr_desk.specs.declared.preparation.Ready.{Ready}
-use Rattle.ckr_desk.specs.Soundness.{HasKept, IsTrusted, KeepsWithin, office_on, state_of}
+use Rattle.ckr_desk.specs.Soundness.{HasKept, IsTrusted, KeepsWithin, state_of}
 use Rattle.ckr_desk.specs.State.{RoomyDesk, DeskView}
 use Rattle.ckr_desk.specs.Turn.{behind_turn, event_of_turn, reply_of, turn_fits}
-use Rattle.ckr_desk.specs.Units.{HasDoneUnit, HasGoneBehind, IsLeftBehind, IsLeftByUnit, NoUnit, NoUnitIn, NotBehind, NotUnit, is_unit}
-
--- a unit tells no other unit
-told-rests : (layout : Layout) (row : RunRow) (step : TurnStep) (worked : Worked) → is_work (told_by layout row step worked) ≡ false
-told-rests layout row step (Went taken) = refl
-told-rests layout row step (Rewrite place image taken) = refl
-told-rests layout row step (Abend code) = refl
+use Rattle.ckr_desk.specs.Units.{HasDoneUnit, HasGoneBehind, IsLeftBehind, IsLeftByUnit, NotBehind, NotUnit, TakesBy}
 
 module _ {D : Type 0} (told : Type 0) (content : D → List ℕ) (may_leave : D → List ℕ → Type 0) (moment : D → ℕ) (left_since : D → ℕ → List ℕ → Type 0) (size : D → ℕ)
     (old : DeskView D) (trusted : IsTrusted told content may_leave old) (turn : Turn) (run : ℕ)
@@ -49,18 +38,19 @@ module _ {D : Type 0} (told : Type 0) (content : D → List ℕ) (may_leave : D 
 
   -- ---- why a unit wasn't done
 
-  there : (on : RunningStepView) × (find (is_of_run run) old.jobs.running ≡ Some on)
-  there = step-is-there told content may_leave moment left_since size old trusted turn run planned
+  pub unit-cause : (faulted now room : ℕ) (event : Option Event) (error : DeskError) → NotUnit faulted now error → FailsBy room event error
+  unit-cause faulted now room event NoMemory not = absurd not
+  unit-cause faulted now room event DiskFault not = tt
+  unit-cause faulted now room event (BookFull need left) not = absurd not
+  unit-cause faulted now room event (Stopped fault) not = absurd not
+  unit-cause faulted now room event Misread not = absurd not
 
-  by-error : (faulted now : ℕ) (fits : Bool) (error : DeskError) → NotUnit faulted now (is_unit (due_of there.0.step.parm there.0.step.state)) error → FailsBy fits error
-  by-error faulted now fits NoMemory not = absurd not
-  by-error faulted now fits DiskFault not = tt
-  by-error faulted now fits (BookFull need room) not = absurd not
-  by-error faulted now fits (Stopped fault) not = absurd not
-  by-error faulted now fits Misread not = absurd (false≢true (sym not ∙ unit-is-due told content may_leave moment left_since size old trusted turn run planned there.0 there.1))
-
-  pub unit-cause : (faulted now : ℕ) (fits : Bool) (error : DeskError) → NoUnit faulted now run old.jobs.running error → FailsBy fits error
-  unit-cause faulted now fits error not = by-error faulted now fits error (subst (λ (step : Option RunningStepView). NoUnitIn faulted now step error) there.1 not)
+  pub unit-takes : (faulted now : ℕ) (event : Option Event) (error : DeskError) → NotUnit faulted now error → TakesBy event error
+  unit-takes faulted now event NoMemory not = absurd not
+  unit-takes faulted now event DiskFault not = tt
+  unit-takes faulted now event (BookFull need room) not = tt
+  unit-takes faulted now event (Stopped fault) not = tt
+  unit-takes faulted now event Misread not = tt
 
   -- what a stop within it leaves
   pub unit-keeps : (came : List (List ℕ)) (new : DeskView D) → EachSince moment left_since old.store.disk new.store.disk (IsLeftByUnit content may_leave size run old) → KeepsWithin content moment left_since size old new came
@@ -84,6 +74,14 @@ module _ {D : Type 0} (told : Type 0) (content : D → List ℕ) (may_leave : D 
 
     pub done-fits : (new : DeskView D) → HasGoneBehind told content (event_in plan) mid new → turn_fits state turn ≡ true
     done-fits new gone = fits-by new (event_in plan) refl gone
+
+    pub done-told : (new : DeskView D) → HasGoneBehind told content (event_in plan) mid new → event_records old.store.layout (content new.store.disk) ≡ before ++ spelled (event_of_turn state turn)
+    done-told new gone =
+        let layouts : mid.store.layout ≡ old.store.layout = ap (λ (store : StoreView D). store.layout) done.store in
+        subst (λ (e : Option Event). event_records old.store.layout (content new.store.disk) ≡ before ++ spelled e) event-of
+        (subst (λ (l : Layout). event_records l (content new.store.disk) ≡ event_records l (content mid.store.disk) ++ spelled (event_in plan)) layouts
+        (gone-told told content (event_in plan) mid new trusted.tells gone)
+        ∙ ap (λ records. records ++ spelled (event_in plan)) events)
 
     module _ (new : DeskView D) (same : new.store.layout ≡ old.store.layout) where
       after-by : (event : Option Event) → event_in plan ≡ event → HasGoneBehind told content event mid new → IsSettledBehind content may_leave event new → state_of content new ≡ behind_turn state turn
@@ -125,35 +123,20 @@ module _ {D : Type 0} (told : Type 0) (content : D → List ℕ) (may_leave : D 
 
     -- ---- why its event wasn't kept
 
-    tell-cause : (reply : Reply) (event : Event) → plan ≡ Tell reply event → (faults : D → ℕ) (ready : Option Ready) → (ready ≡ None → ⊥) → (new : DeskView D) (error : DeskError) → NotBehind faults (Tell reply event) ready mid new error
-        → FailsBy (turn_fits state turn) error
-    tell-cause reply event is faults ready some new NoMemory not = absurd not
-    tell-cause reply event is faults ready some new DiskFault not = tt
-    tell-cause reply event is faults ready some new (BookFull need room) not = absurd not
-    tell-cause reply event is faults ready some new (Stopped fault) not = absurd not
-    tell-cause reply event is faults ready some new Misread not = ⊎_elim
-        (λ none. some none)
-        (λ made. ⊎_elim
-        (λ unplain. false≢true (sym unplain ∙ unit-plain told content may_leave moment left_since size old trusted turn run planned mid plan done events shape stems event (ap event_in is)))
-        (λ more. ⊎_elim
+    tell-cause : (reply : Reply) (event : Event) → plan ≡ Tell reply event → (faults : D → ℕ) (new : DeskView D) (error : DeskError) → NotBehind faults (Tell reply event) mid new error → FailsBy state.room (event_of_turn state turn) error
+    tell-cause reply event is faults new NoMemory not = absurd not
+    tell-cause reply event is faults new DiskFault not = tt
+    tell-cause reply event is faults new (BookFull need room) not = absurd not
+    tell-cause reply event is faults new (Stopped fault) not = absurd not
+    tell-cause reply event is faults new Misread not = ⊎_elim
         (λ unfollowed. false≢true (sym unfollowed ∙ unit-follows told content may_leave moment left_since size old trusted turn run planned mid plan done events shape stems event (ap event_in is)))
         (λ cannot. unit-written told content may_leave moment left_since size old trusted turn run planned mid plan done events shape stems event (ap event_in is) cannot)
-        more)
-        made)
         not
 
-    tells-rests : is_work plan ≡ false
-    tells-rests =
-        ap is_work (plan-so told content may_leave moment left_since size old trusted turn run planned mid plan done events shape stems)
-        ∙ told-rests old.store.layout (row-within told content may_leave moment left_since size old trusted turn run planned).0
-        (running_of (office_on old.store.layout (content old.store.disk)).tables done.moved) done.worked
+    cause-by : (by : Plan) → plan ≡ by → (faults : D → ℕ) (new : DeskView D) (error : DeskError) → NotBehind faults by mid new error → FailsBy state.room (event_of_turn state turn) error
+    cause-by (Rest reply) is faults new error not = absurd not
+    cause-by (Tell reply event) is faults new error not = tell-cause reply event is faults new error not
+    cause-by (Work job) is faults new error not = absurd not
 
-    cause-by : (by : Plan) → plan ≡ by → (faults : D → ℕ) (ready : Option Ready) → ((event : Event) → event_in plan ≡ Some event → ready ≡ None → ⊥) → (new : DeskView D) (error : DeskError) → NotBehind faults by ready mid new error
-        → FailsBy (turn_fits state turn) error
-    cause-by (Rest reply) is faults ready some new error not = absurd not
-    cause-by (Tell reply event) is faults ready some new error not = tell-cause reply event is faults ready (some event (ap event_in is)) new error not
-    cause-by (Work job) is faults ready some new error not = absurd (false≢true (sym tells-rests ∙ ap is_work is))
-
-    pub done-cause : (faults : D → ℕ) (ready : Option Ready) → ((event : Event) → event_in plan ≡ Some event → ready ≡ None → ⊥) → (new : DeskView D) (error : DeskError) → NotBehind faults plan ready mid new error
-        → FailsBy (turn_fits state turn) error
-    done-cause faults ready some new error not = cause-by plan refl faults ready some new error not
+    pub done-cause : (faults : D → ℕ) (new : DeskView D) (error : DeskError) → NotBehind faults plan mid new error → FailsBy state.room (event_of_turn state turn) error
+    done-cause faults new error not = cause-by plan refl faults new error not

@@ -20,6 +20,7 @@ use Rattle.ckr_desk_refines.proofs.Durable.Units.{committed-kept}
 use Rattle.ckr_desk_refines.specs.Commits.{HasCommitted}
 use Rattle.ckr_meaning.specs.EffectiveJob.{OwnedStep, names_of}
 use Rattle.ckr_outside.specs.Disk.{part}
+use Rattle.ckr_points.specs.Events.{AreSound, IsNext}
 use Rattle.ckr_points.specs.Follows.{follows}
 use Rattle.ckr_points.specs.Office.{Office, office_after}
 use Rattle.ckr_points.specs.Restart.{after_event, place_of, step_in}
@@ -32,7 +33,6 @@ use Rattle.ckr_desk_refines.specs.Moves.{HasSameRecords, event_in, reply_in}
 use Rattle.ckr_desk_refines.specs.Standing.{StandsForDesk, desk_seen}
 use Rattle.ckr_steps.specs.declared.step_run.Worked.{Worked}
 use Rattle.ckr_steps.specs.declared.step_run.Worked.TheVariants.{Abend, Rewrite, Went}
-use Rattle.ckr_steps.specs.Units.{due_of}
 use Rattle.ckr_desk_store.specs.OpenImages.{Opens, event_records}
 use Rattle.ckr_desk_store.specs.State.{StoreView}
 use Rattle.ckr_points_tables.specs.Invariant.{is_plain_event}
@@ -49,12 +49,12 @@ use Rattle.ckr_volumes.specs.Header.{header_of}
 use Rattle.ckr_desk_refines.proofs.Units.Desk.{committed-so, run-moved, went-done, went-stands}
 use Rattle.ckr_desk_refines.proofs.Units.StepLists.{IsPair, pair-of}
 use Rattle.ckr_desk_refines.proofs.Units.AnyReply.{told-unit}
-use Rattle.ckr_desk_refines.proofs.Units.Turns.{due-so, there-so, within-so}
+use Rattle.ckr_desk_refines.proofs.Units.Turns.{within-so}
 use Rattle.ckr_desk_refines.specs.Unit.{IsPutBack, StandsBehindUnit}
 use Rattle.ckr_desk.proofs.Units.Events.{Ensues, ended-ensues, rewrite-ensues}
 use Rattle.ckr_desk.proofs.Images.NextEvent.{deck-none, office-same}
 use Rattle.ckr_desk.proofs.Images.Soundness.{kept-before, kept-behind}
-use Rattle.ckr_desk.proofs.Turns.PlainEvents.{IsPlainPlan, told-plain}
+use Rattle.ckr_desk.proofs.Turns.PlainEvents.{told-plain}
 use Rattle.ckr_desk.proofs.Trust.Events.{IsBehind, IsComing, desk-behind, trusted-behind}
 use Rattle.ckr_desk.proofs.Turns.Events.{small-runs}
 use Rattle.ckr_desk.proofs.Trust.Conditions.{goes-out, shows-in, worked-out}
@@ -62,7 +62,7 @@ use Rattle.ckr_desk.specs.Requests.{has_room, room_behind}
 use Rattle.ckr_desk.specs.Calls.{HasGoneOn, IsLeftBy, IsSettledBehind, may_follow, may_keep}
 use Rattle.ckr_desk.specs.Rewrite.{CannotWrite, IsWrittenBy, LacksAtMost, OpensSame}
 use Rattle.ckr_desk.specs.Turn.{behind_turn, event_of_turn, reply_of, turn_fits}
-use Rattle.ckr_desk.specs.Units.{HasDoneUnit, HasGoneBehind, HasWrittenBehind, IsLeftBehind, IsLeftByUnit, IsLeftRewriting, StemsFromUnit, is_unit}
+use Rattle.ckr_desk.specs.Units.{HasDoneUnit, HasGoneBehind, HasWrittenBehind, IsPlainPlan, IsLeftBehind, IsLeftByUnit, IsLeftRewriting, StemsFromUnit}
 use Rattle.ckr_desk.specs.Opening.{behind_records}
 use Rattle.ckr_desk.specs.Soundness.{HasKept, IsTrusted, events_in, last_on, office_on, state_of}
 use Rattle.ckr_desk.specs.State.{RoomyDesk, DeskView, need_of}
@@ -109,14 +109,6 @@ module _ {D : Type 0} (told : Type 0) (content : D → List ℕ) (may_leave : D 
 
   abbrev row : RunRow
   row = row-within.0
-
-  -- ---- the unit
-
-  pub unit-is-due : (on : RunningStepView) → find (is_of_run run) old.jobs.running ≡ Some on → is_unit (due_of on.step.parm on.step.state) ≡ true
-  unit-is-due on found = ap is_unit (due-so layout old.jobs image desk turn run on trusted.stands at-desk found)
-
-  pub step-is-there : (on : RunningStepView) × (find (is_of_run run) old.jobs.running ≡ Some on)
-  step-is-there = there-so layout old.jobs image desk turn run trusted.stands at-desk
 
   -- ---- what a stop within it leaves
 
@@ -234,6 +226,8 @@ module _ {D : Type 0} (told : Type 0) (content : D → List ℕ) (may_leave : D 
         tells = trusted.tells;
         opens = subst (λ (l : Layout). behind_records l no_tables 0 (event_records l after) ≡ Ok mid.jobs.tables.desk) (sym layout-same)
             (ap (λ records. behind_records layout no_tables 0 records) events ∙ trusted.opens ∙ ap Ok (sym done.tables));
+        events = subst (λ (l : Layout). AreSound l (events_in (event_records l after))) (sym layout-same)
+            (subst (λ records. AreSound layout (events_in records)) (sym events) trusted.events);
         stands = subst (λ (d : DeskModel). StandsForDesk mid.store.layout mid.jobs after d) rest-desk (subst (λ (l : Layout). StandsForDesk l mid.jobs after (work_of run desk).desk) (sym layout-same) went-so);
         last = subst (λ (l : Layout). HasLast (office_on l after) (last_on l after)) (sym layout-same)
             (subst (λ (o : Office). HasLast o (last_on layout after)) (sym office-after) (subst (HasLast office) (sym last-after) trusted.last));
@@ -259,7 +253,7 @@ module _ {D : Type 0} (told : Type 0) (content : D → List ℕ) (may_leave : D 
       abbrev then : DeskModel
       then = (work_of run desk).desk
 
-      pub unit-plain : is_plain_event event ≡ true
+      unit-plain : is_plain_event event ≡ true
       unit-plain = plain-in plan (subst IsPlainPlan (sym plan-so) (told-plain layout row (running_of office.tables moved) done.worked)) event is
 
       spelled-so : IsSpelled event
@@ -324,6 +318,7 @@ module _ {D : Type 0} (told : Type 0) (content : D → List ℕ) (may_leave : D 
             (ap (λ (tables : TablesModel). follows layout tables event None && may_count event tables.sets) (sym done.tables)
             ∙ ap (λ (l : Layout). follows l mid.jobs.tables.desk event None && may_count event mid.jobs.tables.desk.sets) (sym layout-same)
             ∙ might)));
+        next = subst (λ (d : Option Job). IsNext layout office (event, d)) (sym none-decked) ensues.comes;
         office = ensues.office ∙ ap (λ (d : Option Job). office_after (event, d) office) (sym none-decked);
         layout_is = ensues.layout_is;
         is_desk = ensues.is_desk;

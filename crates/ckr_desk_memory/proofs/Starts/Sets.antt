@@ -41,12 +41,13 @@ use Rattle.ckr_points_decks.specs.DeckLimits.{HasNamesOnce}
 use Rattle.ckr_points_decks.proofs.JobForm.{steps_once}
 use Rattle.ckr_desk_turn.specs.Queue.{AreNumbered}
 use Rattle.ckr_desk_turn.proofs.Queue.Events.{run_number}
-use Rattle.ckr_desk_memory.specs.Invariant.{IsAcceptedRow, IsRunnable}
+use Rattle.ckr_desk_memory.specs.Invariant.{AsksNone, IsAcceptedRow, IsRunnable}
 use Rattle.ckr_desk_memory.specs.View.{RunningStepView, begun}
 use Rattle.ckr_desk_memory.specs.Start.{HasNew, set_in_tables}
 use Rattle.ckr_desk_memory.proofs.Starts.Steps.{row-among, step-among}
 use Rattle.ckr_desk_memory.proofs.RecordCounts.{HasFew, IsStepFew, steps-few}
 use Rattle.ckr_desk_memory.proofs.Extents.{tested-step}
+use Rattle.ckr_desk_memory.proofs.Starts.Cancels.{asks-none}
 use Rattle.ckr_desk_memory.proofs.Starts.Names.{names-there}
 use Rattle.ckr_desk_memory.proofs.SetCopies.{are-stored}
 use Rattle.ckr_desk_memory.proofs.Starts.ProgramSets.{are-there}
@@ -77,6 +78,7 @@ record IsOwn (job : ℕ) (row : RunRow) (owned : OwnedStep) : Type 0 where
   owner : owned.owner ≡ job
   few : IsStepFew 100000 owned.step
   distinct : are_distinct (names_of job owned) ≡ true
+  asks : AsksNone owned.step.parm
 
 owner_is : (run : ℕ) (deck : Job) (step : ℕ) (owned : OwnedStep) → step_at (plain_job run deck) step ≡ Some owned → owned.owner ≡ run
 owner_is run deck zero owned at = absurd (some-not-none owned (sym at))
@@ -99,6 +101,7 @@ is_own tables job step row owned numbered rows at there =
       few = step-among (IsStepFew 100000) row.number row.deck step owned (steps-few accepted.cards row.deck accepted.accepted) found;
       distinct =
           step-among HasNamesOnce row.number row.deck step owned (steps_once accepted.cards row.deck accepted.accepted) found job owned.owner owned.tests;
+      asks = asks-none accepted.cards row.number row.deck step owned accepted.accepted accepted.is_run found;
     }
 
 -- ---- behind the start
@@ -157,4 +160,5 @@ is-runnable layout tables job step items deck row owned on numbered rows at ther
           (ap (λ n. files_of job n owned.step) own.owner ∙ sym (ap (λ (s : StepRun). s.files) is))
           (are-there start on.sets names own.distinct first second);
       counted = counted;
+      asks = subst (λ (s : StepRun). AsksNone s.parm) (sym is) own.asks;
     }

@@ -1,11 +1,8 @@
 -- A unit is due of the running step of a turn that works.
-use Rattle.std.proofs.Common.{◌≡◌, ℕ, Bool, true, false, not, ◌&&◌, List, find, refl, ap, sym, ◌∙◌, subst, Option, Some, None}
-use Rattle.std.specs.Prelude.{◌==◌, ◌%◌, if◌then◌else◌}
-use Rattle.ckr_base.specs.declared.programs.NextDue.TheVariants.{Unit as OneUnit, Checkpoint, Cancel, Finished}
+use Rattle.std.proofs.Common.{◌≡◌, ℕ, Bool, true, false, List, find, refl, ap, sym, ◌∙◌, subst, Option, Some, None}
+use Rattle.std.specs.Prelude.{◌==◌, if◌then◌else◌}
+use Rattle.ckr_base.specs.declared.programs.NextDue.TheVariants.{Unit as OneUnit}
 use Rattle.ckr_base.proofs.Options.{some-not-none}
-use Rattle.ckr_entry.specs.declared.point.State.{State}
-use Rattle.ckr_entry.specs.declared.point.State.TheVariants.{Plain, Matched}
-use Rattle.ckr_jcl.specs.declared.deck.Parm.{Parm}
 use Rattle.ckr_desk_memory.specs.View.{RunningStepView}
 use Rattle.ckr_desk_turn.proofs.NextEvents.BetweenSteps.{no_restart, plain_parts}
 use Rattle.ckr_desk_turn.proofs.OtherRuns.{row-admitted, row-plain}
@@ -17,11 +14,9 @@ use Rattle.ckr_meaning.specs.StepRun.{StepStart}
 use Rattle.ckr_points.specs.Office.{Leg}
 use Rattle.ckr_points.specs.Restart.{place_of, step_in}
 use Rattle.ckr_points.specs.Rows.{RunRow, run_of, step_of_run}
-use Rattle.ckr_programs.specs.declared.counts.DueState.{DueState}
-use Rattle.ckr_programs.specs.Due.{due_at}
 use Rattle.ckr_points_invariant.proofs.Steps.Commits.{IsRunning, found_leg}
 use Rattle.ckr_desk_refines.specs.Standing.{StandsForStep}
-use Rattle.ckr_steps.specs.Units.{due_of, is_closed}
+use Rattle.ckr_steps.specs.Units.{due_of}
 use Rattle.ckr_desk_turn.specs.Desk.{DeskModel, DeskStep, jobs_of}
 use Rattle.ckr_desk_turn.specs.Jobs.{TurnStep}
 use Rattle.ckr_desk_turn.specs.declared.plan.Plan.TheVariants.{Work}
@@ -29,22 +24,9 @@ use Rattle.ckr_desk_turn.specs.declared.reply.Turn.{Turn}
 use Rattle.ckr_desk_turn.specs.Plans.{plan_of}
 use Rattle.ckr_desk_refines.proofs.Units.OtherSteps.{same-start}
 use Rattle.ckr_desk_refines.proofs.Units.Plans.{WorksAt, works-at}
-use Rattle.ckr_desk_refines.proofs.Units.Cancels.{AsksNone, asks-none}
-
--- where the parm asks for no checkpoint and cancels none, and the program isn't closed
-due-so : (parm : Parm) (state : DueState) → AsksNone parm → state.closed ≡ false → due_at parm state ≡ OneUnit
-due-so parm state none unclosed =
-    ap (λ b. if b then Finished state.return_code
-    else (if (not (parm.chk == 0) && not (state.taken == 0) && state.taken % parm.chk == 0) && not state.checkpointed then Checkpoint
-    else (if (not (parm.cancel == 0) && state.taken == parm.cancel) && not state.cancelled then Cancel else OneUnit))) unclosed
-    ∙ ap (λ n. if (not (n == 0) && not (state.taken == 0) && state.taken % n == 0) && not state.checkpointed then Checkpoint
-    else (if (not (parm.cancel == 0) && state.taken == parm.cancel) && not state.cancelled then Cancel else OneUnit)) none.checks
-    ∙ ap (λ n. if (not (n == 0) && state.taken == n) && not state.cancelled then Cancel else OneUnit) none.cancels
-
-pub due-unit : (parm : Parm) (state : State) → AsksNone parm → is_closed state ≡ false → due_of parm state ≡ OneUnit
-unfolding due_of
-due-unit parm (Plain state) none unclosed = due-so parm _ none unclosed
-due-unit parm (Matched state) none unclosed = due-so parm _ none unclosed
+use Rattle.ckr_desk_memory.specs.Invariant.{AsksNone}
+use Rattle.ckr_desk_memory.proofs.DueUnits.{due-unit}
+use Rattle.ckr_desk_memory.proofs.Starts.Cancels.{asks-none}
 
 -- the running step of a turn that works
 pub record IsDue (desk : DeskModel) (run : ℕ) : Type 0 where

@@ -16,7 +16,7 @@ use Rattle.ckr_library.specs.NameMaps.{Name, Named, name_cmp, same_name, entry_a
 use Rattle.ckr_library.proofs.Named.{at-with_entry, name-same}
 use Rattle.ckr_meaning.specs.EffectiveJob.{OwnedStep, is_among, names_of, names_of_job, names_of_steps}
 use Rattle.ckr_points.specs.Tables.{own_made}
-use Rattle.ckr_points.specs.Marks.{carried_marks, is_marked_absent, made_names, mark_at, mark_now, marked_under, marks_for, marks_now, own_names, point_at, present_of, with_point}
+use Rattle.ckr_points.specs.Marks.{carried_marks, is_marked_absent, made_names, mark_at, mark_now, marked_under, marks_for, marks_now, own_names, point_at, present_at, present_of, with_point}
 use Rattle.ckr_points.specs.Rows.{RunRow, StartPoint, TableSet}
 
 -- ---- marks by name
@@ -170,6 +170,14 @@ absent-now row sets name own =
     (mark_at-for (own_mark row sets) (names_of_job row.job) name (own_mark-named row sets) (among-dropped row.job.root (pred row.earlier_step) row.job.steps name own))
     ∙ ap (λ (b : Bool). let mark : Mark = if b then mark_now sets name else option_map_or (λ mark. mark) (mark_at (carried_marks row) name) (mark_now sets name) in is_none mark.present) own
     ∙ none_mapped (entry_at sets name)
+
+-- what a mark says that is taken now
+pub present-now : (row : RunRow) (sets : Named TableSet) (name : Name) → is_among (own_names row) name ≡ true → present_at (marks_now row sets) name ≡ option_map present_of (entry_at sets name)
+unfolding own_mark
+present-now row sets name own =
+    ap (λ (o : Option Mark). option_map_or (λ mark. mark.present) o None)
+    (mark_at-for (own_mark row sets) (names_of_job row.job) name (own_mark-named row sets) (among-dropped row.job.root (pred row.earlier_step) row.job.steps name own))
+    ∙ ap (λ (b : Bool). let mark : Mark = if b then mark_now sets name else option_map_or (λ mark. mark) (mark_at (carried_marks row) name) (mark_now sets name) in mark.present) own
 
 -- the names that a step made stand in the step
 pub own_made-out : (row : RunRow) (owned : OwnedStep) (step : ℕ) (name : Name) → is_among (names_of row.job.root owned) name ≡ false → is_among (own_made row owned step) name ≡ false

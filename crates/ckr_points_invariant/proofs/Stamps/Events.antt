@@ -1,5 +1,5 @@
 -- One more event keeps the stamps.
-use Rattle.std.proofs.Common.{◌≡◌, ◌≤◌, ℕ, suc, Bool, true, false, cond, not, ◌&&◌, ◌||◌, List, [], ◌∷◌, ◌++◌, length, refl, ap, sym, ◌∙◌, subst, Option, Some, None, arith}
+use Rattle.std.proofs.Common.{◌≡◌, ◌≤◌, ℕ, Bool, true, false, cond, not, ◌&&◌, ◌||◌, List, [], length, refl, ap, sym, ◌∙◌, subst, Option, Some, None, arith}
 use Rattle.std.specs.Prelude.{nat_le}
 use Rattle.std.specs.List.{AllByRecursion}
 use Rattle.std.specs.Option.{option_map_or, is_none, is_some}
@@ -18,28 +18,29 @@ use Rattle.ckr_events.specs.declared.event.Ending.TheVariants.{Allocation, Coded
 use Rattle.ckr_jcl.specs.declared.deck.Job.{Job}
 use Rattle.ckr_library.specs.NameMaps.{Name, entry_at, taken_over}
 use Rattle.ckr_meaning.specs.LibrarySet.{Library, LibrarySet}
-use Rattle.ckr_meaning.specs.Dispositions.{Stock, passed_ended}
+use Rattle.ckr_meaning.specs.Dispositions.{Stock}
 use Rattle.ckr_meaning.specs.EffectiveJob.{OwnedStep, flaws_in, is_among, step_at}
 use Rattle.ckr_meaning.specs.declared.place.Place.{Place}
 use Rattle.ckr_meaning.specs.declared.place.Place.TheVariants.{Before, Opened, Within}
 use Rattle.ckr_meaning.specs.JobRun.{at, job_run, walk_before}
 use Rattle.ckr_meaning.specs.StepRun.{StepStart, disposed_at, placed_at, within_at, work_at}
 use Rattle.ckr_volumes.specs.declared.layout.Layout.{Layout}
-use Rattle.ckr_points.specs.declared.run.RunState.TheVariants.{On, Held as HeldRun, Released as ReleasedRun, Ended as EndedRun, Denied as DeniedRun, Purged as PurgedRun}
-use Rattle.ckr_points.specs.Tables.{after_commit, after_dispositions, after_held, after_rewritten, after_step_ended, after_submitted, committed, is_updates, name_with_role, row_rewritten, run_disposals, own_made, earlier_made}
+use Rattle.ckr_points.specs.declared.run.RunState.TheVariants.{On, Held as HeldRun, Released as ReleasedRun, Denied as DeniedRun, Purged as PurgedRun}
+use Rattle.ckr_points.specs.Tables.{after_commit, after_held, after_rewritten, after_step_ended, after_submitted, is_updates, name_with_role, row_rewritten}
 use Rattle.ckr_points.specs.Follows.{ended_follows, is_in_state, is_running, is_within, lengths_follow, own_step}
 use Rattle.ckr_points.specs.Payload.{carries, carries_lengths, commits, rewrites_nothing, writes_in}
 use Rattle.ckr_points_invariant.specs.Invariant.{AreBegun, IsKept, AreStamped, IsAtPlace, HasBegun, IsHolder, IsMarkedShort, IsReached, MarksHold, step_now}
-use Rattle.ckr_points_library.specs.Commit.{output_names}
 use Rattle.ckr_points.specs.Office.{Leg, Office, cut_of, leg_of, library_after, office_after}
-use Rattle.ckr_points.specs.Restart.{after_abnormal, after_ended, after_event, after_passed_ended, by_step, place_of, step_in}
-use Rattle.ckr_points.specs.Rows.{RunRow, TableSet, TablesModel, run_of, standing_of, step_of_run, with_run}
+use Rattle.ckr_points.specs.Restart.{after_ended, after_event, by_step, place_of, step_in}
+use Rattle.ckr_points.specs.Rows.{RunRow, TablesModel, run_of, with_run}
 use Rattle.ckr_points.specs.Soundness.{marks_of_row, may_come}
 use Rattle.ckr_points_invariant.proofs.Stamps.Beginnings.{begun-as, disposed-from, ended-from}
 use Rattle.ckr_points_invariant.proofs.WaitingRuns.{follows-of, tested-run}
 use Rattle.ckr_points_invariant.proofs.Steps.Commits.{IsRunning, carried-of, found_leg, its_start, under_way}
 use Rattle.ckr_points_invariant.proofs.Library.Entries.{at-taken_over}
-use Rattle.ckr_points_invariant.proofs.Marks.Changes.{EachEntryHolds, committed-holds, disposed_all-holds, holds-by, holds-run, holds-sets, passed_ended-holds, points-rewritten, rewritten-holds, row-holds}
+use Rattle.ckr_points_invariant.proofs.Marks.Changes.{Entries, Points, fewer, holds-run, holds-sets, points-rewritten}
+use Rattle.ckr_points_invariant.proofs.Points.Rows as rows
+use Rattle.ckr_points_invariant.proofs.Points.Sets as sets
 use Rattle.ckr_points_invariant.proofs.Steps.Events.{led-by, on-holds, running-holds, running-within, step-by}
 use Rattle.ckr_points_invariant.proofs.Stamps.Tables.{reached-now, stamped-on}
 use Rattle.ckr_points_invariant.proofs.Start.Event.{running-so}
@@ -47,52 +48,15 @@ use Rattle.ckr_points_invariant.proofs.Steps.Walks.{at-before, at-within, cut-be
 
 -- ---- the marks of the tables
 
-module _ (P : Mark → Type 0) (tables : TablesModel) (holds : MarksHold P tables) where
-  pub commit-holds : (row : RunRow) (owned : OwnedStep) (step writes : ℕ) (lengths : List ℕ) → AllByRecursion P (marks_of_row row) → MarksHold P (after_commit row owned step writes lengths tables)
-  commit-holds row owned step writes lengths mine =
-      holds-run P (record row { place = Some (Within step writes) }) (record tables { sets = committed (output_names row.job.root owned) lengths tables.sets }) mine
-      (holds-sets P tables (committed (output_names row.job.root owned) lengths tables.sets) (committed-holds P (output_names row.job.root owned) lengths tables.sets holds.entries) holds)
-
-  -- the rows and the data sets behind a run's end
-  passed-holds : (row : RunRow) → AllByRecursion P (marks_of_row row) → MarksHold P (after_passed_ended row tables)
-  passed-holds row mine =
-      holds-run P (record row { state = EndedRun; initiator = None; code = None; passed = []; in_effect = None }) (record tables { sets = passed_ended row.passed tables.sets }) mine
-      (holds-sets P tables (passed_ended row.passed tables.sets) (passed_ended-holds P row.passed tables.sets holds.entries) holds)
-
-  disposed-holds : (row : RunRow) (owned : OwnedStep) (step : ℕ) (abnormal : Bool) → EachEntryHolds P (after_dispositions row owned step abnormal tables).sets
-  disposed-holds row owned step abnormal =
-      disposed_all-holds P (run_disposals row owned (own_made row owned step) (earlier_made tables row step) abnormal) (standing_of row tables) holds.entries
-
-abnormal-holds : (P : Mark → Type 0) (row : RunRow) (place : Place) (tables : TablesModel) → MarksHold P tables → AllByRecursion P (marks_of_row row) → MarksHold P (after_abnormal row place tables)
-abnormal-holds P row (Before step) tables holds mine = passed-holds P tables holds row mine
-abnormal-holds P row (Opened step) tables holds mine = passed-holds P tables holds row mine
-abnormal-holds P row (Within step writes) tables holds mine =
-    holds-by P tables (λ owned. let done = after_dispositions row owned step true tables in after_passed_ended (record row { passed = done.passed }) (record tables { sets = done.sets })) (step_of_run row step)
-    (λ owned found.
-    passed-holds P (record tables { sets = (after_dispositions row owned step true tables).sets })
-    (holds-sets P tables (after_dispositions row owned step true tables).sets (disposed-holds P tables holds row owned step true) holds)
-    (record row { passed = (after_dispositions row owned step true tables).passed }) mine)
-    holds
-
-ending-holds : (P : Mark → Type 0) (row : RunRow) (ending : Ending) (tables : TablesModel) → MarksHold P tables → AllByRecursion P (marks_of_row row) → MarksHold P (after_ended row ending tables)
-ending-holds P row Completed tables holds mine = passed-holds P tables holds row mine
-ending-holds P row (Coded code rule writes lengths) tables holds mine =
-    holds-by P tables (λ owned. after_abnormal (record row { place = Some (Within (step_now row) writes) }) (Within (step_now row) writes) (after_commit row owned (step_now row) writes lengths.items tables)) (step_of_run row (step_now row))
-    (λ owned found.
-    abnormal-holds P (record row { place = Some (Within (step_now row) writes) }) (Within (step_now row) writes) (after_commit row owned (step_now row) writes lengths.items tables)
-    (commit-holds P tables holds row owned (step_now row) writes lengths.items mine) mine)
-    holds
-ending-holds P row (Allocation dd cause first second) tables holds mine = abnormal-holds P row (place_of row) tables holds mine
+pub commit-holds : (P : Mark → Type 0) (tables : TablesModel) → MarksHold P tables → (row : RunRow) (owned : OwnedStep) (step writes : ℕ) (lengths : List ℕ) → AllByRecursion P (marks_of_row row) → MarksHold P (after_commit row owned step writes lengths tables)
+commit-holds P tables holds row owned step writes lengths mine = rows.commit-holds (Points P) (Entries P) tt (fewer P) tables row owned step writes lengths holds mine
 
 -- a run's row changes, or what its step does to the tables
 pub by-row : (P : Mark → Type 0) (tables : TablesModel) (job : ℕ) (change : RunRow → TablesModel) → MarksHold P tables → ((row : RunRow) → AllByRecursion P (marks_of_row row) → MarksHold P (change row)) → MarksHold P (option_map_or change (run_of tables job) tables)
-by-row P tables job change holds each =
-    holds-by P tables change (run_of tables job) (λ row e. each row (row-holds P tables job row holds e)) holds
+by-row P tables job change holds each = rows.by-row (Points P) (Entries P) tt (fewer P) tables job change holds each
 
-pub by-step : (P : Mark → Type 0) (tables : TablesModel) (job : ℕ) (change : RunRow → OwnedStep → ℕ → TablesModel) → MarksHold P tables → ((row : RunRow) (owned : OwnedStep) → AllByRecursion P (marks_of_row row) → MarksHold P (change row owned (step_now row))) → MarksHold P (option_map_or (λ row. by_step (λ owned step. change row owned step) row tables) (run_of tables job) tables)
-by-step P tables job change holds each =
-    by-row P tables job (λ row. by_step (λ owned step. change row owned step) row tables) holds
-    (λ row mine. holds-by P tables (λ owned. change row owned (step_now row)) (step_of_run row (step_now row)) (λ owned found. each row owned mine) holds)
+by-step : (P : Mark → Type 0) (tables : TablesModel) (job : ℕ) (change : RunRow → OwnedStep → ℕ → TablesModel) → MarksHold P tables → ((row : RunRow) (owned : OwnedStep) → AllByRecursion P (marks_of_row row) → MarksHold P (change row owned (step_now row))) → MarksHold P (option_map_or (λ row. by_step (λ owned step. change row owned step) row tables) (run_of tables job) tables)
+by-step P tables job change holds each = rows.by-step (Points P) (Entries P) tt (fewer P) tables job change holds each
 
 -- ---- events that change no library and no leg
 
@@ -102,7 +66,7 @@ same_library office tables stamps marks = stamped-on office tables office.librar
 pub stamped-submitted : (office : Office) (job : ℕ) (cards : List ℕ) (deck : Option Job) → AreStamped office → AreStamped (office_after (Submitted job cards, deck) office)
 stamped-submitted office job cards deck stamps =
     same_library office (option_map_or (λ deck. after_submitted job deck office.tables) deck office.tables) stamps
-    (holds-by (IsMarkedShort office) office.tables (λ deck. after_submitted job deck office.tables) deck
+    (rows.by (Points (IsMarkedShort office)) (Entries (IsMarkedShort office)) tt (fewer (IsMarkedShort office)) office.tables (λ deck. after_submitted job deck office.tables) deck
     (λ its e. record {
       rows = each-append (λ (row : RunRow). AllByRecursion (IsMarkedShort office) (marks_of_row row)) office.tables.runs _ stamps.marks.rows (tt, tt);
       entries = stamps.marks.entries;
@@ -134,18 +98,13 @@ stamped-rewritten office job taken writes place lengths image deck stamps =
     (λ row owned mine.
     let done : TablesModel = after_commit (row_rewritten (step_now row) row) owned (step_now row) writes lengths.items office.tables in
     let committed_marks : MarksHold (IsMarkedShort office) done = commit-holds (IsMarkedShort office) office.tables stamps.marks (row_rewritten (step_now row) row) owned (step_now row) writes lengths.items (points-rewritten (IsMarkedShort office) (step_now row) row.points mine) in
-    holds-sets (IsMarkedShort office) done _ (rewritten-holds (IsMarkedShort office) (name_with_role row.job.root owned is_updates) owned.owner (step_now row) done.sets committed_marks.entries) committed_marks))
+    holds-sets (IsMarkedShort office) done _ (sets.rewritten-holds (Entries (IsMarkedShort office)) tt (fewer (IsMarkedShort office)) (name_with_role row.job.root owned is_updates) owned.owner (step_now row) done.sets committed_marks.entries) committed_marks))
 
 pub stamped-step_end : (office : Office) (job step rc writes : ℕ) (lengths : ArrayVec ℕ) (deck : Option Job) → AreStamped office → AreStamped (office_after (StepEnded job step rc writes lengths, deck) office)
 stamped-step_end office job step rc writes lengths deck stamps =
     same_library office (after_event (StepEnded job step rc writes lengths) deck office.tables) stamps
     (by-step (IsMarkedShort office) office.tables job (λ row owned step. after_step_ended row owned step rc writes lengths.items office.tables) stamps.marks
-    (λ row owned mine.
-    let done : TablesModel = after_commit row owned (step_now row) writes lengths.items office.tables in
-    let committed_marks : MarksHold (IsMarkedShort office) done = commit-holds (IsMarkedShort office) office.tables stamps.marks row owned (step_now row) writes lengths.items mine in
-    let standing : Stock TableSet = after_dispositions row owned (step_now row) false done in
-    holds-run (IsMarkedShort office) (record row { place = Some (Before (suc (step_now row))); rcs = row.rcs ++ (step_now row, rc) ∷ []; in_effect = None; passed = standing.passed }) (record done { sets = standing.sets }) mine
-    (holds-sets (IsMarkedShort office) done standing.sets (disposed-holds (IsMarkedShort office) done committed_marks row owned (step_now row) false) committed_marks)))
+    (λ row owned mine. rows.step_ended-holds (Points (IsMarkedShort office)) (Entries (IsMarkedShort office)) tt (fewer (IsMarkedShort office)) office.tables row owned (step_now row) rc writes lengths.items stamps.marks mine))
 
 -- ---- a run ends
 
@@ -190,7 +149,7 @@ ended-stamps layout office job row leg ending deck kept holder left =
     (stamped-on office (after_event (Ended job ending) deck office.tables) (taken_over leg.reach (job_run leg.job leg.start (cut_of row ending)) office.library) kept.stamps
     (taken-begun office leg.reach (job_run leg.job leg.start (cut_of row ending)) kept.stamps.begun left)
     (by-row (IsMarkedShort office) office.tables job (λ row. after_ended row ending office.tables) kept.stamps.marks
-    (λ row mine. ending-holds (IsMarkedShort office) row ending office.tables kept.stamps.marks mine)))
+    (λ row mine. rows.ended-holds (Points (IsMarkedShort office)) (Entries (IsMarkedShort office)) tt (fewer (IsMarkedShort office)) row ending office.tables kept.stamps.marks mine)))
 
 pub stamped-complete : (layout : Layout) (office : Office) (job : ℕ) (deck : Option Job) → IsKept layout office → may_come layout office (Ended job Completed, deck) ≡ true → AreStamped (office_after (Ended job Completed, deck) office)
 stamped-complete layout office job deck kept may =

@@ -63,7 +63,7 @@ short-legs office other name present same short = record {
   short = λ last found plain. short.short last (ap (λ library. entry_at library name) (sym (same-library office other present.stamp same)) ∙ found) plain;
 }
 
-each-weaker : {X : Type 0} (P Q : X → Type 0) (named : Named X) → ((x : X) → P x → Q x) → EachEntry P named → EachEntry Q named
+pub each-weaker : {X : Type 0} (P Q : X → Type 0) (named : Named X) → ((x : X) → P x → Q x) → EachEntry P named → EachEntry Q named
 each-weaker P Q [] weaker each = tt
 each-weaker P Q (entry ∷ rest) weaker each = (weaker entry.1 each.0, each-weaker P Q rest weaker each.1)
 

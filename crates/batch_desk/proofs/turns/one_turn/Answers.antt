@@ -1,15 +1,49 @@
-use Rattle.batch_desk.proofs.Service.Answers.{fails_full}
-use Rattle.batch_desk.proofs.Calls.Stops.{goes_done}
+use Rattle.std.proofs.Common.{refl}
+use Rattle.ckr_desk.specs.Model.Reply.{Reply}
+use Rattle.ckr_desk.proofs.Calls.FullBooks.{turn-full}
+use Rattle.ckr_desk.proofs.Calls.OneEvent.{turn-few}
+use Rattle.ckr_desk.specs.Requests.{spelled}
+use Rattle.ckr_desk.specs.Soundness.{state_of}
+use Rattle.ckr_desk.specs.Turn.{event_of_turn}
+use Rattle.batch_desk.specs.declared.stop.Halt.TheVariants as Halts
+use Rattle.batch_desk.specs.Calls.{plain_turn}
+use Rattle.batch_desk.specs.Turns.{TurnHalt}
+use Rattle.batch_desk.proofs.Calls.Stops.{failed_kept, goes_done, with_failed_disk, with_full_book, without_memory}
 use Rattle.batch_desk.proofs.turns.one_turn.Goals as goal
 
 pub returns-in-Ok-clause-goes : goal.returns-in-Ok-clause-goes
 returns-in-Ok-clause-goes g c holds =
     let d = g.D.Disk in
-    let laws = g.met.D.Disk g.world.𝓛 g.world.𝓜 g.world.𝓡 ((λ s x. x), (λ x. x), (λ x. x), λ x. x) in
     let e = c.in-Ok.ensures in
-    let disk = c.turn.new.self.store.disk in
-    goes_done d.content d.moment d.left_since d.size d.may_leave c.args.desk.now c.turn.new.self _ (laws.reads_an_image disk holds.tells) (laws.counts_now disk) e.layout e.size (e.kept c.requires.is_open holds)
+    goes_done d.content d.moment d.left_since d.size c.args.desk.now c.turn.new.self _ e.layout e.size (e.kept c.requires.is_open holds) (e.told holds)
+
+pub returns-in-Err-NoMemory-clause-halt : goal.returns-in-Err-NoMemory-clause-halt
+returns-in-Err-NoMemory-clause-halt g c holds =
+    let d = g.D.Disk in
+    let old = c.args.desk.now in
+    let e = c.in-Err-NoMemory.ensures in
+    without_memory d.content d.moment d.left_since d.size Reply d.may_leave d.faults old c.turn.new.self c.in-Err-NoMemory.field-0 _ (TurnHalt Halts.Memory c.args.initiator (state_of d.content old))
+    c.in-Err-NoMemory.field-0-is (e.kept c.requires.is_open holds) e.stays (refl, refl)
 
 pub returns-in-Err-BookFull-clause-halt : goal.returns-in-Err-BookFull-clause-halt
 returns-in-Err-BookFull-clause-halt g c holds =
-    fails_full _ c.in-Err-BookFull.field-0 c.in-Err-BookFull.field-0-0 c.in-Err-BookFull.field-0-1 c.in-Err-BookFull.field-0-is (c.in-Err-BookFull.ensures.cause holds)
+    let d = g.D.Disk in
+    let old = c.args.desk.now in
+    let e = c.in-Err-BookFull.ensures in
+    with_full_book d.content d.moment d.left_since d.size Reply d.may_leave d.faults old c.turn.new.self c.in-Err-BookFull.field-0 c.in-Err-BookFull.field-0-0 c.in-Err-BookFull.field-0-1 _
+    (TurnHalt Halts.Book c.args.initiator (state_of d.content old)) c.in-Err-BookFull.field-0-is (e.kept c.requires.is_open holds) e.stays
+    (turn-full (state_of d.content old) (plain_turn c.args.initiator) c.in-Err-BookFull.field-0 c.in-Err-BookFull.field-0-0 c.in-Err-BookFull.field-0-1 c.in-Err-BookFull.field-0-is (e.cause holds), refl, refl)
+
+pub returns-in-Err-DiskFault-clause-halt : goal.returns-in-Err-DiskFault-clause-halt
+returns-in-Err-DiskFault-clause-halt g c holds =
+    let d = g.D.Disk in
+    let laws = g.met.D.Disk g.world.𝓛 g.world.𝓜 g.world.𝓡 ((λ s x. x), (λ x. x), (λ x. x), λ x. x) in
+    let old = c.args.desk.now in
+    let new = c.turn.new.self in
+    let e = c.in-Err-DiskFault.ensures in
+    let s = state_of d.content old in
+    let came = spelled (event_of_turn s (plain_turn c.args.initiator)) in
+    with_failed_disk d.content d.moment d.left_since d.size d.may_leave old new came (TurnHalt Halts.Disk c.args.initiator s)
+    (laws.reads_an_image new.store.disk holds.tells) (laws.counts_now new.store.disk) (turn-few s (plain_turn c.args.initiator))
+    (failed_kept d.content d.moment d.left_since d.size Reply old new c.in-Err-DiskFault.field-0 came c.in-Err-DiskFault.field-0-is (e.kept c.requires.is_open holds))
+    (λ kept either. (refl, either))

@@ -7,6 +7,7 @@ use Rattle.ckr_desk.specs.Replay.{IsFound}
 use Rattle.ckr_desk.specs.Soundness.{events_in, last_on}
 use Rattle.ckr_desk.proofs.Openings.Answers.{found_behind, book_cause_behind, rose_before}
 use Rattle.ckr_desk.proofs.Openings.Replay.{handed_on}
+use Rattle.ckr_desk.proofs.Openings.Syncs.{reads-behind}
 use Rattle.ckr_desk.proofs.opening.read_disk.Goals as goal
 
 pub returns-clause-found : goal.returns-clause-found
@@ -30,3 +31,9 @@ pub returns-clause-last : goal.returns-clause-last
 unfolding last_on
 returns-clause-last g c = λ told.
     ap (λ image. last_event (events_in (event_records c.in_ok-layout.layout image))) c.in_ok-jobs.ensures.only_reads.same ∙ c.in_ok-jobs.ensures.last told
+
+pub returns-clause-synced : goal.returns-clause-synced
+returns-clause-synced g c =
+    let d = g.D.Disk in
+    reads-behind d.content d.may_leave d.moment d.left_since c.args.disk.now c.sync.new.self c.layout_of.new.disk c.replay.new.disk
+    c.in_ok-sync.ensures.only_reads c.in_ok-sync.ensures.durable c.in_ok-layout.ensures.only_reads c.in_ok-jobs.ensures.only_reads

@@ -3,6 +3,7 @@ use Rattle.std.proofs.lemmas.List.{append-nil, drop_all}
 use Rattle.ckr_points_library.specs.Holdings.{owned}
 use Rattle.ckr_points_library.proofs.DdPlaces.{no_output, one_output, outputs_in}
 use Rattle.ckr_fields.specs.Fields.{each_fits, four_bytes}
+use Rattle.ckr_desk_memory.specs.Extents.{sets_of}
 use Rattle.ckr_desk_memory.specs.View.{length_in}
 use Rattle.ckr_points_tables.proofs.Allocations.Parts.{fits-more, is-few}
 use Rattle.ckr_desk_memory.proofs.run_code.lengths_in.Goals as goal
@@ -15,7 +16,7 @@ loop-dd-preserved c =
     let index = c.loop-dd.dd-index in
     let before = c.loop-dd.lengths.items in
     let rest = outputs_in c.args.run own (drop (index + 1) dds) in
-    let named = length_in c.args.sets.now.sets in
+    let named = length_in (sets_of c.args.extents.now) in
     elim c.match-output_name.branch [
       | in-Some w ↦
           let name = w.in-Some.name in
@@ -45,7 +46,7 @@ loop-dd-preserved c =
 pub returns-clause-lengths : goal.returns-clause-lengths
 returns-clause-lengths c =
     let own = owned c.args.step.now c.args.run [] in
-    let named = length_in c.args.sets.now.sets in
+    let named = length_in (sets_of c.args.extents.now) in
     sym (append-nil c.loop-dd.lengths.items)
     ∙ ap (λ rest. c.loop-dd.lengths.items ++ map named (outputs_in c.args.run own rest)) (sym (drop_all c.loop-dd.dd-index c.as_slice-dd-items.result.now c.loop-dd-test.false))
     ∙ c.loop-dd.invariant.lengths

@@ -4,6 +4,7 @@ use Rattle.ckr_events.specs.Format.{length_list}
 use Rattle.ckr_meaning.specs.EffectiveJob.{OwnedStep, owned_by, plain_job, step_at}
 use Rattle.ckr_points.specs.Restart.{place_of, step_in}
 use Rattle.ckr_points_decks.specs.DeckLimits.{IsWithinLimits}
+use Rattle.ckr_desk_memory.specs.Extents.{sets_of}
 use Rattle.ckr_desk_memory.specs.Plans.{row_for}
 use Rattle.ckr_desk_memory.specs.View.{lengths_in}
 use Rattle.ckr_desk_memory.proofs.Starts.Steps.{step-among}
@@ -17,7 +18,7 @@ pub returns-in-Some-clause-lengths : goal.returns-in-Some-clause-lengths
 returns-in-Some-clause-lengths c =
     let step : c.step_in.result ≡ step_in (place_of (row_for c.args.run c.args.table.now)) = c.step_in.ensures ∙ ap step_in (c.place_of.ensures c.args.run) in
     c.lengths_in.ensures.lengths
-    ∙ ap (λ (found : Option OwnedStep). option_map_or (lengths_in c.args.sets.now.sets c.args.run) found [])
+    ∙ ap (λ (found : Option OwnedStep). option_map_or (lengths_in (sets_of c.args.extents.now) c.args.run) found [])
     (c.in-Some.ensures c.args.run ∙ ap (step_at (plain_job c.args.run c.args.table.now.job)) step)
 
 pub returns-in-None : goal.returns-in-None
@@ -26,7 +27,7 @@ returns-in-None c =
     record {
       lengths =
           c.new.ensures
-          ∙ ap (λ (found : Option OwnedStep). option_map_or (lengths_in c.args.sets.now.sets c.args.run) found [])
+          ∙ ap (λ (found : Option OwnedStep). option_map_or (lengths_in (sets_of c.args.extents.now) c.args.run) found [])
           (c.in-None.ensures c.args.run ∙ ap (step_at (plain_job c.args.run c.args.table.now.job)) step);
       fits = subst length_list.fits (sym c.new.ensures) ((omega arith, refl), tt);
     }

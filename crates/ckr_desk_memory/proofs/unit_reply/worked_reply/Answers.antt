@@ -23,5 +23,5 @@ returns-clause-reply c = λ own there.
     let name : c.copied.result ≡ step_name_of row =
     c.copied.ensures
     ∙ ap (λ (found : Option OwnedStep). option_map_or (λ own. own.step.name) found []) (c.in_ok-own.ensures run ∙ ap (step_at (plain_job run c.args.table.now.job)) step) in
-    ap (λ n. Some (Worked run n c.progress.result.taken)) name
-    ∙ ap (λ n. Some (Worked run (step_name_of row) n)) c.progress.ensures.taken
+    ap (λ n. Some (Worked run n c.progress_behind.result.taken)) name
+    ∙ ap (λ n. Some (Worked run (step_name_of row) n)) c.progress_behind.ensures.taken

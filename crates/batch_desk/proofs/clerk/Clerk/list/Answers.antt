@@ -1,20 +1,93 @@
-use Rattle.batch_desk.proofs.Calls.Stops.{goes_done, goes_by, goes_by_to}
+use Rattle.std.proofs.Common.{[], ⊎_elim, arith, refl, subst}
+use Rattle.ckr_desk.specs.NoChange.{StaysBy}
+use Rattle.batch_desk.specs.declared.stop.Halt.TheVariants as Halts
+use Rattle.batch_desk.specs.Service.{ListHalt}
+use Rattle.batch_desk.proofs.Cards.{on_ok}
+use Rattle.batch_desk.proofs.Calls.Halts.{memory_here}
+use Rattle.batch_desk.proofs.Calls.Stops.{came_there, goes_done, goes_on_to, has_none, nothing_came, with_failed_disk}
 use Rattle.batch_desk.proofs.clerk.Clerk.list.Goals as goal
 
 pub returns-in-Ok-Some-clause-goes : goal.returns-in-Ok-Some-clause-goes
 returns-in-Ok-Some-clause-goes g c holds =
     let d = g.D.Disk in
     let laws = g.met.D.Disk g.world.𝓛 g.world.𝓜 g.world.𝓡 ((λ s x. x), (λ x. x), (λ x. x), λ x. x) in
+    let old = c.args.self.now.desk in
+    let new = c.records.new.self in
     let e = c.in-Ok-Some.ensures in
-    let disk = c.records.new.self.store.disk in
-    goes_by d.content d.moment d.left_since d.size c.tell.result c.args.self.now.desk c.records.new.self
-    (goes_done d.content d.moment d.left_since d.size d.may_leave c.args.self.now.desk c.records.new.self _ (laws.reads_an_image disk holds.tells) (laws.counts_now disk) e.layout e.size (e.kept c.requires.is_open holds))
+    let kept = e.kept c.requires.is_open holds in
+    on_ok c.tell.result _ (goes_done d.content d.moment d.left_since d.size old new [] e.layout e.size kept
+    (has_none d.content d.moment d.left_since d.size d.may_leave old new (laws.reads_an_image new.store.disk holds.tells) (laws.counts_now new.store.disk) kept))
 
 pub returns-in-Ok-None-clause-goes : goal.returns-in-Ok-None-clause-goes
 returns-in-Ok-None-clause-goes g c holds =
     let d = g.D.Disk in
     let laws = g.met.D.Disk g.world.𝓛 g.world.𝓜 g.world.𝓡 ((λ s x. x), (λ x. x), (λ x. x), λ x. x) in
+    let old = c.args.self.now.desk in
+    let new = c.records.new.self in
     let e = c.in-Ok-None.ensures in
-    let disk = c.records.new.self.store.disk in
-    goes_by_to d.content d.moment d.left_since d.size c.refuse_line.result c.args.self.now.desk c.records.new.self _ c.refuse_line.ensures.desk
-    (goes_done d.content d.moment d.left_since d.size d.may_leave c.args.self.now.desk c.records.new.self _ (laws.reads_an_image disk holds.tells) (laws.counts_now disk) e.layout e.size (e.kept c.requires.is_open holds))
+    let kept = e.kept c.requires.is_open holds in
+    goes_on_to d.content d.moment d.left_since d.size c.refuse_line.result old new _ c.refuse_line.ensures.desk (goes_done d.content d.moment d.left_since d.size old new [] e.layout e.size kept
+    (has_none d.content d.moment d.left_since d.size d.may_leave old new (laws.reads_an_image new.store.disk holds.tells) (laws.counts_now new.store.disk) kept))
+
+pub returns-in-Ok-Some-clause-events : goal.returns-in-Ok-Some-clause-events
+returns-in-Ok-Some-clause-events g c holds =
+    let d = g.D.Disk in
+    let laws = g.met.D.Disk g.world.𝓛 g.world.𝓜 g.world.𝓡 ((λ s x. x), (λ x. x), (λ x. x), λ x. x) in
+    let old = c.args.self.now.desk in
+    let new = c.records.new.self in
+    on_ok c.tell.result _
+    (has_none d.content d.moment d.left_since d.size d.may_leave old new (laws.reads_an_image new.store.disk holds.tells) (laws.counts_now new.store.disk) (c.in-Ok-Some.ensures.kept c.requires.is_open holds))
+
+pub returns-in-Ok-None-clause-events : goal.returns-in-Ok-None-clause-events
+returns-in-Ok-None-clause-events g c holds =
+    let d = g.D.Disk in
+    let laws = g.met.D.Disk g.world.𝓛 g.world.𝓜 g.world.𝓡 ((λ s x. x), (λ x. x), (λ x. x), λ x. x) in
+    let old = c.args.self.now.desk in
+    let new = c.records.new.self in
+    on_ok c.refuse_line.result _
+    (rw c.refuse_line.ensures.desk
+    (has_none d.content d.moment d.left_since d.size d.may_leave old new (laws.reads_an_image new.store.disk holds.tells) (laws.counts_now new.store.disk) (c.in-Ok-None.ensures.kept c.requires.is_open holds)))
+
+pub returns-in-Ok-Some-clause-halt : goal.returns-in-Ok-Some-clause-halt
+returns-in-Ok-Some-clause-halt g c holds =
+    let d = g.D.Disk in
+    let laws = g.met.D.Disk g.world.𝓛 g.world.𝓜 g.world.𝓡 ((λ s x. x), (λ x. x), (λ x. x), λ x. x) in
+    let old = c.args.self.now.desk in
+    let new = c.records.new.self in
+    let e = c.in-Ok-Some.ensures in
+    let kept = e.kept c.requires.is_open holds in
+    let none = has_none d.content d.moment d.left_since d.size d.may_leave old new (laws.reads_an_image new.store.disk holds.tells) (laws.counts_now new.store.disk) kept in
+    memory_here d.content d.moment d.left_since d.size c.tell.result old new new [] (λ halt. ListHalt halt c.args.out.now c.tell.new.out) refl
+    (goes_done d.content d.moment d.left_since d.size old new [] e.layout e.size kept none) (came_there d.content old new [] e.layout none) (refl, refl) c.tell.ensures.halt
+
+pub returns-in-Ok-None-clause-halt : goal.returns-in-Ok-None-clause-halt
+returns-in-Ok-None-clause-halt g c holds =
+    let d = g.D.Disk in
+    let laws = g.met.D.Disk g.world.𝓛 g.world.𝓜 g.world.𝓡 ((λ s x. x), (λ x. x), (λ x. x), λ x. x) in
+    let old = c.args.self.now.desk in
+    let new = c.records.new.self in
+    let e = c.in-Ok-None.ensures in
+    let kept = e.kept c.requires.is_open holds in
+    let none = has_none d.content d.moment d.left_since d.size d.may_leave old new (laws.reads_an_image new.store.disk holds.tells) (laws.counts_now new.store.disk) kept in
+    memory_here d.content d.moment d.left_since d.size c.refuse_line.result old new _ [] (λ halt. ListHalt halt c.args.out.now c.refuse_line.new.out) c.refuse_line.ensures.desk
+    (goes_done d.content d.moment d.left_since d.size old new [] e.layout e.size kept none) (came_there d.content old new [] e.layout none) (refl, refl) c.refuse_line.ensures.halt
+
+pub returns-in-Err-NoMemory-clause-halt : goal.returns-in-Err-NoMemory-clause-halt
+returns-in-Err-NoMemory-clause-halt g c holds =
+    let d = g.D.Disk in
+    let old = c.args.self.now.desk in
+    let new = c.records.new.self in
+    let e = c.in-Err-NoMemory.ensures in
+    nothing_came d.content d.moment d.left_since d.size old new (ListHalt Halts.Memory c.args.out.now c.args.out.now) (e.kept c.requires.is_open holds)
+    (subst (StaysBy d.content d.may_leave d.faults old new) c.in-Err-NoMemory.field-0-is e.stays).reads (refl, refl)
+
+pub returns-in-Err-DiskFault-clause-halt : goal.returns-in-Err-DiskFault-clause-halt
+returns-in-Err-DiskFault-clause-halt g c holds =
+    let d = g.D.Disk in
+    let laws = g.met.D.Disk g.world.𝓛 g.world.𝓜 g.world.𝓡 ((λ s x. x), (λ x. x), (λ x. x), λ x. x) in
+    let old = c.args.self.now.desk in
+    let new = c.records.new.self in
+    let e = c.in-Err-DiskFault.ensures in
+    with_failed_disk d.content d.moment d.left_since d.size d.may_leave old new [] (ListHalt Halts.Disk c.args.out.now c.args.out.now)
+    (laws.reads_an_image new.store.disk holds.tells) (laws.counts_now new.store.disk) (omega arith) (e.kept c.requires.is_open holds)
+    (λ kept either. (refl, refl, ⊎_elim (λ none. none) (λ none. none) either))

@@ -1,19 +1,29 @@
-use Rattle.std.proofs.Common.{◌≡◌, ◌++◌, ◌||◌, true, OnOk, refl, ap, sym, subst, ◌∙◌}
+use Rattle.std.proofs.Common.{◌≡◌, ◌++◌, ◌||◌, ◌∷◌, [], ℕ, List, Bool, true, cond, Result, Ok, Err, OnOk, refl, ap, sym, subst, ◌∙◌, append-nil}
 use Rattle.ckr_base.proofs.Bools.{or-true}
 use Rattle.ckr_desk.specs.Model.Rows.{TablesModel}
-use Rattle.ckr_desk.specs.Requests.{behind_call, call_fits}
+use Rattle.ckr_desk.specs.Requests.{behind_call, call_fits, event_in, spelled}
 use Rattle.ckr_desk.specs.Soundness.{state_of}
 use Rattle.ckr_desk.specs.Submit.{is_queued, purge_call}
 use Rattle.ckr_desk.specs.Model.Layout.{Layout}
 use Rattle.batch_desk.specs.declared.orders.Order.TheVariants.{Turns, ListOf, Sets, Jobs, Purge, Unknown}
 use Rattle.batch_desk.specs.Orders.{order_of}
-use Rattle.batch_desk.specs.Calls.{JobsListed, is_refusal, lines_of, purge_answer}
-use Rattle.batch_desk.specs.Service.{seen}
+use Rattle.ckr_desk.specs.Model.OpenImages.{event_records}
+use Rattle.ckr_cards.specs.Session.Handed.{Order as Command}
+use Rattle.batch_desk.specs.Calls.{JobsListed, is_refusal, lines_of, purge_answer, tables_of}
+use Rattle.batch_desk.specs.Events.{purge_event}
+use Rattle.batch_desk.specs.Turns.{TurnsHalt}
+use Rattle.batch_desk.specs.Service.{HaltsSo, ListHalt, PurgeHalt, seen}
 use Rattle.batch_desk.specs.Texts.{answer_text}
-use Rattle.batch_desk.proofs.Service.Answers.{order_served_on, order_kept, tables_in, turns_not_served_on, list_not_served_on, purge_not_served_on}
+use Rattle.batch_desk.proofs.Service.Answers.{comes_none, order_served_on, order_kept, tables_in, turns_halted_so, list_halted_so, purge_halted_so}
 use Rattle.batch_desk.proofs.Cards.{on_ok}
-use Rattle.batch_desk.proofs.Calls.Stops.{goes_nowhere, goes_by_to}
+use Rattle.batch_desk.proofs.Calls.Halts.{memory_here}
+use Rattle.batch_desk.proofs.Calls.Stops.{events_on, goes_nowhere, goes_on_to, same_events, stopped_on}
 use Rattle.batch_desk.proofs.clerk.Clerk.obey.Goals as goal
+
+-- the event of a purge that the book has room for
+purge_came : {E : Type 0} (r : Result (Unit {0}) E) (fits : Bool) (event before after : List (List ℕ)) → OnOk r (fits ≡ true) → OnOk r (after ≡ before ++ event) → OnOk r (after ≡ before ++ cond fits event [])
+purge_came (Ok x) fits event before after fit came = came ∙ ap (λ (f : Bool). before ++ cond f event []) (sym fit)
+purge_came (Err e) fits event before after fit came = tt
 
 -- ---- what is served
 
@@ -24,7 +34,8 @@ returns-in-Turns-clause-serves g c holds =
     let line = c.args.text.now in
     let reads = c.read_order.ensures.value ∙ ap (λ (l : Layout). order_of l.initiators line) c.layout.ensures.layout in
     order_served_on c.turned.result (seen d.content old) _ c.args.number line (Turns c.in-Turns.initiator c.in-Turns.count) _ _ (sym c.in-Turns.is ∙ reads)
-    (c.turned.ensures.fits holds) (c.turned.ensures.after holds) (on_ok c.turned.result _ (order_kept old.refused _ refl)) (c.turned.ensures.text holds)
+    (c.turned.ensures.fits holds) (c.turned.ensures.after holds) (on_ok c.turned.result _ (order_kept old.refused _ refl))
+    (events_on d.content d.moment d.left_since d.size c.turned.result old.desk c.turned.new.desk _ c.turned.ensures.layout (c.turned.ensures.events holds)) (c.turned.ensures.text holds)
 
 pub returns-in-ListOf-clause-serves : goal.returns-in-ListOf-clause-serves
 returns-in-ListOf-clause-serves g c holds =
@@ -33,7 +44,8 @@ returns-in-ListOf-clause-serves g c holds =
     let line = c.args.text.now in
     let reads = c.read_order.ensures.value ∙ ap (λ (l : Layout). order_of l.initiators line) c.layout.ensures.layout in
     order_served_on c.list.result (seen d.content old) (seen d.content c.list.new.self) c.args.number line (ListOf c.in-ListOf.name) _ _ (sym c.in-ListOf.is ∙ reads)
-    (on_ok c.list.result _ refl) (c.list.ensures.state holds) (c.list.ensures.refused holds) (c.list.ensures.text holds)
+    (on_ok c.list.result _ refl) (c.list.ensures.state holds) (c.list.ensures.refused holds)
+    (events_on d.content d.moment d.left_since d.size c.list.result old.desk c.list.new.self.desk [] c.list.ensures.layout (c.list.ensures.events holds)) (c.list.ensures.text holds)
 
 pub returns-in-Sets-clause-serves : goal.returns-in-Sets-clause-serves
 returns-in-Sets-clause-serves g c holds =
@@ -44,7 +56,8 @@ returns-in-Sets-clause-serves g c holds =
     let e = c.list_sets.ensures in
     order_served_on c.list_sets.result (seen d.content old) (seen d.content c.list_sets.new.self) c.args.number line Sets _ _ (sym c.in-Sets.is ∙ reads)
     (on_ok c.list_sets.result _ refl) (on_ok c.list_sets.result _ (ap (λ (o : _). state_of d.content o.desk) e.clerk))
-    (on_ok c.list_sets.result _ (order_kept old.refused _ (ap (λ (o : _). o.refused) e.clerk))) (e.text holds)
+    (on_ok c.list_sets.result _ (order_kept old.refused _ (ap (λ (o : _). o.refused) e.clerk)))
+    (on_ok c.list_sets.result _ (same_events d.content d.moment d.left_since d.size old.desk c.list_sets.new.self.desk (ap (λ (o : _). o.desk) e.clerk))) (e.text holds)
 
 pub returns-in-Jobs-clause-serves : goal.returns-in-Jobs-clause-serves
 returns-in-Jobs-clause-serves g c holds =
@@ -56,6 +69,7 @@ returns-in-Jobs-clause-serves g c holds =
     order_served_on c.list_jobs.result (seen d.content old) (seen d.content c.list_jobs.new.self) c.args.number line Jobs _ _ (sym c.in-Jobs.is ∙ reads)
     (on_ok c.list_jobs.result _ refl) (on_ok c.list_jobs.result _ (ap (λ (o : _). state_of d.content o.desk) e.clerk))
     (on_ok c.list_jobs.result _ (order_kept old.refused _ (ap (λ (o : _). o.refused) e.clerk)))
+    (on_ok c.list_jobs.result _ (same_events d.content d.moment d.left_since d.size old.desk c.list_jobs.new.self.desk (ap (λ (o : _). o.desk) e.clerk)))
     (subst (λ (t : TablesModel). OnOk c.list_jobs.result (c.list_jobs.new.out ≡ c.args.out.now ++ answer_text (JobsListed (lines_of t)))) (tables_in d.told d.content d.may_leave old.desk holds) e.text)
 
 pub returns-in-Purge-clause-serves : goal.returns-in-Purge-clause-serves
@@ -72,6 +86,10 @@ returns-in-Purge-clause-serves g c holds =
     (subst (λ (t : TablesModel). OnOk c.purge.result (call_fits s (purge_call t job) ≡ true)) there (e.fits holds))
     (subst (λ (t : TablesModel). OnOk c.purge.result (state_of d.content c.purge.new.self.desk ≡ behind_call s (purge_call t job))) there (e.after holds))
     (subst (λ (t : TablesModel). OnOk c.purge.result (c.purge.new.self.refused ≡ (old.refused || is_refusal (purge_answer c.args.number job (is_queued t job))))) there e.refused)
+    (purge_came c.purge.result (call_fits s (purge_call (tables_of s) job)) (purge_event s job) _ _
+    (subst (λ (t : TablesModel). OnOk c.purge.result (call_fits s (purge_call t job) ≡ true)) there (e.fits holds))
+    (subst (λ (t : TablesModel). OnOk c.purge.result (event_records c.purge.new.self.desk.store.layout (d.content c.purge.new.self.desk.store.disk) ≡ event_records old.desk.store.layout (d.content old.desk.store.disk) ++ spelled (event_in (purge_call t job)))) there
+    (events_on d.content d.moment d.left_since d.size c.purge.result old.desk c.purge.new.self.desk _ e.layout (e.events holds))))
     (subst (λ (t : TablesModel). OnOk c.purge.result (c.purge.new.out ≡ c.args.out.now ++ answer_text (purge_answer c.args.number job (is_queued t job)))) there e.text)
 
 pub returns-in-Unknown-clause-serves : goal.returns-in-Unknown-clause-serves
@@ -83,26 +101,66 @@ returns-in-Unknown-clause-serves g c holds =
     let e = c.refuse_line.ensures in
     order_served_on c.refuse_line.result (seen d.content old) (seen d.content c.refuse_line.new.self) c.args.number line Unknown _ _ (sym c.in-Unknown.is ∙ reads)
     (on_ok c.refuse_line.result _ refl) (on_ok c.refuse_line.result _ (ap (state_of d.content) e.desk))
-    (on_ok c.refuse_line.result _ (e.refused ∙ sym (or-true old.refused))) e.text
+    (on_ok c.refuse_line.result _ (e.refused ∙ sym (or-true old.refused)))
+    (on_ok c.refuse_line.result _ (same_events d.content d.moment d.left_since d.size old.desk c.refuse_line.new.self.desk e.desk)) e.text
 
 -- ---- what isn't
 
 pub returns-in-Turns-clause-halt : goal.returns-in-Turns-clause-halt
 returns-in-Turns-clause-halt g c holds =
-    let reads = c.read_order.ensures.value ∙ ap (λ (l : Layout). order_of l.initiators c.args.text.now) c.layout.ensures.layout in
-    turns_not_served_on (state_of g.D.Disk.content c.args.self.now.desk) c.args.number c.args.text.now _ reads c.turned.result c.in-Turns.initiator c.in-Turns.count _ _ c.in-Turns.is (c.turned.ensures.halt holds)
+    let d = g.D.Disk in
+    let old = c.args.self.now.desk in
+    let s = state_of d.content old in
+    let line = c.args.text.now in
+    let reads = c.read_order.ensures.value ∙ ap (λ (l : Layout). order_of l.initiators line) c.layout.ensures.layout in
+    stopped_on d.content d.moment d.left_since d.size c.turned.result old c.turned.new.desk.store.disk
+    (λ halt. TurnsHalt old.store.layout c.in-Turns.initiator halt c.in-Turns.count s c.args.out.now c.turned.new.out) (λ halt. HaltsSo halt s (Command c.args.number line ∷ []) c.args.out.now c.turned.new.out)
+    (turns_halted_so s c.args.number line _ reads c.in-Turns.initiator c.in-Turns.count c.args.out.now c.turned.new.out c.in-Turns.is) (c.turned.ensures.halt holds)
 
 pub returns-in-ListOf-clause-halt : goal.returns-in-ListOf-clause-halt
 returns-in-ListOf-clause-halt g c holds =
-    let reads = c.read_order.ensures.value ∙ ap (λ (l : Layout). order_of l.initiators c.args.text.now) c.layout.ensures.layout in
-    list_not_served_on (state_of g.D.Disk.content c.args.self.now.desk) c.args.number c.args.text.now _ reads c.list.result _ _ (c.list.ensures.halt holds)
+    let d = g.D.Disk in
+    let old = c.args.self.now.desk in
+    let s = state_of d.content old in
+    let line = c.args.text.now in
+    let reads = c.read_order.ensures.value ∙ ap (λ (l : Layout). order_of l.initiators line) c.layout.ensures.layout in
+    stopped_on d.content d.moment d.left_since d.size c.list.result old c.list.new.self.desk.store.disk
+    (λ halt. ListHalt halt c.args.out.now c.list.new.out) (λ halt. HaltsSo halt s (Command c.args.number line ∷ []) c.args.out.now c.list.new.out)
+    (list_halted_so s c.args.number line _ reads c.in-ListOf.name c.args.out.now c.list.new.out c.in-ListOf.is) (c.list.ensures.halt holds)
 
 pub returns-in-Purge-clause-halt : goal.returns-in-Purge-clause-halt
 returns-in-Purge-clause-halt g c holds =
     let d = g.D.Disk in
-    let reads = c.read_order.ensures.value ∙ ap (λ (l : Layout). order_of l.initiators c.args.text.now) c.layout.ensures.layout in
-    purge_not_served_on (state_of d.content c.args.self.now.desk) c.args.number c.args.text.now _ reads c.purge.result c.args.self.now.desk.jobs.tables.desk c.in-Purge.job _ _
-    (tables_in d.told d.content d.may_leave c.args.self.now.desk holds) c.in-Purge.is (c.purge.ensures.halt holds)
+    let old = c.args.self.now.desk in
+    let s = state_of d.content old in
+    let line = c.args.text.now in
+    let job = c.in-Purge.job in
+    let call = purge_call old.jobs.tables.desk job in
+    let reads = c.read_order.ensures.value ∙ ap (λ (l : Layout). order_of l.initiators line) c.layout.ensures.layout in
+    stopped_on d.content d.moment d.left_since d.size c.purge.result old c.purge.new.self.desk.store.disk
+    (λ halt. PurgeHalt halt (call_fits s call) (spelled (event_in call)) c.args.out.now c.purge.new.out) (λ halt. HaltsSo halt s (Command c.args.number line ∷ []) c.args.out.now c.purge.new.out)
+    (purge_halted_so s c.args.number line _ reads old.jobs.tables.desk job c.args.out.now c.purge.new.out (tables_in d.told d.content d.may_leave old holds) c.in-Purge.is) (c.purge.ensures.halt holds)
+
+pub returns-in-Sets-clause-halt : goal.returns-in-Sets-clause-halt
+returns-in-Sets-clause-halt g c holds =
+    let d = g.D.Disk in
+    let old = c.args.self.now.desk in
+    memory_here d.content d.moment d.left_since d.size c.list_sets.result old old _ [] (λ halt. HaltsSo halt (state_of d.content old) (Command c.args.number c.args.text.now ∷ []) c.args.out.now c.list_sets.new.out)
+    (ap (λ (o : _). o.desk) c.list_sets.ensures.clerk) (goes_nowhere d.content d.moment d.left_since d.size old (c.layout-layout.ensures.kept c.requires.is_open holds)) (sym (append-nil _)) (comes_none _) c.list_sets.ensures.halt
+
+pub returns-in-Jobs-clause-halt : goal.returns-in-Jobs-clause-halt
+returns-in-Jobs-clause-halt g c holds =
+    let d = g.D.Disk in
+    let old = c.args.self.now.desk in
+    memory_here d.content d.moment d.left_since d.size c.list_jobs.result old old _ [] (λ halt. HaltsSo halt (state_of d.content old) (Command c.args.number c.args.text.now ∷ []) c.args.out.now c.list_jobs.new.out)
+    (ap (λ (o : _). o.desk) c.list_jobs.ensures.clerk) (goes_nowhere d.content d.moment d.left_since d.size old (c.layout-layout.ensures.kept c.requires.is_open holds)) (sym (append-nil _)) (comes_none _) c.list_jobs.ensures.halt
+
+pub returns-in-Unknown-clause-halt : goal.returns-in-Unknown-clause-halt
+returns-in-Unknown-clause-halt g c holds =
+    let d = g.D.Disk in
+    let old = c.args.self.now.desk in
+    memory_here d.content d.moment d.left_since d.size c.refuse_line.result old old _ [] (λ halt. HaltsSo halt (state_of d.content old) (Command c.args.number c.args.text.now ∷ []) c.args.out.now c.refuse_line.new.out)
+    c.refuse_line.ensures.desk (goes_nowhere d.content d.moment d.left_since d.size old (c.layout-layout.ensures.kept c.requires.is_open holds)) (sym (append-nil _)) (comes_none _) c.refuse_line.ensures.halt
 
 -- ---- what a stop leaves
 
@@ -110,16 +168,16 @@ pub returns-in-Unknown-clause-goes : goal.returns-in-Unknown-clause-goes
 returns-in-Unknown-clause-goes g c holds =
     let d = g.D.Disk in
     let old = c.args.self.now.desk in
-    goes_by_to d.content d.moment d.left_since d.size c.refuse_line.result old old _ c.refuse_line.ensures.desk (goes_nowhere d.content d.moment d.left_since d.size old (c.layout-layout.ensures.kept c.requires.is_open holds))
+    goes_on_to d.content d.moment d.left_since d.size c.refuse_line.result old old _ c.refuse_line.ensures.desk (goes_nowhere d.content d.moment d.left_since d.size old (c.layout-layout.ensures.kept c.requires.is_open holds))
 
 pub returns-in-Sets-clause-goes : goal.returns-in-Sets-clause-goes
 returns-in-Sets-clause-goes g c holds =
     let d = g.D.Disk in
     let old = c.args.self.now.desk in
-    goes_by_to d.content d.moment d.left_since d.size c.list_sets.result old old _ (ap (λ (o : _). o.desk) c.list_sets.ensures.clerk) (goes_nowhere d.content d.moment d.left_since d.size old (c.layout-layout.ensures.kept c.requires.is_open holds))
+    goes_on_to d.content d.moment d.left_since d.size c.list_sets.result old old _ (ap (λ (o : _). o.desk) c.list_sets.ensures.clerk) (goes_nowhere d.content d.moment d.left_since d.size old (c.layout-layout.ensures.kept c.requires.is_open holds))
 
 pub returns-in-Jobs-clause-goes : goal.returns-in-Jobs-clause-goes
 returns-in-Jobs-clause-goes g c holds =
     let d = g.D.Disk in
     let old = c.args.self.now.desk in
-    goes_by_to d.content d.moment d.left_since d.size c.list_jobs.result old old _ (ap (λ (o : _). o.desk) c.list_jobs.ensures.clerk) (goes_nowhere d.content d.moment d.left_since d.size old (c.layout-layout.ensures.kept c.requires.is_open holds))
+    goes_on_to d.content d.moment d.left_since d.size c.list_jobs.result old old _ (ap (λ (o : _). o.desk) c.list_jobs.ensures.clerk) (goes_nowhere d.content d.moment d.left_since d.size old (c.layout-layout.ensures.kept c.requires.is_open holds))

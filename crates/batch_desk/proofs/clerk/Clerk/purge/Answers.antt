@@ -1,20 +1,89 @@
-use Rattle.batch_desk.proofs.Calls.Stops.{goes_done, goes_by, goes_by_to}
+use Rattle.std.proofs.Common.{Bool, refl}
+use Rattle.ckr_desk.proofs.Calls.FullBooks.{call-full}
+use Rattle.ckr_desk.proofs.Calls.OneEvent.{call-few}
+use Rattle.ckr_desk.specs.Requests.{call_fits, event_in, spelled}
+use Rattle.ckr_desk.specs.Soundness.{state_of}
+use Rattle.ckr_desk.specs.Submit.{purge_call}
+use Rattle.batch_desk.specs.declared.stop.Halt.TheVariants as Halts
+use Rattle.batch_desk.specs.Service.{PurgeHalt}
+use Rattle.batch_desk.proofs.Cards.{on_ok}
+use Rattle.batch_desk.proofs.Calls.Halts.{memory_here}
+use Rattle.batch_desk.proofs.Calls.Stops.{came_there, failed_kept, goes_done, goes_on_to, with_failed_disk, with_full_book, without_memory}
+use Rattle.batch_desk.proofs.Service.Answers.{comes_none, comes_with}
 use Rattle.batch_desk.proofs.clerk.Clerk.purge.Goals as goal
 
 pub returns-in-Ok-true-clause-goes : goal.returns-in-Ok-true-clause-goes
 returns-in-Ok-true-clause-goes g c holds =
     let d = g.D.Disk in
-    let laws = g.met.D.Disk g.world.𝓛 g.world.𝓜 g.world.𝓡 ((λ s x. x), (λ x. x), (λ x. x), λ x. x) in
+    let old = c.args.self.now.desk in
     let e = c.in-Ok-true.ensures in
-    let disk = c.purge.new.self.store.disk in
-    goes_by d.content d.moment d.left_since d.size c.tell_purged.result c.args.self.now.desk c.purge.new.self
-    (goes_done d.content d.moment d.left_since d.size d.may_leave c.args.self.now.desk c.purge.new.self _ (laws.reads_an_image disk holds.tells) (laws.counts_now disk) e.layout e.size (e.kept c.requires.is_open holds))
+    on_ok c.tell_purged.result _ (goes_done d.content d.moment d.left_since d.size old c.purge.new.self _ e.layout e.size (e.kept c.requires.is_open holds) (e.told holds.tells))
 
 pub returns-in-Ok-false-clause-goes : goal.returns-in-Ok-false-clause-goes
 returns-in-Ok-false-clause-goes g c holds =
     let d = g.D.Disk in
-    let laws = g.met.D.Disk g.world.𝓛 g.world.𝓜 g.world.𝓡 ((λ s x. x), (λ x. x), (λ x. x), λ x. x) in
+    let old = c.args.self.now.desk in
     let e = c.in-Ok-false.ensures in
-    let disk = c.purge.new.self.store.disk in
-    goes_by_to d.content d.moment d.left_since d.size c.refuse_line.result c.args.self.now.desk c.purge.new.self _ c.refuse_line.ensures.desk
-    (goes_done d.content d.moment d.left_since d.size d.may_leave c.args.self.now.desk c.purge.new.self _ (laws.reads_an_image disk holds.tells) (laws.counts_now disk) e.layout e.size (e.kept c.requires.is_open holds))
+    goes_on_to d.content d.moment d.left_since d.size c.refuse_line.result old c.purge.new.self _ c.refuse_line.ensures.desk
+    (goes_done d.content d.moment d.left_since d.size old c.purge.new.self _ e.layout e.size (e.kept c.requires.is_open holds) (e.told holds.tells))
+
+pub returns-in-Ok-true-clause-halt : goal.returns-in-Ok-true-clause-halt
+returns-in-Ok-true-clause-halt g c holds =
+    let d = g.D.Disk in
+    let old = c.args.self.now.desk in
+    let new = c.purge.new.self in
+    let e = c.in-Ok-true.ensures in
+    let call = purge_call old.jobs.tables.desk c.args.job in
+    let came = spelled (event_in call) in
+    let fits = call_fits (state_of d.content old) call in
+    memory_here d.content d.moment d.left_since d.size c.tell_purged.result old new new came (λ halt. PurgeHalt halt fits came c.args.out.now c.tell_purged.new.out) refl
+    (goes_done d.content d.moment d.left_since d.size old new came e.layout e.size (e.kept c.requires.is_open holds) (e.told holds.tells))
+    (came_there d.content old new came e.layout (e.told holds.tells)) (comes_with fits came (e.fits holds)) c.tell_purged.ensures.halt
+
+pub returns-in-Ok-false-clause-halt : goal.returns-in-Ok-false-clause-halt
+returns-in-Ok-false-clause-halt g c holds =
+    let d = g.D.Disk in
+    let old = c.args.self.now.desk in
+    let new = c.purge.new.self in
+    let e = c.in-Ok-false.ensures in
+    let call = purge_call old.jobs.tables.desk c.args.job in
+    let came = spelled (event_in call) in
+    let fits = call_fits (state_of d.content old) call in
+    memory_here d.content d.moment d.left_since d.size c.refuse_line.result old new _ came (λ halt. PurgeHalt halt fits came c.args.out.now c.refuse_line.new.out) c.refuse_line.ensures.desk
+    (goes_done d.content d.moment d.left_since d.size old new came e.layout e.size (e.kept c.requires.is_open holds) (e.told holds.tells))
+    (came_there d.content old new came e.layout (e.told holds.tells)) (comes_with fits came (e.fits holds)) c.refuse_line.ensures.halt
+
+pub returns-in-Err-NoMemory-clause-halt : goal.returns-in-Err-NoMemory-clause-halt
+returns-in-Err-NoMemory-clause-halt g c holds =
+    let d = g.D.Disk in
+    let old = c.args.self.now.desk in
+    let e = c.in-Err-NoMemory.ensures in
+    let call = purge_call old.jobs.tables.desk c.args.job in
+    without_memory d.content d.moment d.left_since d.size Bool d.may_leave d.faults old c.purge.new.self c.in-Err-NoMemory.field-0 _
+    (PurgeHalt Halts.Memory (call_fits (state_of d.content old) call) (spelled (event_in call)) c.args.out.now c.args.out.now)
+    c.in-Err-NoMemory.field-0-is (e.kept c.requires.is_open holds) e.stays (comes_none _)
+
+pub returns-in-Err-BookFull-clause-halt : goal.returns-in-Err-BookFull-clause-halt
+returns-in-Err-BookFull-clause-halt g c holds =
+    let d = g.D.Disk in
+    let old = c.args.self.now.desk in
+    let e = c.in-Err-BookFull.ensures in
+    let call = purge_call old.jobs.tables.desk c.args.job in
+    with_full_book d.content d.moment d.left_since d.size Bool d.may_leave d.faults old c.purge.new.self c.in-Err-BookFull.field-0 c.in-Err-BookFull.field-0-0 c.in-Err-BookFull.field-0-1 _
+    (PurgeHalt Halts.Book (call_fits (state_of d.content old) call) (spelled (event_in call)) c.args.out.now c.args.out.now)
+    c.in-Err-BookFull.field-0-is (e.kept c.requires.is_open holds) e.stays
+    (call-full (state_of d.content old) call c.in-Err-BookFull.field-0 c.in-Err-BookFull.field-0-0 c.in-Err-BookFull.field-0-1 c.in-Err-BookFull.field-0-is (e.cause holds), refl, refl, refl)
+
+pub returns-in-Err-DiskFault-clause-halt : goal.returns-in-Err-DiskFault-clause-halt
+returns-in-Err-DiskFault-clause-halt g c holds =
+    let d = g.D.Disk in
+    let laws = g.met.D.Disk g.world.𝓛 g.world.𝓜 g.world.𝓡 ((λ s x. x), (λ x. x), (λ x. x), λ x. x) in
+    let old = c.args.self.now.desk in
+    let new = c.purge.new.self in
+    let e = c.in-Err-DiskFault.ensures in
+    let call = purge_call old.jobs.tables.desk c.args.job in
+    let came = spelled (event_in call) in
+    with_failed_disk d.content d.moment d.left_since d.size d.may_leave old new came (PurgeHalt Halts.Disk (call_fits (state_of d.content old) call) came c.args.out.now c.args.out.now)
+    (laws.reads_an_image new.store.disk holds.tells) (laws.counts_now new.store.disk) (call-few call)
+    (failed_kept d.content d.moment d.left_since d.size Bool old new c.in-Err-DiskFault.field-0 came c.in-Err-DiskFault.field-0-is (e.kept c.requires.is_open holds))
+    (λ kept either. (refl, refl, either))

@@ -1,13 +1,20 @@
-use Rattle.std.proofs.Common.{refl, ap, sym, ◌∙◌}
+use Rattle.std.proofs.Common.{◌++◌, ◌∷◌, [], refl, ap, subst, sym, ◌∙◌}
 use Rattle.ckr_desk.specs.Model.Rows.{TablesModel}
 use Rattle.ckr_cards.specs.Session.Handed.{Deck}
-use Rattle.ckr_desk.specs.Requests.{behind_call, call_fits}
+use Rattle.ckr_desk.specs.Model.Submitted.{Submitted}
+use Rattle.ckr_desk.proofs.Calls.FullBooks.{call-full}
+use Rattle.ckr_desk.proofs.Calls.OneEvent.{call-few}
+use Rattle.ckr_desk.specs.Model.OpenImages.{event_records}
+use Rattle.batch_desk.specs.declared.stop.Halt.TheVariants as Halts
+use Rattle.ckr_desk.specs.Requests.{behind_call, call_fits, event_in, spelled}
 use Rattle.ckr_desk.specs.Soundness.{state_of}
 use Rattle.ckr_desk.specs.Submit.{submit_call}
-use Rattle.batch_desk.specs.Calls.{tables_of}
-use Rattle.batch_desk.specs.Service.{seen}
-use Rattle.batch_desk.proofs.Service.Answers.{deck_accepted, deck_refused, deck_full, broken_at_once, fails_full, tables_in}
-use Rattle.batch_desk.proofs.Calls.Stops.{goes_done, goes_by_to}
+use Rattle.batch_desk.specs.Calls.{deck_fits, tables_of}
+use Rattle.batch_desk.specs.Events.{deck_event, events_told, request_events}
+use Rattle.batch_desk.specs.Service.{ComesTo, HaltsSo, seen}
+use Rattle.batch_desk.proofs.Service.Answers.{comes_none, comes_one, comes_with, deck_accepted, deck_refused, deck_full, broken_at_once, tables_in}
+use Rattle.batch_desk.proofs.Calls.Halts.{memory_here}
+use Rattle.batch_desk.proofs.Calls.Stops.{came_there, failed_kept, goes_done, goes_on_to, with_failed_disk, with_full_book, without_memory}
 use Rattle.batch_desk.proofs.clerk.Clerk.submit.Goals as goal
 
 pub returns-in-Ok-Job-clause-serves : goal.returns-in-Ok-Job-clause-serves
@@ -22,7 +29,10 @@ returns-in-Ok-Job-clause-serves g c holds =
     (ap (λ (o : _). state_of d.content o.desk) c.accept.ensures.clerk ∙ e.after holds ∙ ap (λ (t : TablesModel). behind_call s (submit_call t cards)) there)
     there
     (tables_in d.told d.content d.may_leave c.submit.new.self (e.trusted holds) ∙ sym (ap (λ (o : _). tables_of (state_of d.content o.desk)) c.accept.ensures.clerk))
-    e.answer c.accept.result c.in-Ok-Job.number _ _
+    e.answer
+    (ap (λ (o : _). event_records o.desk.store.layout (d.content o.desk.store.disk)) c.accept.ensures.clerk ∙ came_there d.content old.desk c.submit.new.self _ e.layout (e.told holds.tells)
+    ∙ ap (λ (t : TablesModel). event_records old.desk.store.layout (d.content old.desk.store.disk) ++ spelled (event_in (submit_call t cards))) there)
+    c.accept.result c.in-Ok-Job.number _ _
     (ap (λ (t : TablesModel). call_fits s (submit_call t cards)) (sym there) ∙ e.fits holds)
     c.in-Ok-Job.field-0-is (ap (λ (o : _). o.refused) c.accept.ensures.clerk) c.accept.ensures.text
 
@@ -38,36 +48,99 @@ returns-in-Ok-Refused-clause-serves g c holds =
     (ap (λ (w : _). state_of d.content w) c.refuse_deck.ensures.desk ∙ e.after holds ∙ ap (λ (t : TablesModel). behind_call s (submit_call t cards)) there)
     there
     (tables_in d.told d.content d.may_leave c.submit.new.self (e.trusted holds) ∙ sym (ap (λ (w : _). tables_of (state_of d.content w)) c.refuse_deck.ensures.desk))
-    e.answer c.refuse_deck.result c.in-Ok-Refused.number c.in-Ok-Refused.card _ _
+    e.answer
+    (ap (λ (w : _). event_records w.store.layout (d.content w.store.disk)) c.refuse_deck.ensures.desk ∙ came_there d.content old.desk c.submit.new.self _ e.layout (e.told holds.tells)
+    ∙ ap (λ (t : TablesModel). event_records old.desk.store.layout (d.content old.desk.store.disk) ++ spelled (event_in (submit_call t cards))) there)
+    c.refuse_deck.result c.in-Ok-Refused.number c.in-Ok-Refused.card _ _
     (ap (λ (t : TablesModel). call_fits s (submit_call t cards)) (sym there) ∙ e.fits holds)
     c.in-Ok-Refused.field-0-is c.refuse_deck.ensures.refused c.refuse_deck.ensures.text
+
+pub returns-in-Ok-Job-clause-halt : goal.returns-in-Ok-Job-clause-halt
+returns-in-Ok-Job-clause-halt g c holds =
+    let d = g.D.Disk in
+    let old = c.args.self.now.desk in
+    let new = c.submit.new.self in
+    let cards = c.args.cards.now in
+    let s = state_of d.content old in
+    let e = c.in-Ok-Job.ensures in
+    let there = tables_in d.told d.content d.may_leave old holds in
+    let came = spelled (event_in (submit_call old.jobs.tables.desk cards)) in
+    memory_here d.content d.moment d.left_since d.size c.accept.result old new _ came (λ halt. HaltsSo halt s (Deck cards ∷ []) c.args.out.now c.accept.new.out) (ap (λ (o : _). o.desk) c.accept.ensures.clerk)
+    (goes_done d.content d.moment d.left_since d.size old new came e.layout e.size (e.kept c.requires.is_open holds) (e.told holds.tells))
+    (came_there d.content old new came e.layout (e.told holds.tells))
+    (comes_one s (Deck cards) came came
+    (subst (λ (t : TablesModel). ComesTo (request_events s (Deck cards)) (spelled (event_in (submit_call t cards))) (spelled (event_in (submit_call t cards)))) (sym there)
+    (comes_with (deck_fits s cards) (deck_event s cards) (ap (λ (t : TablesModel). call_fits s (submit_call t cards)) (sym there) ∙ e.fits holds))))
+    c.accept.ensures.halt
+
+pub returns-in-Ok-Refused-clause-halt : goal.returns-in-Ok-Refused-clause-halt
+returns-in-Ok-Refused-clause-halt g c holds =
+    let d = g.D.Disk in
+    let old = c.args.self.now.desk in
+    let new = c.submit.new.self in
+    let cards = c.args.cards.now in
+    let s = state_of d.content old in
+    let e = c.in-Ok-Refused.ensures in
+    let there = tables_in d.told d.content d.may_leave old holds in
+    let came = spelled (event_in (submit_call old.jobs.tables.desk cards)) in
+    memory_here d.content d.moment d.left_since d.size c.refuse_deck.result old new _ came (λ halt. HaltsSo halt s (Deck cards ∷ []) c.args.out.now c.refuse_deck.new.out) c.refuse_deck.ensures.desk
+    (goes_done d.content d.moment d.left_since d.size old new came e.layout e.size (e.kept c.requires.is_open holds) (e.told holds.tells))
+    (came_there d.content old new came e.layout (e.told holds.tells))
+    (comes_one s (Deck cards) came came
+    (subst (λ (t : TablesModel). ComesTo (request_events s (Deck cards)) (spelled (event_in (submit_call t cards))) (spelled (event_in (submit_call t cards)))) (sym there)
+    (comes_with (deck_fits s cards) (deck_event s cards) (ap (λ (t : TablesModel). call_fits s (submit_call t cards)) (sym there) ∙ e.fits holds))))
+    c.refuse_deck.ensures.halt
+
+pub returns-in-Err-NoMemory-clause-halt : goal.returns-in-Err-NoMemory-clause-halt
+returns-in-Err-NoMemory-clause-halt g c holds =
+    let d = g.D.Disk in
+    let old = c.args.self.now.desk in
+    let e = c.in-Err-NoMemory.ensures in
+    let s = state_of d.content old in
+    without_memory d.content d.moment d.left_since d.size Submitted d.may_leave d.faults old c.submit.new.self c.in-Err-NoMemory.field-0 _ (HaltsSo Halts.Memory s (Deck c.args.cards.now ∷ []) c.args.out.now c.args.out.now)
+    c.in-Err-NoMemory.field-0-is (e.kept c.requires.is_open holds) e.stays (comes_none (events_told s (Deck c.args.cards.now ∷ [])))
 
 pub returns-in-Err-BookFull-clause-halt : goal.returns-in-Err-BookFull-clause-halt
 returns-in-Err-BookFull-clause-halt g c holds =
     let d = g.D.Disk in
-    let s = state_of d.content c.args.self.now.desk in
+    let old = c.args.self.now.desk in
+    let e = c.in-Err-BookFull.ensures in
+    let s = state_of d.content old in
     let cards = c.args.cards.now in
-    deck_full s cards c.args.out.now
-    (ap (λ (t : TablesModel). call_fits s (submit_call t cards)) (sym (tables_in d.told d.content d.may_leave c.args.self.now.desk holds))
-    ∙ fails_full _ c.in-Err-BookFull.field-0 c.in-Err-BookFull.field-0-0 c.in-Err-BookFull.field-0-1 c.in-Err-BookFull.field-0-is (c.in-Err-BookFull.ensures.cause holds))
+    with_full_book d.content d.moment d.left_since d.size Submitted d.may_leave d.faults old c.submit.new.self c.in-Err-BookFull.field-0 c.in-Err-BookFull.field-0-0 c.in-Err-BookFull.field-0-1 _
+    (HaltsSo Halts.Book s (Deck cards ∷ []) c.args.out.now c.args.out.now) c.in-Err-BookFull.field-0-is (e.kept c.requires.is_open holds) e.stays
+    (deck_full s cards c.args.out.now
+    (ap (λ (t : TablesModel). call_fits s (submit_call t cards)) (sym (tables_in d.told d.content d.may_leave old holds))
+    ∙ call-full s (submit_call old.jobs.tables.desk cards) c.in-Err-BookFull.field-0 c.in-Err-BookFull.field-0-0 c.in-Err-BookFull.field-0-1 c.in-Err-BookFull.field-0-is (e.cause holds)))
 
 pub returns-in-Err-DiskFault-clause-halt : goal.returns-in-Err-DiskFault-clause-halt
-returns-in-Err-DiskFault-clause-halt g c holds = broken_at_once (state_of g.D.Disk.content c.args.self.now.desk) (Deck c.args.cards.now) c.args.out.now refl
+returns-in-Err-DiskFault-clause-halt g c holds =
+    let d = g.D.Disk in
+    let laws = g.met.D.Disk g.world.𝓛 g.world.𝓜 g.world.𝓡 ((λ s x. x), (λ x. x), (λ x. x), λ x. x) in
+    let old = c.args.self.now.desk in
+    let new = c.submit.new.self in
+    let e = c.in-Err-DiskFault.ensures in
+    let s = state_of d.content old in
+    let cards = c.args.cards.now in
+    let call = submit_call old.jobs.tables.desk cards in
+    let came = spelled (event_in call) in
+    with_failed_disk d.content d.moment d.left_since d.size d.may_leave old new came (HaltsSo Halts.Disk s (Deck cards ∷ []) c.args.out.now c.args.out.now)
+    (laws.reads_an_image new.store.disk holds.tells) (laws.counts_now new.store.disk) (call-few call)
+    (failed_kept d.content d.moment d.left_since d.size Submitted old new c.in-Err-DiskFault.field-0 came c.in-Err-DiskFault.field-0-is (e.kept c.requires.is_open holds))
+    (λ kept either. broken_at_once s (Deck cards) c.args.out.now came kept refl (ap (λ (t : TablesModel). spelled (event_in (submit_call t cards))) (tables_in d.told d.content d.may_leave old holds)) either)
 
 pub returns-in-Ok-Job-clause-goes : goal.returns-in-Ok-Job-clause-goes
 returns-in-Ok-Job-clause-goes g c holds =
     let d = g.D.Disk in
-    let laws = g.met.D.Disk g.world.𝓛 g.world.𝓜 g.world.𝓡 ((λ s x. x), (λ x. x), (λ x. x), λ x. x) in
+    let old = c.args.self.now.desk in
     let e = c.in-Ok-Job.ensures in
-    let disk = c.submit.new.self.store.disk in
-    goes_by_to d.content d.moment d.left_since d.size c.accept.result c.args.self.now.desk c.submit.new.self _ (ap (λ (o : _). o.desk) c.accept.ensures.clerk)
-    (goes_done d.content d.moment d.left_since d.size d.may_leave c.args.self.now.desk c.submit.new.self _ (laws.reads_an_image disk holds.tells) (laws.counts_now disk) e.layout e.size (e.kept c.requires.is_open holds))
+    goes_on_to d.content d.moment d.left_since d.size c.accept.result old c.submit.new.self _ (ap (λ (o : _). o.desk) c.accept.ensures.clerk)
+    (goes_done d.content d.moment d.left_since d.size old c.submit.new.self _ e.layout e.size (e.kept c.requires.is_open holds) (e.told holds.tells))
 
 pub returns-in-Ok-Refused-clause-goes : goal.returns-in-Ok-Refused-clause-goes
 returns-in-Ok-Refused-clause-goes g c holds =
     let d = g.D.Disk in
-    let laws = g.met.D.Disk g.world.𝓛 g.world.𝓜 g.world.𝓡 ((λ s x. x), (λ x. x), (λ x. x), λ x. x) in
+    let old = c.args.self.now.desk in
     let e = c.in-Ok-Refused.ensures in
-    let disk = c.submit.new.self.store.disk in
-    goes_by_to d.content d.moment d.left_since d.size c.refuse_deck.result c.args.self.now.desk c.submit.new.self _ c.refuse_deck.ensures.desk
-    (goes_done d.content d.moment d.left_since d.size d.may_leave c.args.self.now.desk c.submit.new.self _ (laws.reads_an_image disk holds.tells) (laws.counts_now disk) e.layout e.size (e.kept c.requires.is_open holds))
+    goes_on_to d.content d.moment d.left_since d.size c.refuse_deck.result old c.submit.new.self _ c.refuse_deck.ensures.desk
+    (goes_done d.content d.moment d.left_since d.size old c.submit.new.self _ e.layout e.size (e.kept c.requires.is_open holds) (e.told holds.tells))

@@ -3,11 +3,13 @@ use Rattle.std.proofs.lemmas.Grind.{common_steps}
 use Rattle.ckr_desk.specs.Soundness.{state_of}
 use Rattle.ckr_cards.specs.Session.{Handed, SessionModel as Standing, handed_with, session_behind}
 use Rattle.batch_desk.specs.Service.{Serves, HaltsSo, seen}
+use Rattle.batch_desk.specs.Stops.{Stopped}
 use Rattle.batch_desk.specs.Sessions.{standing_of}
 use Rattle.batch_desk.proofs.Streams.Feeds.{handed_on}
-use Rattle.batch_desk.proofs.Streams.End.{end_requests_of, end_requests_without, served_behind, halted_behind}
+use Rattle.batch_desk.proofs.Streams.End.{end_requests_of, end_requests_without, served_behind}
 use Rattle.batch_desk.proofs.Service.Halts.{halts_before}
-use Rattle.batch_desk.proofs.Calls.Stops.{goes_then_by, handed_within}
+use Rattle.batch_desk.proofs.Calls.Halts.{halts_on}
+use Rattle.batch_desk.proofs.Calls.Stops.{goes_then_on, stopped_so}
 use Rattle.batch_desk.proofs.flow.Flow.end_requests.Goals as goal
 
 pub returns-then-is_empty-clause-serves : goal.returns-then-is_empty-clause-serves
@@ -18,20 +20,26 @@ returns-then-is_empty-clause-serves g c holds =
 
 pub returns-then-is_empty-clause-halt : goal.returns-then-is_empty-clause-halt
 returns-then-is_empty-clause-halt g c holds =
+    let d = g.D.Disk in
     let f = c.args.self.now in
     let none : (length f.partial.items == 0) ≡ true = grind (arith, common_steps, c.is_empty.ensures, c.if-is_empty.true) in
-    subst (λ (xs : List Handed). IfErr c.end.result (λ halt. HaltsSo halt (state_of g.D.Disk.content f.session.clerk.desk) xs c.args.out.now c.end.new.out)) (end_requests_without g.D.Disk.content f none) (c.end.ensures.halt holds)
+    subst (λ (xs : List Handed). IfErr c.end.result (λ halt. Stopped d.content d.moment d.left_since d.size f.session.clerk.desk c.end.new.self.clerk.desk.store.disk (HaltsSo halt (state_of d.content f.session.clerk.desk) xs c.args.out.now c.end.new.out)))
+    (end_requests_without d.content f none) (c.end.ensures.halt holds)
 
 pub returns-in_err-line-clause-halt : goal.returns-in_err-line-clause-halt
 returns-in_err-line-clause-halt g c holds =
+    let d = g.D.Disk in
     let f = c.args.self.now in
     let line = c.deref.result.now in
     let some : (length f.partial.items == 0) ≡ false = grind (arith, common_steps, c.is_empty.ensures, c.if-is_empty.false) in
-    let whole = end_requests_of g.D.Disk.content f line (session_behind (standing_of f.session) line).cards c.deref.ensures.value some refl in
+    let whole = end_requests_of d.content f line (session_behind (standing_of f.session) line).cards c.deref.ensures.value some refl in
     let halt = c.in_err-line.field-0.0 in
+    let s = state_of d.content f.session.clerk.desk in
+    let xs = handed_with (standing_of f.session) line in
     handed_on c.from_residual.result halt _ c.from_residual.ensures.1
-    (subst (λ (xs : List Handed). HaltsSo halt (state_of g.D.Disk.content f.session.clerk.desk) xs c.args.out.now c.line.new.out) whole
-    (halts_before halt (state_of g.D.Disk.content f.session.clerk.desk) (handed_with (standing_of f.session) line) _ c.args.out.now c.line.new.out (c.in_err-line.ensures.halt holds)))
+    (subst (λ (ys : List Handed). Stopped d.content d.moment d.left_since d.size f.session.clerk.desk c.line.new.self.clerk.desk.store.disk (HaltsSo halt s ys c.args.out.now c.line.new.out)) whole
+    (stopped_so d.content d.moment d.left_since d.size f.session.clerk.desk c.line.new.self.clerk.desk.store.disk (HaltsSo halt s xs c.args.out.now c.line.new.out) _
+    (λ came kept so. halts_before halt s xs _ c.args.out.now c.line.new.out came kept so) (c.in_err-line.ensures.halt holds)))
 
 pub returns-clause-serves : goal.returns-clause-serves
 returns-clause-serves g c holds =
@@ -45,22 +53,17 @@ returns-clause-serves g c holds =
 
 pub returns-clause-halt : goal.returns-clause-halt
 returns-clause-halt g c holds =
+    let d = g.D.Disk in
     let f = c.args.self.now in
     let line = c.deref.result.now in
     let o = c.in_ok-line.ensures in
     let some : (length f.partial.items == 0) ≡ false = grind (arith, common_steps, c.is_empty.ensures, c.if-is_empty.false) in
-    let whole = end_requests_of g.D.Disk.content f line c.line.new.self.deck.items c.deref.ensures.value some (ap (λ (s : Standing). s.cards) o.standing) in
-    subst (λ (xs : List Handed). IfErr c.end-2.result (λ halt. HaltsSo halt (state_of g.D.Disk.content f.session.clerk.desk) xs c.args.out.now c.end-2.new.out)) whole
-    (halted_behind c.end-2.result (seen g.D.Disk.content f.session.clerk) (seen g.D.Disk.content c.line.new.self.clerk) _ _ c.args.out.now c.line.new.out c.end-2.new.out (o.serves holds) (c.end-2.ensures.halt (o.trusted holds)))
-
-pub returns-in_err-line-clause-goes : goal.returns-in_err-line-clause-goes
-returns-in_err-line-clause-goes g c holds =
-    let d = g.D.Disk in
-    handed_within d.content d.moment d.left_since d.size c.from_residual.result c.in_err-line.field-0.0 c.args.self.now.session.clerk.desk c.line.new.self.clerk.desk c.from_residual.ensures.1
-    (c.in_err-line.ensures.goes holds)
+    let whole = end_requests_of d.content f line c.line.new.self.deck.items c.deref.ensures.value some (ap (λ (s : Standing). s.cards) o.standing) in
+    subst (λ (xs : List Handed). IfErr c.end-2.result (λ halt. Stopped d.content d.moment d.left_since d.size f.session.clerk.desk c.end-2.new.self.clerk.desk.store.disk (HaltsSo halt (state_of d.content f.session.clerk.desk) xs c.args.out.now c.end-2.new.out))) whole
+    (halts_on d.content d.moment d.left_since d.size c.end-2.result f.session.clerk c.line.new.self.clerk c.end-2.new.self.clerk.desk.store.disk _ _ c.args.out.now c.line.new.out c.end-2.new.out (o.goes holds) (o.serves holds) (c.end-2.ensures.halt (o.trusted holds)))
 
 pub returns-clause-goes : goal.returns-clause-goes
 returns-clause-goes g c holds =
     let d = g.D.Disk in
     let o = c.in_ok-line.ensures in
-    goes_then_by d.content d.moment d.left_since d.size c.end-2.result c.args.self.now.session.clerk.desk c.line.new.self.clerk.desk c.end-2.new.self.clerk.desk (o.goes holds) (c.end-2.ensures.goes (o.trusted holds))
+    goes_then_on d.content d.moment d.left_since d.size c.end-2.result c.args.self.now.session.clerk.desk c.line.new.self.clerk.desk c.end-2.new.self.clerk.desk (o.goes holds) (c.end-2.ensures.goes (o.trusted holds))

@@ -17,4 +17,5 @@ invariant-loop-byte g l = record {
   whole : HasWholeCards l.self.session;
   sink_later : g.K.Sink.faults l.fn.sink ≤ g.K.Sink.faults l.sink;
   disk_later : g.D.Disk.faults l.fn.self.session.clerk.desk.store.disk ≤ g.D.Disk.faults l.self.session.clerk.desk.store.disk;
+  size : g.D.Disk.size l.self.session.clerk.desk.store.disk ≡ g.D.Disk.size l.fn.self.session.clerk.desk.store.disk;
 }

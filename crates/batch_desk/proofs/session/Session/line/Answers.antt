@@ -3,10 +3,12 @@ use Rattle.ckr_desk.specs.Soundness.{state_of}
 use Rattle.ckr_cards.specs.declared.cutter.Line.{Line}
 use Rattle.ckr_cards.specs.Session.{handed_before, handed_alone}
 use Rattle.batch_desk.specs.Service.{Serves, HaltsSo, seen}
+use Rattle.batch_desk.specs.Stops.{Stopped}
 use Rattle.batch_desk.specs.Sessions.{standing_of, cards_left, cards_with}
-use Rattle.batch_desk.proofs.Service.Halts.{serves_on, halts_on, halts_before_on}
+use Rattle.batch_desk.proofs.Service.Halts.{serves_on}
 use Rattle.batch_desk.proofs.Cards.{AreWhole, whole_behind, on_ok}
-use Rattle.batch_desk.proofs.Calls.Stops.{goes_then_by}
+use Rattle.batch_desk.proofs.Calls.Halts.{halts_before_on, halts_on, memory_behind}
+use Rattle.batch_desk.proofs.Calls.Stops.{goes_then_on}
 use Rattle.batch_desk.proofs.session.Session.line.Goals as goal
 
 pub returns-clause-serves : goal.returns-clause-serves
@@ -19,10 +21,13 @@ returns-clause-serves g c holds =
 
 pub returns-clause-halt : goal.returns-clause-halt
 returns-clause-halt g c holds =
+    let d = g.D.Disk in
     let s = standing_of c.args.self.now in
-    let both = halts_on c.serve_line.result (seen g.D.Disk.content c.args.self.now.clerk) (seen g.D.Disk.content c.end_before.new.clerk) _ _ _ _ _
-    (c.in_ok-end_before.ensures.serves holds) (c.serve_line.ensures.halt (c.in_ok-end_before.ensures.trusted holds)) in
-    subst (λ (k : Line). IfErr c.serve_line.result (λ halt. HaltsSo halt (state_of g.D.Disk.content c.args.self.now.clerk.desk) (handed_before k s.cards ++ handed_alone k s.number c.args.text.now) c.args.out.now c.serve_line.new.out))
+    let old = c.args.self.now.clerk in
+    let o = c.in_ok-end_before.ensures in
+    let both = halts_on d.content d.moment d.left_since d.size c.serve_line.result old c.end_before.new.clerk c.serve_line.new.clerk.desk.store.disk _ _ _ _ _ (o.goes holds) (o.serves holds) (c.serve_line.ensures.halt (o.trusted holds)) in
+    subst (λ (k : Line). IfErr c.serve_line.result (λ halt. Stopped d.content d.moment d.left_since d.size old.desk c.serve_line.new.clerk.desk.store.disk
+    (HaltsSo halt (state_of d.content old.desk) (handed_before k s.cards ++ handed_alone k s.number c.args.text.now) c.args.out.now c.serve_line.new.out)))
     c.line-kind.ensures.kind both
 
 pub returns-clause-whole : goal.returns-clause-whole
@@ -38,12 +43,28 @@ returns-clause-whole g c =
 
 pub returns-in_err-end_before-clause-halt : goal.returns-in_err-end_before-clause-halt
 returns-in_err-end_before-clause-halt g c holds =
+    let d = g.D.Disk in
     let s = standing_of c.args.self.now in
-    subst (λ (k : Line). IfErr c.from_residual.result (λ halt. HaltsSo halt (state_of g.D.Disk.content c.args.self.now.clerk.desk) (handed_before k s.cards ++ handed_alone k s.number c.args.text.now) c.args.out.now c.end_before.new.out))
+    let old = c.args.self.now.clerk in
+    let disk = c.end_before.new.clerk.desk.store.disk in
+    subst (λ (k : Line). IfErr c.from_residual.result (λ halt. Stopped d.content d.moment d.left_since d.size old.desk disk
+    (HaltsSo halt (state_of d.content old.desk) (handed_before k s.cards ++ handed_alone k s.number c.args.text.now) c.args.out.now c.end_before.new.out)))
     c.line-kind.ensures.kind
-    (halts_before_on c.from_residual.result c.in_err-end_before.field-0.0 (state_of g.D.Disk.content c.args.self.now.clerk.desk) _ _ _ _ c.from_residual.ensures.1 (c.in_err-end_before.ensures.halt holds))
+    (halts_before_on d.content d.moment d.left_since d.size c.from_residual.result c.in_err-end_before.field-0.0 old disk _ _ _ _ c.from_residual.ensures.1 (c.in_err-end_before.ensures.halt holds))
+
+pub returns-in_err-keep_card-clause-halt : goal.returns-in_err-keep_card-clause-halt
+returns-in_err-keep_card-clause-halt g c holds =
+    let d = g.D.Disk in
+    let s = standing_of c.args.self.now in
+    let old = c.args.self.now.clerk in
+    let new = c.end_before.new.clerk in
+    let o = c.in_ok-end_before.ensures in
+    subst (λ (k : Line). IfErr c.from_residual-in_err-keep_card.result (λ halt. Stopped d.content d.moment d.left_since d.size old.desk new.desk.store.disk
+    (HaltsSo halt (state_of d.content old.desk) (handed_before k s.cards ++ handed_alone k s.number c.args.text.now) c.args.out.now c.end_before.new.out)))
+    c.line-kind.ensures.kind
+    (memory_behind d.content d.moment d.left_since d.size c.from_residual-in_err-keep_card.result old new _ _ _ _ _ _ (o.goes holds) (o.serves holds) c.from_residual-in_err-keep_card.ensures.1)
 
 pub returns-clause-goes : goal.returns-clause-goes
 returns-clause-goes g c holds =
-    goes_then_by g.D.Disk.content g.D.Disk.moment g.D.Disk.left_since g.D.Disk.size c.serve_line.result c.args.self.now.clerk.desk c.end_before.new.clerk.desk c.serve_line.new.clerk.desk
+    goes_then_on g.D.Disk.content g.D.Disk.moment g.D.Disk.left_since g.D.Disk.size c.serve_line.result c.args.self.now.clerk.desk c.end_before.new.clerk.desk c.serve_line.new.clerk.desk
     (c.in_ok-end_before.ensures.goes holds) (c.serve_line.ensures.goes (c.in_ok-end_before.ensures.trusted holds))

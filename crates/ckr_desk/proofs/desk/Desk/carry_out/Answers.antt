@@ -1,21 +1,29 @@
 use Rattle.std.proofs.Common.{◌≡◌, ◌≤◌, ◌∙◌, arith, ap, subst, sym, None, IfErr, IfOk, OnOk}
-use Rattle.ckr_desk_memory.specs.Plans.{IsToldReply}
+use Rattle.ckr_desk_memory.specs.Plans.{HasUnitDue, IsToldReply}
 use Rattle.ckr_desk_refines.specs.Moves.{event_in}
 use Rattle.ckr_desk_store.specs.State.{IsSound, StoreView}
 use Rattle.ckr_desk.proofs.Calls.Requests.{if-err, if-err-both, on-ok, on-ok-both}
-use Rattle.ckr_desk.proofs.Turns.Preparation.{as-before, planned-before, same-unchanged, turned-before, turned-not}
-use Rattle.ckr_desk.proofs.Turns.Plans.{go-after, go-cause, go-fits, go-kept, go-may-fail, go-of-disk, go-reply, go-trusted, go-unready, if-ok, of-disk-stays, ready-if, rests-so, unready-stays}
+use Rattle.ckr_desk.proofs.Turns.Preparation.{as-before, came-of-disk, planned-before, same-unchanged, turned-before, turned-not}
+use Rattle.ckr_desk.proofs.Turns.Plans.{behind-takes, go-after, go-cause, go-fits, go-kept, go-may-fail, go-of-disk, go-reply, go-told, go-trusted, go-unready, if-ok, of-disk-stays, plain-told, rests-so, unready-stays, unready-takes}
 use Rattle.ckr_desk.proofs.Calls.Stops.{now-left, opens-so, same-left}
 use Rattle.ckr_desk.proofs.Units.Preparation.{err-is}
 use Rattle.ckr_desk.specs.Requests.{MayFail}
 use Rattle.ckr_desk.specs.Rewrite.{OpensSame}
+use Rattle.ckr_desk.specs.Soundness.{state_of}
 use Rattle.ckr_desk.specs.State.{DeskView}
+use Rattle.ckr_desk.specs.Turn.{event_of_turn}
 use Rattle.ckr_desk.specs.NoChange.{StaysBy}
 use Rattle.ckr_desk.specs.Units.{HasTurned}
 use Rattle.ckr_desk.proofs.desk.Desk.carry_out.Goals as goal
 
+pub work-requires-clause-due : goal.work-requires-clause-due
+work-requires-clause-due g c κs within = subst (HasUnitDue c.args.self.now.jobs) c.in-Work.is c.requires.works
+
+pub go_on-requires-clause-plain : goal.go_on-requires-clause-plain
+go_on-requires-clause-plain g c κs within = plain-told c.args.plan c.requires.plain (rests-so c.args.plan c.in_default.not-Work)
+
 pub go_on-requires-clause-ready : goal.go_on-requires-clause-ready
-go_on-requires-clause-ready g c κs within = ready-if (event_in c.args.plan) c.ready_for.new.self c.in_ok-ready-in_default.ready c.in_ok-ready-in_default.ensures.ready
+go_on-requires-clause-ready g c κs within = c.in_ok-ready-in_default.ensures.ready
 
 pub returns-in_err-ready-in_default : goal.returns-in_err-ready-in_default
 returns-in_err-ready-in_default g c =
@@ -40,7 +48,8 @@ returns-in_err-ready-in_default g c =
       turned = λ turn p.
           subst (HasTurned d.told d.content d.may_leave d.moment d.left_since d.size turn now mid) (sym is)
           (turned-not d.told d.content d.may_leave d.moment d.left_since d.size now mid before sized since turn p.trusted error
-          (go-unready d.told d.content d.may_leave d.moment d.left_since d.size d.faults now p.trusted turn p.its plan mid error p.planned shape rests cause));
+          (go-unready d.told d.content d.may_leave d.moment d.left_since d.size d.faults now p.trusted turn p.its plan mid error p.planned shape rests cause)
+          (unready-takes d.told d.content d.may_leave d.moment d.left_since d.size d.faults now p.trusted turn p.its plan mid error p.planned cause));
       spelled = subst (λ r. IfOk r IsToldReply) (sym is) tt;
       is_open = subst (λ r. OnOk r (mid.store.fault ≡ None)) (sym is) tt;
       layout = ap (λ (s : StoreView g.row.D.Denot). s.layout) store;
@@ -66,8 +75,6 @@ returns-in_ok-ready-in_default g c =
     let since = same-left d.moment d.left_since now.store mid.store (λ image. OpensSame d.content d.size now image × d.may_leave now.store.disk image) store
     (now-left d.told d.content d.may_leave d.moment d.left_since d.size now sound c.requires.is_open (laws.only_now now.store.disk)) in
     let new = c.go_on.new.self in
-    let ready = c.in_ok-ready-in_default.ready in
-    let made = c.in_ok-ready-in_default.ensures.ready in
     let sound_then = subst (λ (s : StoreView g.row.D.Denot). IsSound d.content d.may_leave d.size s) (sym store) sound in
     let opens = opens-so d.told d.content d.may_leave d.moment d.left_since d.size mid sound_then (ap (λ (s : StoreView g.row.D.Denot). s.fault) store ∙ c.requires.is_open) in
     record {
@@ -78,9 +85,12 @@ returns-in_ok-ready-in_default g c =
             reply = if-ok (λ reply is. is ∙ go-reply d.told d.content d.may_leave d.moment d.left_since d.size d.faults mid q.trusted turn q.its plan q.planned rests) c.go_on.result c.go_on.ensures.reply;
             fits = on-ok (go-fits d.told d.content d.may_leave d.moment d.left_since d.size d.faults mid q.trusted turn q.its plan new q.planned shape rests) c.go_on.result c.go_on.ensures.gone;
             after = on-ok-both (go-after d.told d.content d.may_leave d.moment d.left_since d.size d.faults mid q.trusted turn q.its plan new q.planned shape rests c.go_on.ensures.layout) c.go_on.result c.go_on.ensures.gone c.go_on.ensures.settled;
+            events = on-ok (go-told d.told d.content d.may_leave d.moment d.left_since d.size d.faults mid q.trusted turn q.its plan new q.planned shape rests) c.go_on.result c.go_on.ensures.gone;
             trusted = on-ok-both (go-trusted d.told d.content d.may_leave d.moment d.left_since d.size d.faults mid q.trusted turn q.its plan new q.planned shape rests c.go_on.ensures.layout) c.go_on.result c.go_on.ensures.gone c.go_on.ensures.settled;
-            cause = if-err (λ error not. go-cause d.told d.content d.may_leave d.moment d.left_since d.size d.faults mid q.trusted turn q.its plan ready new error q.planned shape rests made not) c.go_on.result c.go_on.ensures.cause;
-            kept = go-kept d.told d.content d.may_leave d.moment d.left_since d.size d.faults mid q.trusted turn q.its plan new q.planned shape rests opens (c.go_on.ensures.left p.trusted.tells);
+            cause = if-err (λ error not. go-cause d.told d.content d.may_leave d.moment d.left_since d.size d.faults mid q.trusted turn q.its plan new error q.planned shape rests not) c.go_on.result c.go_on.ensures.cause;
+            takes = if-err (λ error not. behind-takes d.faults mid new plan (event_of_turn (state_of d.content mid) turn) error not) c.go_on.result c.go_on.ensures.cause;
+            kept = came-of-disk d.content d.moment d.left_since d.size mid new _ c.go_on.result (if-err (go-of-disk d.faults mid new plan) c.go_on.result c.go_on.ensures.cause)
+                (go-kept d.told d.content d.may_leave d.moment d.left_since d.size d.faults mid q.trusted turn q.its plan new q.planned shape rests opens (c.go_on.ensures.left p.trusted.tells));
           });
       spelled = c.go_on.ensures.spelled;
       is_open = c.go_on.ensures.is_open;
@@ -88,6 +98,6 @@ returns-in_ok-ready-in_default g c =
       size = c.go_on.ensures.size ∙ sized;
       faults = subst (λ (s : StoreView g.row.D.Denot). d.faults s.disk ≤ d.faults new.store.disk) store c.go_on.ensures.faults;
       may_fail = subst (λ (s : StoreView g.row.D.Denot). IfErr c.go_on.result (MayFail (d.faults s.disk) (d.faults new.store.disk) s.fault)) store
-          (if-err (go-may-fail d.faults mid new plan ready) c.go_on.result c.go_on.ensures.cause);
-      stays = if-err-both (λ error not halted. of-disk-stays d.content d.may_leave d.faults now new error (go-of-disk d.faults mid new plan ready error not) halted) c.go_on.result c.go_on.ensures.cause c.go_on.ensures.halted;
+          (if-err (go-may-fail d.faults mid new plan) c.go_on.result c.go_on.ensures.cause);
+      stays = if-err-both (λ error not halted. of-disk-stays d.content d.may_leave d.faults now new error (go-of-disk d.faults mid new plan error not) halted) c.go_on.result c.go_on.ensures.cause c.go_on.ensures.halted;
     }

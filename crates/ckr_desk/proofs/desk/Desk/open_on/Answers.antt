@@ -1,11 +1,13 @@
-use Rattle.std.proofs.Common.{subst, sym}
-use Rattle.ckr_outside.specs.Disk.{EachSince}
+use Rattle.std.proofs.Common.{[], ap, inl, inr, subst, sym}
 use Rattle.ckr_outside.specs.Faults.{Rose}
-use Rattle.ckr_desk_store.specs.State.{IsSound}
-use Rattle.ckr_desk.proofs.Openings.Trust.{IsOpened, IsRead, WritesAgain, desk-cause, kept-opening, opened-by, opens-again, opens-desk, trusted-opened}
+use Rattle.ckr_desk_store.specs.OpenImages.{event_records}
+use Rattle.ckr_desk_store.specs.State.{IsSound, StoreView}
+use Rattle.ckr_volumes.specs.declared.layout.Layout.{Layout}
+use Rattle.ckr_desk.proofs.Openings.Trust.{IsOpened, IsRead, IsReadAs, WritesAgain, desk-cause, kept-opening, opened-by, opens-again, opens-desk, trusted-opened}
 use Rattle.ckr_desk.proofs.Openings.Replay.{handed_on}
-use Rattle.ckr_desk.specs.Soundness.{IsSafe}
-use Rattle.ckr_desk.specs.State.{DeskView}
+use Rattle.ckr_desk.specs.FirstSync.{FromSync, IsLeft}
+use Rattle.ckr_desk.specs.Soundness.{AllSound, HasKept}
+use Rattle.ckr_desk.specs.State.{DeskView, opened_of}
 use Rattle.ckr_desk.proofs.desk.Desk.open_on.Goals as goal
 
 pub returns-in_err-desk-clause-cause : goal.returns-in_err-desk-clause-cause
@@ -107,36 +109,36 @@ returns-in-Ok-clause-events g c all =
 pub returns-in-Ok-clause-kept : goal.returns-in-Ok-clause-kept
 returns-in-Ok-clause-kept g c all =
     let d = g.D.Disk in
+    let disk = c.args.disk in
+    let new = c.write_again.new.self in
     let laws = g.met.D.Disk g.world.𝓛 g.world.𝓜 g.world.𝓡 ((λ s x. x), (λ x. x), (λ x. x), λ x. x) in
     let there = c.in_ok-desk.field-0 in
     let e = c.in_ok-desk.ensures in
-    let read : IsRead d.told d.content d.may_leave d.size c.args.disk there.desk there.last =
-    record {
-      reads = record { opens = e.opened all.tells; last_is = e.last all.tells; same = e.only_reads.same; same_size = e.size };
-      failed = e.failed;
-      running = e.running;
-      is_open = e.is_open;
-    }
-    in
-    kept-opening d.told d.content d.may_leave d.size c.args.disk there.desk there.last
-    (all.sound (d.content c.args.disk) (laws.reads_an_image c.args.disk all.tells)) read.reads d.moment d.left_since c.write_again.new.self.store.disk all
-    e.only_reads c.write_again.ensures.left
+    let reads : IsReadAs d.told d.content d.may_leave d.size disk there.desk there.last =
+    record { opens = e.opened all.tells; last_is = e.last all.tells; same = e.only_reads.same; same_size = e.size } in
+    subst (λ (l : Layout). FromSync d.content d.may_leave d.moment d.left_since disk new.store.disk (HasKept l (d.size disk) (event_records l (d.content disk)) []))
+    (sym (ap (λ (s : StoreView g.row.D.Denot). s.layout) c.in-Ok.ensures.kept))
+    (kept-opening d.told d.content d.may_leave d.size disk there.desk there.last (all.sound (d.content disk) (laws.reads_an_image disk all.tells)) reads d.moment d.left_since
+    new.store.disk e.synced c.write_again.ensures.left)
 
-pub returns-clause-kept_left : goal.returns-clause-kept_left
-returns-clause-kept_left g c all =
+pub returns-in_err-desk-clause-left : goal.returns-in_err-desk-clause-left
+returns-in_err-desk-clause-left g c =
+    handed_on c.from_residual.result c.in_err-desk.field-0.0 _ c.from_residual.ensures.1 (inl c.in_err-desk.ensures.left)
+
+pub returns-clause-left : goal.returns-clause-left
+returns-clause-left g c =
     let d = g.D.Disk in
+    let disk = c.args.disk in
     let laws = g.met.D.Disk g.world.𝓛 g.world.𝓜 g.world.𝓡 ((λ s x. x), (λ x. x), (λ x. x), λ x. x) in
     let there = c.in_ok-desk.field-0 in
     let e = c.in_ok-desk.ensures in
-    let read : IsRead d.told d.content d.may_leave d.size c.args.disk there.desk there.last =
-    record {
-      reads = record { opens = e.opened all.tells; last_is = e.last all.tells; same = e.only_reads.same; same_size = e.size };
-      failed = e.failed;
-      running = e.running;
-      is_open = e.is_open;
-    }
-    in
-    subst (λ n. EachSince d.moment d.left_since c.args.disk n (IsSafe (d.may_leave c.args.disk) (d.content c.args.disk) (d.size c.args.disk))) (sym c.close.ensures)
-    (kept-opening d.told d.content d.may_leave d.size c.args.disk there.desk there.last
-    (all.sound (d.content c.args.disk) (laws.reads_an_image c.args.disk all.tells)) read.reads d.moment d.left_since c.write_again.new.self.store.disk all
-    e.only_reads c.write_again.ensures.left)
+    subst (IsLeft d.content d.may_leave d.moment d.left_since d.size d.told (AllSound d.told d.may_leave d.size disk) c.in-Err.error disk) (sym c.close.ensures)
+    (inr (record {
+      failed = c.in-Err.ensures.cause.0;
+      opened = opened_of there.desk;
+      opens = e.opened;
+      kept = λ all.
+          kept-opening d.told d.content d.may_leave d.size disk there.desk there.last (all.sound (d.content disk) (laws.reads_an_image disk all.tells))
+          (record { opens = e.opened all.tells; last_is = e.last all.tells; same = e.only_reads.same; same_size = e.size }) d.moment d.left_since
+          c.write_again.new.self.store.disk e.synced c.write_again.ensures.left;
+    }))

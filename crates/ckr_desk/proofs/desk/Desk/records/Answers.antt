@@ -1,5 +1,6 @@
 use Rattle.std.proofs.Common.{Some, ap, subst, sym, ◌∙◌}
 use Rattle.std.specs.Option.{option_copied, option_map}
+use Rattle.ckr_book.specs.Book.{room_of}
 use Rattle.ckr_library.specs.declared.sets.DataSet.{DataSet}
 use Rattle.ckr_outside.specs.Disk.{EachSince}
 use Rattle.ckr_desk_store.specs.State.{IsSound}
@@ -61,7 +62,7 @@ returns-in_err-read_all-in-Some-free_set-clause-cause g c trusted =
     let d = g.D.Disk in
     let now = c.args.self.now in
     handed_on c.from_residual.result c.in_err-read_all-in-Some-free_set.field-0.0 _ c.from_residual.ensures.1
-    (reading-fails-by d.faults c.self.inside.store c.read_all.new.store c.in_err-read_all-in-Some-free_set.field-0.0 c.in_err-read_all-in-Some-free_set.ensures.cause)
+    (reading-fails-by d.faults c.self.inside.store c.read_all.new.store (room_of now.store.book) c.in_err-read_all-in-Some-free_set.field-0.0 c.in_err-read_all-in-Some-free_set.ensures.cause)
 
 pub returns-in-None-clause-records : goal.returns-in-None-clause-records
 returns-in-None-clause-records g c trusted =

@@ -1,6 +1,6 @@
 use Rattle.std.proofs.Common.{subst}
 use Rattle.ckr_desk_store.specs.State.{IsSound}
-use Rattle.ckr_desk.proofs.Calls.Requests.{call-cause, call-fits, call-kept, call-may-fail, call-open, call-state, call-stays, call-trusted, if-err, on-ok, on-ok-all, on-ok-both, submit-called}
+use Rattle.ckr_desk.proofs.Calls.Requests.{call-cause, call-fits, call-full, call-kept-by, call-may-fail, call-open, call-state, call-stays, call-told, call-trusted, if-err, on-ok, on-ok-all, on-ok-both, submit-called}
 use Rattle.ckr_desk.specs.Submit.{submit_call}
 use Rattle.ckr_desk.proofs.desk.Desk.submit.Goals as goal
 
@@ -62,5 +62,13 @@ returns-clause-kept g c is_open trusted =
     let now = c.args.self.now in
     let call = submit_call now.jobs.tables.desk c.args.cards.now in
     let its = submit-called d.told d.content d.may_leave d.size now trusted c.args.cards.now c.requires.some in
-    call-kept d.told d.content d.may_leave d.size now trusted d.moment d.left_since
-    (subst (λ s. IsSound d.content d.may_leave d.size s.store) c.self.view_is c.layout-layout.ensures.sound) is_open c.hand_in.new.self call its (c.hand_in.ensures.left is_open)
+    let laws = g.met.D.Disk g.world.𝓛 g.world.𝓜 g.world.𝓡 ((λ s x. x), (λ x. x), (λ x. x), λ x. x) in
+    call-kept-by d.told d.content d.may_leave d.size now trusted d.moment d.left_since
+    (subst (λ s. IsSound d.content d.may_leave d.size s.store) c.self.view_is c.layout-layout.ensures.sound) is_open d.faults c.hand_in.new.self call c.hand_in.result its (laws.only_now now.store.disk)
+    (c.hand_in.ensures.left is_open) c.hand_in.ensures.cause
+
+pub returns-clause-told : goal.returns-clause-told
+returns-clause-told g c tells = on-ok (call-told _ _ (submit_call c.args.self.now.jobs.tables.desk c.args.cards.now)) c.hand_in.result (c.hand_in.ensures.told tells)
+
+pub returns-clause-full : goal.returns-clause-full
+returns-clause-full g c = if-err (call-full g.D.Disk.faults c.args.self.now c.hand_in.new.self (submit_call c.args.self.now.jobs.tables.desk c.args.cards.now)) c.hand_in.result c.hand_in.ensures.cause

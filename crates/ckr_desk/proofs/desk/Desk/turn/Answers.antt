@@ -1,4 +1,5 @@
-use Rattle.std.proofs.Common.{◌∙◌, ap, refl, subst, sym}
+use Rattle.std.proofs.Common.{◌∙◌, IfErr, ap, refl, subst, sym}
+use Rattle.ckr_desk_memory.specs.Plans.{Tells}
 use Rattle.ckr_desk_memory.specs.View.{jobs_of}
 use Rattle.ckr_desk_turn.specs.Invariant.{IsTurnOf}
 use Rattle.ckr_outside.specs.Moments.{started}
@@ -6,14 +7,18 @@ use Rattle.ckr_desk_store.specs.OpenImages.{event_records}
 use Rattle.ckr_desk_turn.specs.Plans.{plan_of}
 use Rattle.ckr_volumes.specs.declared.layout.Layout.{Layout}
 use Rattle.ckr_desk.proofs.Turns.Preparation.{planned-before, turned-before}
+use Rattle.ckr_desk.proofs.Turns.PlainEvents.{plan-plain}
+use Rattle.ckr_desk.proofs.Turns.Plans.{go-tells}
+use Rattle.ckr_desk.proofs.Units.Preparation.{err-is}
 use Rattle.ckr_desk.proofs.Images.Soundness.{kept-before}
 use Rattle.ckr_desk.proofs.Calls.Stops.{now-left, opens-so}
 use Rattle.ckr_desk.proofs.Trust.Sameness.{IsAsBefore}
-use Rattle.ckr_desk.specs.Requests.{spelled}
+use Rattle.ckr_desk.specs.Requests.{came_by, spelled}
 use Rattle.ckr_desk.specs.Soundness.{HasKept, IsTrusted, state_of}
 use Rattle.ckr_desk.specs.State.{DeskView}
 use Rattle.ckr_desk.specs.Turn.{event_of_turn}
-use Rattle.ckr_desk.specs.Units.{HasTurned, IsPlanned}
+use Rattle.ckr_desk.specs.Units.{HasTurned, IsPlanned, TakesBy}
+use Rattle.ckr_desk.specs.declared.error.DeskError.TheVariants.{NoMemory}
 use Rattle.ckr_desk.proofs.desk.Desk.turn.Given.{Over}
 use Rattle.ckr_desk.proofs.desk.Desk.turn.Goals as goal
 
@@ -22,7 +27,7 @@ returns-in_err-plan-clause-kept g c =
     let d = g.D.Disk in
     let old : DeskView g.row.D.Denot = record { store = c.self.inside.store; jobs = c.self.inside.jobs } in
     let laws = g.met.D.Disk g.world.𝓛 g.world.𝓜 g.world.𝓡 ((λ s x. x), (λ x. x), (λ x. x), λ x. x) in
-    let came = spelled (event_of_turn (state_of d.content old) c.args.turn) in
+    let came = came_by c.from_residual.result (spelled (event_of_turn (state_of d.content old) c.args.turn)) in
     rw (← c.self.view_is)
     (λ is_open trusted.
     started d.moment d.left_since old.store.disk (HasKept old.store.layout (d.size old.store.disk) (event_records old.store.layout (d.content old.store.disk)) came)
@@ -30,6 +35,21 @@ returns-in_err-plan-clause-kept g c =
     kept-before d.told d.content d.may_leave d.size old trusted came image
     (opens-so d.told d.content d.may_leave d.moment d.left_since d.size old c.layout-layout.ensures.sound is_open image (laws.only_now old.store.disk image left))
     (trusted.committed image (laws.only_now old.store.disk image left))))
+
+pub returns-in_err-plan-clause-takes : goal.returns-in_err-plan-clause-takes
+returns-in_err-plan-clause-takes g c =
+    let d = g.D.Disk in
+    let old : DeskView g.row.D.Denot = record { store = c.self.inside.store; jobs = c.self.inside.jobs } in
+    let turn = c.args.turn in
+    rw (← c.self.view_is)
+    (λ trusted.
+    subst (λ r. IfErr r (TakesBy (event_of_turn (state_of d.content old) turn))) (sym (err-is c.from_residual.result NoMemory c.from_residual.ensures.1))
+    (go-tells d.told d.content d.may_leave d.moment d.left_since d.size d.faults old trusted turn
+    (subst (λ (s : DeskView g.row.D.Denot). IsTurnOf s.store.layout turn) (sym c.self.view_is) c.requires.initiator)
+    (subst (λ (l : Layout). Tells (plan_of l (jobs_of c.self.inside.jobs) turn)) c.layout.ensures.layout c.in_err-plan.ensures.tells)))
+
+pub carry_out-requires-clause-plain : goal.carry_out-requires-clause-plain
+carry_out-requires-clause-plain g c κs within = plan-plain _ _ c.args.turn c.in_ok-plan.plan c.in_ok-plan.ensures.plan
 
 abbrev desk_before : (g : Over) (c : goal.After-carry_out g) → DeskView g.row.D.Denot
 desk_before g c = record { store = c.self.inside.store; jobs = c.self.inside.jobs }
@@ -69,11 +89,17 @@ returns-clause-fits g c = rw (← c.self.view_is) (λ trusted. (turned-so g c tr
 pub returns-clause-after : goal.returns-clause-after
 returns-clause-after g c = rw (← c.self.view_is) (λ trusted. (turned-so g c trusted).after)
 
+pub returns-clause-told : goal.returns-clause-told
+returns-clause-told g c = rw (← c.self.view_is) (λ trusted. (turned-so g c trusted).events)
+
 pub returns-clause-trusted : goal.returns-clause-trusted
 returns-clause-trusted g c = rw (← c.self.view_is) (λ trusted. (turned-so g c trusted).trusted)
 
 pub returns-clause-cause : goal.returns-clause-cause
 returns-clause-cause g c = rw (← c.self.view_is) (λ trusted. (turned-so g c trusted).cause)
+
+pub returns-clause-takes : goal.returns-clause-takes
+returns-clause-takes g c = rw (← c.self.view_is) (λ trusted. (turned-so g c trusted).takes)
 
 pub returns-clause-kept : goal.returns-clause-kept
 returns-clause-kept g c = rw (← c.self.view_is) (λ is_open trusted. (turned-so g c trusted).kept)

@@ -2,13 +2,13 @@ use Rattle.std.proofs.Common.{sym, subst}
 use Rattle.ckr_desk_turn.specs.declared.plan.Plan.TheVariants.{Work}
 use Rattle.ckr_desk.proofs.Turns.Preparation.{planned-before, turned-before, turned-not}
 use Rattle.ckr_desk.proofs.Calls.Stops.{reads-left}
-use Rattle.ckr_desk.proofs.Units.Preparation.{err-is, look-cause}
+use Rattle.ckr_desk.proofs.Units.Preparation.{err-is, look-cause, look-takes}
 use Rattle.ckr_desk.proofs.Trust.Sameness.{IsAsBefore}
 use Rattle.ckr_desk.specs.Units.{HasTurned}
 use Rattle.ckr_desk.proofs.desk.Desk.work.Goals as goal
 
-pub returns-in_err-foretold-clause-turned : goal.returns-in_err-foretold-clause-turned
-returns-in_err-foretold-clause-turned g c turn p =
+pub returns-in_err-ahead-clause-turned : goal.returns-in_err-ahead-clause-turned
+returns-in_err-ahead-clause-turned g c turn p =
     let d = g.D.Disk in
     let now = c.args.self.now in
     let new = c.look.new.self in
@@ -23,9 +23,10 @@ returns-in_err-foretold-clause-turned g c turn p =
     in
     let since = reads-left d.told d.content d.may_leave d.moment d.left_since d.size now new.store.disk e.any_moment e.only_reads in
     let later = planned-before d.told d.content d.may_leave d.moment d.left_since d.size now new is e.size since turn (Work c.args.run) p in
-    subst (HasTurned d.told d.content d.may_leave d.moment d.left_since d.size turn now new) (sym (err-is c.from_residual.result c.in_err-foretold.field-0.0 c.from_residual.ensures.1))
-    (turned-not d.told d.content d.may_leave d.moment d.left_since d.size now new is e.size since turn p.trusted c.in_err-foretold.field-0.0
-    (look-cause d.told d.content d.may_leave d.moment d.left_since d.size d.faults c.args.run now new turn p later is c.in_err-foretold.field-0.0 c.in_err-foretold.ensures.cause))
+    subst (HasTurned d.told d.content d.may_leave d.moment d.left_since d.size turn now new) (sym (err-is c.from_residual.result c.in_err-ahead.field-0.0 c.from_residual.ensures.1))
+    (turned-not d.told d.content d.may_leave d.moment d.left_since d.size now new is e.size since turn p.trusted c.in_err-ahead.field-0.0
+    (look-cause d.told d.content d.may_leave d.moment d.left_since d.size d.faults c.args.run now new turn p later is c.in_err-ahead.field-0.0 c.in_err-ahead.ensures.cause)
+    (look-takes d.told d.content d.may_leave d.moment d.left_since d.size d.faults c.args.run now new turn later is c.in_err-ahead.field-0.0 c.in_err-ahead.ensures.cause))
 
 pub returns-clause-turned : goal.returns-clause-turned
 returns-clause-turned g c turn p =

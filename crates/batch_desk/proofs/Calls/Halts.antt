@@ -1,0 +1,55 @@
+-- Requests that aren't served to their end, and which events came.
+use Rattle.std.proofs.Common.{◌≡◌, ◌++◌, ℕ, List, Result, Ok, Err, IfErr, IsErrAnd, sym, subst}
+use Rattle.ckr_cards.specs.Session.{Handed}
+use Rattle.ckr_desk.specs.Model.OpenImages.{event_records}
+use Rattle.ckr_desk.specs.Soundness.{state_of}
+use Rattle.ckr_desk.specs.State.{DeskView}
+use Rattle.batch_desk.specs.declared.clerk.Clerk.{Clerk}
+use Rattle.batch_desk.specs.declared.stop.Halt.{Halt}
+use Rattle.batch_desk.specs.declared.stop.Halt.TheVariants as Halts
+use Rattle.batch_desk.specs.Events.{events_told}
+use Rattle.batch_desk.specs.Service.{HaltsSo, Serves, seen}
+use Rattle.batch_desk.specs.Stops.{Goes, Stopped}
+use Rattle.batch_desk.proofs.Calls.Stops.{stopped_behind, stopped_here, stopped_so}
+use Rattle.batch_desk.proofs.Service.Events.{comes_all, events_told-front}
+use Rattle.batch_desk.proofs.Service.Halts.{halts_behind, halts_before}
+
+module _ {D : Type 0} (content : D → List ℕ) (moment : D → ℕ) (left_since : D → ℕ → List ℕ → Type 0) (size : D → ℕ) where
+  -- behind requests that were served
+  pub halts_on : {T : Type 0} (r : Result T Halt) (a b : Clerk D) (c : D) (xs ys : List Handed) (t u v : List ℕ) → Goes content moment left_since size a.desk b.desk → Serves (seen content a) (seen content b) xs t u
+      → IfErr r (λ halt. Stopped content moment left_since size b.desk c (HaltsSo halt (state_of content b.desk) ys u v))
+      → IfErr r (λ halt. Stopped content moment left_since size a.desk c (HaltsSo halt (state_of content a.desk) (xs ++ ys) t v))
+  halts_on (Ok x) a b c xs ys t u v goes serves stopped = tt
+  halts_on (Err halt) a b c xs ys t u v goes serves stopped =
+      stopped_behind content moment left_since size a.desk b.desk c goes (events_told (state_of content a.desk) xs) (HaltsSo halt (state_of content b.desk) ys u v) (HaltsSo halt (state_of content a.desk) (xs ++ ys) t v)
+      serves.events (λ came kept so. halts_behind halt (seen content a) (seen content b) xs ys t u v came kept serves so) stopped
+
+  -- at the exit of a `?` that hands the halt on, before other requests
+  pub halts_before_on : {T : Type 0} (r : Result T Halt) (halt : Halt) (a : Clerk D) (c : D) (xs ys : List Handed) (t v : List ℕ) → IsErrAnd r (λ h. h ≡ halt)
+      → Stopped content moment left_since size a.desk c (HaltsSo halt (state_of content a.desk) xs t v)
+      → IfErr r (λ h. Stopped content moment left_since size a.desk c (HaltsSo h (state_of content a.desk) (xs ++ ys) t v))
+  halts_before_on (Ok x) halt a c xs ys t v is stopped = tt
+  halts_before_on (Err h) halt a c xs ys t v is stopped =
+      subst (λ (w : Halt). Stopped content moment left_since size a.desk c (HaltsSo w (state_of content a.desk) (xs ++ ys) t v)) (sym is)
+      (stopped_so content moment left_since size a.desk c (HaltsSo halt (state_of content a.desk) xs t v) (HaltsSo halt (state_of content a.desk) (xs ++ ys) t v)
+      (λ came kept so. halts_before halt (state_of content a.desk) xs ys t v came kept so) stopped)
+
+  -- memory ran out behind requests that were served
+  pub memory_behind : {T : Type 0} (r : Result T Halt) (a b : Clerk D) (xs ys : List Handed) (t u v w : List ℕ) → Goes content moment left_since size a.desk b.desk → Serves (seen content a) (seen content b) xs t u
+      → IsErrAnd r (λ h. h ≡ Halts.Memory) → IfErr r (λ h. Stopped content moment left_since size a.desk b.desk.store.disk (HaltsSo h (state_of content a.desk) (xs ++ ys) v w))
+  memory_behind (Ok x) a b xs ys t u v w goes serves is = tt
+  memory_behind (Err h) a b xs ys t u v w goes serves is =
+      let s = state_of content a.desk in
+      let more = events_told-front s xs ys in
+      subst (λ (k : Halt). Stopped content moment left_since size a.desk b.desk.store.disk (HaltsSo k s (xs ++ ys) v w)) (sym is)
+      (stopped_here content moment left_since size a.desk b.desk goes (events_told s xs) (HaltsSo Halts.Memory s (xs ++ ys) v w) serves.events (comes_all (events_told s (xs ++ ys)) more.0 (events_told s xs) more.1))
+
+  -- memory ran out for a text, behind events that came
+  pub memory_here : {T : Type 0} (r : Result T Halt) (a b b' : DeskView D) (came : List (List ℕ)) (So : Halt → List (List ℕ) → List (List ℕ) → Type 0) → b' ≡ b → Goes content moment left_since size a b
+      → event_records b.store.layout (content b.store.disk) ≡ event_records a.store.layout (content a.store.disk) ++ came → So Halts.Memory came came → IfErr r (λ h. h ≡ Halts.Memory)
+      → IfErr r (λ h. Stopped content moment left_since size a b'.store.disk (So h))
+  memory_here (Ok x) a b b' came So same goes behind so is = tt
+  memory_here (Err h) a b b' came So same goes behind so is =
+      subst (λ (k : Halt). Stopped content moment left_since size a b'.store.disk (So k)) (sym is)
+      (subst (λ (w : DeskView D). Stopped content moment left_since size a w.store.disk (So Halts.Memory)) (sym same)
+      (stopped_here content moment left_since size a b goes came (So Halts.Memory) behind so))

@@ -1,0 +1,9 @@
+use Rattle.std.proofs.Common.{◌≡◌, subst, sym}
+use Rattle.ckr_desk_store.specs.State.{StoreView}
+use Rattle.ckr_desk.specs.FirstSync.{FromSync}
+use Rattle.ckr_desk.proofs.desk.Desk.read_on.Goals as goal
+
+pub returns-in-Ok-clause-synced : goal.returns-in-Ok-clause-synced
+returns-in-Ok-clause-synced g c =
+    let d = g.D.Disk in
+    subst (λ (s : StoreView g.row.D.Denot). FromSync d.content d.may_leave d.moment d.left_since c.args.disk s.disk (λ image. image ≡ d.content c.args.disk)) (sym c.open-store.ensures) c.in-Ok.ensures.synced

@@ -1,0 +1,184 @@
+-- The rows behind an event by which no run ends.
+use Rattle.std.proofs.Common.{◌≡◌, ◌≢◌, ℕ, zero, suc, Bool, true, false, cond, not, ◌&&◌, ◌||◌, List, [], ◌∷◌, ◌++◌, length, refl, ap, sym, ◌∙◌, subst, Option, Some, None, Result, Ok, Err}
+use Rattle.std.specs.Prelude.{◌==◌, nat_le}
+use Rattle.std.specs.Option.{is_none, is_some, option_map_or}
+use Rattle.std.proofs.lemmas.Bool.{or_left, or_right}
+use Rattle.std.proofs.lemmas.Option.{same_Some}
+use Rattle.arrayvec.specs.ArrayVec.{ArrayVec}
+use Rattle.ckr_base.proofs.Bools.{and-first, and-second}
+use Rattle.ckr_base.proofs.Numbers.{equal-true}
+use Rattle.ckr_events.specs.declared.event.Event.TheVariants.{Purged as PurgedEvent, Rewritten as RewrittenEvent, Selected as SelectedEvent, Started as StartedEvent, StepEnded as StepEndedEvent, Submitted as SubmittedEvent}
+use Rattle.ckr_events.specs.declared.event.Made.{Made}
+use Rattle.ckr_jcl.specs.declared.deck.Job.{Job}
+use Rattle.ckr_jcl_decks.specs.Parts.Fault.{Fault}
+use Rattle.ckr_jcl_decks.specs.Deck.{stored_deck}
+use Rattle.ckr_library.specs.NameMaps.{Name, Named, with_changed}
+use Rattle.ckr_meaning.specs.Allotments.{DdAllotment, opened_all}
+use Rattle.ckr_meaning.specs.EffectiveJob.{OwnedStep, placed_in, stamp_of}
+use Rattle.ckr_meaning.specs.LibrarySet.{AreWithinSpace}
+use Rattle.ckr_meaning.specs.declared.place.Place.TheVariants.{Before, Within}
+use Rattle.ckr_points_library.specs.Commit.{output_names}
+use Rattle.ckr_points_decks.specs.Cards.{job_in, kept_deck, stored_of_kept}
+use Rattle.ckr_points_decks.specs.Form.{is_run}
+use Rattle.ckr_points.specs.declared.run.RunState.{RunState}
+use Rattle.ckr_points.specs.declared.run.RunState.TheVariants.{On, Queued, Purged}
+use Rattle.ckr_points.specs.Follows.{is_empty, is_in_state, is_rewrite, is_running, is_within, lengths_follow, of_step, own_step}
+use Rattle.ckr_points.specs.Marks.{with_point}
+use Rattle.ckr_points.specs.Office.{Leg, Office, office_after}
+use Rattle.ckr_points.specs.Payload.{carries}
+use Rattle.ckr_points.specs.Restart.{place_of, step_in}
+use Rattle.ckr_points.specs.Rows.{RunRow, TableSet, TablesModel, run_of, standing_of, step_of_run, table_ways, with_run}
+use Rattle.ckr_points.specs.Soundness.{may_come}
+use Rattle.ckr_points.specs.Tables.{after_commit, after_dispositions, after_rewritten, after_step_ended, after_submitted, committed, is_updates, made_tables, name_with_role, queued_run, row_rewritten, start_point, table_rewritten}
+use Rattle.ckr_points_invariant.specs.Invariant.{IsAgreed}
+use Rattle.ckr_points_invariant.proofs.Holders.Rows.{queued-is, run-other, run-same}
+use Rattle.ckr_points_invariant.proofs.Select.Holders.{all_legs}
+use Rattle.ckr_points_invariant.proofs.Select.Invariant.{chosen}
+use Rattle.ckr_points_invariant.proofs.Start.Event.{StartsNow, by-start}
+use Rattle.ckr_points_invariant.proofs.Steps.Events.{step-by}
+use Rattle.ckr_points_invariant.proofs.WaitingRuns.{by-selected, follows-of, tested-run}
+use Rattle.ckr_volumes.specs.declared.layout.Layout.{Layout}
+use Rattle.ckr_desk_turn.specs.Invariant.{HasRuns, IsAdmitted, is_on_one, is_plain_row, is_plain_state}
+use Rattle.ckr_desk_turn.specs.RunEvents.{IsRunDeck}
+use Rattle.ckr_desk_turn.proofs.Runs.Rows.{HasRow, Renewed, Stands, has-row, runs-renewed, stands-more, stands-one}
+use Rattle.ckr_desk_turn.proofs.Select.{front_row, last_row}
+use Rattle.ckr_desk_turn.proofs.StepEnd.{by-changed}
+
+-- the deck of kept cards is that of their columns
+kept-stored : (cards : List ℕ) (deck : Job) → kept_deck cards ≡ Some deck → stored_deck (stored_of_kept cards) ≡ Ok deck
+unfolding kept_deck
+kept-stored cards deck kept = by (nat_le 80 (length cards)) (stored_deck (stored_of_kept cards)) kept
+  where
+    by : (long : Bool) (read : Result Job Fault) → cond long (job_in read) None ≡ Some deck → read ≡ Ok deck
+    by false read e = cc
+    by true (Ok job) e = ap Ok (same_Some job deck e)
+    by true (Err fault) e = cc
+
+-- the form of a run's deck
+pub run-deck : (row : RunRow) → is_plain_row row ≡ true → (is_none row.code && is_run row.deck) ≡ true
+run-deck row plain = and-second (is_none row.initiator || is_on_one row.state) (is_none row.code && is_run row.deck) (and-second (is_plain_state row.state) _ plain)
+
+-- a row within a step that it has
+pub has-step : (row : RunRow) (owned : OwnedStep) → own_step row ≡ Some owned → is_plain_row row ≡ true → IsAdmitted row → HasRow row
+has-step row owned found plain admitted = record {
+  plain = plain;
+  admitted = admitted;
+  stepped = or_right (not (is_running row)) (is_some (own_step row)) (ap is_some found);
+}
+
+module _ (layout : Layout) (office : Office) (kept : IsAgreed layout office) (has : HasRuns office) where
+  pub submitted-runs : (job : ℕ) (cards : List ℕ) (deck : Option Job) → may_come layout office (SubmittedEvent job cards, deck) ≡ true → IsRunDeck cards deck → HasRuns (office_after (SubmittedEvent job cards, deck) office)
+  submitted-runs job cards None may runs = absurd runs
+  submitted-runs job cards (Some deck) may runs =
+      let its : job ≡ suc (length office.tables.runs) =
+      equal-true job (suc (length office.tables.runs))
+      (and-first (job == suc (length office.tables.runs)) (not (is_empty cards))
+      (and-first (job == suc (length office.tables.runs) && not (is_empty cards)) _ (follows-of layout office (SubmittedEvent job cards) (Some deck) may))) in
+      subst (λ n. HasRuns (record office { tables = after_submitted n deck office.tables })) (sym its)
+      (runs-renewed office (record office { tables = after_submitted (suc (length office.tables.runs)) deck office.tables }) (suc (length office.tables.runs)) has
+      (record {
+        next = queued_run (suc (length office.tables.runs)) deck;
+        stands = record { mine = last_row office.tables.runs (queued_run (suc (length office.tables.runs)) deck); others = others };
+        has = record { plain = runs.1; admitted = record { cards = stored_of_kept cards; accepted = kept-stored cards deck runs.0; lodged = refl }; stepped = refl };
+      })
+      has.spaced has.spaced_legs)
+    where
+      others : (other : ℕ) → other ≢ suc (length office.tables.runs) → run_of (after_submitted (suc (length office.tables.runs)) deck office.tables) other ≡ run_of office.tables other
+      others zero apart = refl
+      others (suc place) apart = front_row office.tables.runs (queued_run (suc (length office.tables.runs)) deck) place (λ e. apart (ap suc e))
+
+  pub selected-runs : (job initiator step : ℕ) (id : Option Name) (deck : Option Job) → may_come layout office (SelectedEvent job initiator 0 step id, deck) ≡ true → HasRuns (office_after (SelectedEvent job initiator 0 step id, deck) office)
+  selected-runs job initiator step id deck may =
+      by-selected HasRuns layout office job initiator step id deck kept may
+      (λ row row_at queued plain free.
+      let next : RunRow = record row { state = On; initiator = Some initiator; place = Some (Before 1) } in
+      let was : HasRow row = has-row office has row.number row row_at in
+      runs-renewed office (chosen layout office row initiator kept row_at queued plain free) row.number has
+      (record {
+        next = next;
+        stands = record { mine = run-same office.tables next row row.number row_at refl; others = λ other apart. run-other office.tables next other apart };
+        has = record { plain = run-deck row was.plain; admitted = record { cards = was.admitted.cards; accepted = was.admitted.accepted; lodged = refl }; stepped = refl };
+      })
+      has.spaced (all_legs (λ (leg : Leg). AreWithinSpace leg.start) _ office.legs has.spaced has.spaced_legs))
+
+  pub purged-runs : (job : ℕ) (deck : Option Job) → may_come layout office (PurgedEvent job, deck) ≡ true → HasRuns (office_after (PurgedEvent job, deck) office)
+  purged-runs job deck may =
+      tested-run office.tables job (is_in_state Queued) (follows-of layout office (PurgedEvent job) deck may)
+      (λ row at queued.
+      let was : HasRow row = has-row office has job row at in
+      subst (λ (o : Option RunRow). HasRuns (record office { tables = option_map_or (λ row. with_run (record row { state = Purged }) office.tables) o office.tables })) (sym at)
+      (runs-renewed office (record office { tables = with_run (record row { state = Purged }) office.tables }) job has
+      (record {
+        next = record row { state = Purged };
+        stands = stands-one office.tables office.tables.sets job row (record row { state = Purged }) at (kept.numbered job row at);
+        has = record { plain = off row queued was.plain; admitted = record { cards = was.admitted.cards; accepted = was.admitted.accepted; lodged = refl }; stepped = refl };
+      })
+      has.spaced has.spaced_legs))
+    where
+      off : (row : RunRow) → is_in_state Queued row ≡ true → is_plain_row row ≡ true → is_plain_row (record row { state = Purged }) ≡ true
+      off row queued plain = sym (ap (λ (s : RunState). is_plain_state s && ((is_none row.initiator || is_on_one s) && (is_none row.code && is_run row.deck))) (queued-is row.state queued)) ∙ plain
+
+  pub started-runs : (job step : ℕ) (items : ArrayVec Made) (deck : Option Job) → may_come layout office (StartedEvent job step items, deck) ≡ true → carries layout office (StartedEvent job step items) deck ≡ true → HasRuns (office_after (StartedEvent job step items, deck) office)
+  started-runs job step items deck may carried =
+      by-start HasRuns layout office job step items deck kept may carried
+      (λ row leg owned now.
+      let stamp = stamp_of owned step in
+      let placed : List DdAllotment = placed_in table_ways (standing_of row office.tables) row.job.root owned in
+      let opened : Named TableSet = opened_all table_ways stamp placed office.tables.sets in
+      let next : RunRow = record row { place = Some (Within step 0); points = with_point (start_point row step opened) row.points } in
+      let was : HasRow row = has-row office has job row now.holder.row_at in
+      runs-renewed office (record office { tables = with_run next (record office.tables { sets = made_tables stamp items.items placed opened }) }) job has
+      (record {
+        next = next;
+        stands = stands-one office.tables (made_tables stamp items.items placed opened) job row next now.holder.row_at (kept.numbered job row now.holder.row_at);
+        has = has-step next owned now.found was.plain (record { cards = was.admitted.cards; accepted = was.admitted.accepted; lodged = was.admitted.lodged });
+      })
+      has.spaced has.spaced_legs)
+
+  pub rewritten-runs : (job taken writes place : ℕ) (lengths : ArrayVec ℕ) (image : List ℕ) (deck : Option Job) → may_come layout office (RewrittenEvent job taken writes lengths place image, deck) ≡ true → HasRuns (office_after (RewrittenEvent job taken writes lengths place image, deck) office)
+  rewritten-runs job taken writes place lengths image deck may =
+      tested-run office.tables job (λ row. is_running row && lengths_follow office.tables row lengths.items && of_step row (is_rewrite office.tables place image row)) (follows-of layout office (RewrittenEvent job taken writes lengths place image) deck may)
+      (λ row at passes.
+      step-by office.tables row lengths.items
+      (and-second (is_running row) (lengths_follow office.tables row lengths.items) (and-first (is_running row && lengths_follow office.tables row lengths.items) (of_step row (is_rewrite office.tables place image row)) passes))
+      (λ owned found are.
+      let step : ℕ = step_in (place_of row) in
+      let next : RunRow = record (row_rewritten step row) { place = Some (Within step writes) } in
+      let sets : Named TableSet = with_changed (name_with_role row.job.root owned is_updates) (table_rewritten owned.owner step) (committed (output_names row.job.root owned) lengths.items office.tables.sets) in
+      let was : HasRow row = has-row office has job row at in
+      by-changed (λ tables. HasRuns (record office { tables = tables })) office.tables job row owned (λ row owned step. after_rewritten row owned step writes lengths.items office.tables) at found
+      (runs-renewed office (record office { tables = with_run next (record office.tables { sets = sets }) }) job has
+      (record {
+        next = next;
+        stands = stands-one office.tables sets job row next at (kept.numbered job row at);
+        has = has-step next owned found was.plain (record { cards = was.admitted.cards; accepted = was.admitted.accepted; lodged = was.admitted.lodged });
+      })
+      has.spaced has.spaced_legs)))
+
+  pub step_ended-runs : (job step rc writes : ℕ) (lengths : ArrayVec ℕ) (deck : Option Job) → may_come layout office (StepEndedEvent job step rc writes lengths, deck) ≡ true → HasRuns (office_after (StepEndedEvent job step rc writes lengths, deck) office)
+  step_ended-runs job step rc writes lengths deck may =
+      tested-run office.tables job (λ row. is_running row && step_in (place_of row) == step && lengths_follow office.tables row lengths.items) (follows-of layout office (StepEndedEvent job step rc writes lengths) deck may)
+      (λ row at passes.
+      let on : is_in_state On row ≡ true = and-first (is_in_state On row) (is_within (place_of row)) (and-first (is_running row) (step_in (place_of row) == step) (and-first (is_running row && step_in (place_of row) == step) (lengths_follow office.tables row lengths.items) passes)) in
+      step-by office.tables row lengths.items (and-second (is_running row && step_in (place_of row) == step) (lengths_follow office.tables row lengths.items) passes)
+      (λ owned found are.
+      let step : ℕ = step_in (place_of row) in
+      let done : TablesModel = after_commit row owned step writes lengths.items office.tables in
+      let stock = after_dispositions row owned step false done in
+      let next : RunRow = record row { place = Some (Before (suc step)); rcs = row.rcs ++ (step, rc) ∷ []; in_effect = None; passed = stock.passed } in
+      let was : HasRow row = has-row office has job row at in
+      by-changed (λ tables. HasRuns (record office { tables = tables })) office.tables job row owned (λ row owned step. after_step_ended row owned step rc writes lengths.items office.tables) at found
+      (runs-renewed office (record office { tables = with_run next (record done { sets = stock.sets }) }) job has
+      (record {
+        next = next;
+        stands =
+            stands-more office.tables done stock.sets job (record row { place = Some (Within step writes) }) next
+            (stands-one office.tables (committed (output_names row.job.root owned) lengths.items office.tables.sets) job row (record row { place = Some (Within step writes) }) at (kept.numbered job row at))
+            (kept.numbered job row at);
+        has = record {
+          plain = was.plain;
+          admitted = record { cards = was.admitted.cards; accepted = was.admitted.accepted; lodged = was.admitted.lodged };
+          stepped = or_left (not (is_running next)) (is_some (own_step next)) (ap (λ b. not (b && false)) on);
+        };
+      })
+      has.spaced has.spaced_legs)))

@@ -1,0 +1,68 @@
+-- What the rows of the tables have, where one of them is renewed.
+use Rattle.std.proofs.Common.{◌≡◌, ◌≢◌, ℕ, zero, suc, true, List, slice_get, refl, ap, sym, ◌∙◌, subst, Option, Some, None}
+use Rattle.std.specs.List.{AllByRecursion}
+use Rattle.std.proofs.lemmas.Option.{same_Some}
+use Rattle.ckr_base.proofs.Numbers.{number-cases}
+use Rattle.ckr_base.proofs.Options.{some-not-none}
+use Rattle.ckr_base.proofs.Sequences.{all-get, each-get}
+use Rattle.ckr_library.specs.NameMaps.{Named}
+use Rattle.ckr_meaning.specs.LibrarySet.{AreWithinSpace}
+use Rattle.ckr_points.specs.Office.{Leg, Office}
+use Rattle.ckr_points.specs.Rows.{RunRow, TableSet, TablesModel, run_of, with_run}
+use Rattle.ckr_points_invariant.proofs.Holders.Rows.{run-other, run-same}
+use Rattle.ckr_desk_turn.specs.Invariant.{HasRuns, IsAdmitted, has_its_step, is_plain_row}
+use Rattle.ckr_desk_turn.proofs.OtherRuns.{all-by, every-by}
+
+-- what each row of the desk has
+pub record HasRow (row : RunRow) : Type 0 where
+  pub plain : is_plain_row row ≡ true
+  pub admitted : IsAdmitted row
+  pub stepped : has_its_step row ≡ true
+
+pub has-row : (office : Office) → HasRuns office → (run : ℕ) (row : RunRow) → run_of office.tables run ≡ Some row → HasRow row
+has-row office has zero row at = absurd (some-not-none row (sym at))
+has-row office has (suc place) row at = record {
+  plain = all-get is_plain_row office.tables.runs place row has.plain at;
+  admitted = each-get IsAdmitted office.tables.runs place row has.admitted at;
+  stepped = all-get has_its_step office.tables.runs place row has.stepped at;
+}
+
+-- a run has another row, and the others are as they were
+pub record Stands (tables after : TablesModel) (job : ℕ) (row : RunRow) : Type 0 where
+  pub mine : run_of after job ≡ Some row
+  pub others : (other : ℕ) → other ≢ job → run_of after other ≡ run_of tables other
+
+-- so with one that has what each row has
+pub record Renewed (tables after : TablesModel) (job : ℕ) : Type 0 where
+  pub next : RunRow
+  pub stands : Stands tables after job next
+  pub has : HasRow next
+
+pub stands-one : (tables : TablesModel) (sets : Named TableSet) (job : ℕ) (row next : RunRow) → run_of tables job ≡ Some row → next.number ≡ job → Stands tables (with_run next (record tables { sets = sets })) job next
+stands-one tables sets job row next at its = record {
+  mine = run-same (record tables { sets = sets }) next row job at its;
+  others = λ other apart. run-other (record tables { sets = sets }) next other (λ e. apart (e ∙ its));
+}
+
+-- a row that is put in behind another one
+pub stands-more : (tables after : TablesModel) (sets : Named TableSet) (job : ℕ) (row next : RunRow) → Stands tables after job row → next.number ≡ job → Stands tables (with_run next (record after { sets = sets })) job next
+stands-more tables after sets job row next stands its = record {
+  mine = run-same (record after { sets = sets }) next row job stands.mine its;
+  others = λ other apart. run-other (record after { sets = sets }) next other (λ e. apart (e ∙ its)) ∙ stands.others other apart;
+}
+
+-- the rows with one that is renewed
+pub runs-renewed : (office after : Office) (job : ℕ) → HasRuns office → Renewed office.tables after.tables job → AreWithinSpace after.library → AllByRecursion (λ (leg : Leg). AreWithinSpace leg.start) after.legs → HasRuns after
+runs-renewed office after job has renewed spaced spaced_legs = record {
+  plain = all-by is_plain_row after.tables.runs (λ place row at. (each place row at).plain);
+  admitted = every-by IsAdmitted after.tables.runs (λ place row at. (each place row at).admitted);
+  stepped = all-by has_its_step after.tables.runs (λ place row at. (each place row at).stepped);
+  spaced = spaced;
+  spaced_legs = spaced_legs;
+}
+  where
+    each : (place : ℕ) (row : RunRow) → slice_get after.tables.runs place ≡ Some row → HasRow row
+    each place row at =
+        number-cases (suc place) job
+        (λ same. subst HasRow (same_Some renewed.next row (sym renewed.stands.mine ∙ ap (run_of after.tables) (sym same) ∙ at)) renewed.has)
+        (λ apart. has-row office has (suc place) row (sym (renewed.stands.others (suc place) apart) ∙ at))

@@ -1,0 +1,4 @@
+-- Worked events and runs, computed.
+pub mod Jobs
+pub mod Rules
+pub mod Restarts

@@ -1,0 +1,62 @@
+-- Sound events among which none goes back are kept.
+use Rattle.std.proofs.Common.{◌≡◌, false, not, zero, suc, List, [], ◌∷◌, ◌++◌, refl, sym, Option}
+use Rattle.std.specs.List.{list_all}
+use Rattle.std.proofs.lemmas.Bool.{and_from, false≢true, not-true}
+use Rattle.ckr_base.proofs.Bools.{and-first, and-second}
+use Rattle.ckr_events.specs.declared.event.Event.{Event}
+use Rattle.ckr_events.specs.declared.event.Event.TheVariants.{Cancelled, Checkpointed, Denied, Ended, Held, Purged, Released, Restarted, Rewritten, Selected, Started, StepEnded, Submitted}
+use Rattle.ckr_events.specs.declared.event.Ending.TheVariants.{Allocation, Coded, Completed}
+use Rattle.ckr_jcl.specs.declared.deck.Job.{Job}
+use Rattle.ckr_volumes.specs.declared.layout.Layout.{Layout}
+use Rattle.ckr_points.specs.Events.{AreSound, AreSoundFrom, IsNext}
+use Rattle.ckr_points.specs.Office.{Office, no_office, office, office_after, office_from}
+use Rattle.ckr_points.specs.Restart.{Decked}
+use Rattle.ckr_points.specs.Soundness.{IsSoundOffice}
+use Rattle.ckr_points_invariant.specs.Invariant.{IsKept}
+use Rattle.ckr_points_invariant.specs.Continuations.{NoneGoesBack, goes_back}
+use Rattle.ckr_points_invariant.proofs.EventLaws.{allocation, coded, completed, denied, held, no_events, purged, rewritten, selected, sound, started, step_ended, submitted}
+use Rattle.ckr_points_invariant.proofs.EventList.{sound-front}
+use Rattle.ckr_points_invariant.proofs.RowChanges.{cancelled, checkpointed, released}
+
+module _ (layout : Layout) (now : Office) where
+  -- one more event keeps them
+  pub kept-next : (event : Event) (deck : Option Job) → goes_back event ≡ false → IsKept layout now → IsNext layout now (event, deck) → IsKept layout (office_after (event, deck) now)
+  kept-next (Submitted job cards) deck on kept next = submitted layout now job cards deck kept next.may next.carried
+  kept-next (Selected job initiator zero step id) deck on kept next = selected layout now job initiator step id deck kept next.may
+  kept-next (Selected job initiator (suc before) step id) deck on kept next = absurd (false≢true (sym on))
+  kept-next (Denied job rule name) deck on kept next = denied layout now job rule name deck kept next.may
+  kept-next (Started job step items) deck on kept next = started layout now job step items deck kept next.may next.carried
+  kept-next (Rewritten job taken writes lengths place image) deck on kept next = rewritten layout now job taken writes place lengths image deck kept next.may next.carried
+  kept-next (Checkpointed job id taken writes lengths place bytes) deck on kept next = checkpointed layout now job taken writes place bytes id lengths deck kept next.may next.carried
+  kept-next (Cancelled job) deck on kept next = cancelled layout now job deck kept next.may
+  kept-next (StepEnded job step rc writes lengths) deck on kept next = step_ended layout now job step rc writes lengths deck kept next.may next.carried
+  kept-next (Restarted job initiator code checkpoint) deck on kept next = absurd (false≢true (sym on))
+  kept-next (Held job code writes lengths) deck on kept next = held layout now job writes code lengths deck kept next.may next.carried
+  kept-next (Released job) deck on kept next = released layout now job deck kept next.may
+  kept-next (Ended job Completed) deck on kept next = completed layout now job deck kept next.may
+  kept-next (Ended job (Coded code rule writes lengths)) deck on kept next = coded layout now job rule writes code lengths deck kept next.may next.carried
+  kept-next (Ended job (Allocation dd cause first second)) deck on kept next = allocation layout now job dd cause first second deck kept next.may
+  kept-next (Purged job) deck on kept next = purged layout now job deck kept next.may
+
+-- so do all of them, one after the other
+kept_from : (layout : Layout) (events : List Decked) (now : Office) → AreSoundFrom layout now events → NoneGoesBack events → IsKept layout now → IsKept layout (office_from events now)
+kept_from layout [] now are on kept = kept
+kept_from layout (event ∷ rest) now are on kept =
+    kept_from layout rest (office_after event now) are.1 (and-second (not (goes_back event.0)) _ on)
+    (kept-next layout now event.0 event.1 (not-true (goes_back event.0) (and-first (not (goes_back event.0)) _ on)) kept (record { may = are.0.may; carried = are.0.carried }))
+
+pub sound-kept : (layout : Layout) (events : List Decked) → AreSound layout events → NoneGoesBack events → IsKept layout (office events)
+sound-kept layout events are on = kept_from layout events no_office are on (no_events layout)
+
+pub front_on : (front more : List Decked) → NoneGoesBack (front ++ more) → NoneGoesBack front
+front_on [] more on = refl
+front_on (event ∷ rest) more on =
+    and_from (not (goes_back event.0)) (list_all (λ (event : Decked). not (goes_back event.0)) rest) (and-first (not (goes_back event.0)) _ on)
+    (front_on rest more (and-second (not (goes_back event.0)) _ on))
+
+-- at every prefix
+pub prefix-kept : (layout : Layout) (front more : List Decked) → AreSound layout (front ++ more) → NoneGoesBack (front ++ more) → IsKept layout (office front)
+prefix-kept layout front more are on = sound-kept layout front (sound-front layout front more are) (front_on front more on)
+
+pub prefix-sound : (layout : Layout) (front more : List Decked) → AreSound layout (front ++ more) → NoneGoesBack (front ++ more) → IsSoundOffice layout (office front)
+prefix-sound layout front more are on = sound layout (office front) (prefix-kept layout front more are on)
