@@ -5,7 +5,7 @@ use Rattle.std.specs.Io.KnownBytes.{Appends}
 use Rattle.ckr_outside.specs.Faults.{Rose}
 use Rattle.ckr_outside.specs.Front.{AppendsFront}
 use Rattle.ckr_desk.specs.Soundness.{state_of}
-use Rattle.ckr_desk.specs.State.{RoomyDesk}
+use Rattle.ckr_desk.specs.State.{RoomyDesk, disk_of, layout_of}
 use Rattle.ckr_desk.specs.Model.OpenImages.{event_records}
 use Rattle.ckr_desk.specs.Model.Reply.{Reply}
 use Rattle.ckr_cards.specs.Session.{Handed}
@@ -28,7 +28,7 @@ abbrev pub seen : {D : Type 0} → (D → List ℕ) → Clerk D → View
 seen content clerk = record {
   state = state_of content clerk.desk;
   refused = clerk.refused;
-  events = event_records clerk.desk.store.layout (content clerk.desk.store.disk);
+  events = event_records (layout_of clerk.desk) (content (disk_of clerk.desk));
 }
 
 -- the text of what is answered to requests

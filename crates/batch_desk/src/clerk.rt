@@ -1,9 +1,10 @@
 //! The requests of a stream, one after another.
-ghost use Rattle.std.specs.Prelude.{◌≡◌, ◌<◌, ◌≤◌, ◌%◌, ◌*◌, ◌||◌, length, [], ◌∷◌, ◌++◌, OnOk, IfErr, None, false, true};
+ghost use Rattle.std.specs.Prelude.{◌≡◌, ◌<◌, ◌≤◌, ◌%◌, ◌*◌, ◌||◌, length, [], ◌∷◌, ◌++◌, OnOk, IfErr, false, true};
 ghost use Rattle.ckr_desk.specs.Model.Listing.{listed, records_of};
 ghost use Rattle.ckr_desk.specs.Requests.{behind_call, call_fits, event_in, spelled};
 ghost use Rattle.ckr_desk.specs.Soundness.{IsTrusted, state_of};
 ghost use Rattle.ckr_desk.specs.Submit.{is_queued, purge_call};
+ghost use Rattle.ckr_desk.specs.State.{IsOpen, disk_of, layout_of, tables_in_memory};
 ghost use Rattle.batch_desk.specs.Stops.{Goes, Has, Stopped};
 ghost use Rattle.ckr_cards.specs.Session.Handed.{Deck, Order as Command, Refusal};
 ghost use Rattle.batch_desk.specs.Calls.{Accepted, DeckRefused, JobsListed, LineRefused, Listed, Purged, SetsListed, lines_of, name_in, list_answer, purge_answer, is_refusal};
@@ -83,15 +84,15 @@ impl<D: Disk> Clerk<D> {
         requires whole { length cards.now % 81 ≡ 0 }
         requires some { 81 ≤ length cards.now }
         requires few { length cards.now < 81 * 4294967295 }
-        requires is_open { self.old.desk.store.fault ≡ None }
+        requires is_open { IsOpen self.old.desk }
         ensures serves { IsTrusted D.told D.content D.may_leave self.old.desk → OnOk result (Serves (seen D.content self.old) (seen D.content self.new) (Deck cards.now ∷ []) out.old out.new) }
         ensures trusted { OnOk result (IsTrusted D.told D.content D.may_leave self.old.desk → IsTrusted D.told D.content D.may_leave self.new.desk) }
         ensures goes { IsTrusted D.told D.content D.may_leave self.old.desk → OnOk result (Goes D.content D.moment D.left_since D.size self.old.desk self.new.desk) }
-        ensures is_open { OnOk result (self.new.desk.store.fault ≡ None) }
-        ensures later { D.faults self.old.desk.store.disk ≤ D.faults self.new.desk.store.disk }
-        ensures size { D.size self.new.desk.store.disk ≡ D.size self.old.desk.store.disk }
-        ensures halt { IsTrusted D.told D.content D.may_leave self.old.desk → IfErr result (λ halt. Stopped D.content D.moment D.left_since D.size self.old.desk self.new.desk.store.disk (HaltsSo halt (state_of D.content self.old.desk) (Deck cards.now ∷ []) out.old out.new)) }
-        ensures cause { IfErr result (λ halt. HaltCause (IsTrusted D.told D.content D.may_leave self.old.desk) halt (D.faults self.old.desk.store.disk) (D.faults self.new.desk.store.disk)) }
+        ensures is_open { OnOk result (IsOpen self.new.desk) }
+        ensures later { D.faults (disk_of self.old.desk) ≤ D.faults (disk_of self.new.desk) }
+        ensures size { D.size (disk_of self.new.desk) ≡ D.size (disk_of self.old.desk) }
+        ensures halt { IsTrusted D.told D.content D.may_leave self.old.desk → IfErr result (λ halt. Stopped D.content D.moment D.left_since D.size self.old.desk (disk_of self.new.desk) (HaltsSo halt (state_of D.content self.old.desk) (Deck cards.now ∷ []) out.old out.new)) }
+        ensures cause { IfErr result (λ halt. HaltCause (IsTrusted D.told D.content D.may_leave self.old.desk) halt (D.faults (disk_of self.old.desk)) (D.faults (disk_of self.new.desk))) }
     {
         match self.desk.submit(cards) {
             Ok(Submitted::Job(number)) => self.accept(number, out),
@@ -106,7 +107,7 @@ impl<D: Disk> Clerk<D> {
 
     fn accept(&mut self, number: u32, out: &mut Text) -> Result<(), Halt>
         ensures clerk { self.new ≡ self.old }
-        ensures text { OnOk result (out.new ≡ out.old ++ answer_text (Accepted number (name_in number (lines_of self.old.desk.jobs.tables.desk)))) }
+        ensures text { OnOk result (out.new ≡ out.old ++ answer_text (Accepted number (name_in number (lines_of (tables_in_memory self.old.desk))))) }
         ensures halt { IfErr result (λ halt. halt ≡ Halt.Memory) }
     {
         match accepted(number, name_in(number, self.desk.runs()), out) {
@@ -130,15 +131,15 @@ impl<D: Disk> Clerk<D> {
 
     /// A command ends.
     pub fn obey(&mut self, number: u32, text: &[u8], out: &mut Text) -> Result<(), Halt>
-        requires is_open { self.old.desk.store.fault ≡ None }
+        requires is_open { IsOpen self.old.desk }
         ensures serves { IsTrusted D.told D.content D.may_leave self.old.desk → OnOk result (Serves (seen D.content self.old) (seen D.content self.new) (Command number text.now ∷ []) out.old out.new) }
         ensures trusted { OnOk result (IsTrusted D.told D.content D.may_leave self.old.desk → IsTrusted D.told D.content D.may_leave self.new.desk) }
         ensures goes { IsTrusted D.told D.content D.may_leave self.old.desk → OnOk result (Goes D.content D.moment D.left_since D.size self.old.desk self.new.desk) }
-        ensures is_open { OnOk result (self.new.desk.store.fault ≡ None) }
-        ensures later { D.faults self.old.desk.store.disk ≤ D.faults self.new.desk.store.disk }
-        ensures size { D.size self.new.desk.store.disk ≡ D.size self.old.desk.store.disk }
-        ensures halt { IsTrusted D.told D.content D.may_leave self.old.desk → IfErr result (λ halt. Stopped D.content D.moment D.left_since D.size self.old.desk self.new.desk.store.disk (HaltsSo halt (state_of D.content self.old.desk) (Command number text.now ∷ []) out.old out.new)) }
-        ensures cause { IfErr result (λ halt. HaltCause (IsTrusted D.told D.content D.may_leave self.old.desk) halt (D.faults self.old.desk.store.disk) (D.faults self.new.desk.store.disk)) }
+        ensures is_open { OnOk result (IsOpen self.new.desk) }
+        ensures later { D.faults (disk_of self.old.desk) ≤ D.faults (disk_of self.new.desk) }
+        ensures size { D.size (disk_of self.new.desk) ≡ D.size (disk_of self.old.desk) }
+        ensures halt { IsTrusted D.told D.content D.may_leave self.old.desk → IfErr result (λ halt. Stopped D.content D.moment D.left_since D.size self.old.desk (disk_of self.new.desk) (HaltsSo halt (state_of D.content self.old.desk) (Command number text.now ∷ []) out.old out.new)) }
+        ensures cause { IfErr result (λ halt. HaltCause (IsTrusted D.told D.content D.may_leave self.old.desk) halt (D.faults (disk_of self.old.desk)) (D.faults (disk_of self.new.desk))) }
     {
         let _layout = self.desk.layout();
         match read_order(self.desk.layout().initiators, text) {
@@ -167,7 +168,7 @@ impl<D: Disk> Clerk<D> {
     /// The data sets are told.
     fn list_sets(&mut self, out: &mut Text) -> Result<(), Halt>
         ensures clerk { self.new ≡ self.old }
-        ensures text { IsTrusted D.told D.content D.may_leave self.old.desk → OnOk result (out.new ≡ out.old ++ answer_text (SetsListed self.old.desk.store.layout (listed (state_of D.content self.old.desk).desk))) }
+        ensures text { IsTrusted D.told D.content D.may_leave self.old.desk → OnOk result (out.new ≡ out.old ++ answer_text (SetsListed (layout_of self.old.desk) (listed (state_of D.content self.old.desk).desk))) }
         ensures halt { IfErr result (λ halt. halt ≡ Halt.Memory) }
     {
         match sets(&self.desk, out) {
@@ -179,7 +180,7 @@ impl<D: Disk> Clerk<D> {
     /// The jobs are told.
     fn list_jobs(&mut self, out: &mut Text) -> Result<(), Halt>
         ensures clerk { self.new ≡ self.old }
-        ensures text { OnOk result (out.new ≡ out.old ++ answer_text (JobsListed (lines_of self.old.desk.jobs.tables.desk))) }
+        ensures text { OnOk result (out.new ≡ out.old ++ answer_text (JobsListed (lines_of (tables_in_memory self.old.desk)))) }
         ensures halt { IfErr result (λ halt. halt ≡ Halt.Memory) }
     {
         match jobs(self.desk.runs(), out) {
@@ -190,20 +191,20 @@ impl<D: Disk> Clerk<D> {
 
     /// A job is taken from the queue.
     fn purge(&mut self, number: u32, job: u32, out: &mut Text) -> Result<(), Halt>
-        requires is_open { self.old.desk.store.fault ≡ None }
-        ensures fits { IsTrusted D.told D.content D.may_leave self.old.desk → OnOk result (call_fits (state_of D.content self.old.desk) (purge_call self.old.desk.jobs.tables.desk job) ≡ true) }
-        ensures after { IsTrusted D.told D.content D.may_leave self.old.desk → OnOk result (state_of D.content self.new.desk ≡ behind_call (state_of D.content self.old.desk) (purge_call self.old.desk.jobs.tables.desk job)) }
-        ensures refused { OnOk result (self.new.refused ≡ (self.old.refused || is_refusal (purge_answer number job (is_queued self.old.desk.jobs.tables.desk job)))) }
-        ensures text { OnOk result (out.new ≡ out.old ++ answer_text (purge_answer number job (is_queued self.old.desk.jobs.tables.desk job))) }
-        ensures events { IsTrusted D.told D.content D.may_leave self.old.desk → OnOk result (Has D.content D.moment D.left_since D.size self.old.desk self.new.desk.store.disk (spelled (event_in (purge_call self.old.desk.jobs.tables.desk job)))) }
-        ensures layout { OnOk result (self.new.desk.store.layout ≡ self.old.desk.store.layout) }
+        requires is_open { IsOpen self.old.desk }
+        ensures fits { IsTrusted D.told D.content D.may_leave self.old.desk → OnOk result (call_fits (state_of D.content self.old.desk) (purge_call (tables_in_memory self.old.desk) job) ≡ true) }
+        ensures after { IsTrusted D.told D.content D.may_leave self.old.desk → OnOk result (state_of D.content self.new.desk ≡ behind_call (state_of D.content self.old.desk) (purge_call (tables_in_memory self.old.desk) job)) }
+        ensures refused { OnOk result (self.new.refused ≡ (self.old.refused || is_refusal (purge_answer number job (is_queued (tables_in_memory self.old.desk) job)))) }
+        ensures text { OnOk result (out.new ≡ out.old ++ answer_text (purge_answer number job (is_queued (tables_in_memory self.old.desk) job))) }
+        ensures events { IsTrusted D.told D.content D.may_leave self.old.desk → OnOk result (Has D.content D.moment D.left_since D.size self.old.desk (disk_of self.new.desk) (spelled (event_in (purge_call (tables_in_memory self.old.desk) job)))) }
+        ensures layout { OnOk result (layout_of self.new.desk ≡ layout_of self.old.desk) }
         ensures trusted { OnOk result (IsTrusted D.told D.content D.may_leave self.old.desk → IsTrusted D.told D.content D.may_leave self.new.desk) }
         ensures goes { IsTrusted D.told D.content D.may_leave self.old.desk → OnOk result (Goes D.content D.moment D.left_since D.size self.old.desk self.new.desk) }
-        ensures is_open { OnOk result (self.new.desk.store.fault ≡ None) }
-        ensures later { D.faults self.old.desk.store.disk ≤ D.faults self.new.desk.store.disk }
-        ensures size { D.size self.new.desk.store.disk ≡ D.size self.old.desk.store.disk }
-        ensures halt { IsTrusted D.told D.content D.may_leave self.old.desk → IfErr result (λ halt. Stopped D.content D.moment D.left_since D.size self.old.desk self.new.desk.store.disk (PurgeHalt halt (call_fits (state_of D.content self.old.desk) (purge_call self.old.desk.jobs.tables.desk job)) (spelled (event_in (purge_call self.old.desk.jobs.tables.desk job))) out.old out.new)) }
-        ensures cause { IfErr result (λ halt. HaltCause (IsTrusted D.told D.content D.may_leave self.old.desk) halt (D.faults self.old.desk.store.disk) (D.faults self.new.desk.store.disk)) }
+        ensures is_open { OnOk result (IsOpen self.new.desk) }
+        ensures later { D.faults (disk_of self.old.desk) ≤ D.faults (disk_of self.new.desk) }
+        ensures size { D.size (disk_of self.new.desk) ≡ D.size (disk_of self.old.desk) }
+        ensures halt { IsTrusted D.told D.content D.may_leave self.old.desk → IfErr result (λ halt. Stopped D.content D.moment D.left_since D.size self.old.desk (disk_of self.new.desk) (PurgeHalt halt (call_fits (state_of D.content self.old.desk) (purge_call (tables_in_memory self.old.desk) job)) (spelled (event_in (purge_call (tables_in_memory self.old.desk) job))) out.old out.new)) }
+        ensures cause { IfErr result (λ halt. HaltCause (IsTrusted D.told D.content D.may_leave self.old.desk) halt (D.faults (disk_of self.old.desk)) (D.faults (disk_of self.new.desk))) }
     {
         match self.desk.purge(job) {
             Ok(true) => tell_purged(job, out),
@@ -217,19 +218,19 @@ impl<D: Disk> Clerk<D> {
     }
 
     fn list(&mut self, number: u32, name: &DsName, out: &mut Text) -> Result<(), Halt>
-        requires is_open { self.old.desk.store.fault ≡ None }
+        requires is_open { IsOpen self.old.desk }
         ensures state { IsTrusted D.told D.content D.may_leave self.old.desk → OnOk result (state_of D.content self.new.desk ≡ state_of D.content self.old.desk) }
         ensures refused { IsTrusted D.told D.content D.may_leave self.old.desk → OnOk result (self.new.refused ≡ (self.old.refused || is_refusal (list_answer number (records_of (state_of D.content self.old.desk).desk name.now)))) }
         ensures text { IsTrusted D.told D.content D.may_leave self.old.desk → OnOk result (out.new ≡ out.old ++ answer_text (list_answer number (records_of (state_of D.content self.old.desk).desk name.now))) }
-        ensures events { IsTrusted D.told D.content D.may_leave self.old.desk → OnOk result (Has D.content D.moment D.left_since D.size self.old.desk self.new.desk.store.disk []) }
-        ensures layout { OnOk result (self.new.desk.store.layout ≡ self.old.desk.store.layout) }
+        ensures events { IsTrusted D.told D.content D.may_leave self.old.desk → OnOk result (Has D.content D.moment D.left_since D.size self.old.desk (disk_of self.new.desk) []) }
+        ensures layout { OnOk result (layout_of self.new.desk ≡ layout_of self.old.desk) }
         ensures trusted { OnOk result (IsTrusted D.told D.content D.may_leave self.old.desk → IsTrusted D.told D.content D.may_leave self.new.desk) }
         ensures goes { IsTrusted D.told D.content D.may_leave self.old.desk → OnOk result (Goes D.content D.moment D.left_since D.size self.old.desk self.new.desk) }
-        ensures is_open { OnOk result (self.new.desk.store.fault ≡ None) }
-        ensures later { D.faults self.old.desk.store.disk ≤ D.faults self.new.desk.store.disk }
-        ensures size { D.size self.new.desk.store.disk ≡ D.size self.old.desk.store.disk }
-        ensures halt { IsTrusted D.told D.content D.may_leave self.old.desk → IfErr result (λ halt. Stopped D.content D.moment D.left_since D.size self.old.desk self.new.desk.store.disk (ListHalt halt out.old out.new)) }
-        ensures cause { IfErr result (λ halt. HaltCause (IsTrusted D.told D.content D.may_leave self.old.desk) halt (D.faults self.old.desk.store.disk) (D.faults self.new.desk.store.disk)) }
+        ensures is_open { OnOk result (IsOpen self.new.desk) }
+        ensures later { D.faults (disk_of self.old.desk) ≤ D.faults (disk_of self.new.desk) }
+        ensures size { D.size (disk_of self.new.desk) ≡ D.size (disk_of self.old.desk) }
+        ensures halt { IsTrusted D.told D.content D.may_leave self.old.desk → IfErr result (λ halt. Stopped D.content D.moment D.left_since D.size self.old.desk (disk_of self.new.desk) (ListHalt halt out.old out.new)) }
+        ensures cause { IfErr result (λ halt. HaltCause (IsTrusted D.told D.content D.may_leave self.old.desk) halt (D.faults (disk_of self.old.desk)) (D.faults (disk_of self.new.desk))) }
     {
         match self.desk.records(name) {
             Ok(Some(records)) => tell(records.as_slice(), out),
@@ -243,11 +244,11 @@ impl<D: Disk> Clerk<D> {
 
     /// A line is refused.
     pub fn refuse(&mut self, number: u32, out: &mut Text) -> Result<(), Halt>
-        requires is_open { self.old.desk.store.fault ≡ None }
+        requires is_open { IsOpen self.old.desk }
         ensures serves { OnOk result (Serves (seen D.content self.old) (seen D.content self.new) (Refusal number ∷ []) out.old out.new) }
         ensures desk { self.new.desk ≡ self.old.desk }
         ensures goes { IsTrusted D.told D.content D.may_leave self.old.desk → OnOk result (Goes D.content D.moment D.left_since D.size self.old.desk self.new.desk) }
-        ensures halt { IsTrusted D.told D.content D.may_leave self.old.desk → IfErr result (λ halt. Stopped D.content D.moment D.left_since D.size self.old.desk self.new.desk.store.disk (HaltsSo halt (state_of D.content self.old.desk) (Refusal number ∷ []) out.old out.new)) }
+        ensures halt { IsTrusted D.told D.content D.may_leave self.old.desk → IfErr result (λ halt. Stopped D.content D.moment D.left_since D.size self.old.desk (disk_of self.new.desk) (HaltsSo halt (state_of D.content self.old.desk) (Refusal number ∷ []) out.old out.new)) }
         ensures memory { IfErr result (λ halt. halt ≡ Halt.Memory) }
     {
         let _layout = self.desk.layout();

@@ -1,5 +1,5 @@
 //! The stream in pieces, and the text that goes to the sink.
-ghost use Rattle.std.specs.Prelude.{◌≡◌, ◌<◌, ◌≤◌, ◌+◌, ◌*◌, ◌^◌, [], ◌∷◌, OnOk, OnErr, IfOk, IfErr, None, false, length};
+ghost use Rattle.std.specs.Prelude.{◌≡◌, ◌<◌, ◌≤◌, ◌+◌, ◌*◌, ◌^◌, [], ◌∷◌, OnOk, OnErr, IfOk, IfErr, false, length};
 ghost use Rattle.std.specs.Io.KnownBytes.{Appends};
 ghost use Rattle.ckr_outside.specs.Front.{AppendsFront};
 ghost use Rattle.ckr_outside.specs.Faults.{Rose};
@@ -7,6 +7,7 @@ ghost use Rattle.ckr_cards.specs.Session.{first_session};
 ghost use Rattle.ckr_desk.specs.Soundness.{IsTrusted};
 ghost use Rattle.batch_desk.specs.Stops.{Goes, Stopped};
 ghost use Rattle.ckr_desk.specs.Soundness.{state_of};
+ghost use Rattle.ckr_desk.specs.State.{IsOpen, disk_of};
 ghost use Rattle.batch_desk.specs.Service.{Serves, HaltsSo, HaltCause, StopsWithin, RestWritten, Caused, seen};
 ghost use Rattle.batch_desk.specs.Sessions.{HasWholeCards, standing_of};
 ghost use Rattle.batch_desk.specs.Flows.{CutsLine, EndsLine, Carries, Breaks, Finishes, FinishBreaks, IsBegun, end_requests, line_requests};
@@ -75,16 +76,16 @@ impl<D: Disk> Flow<D> {
     fn end_line<K: Sink>(&mut self, sink: &mut K) -> Result<(), Stop>
         requires few { self.old.session.number < 2 ^ 25 }
         requires whole { HasWholeCards self.old.session }
-        requires is_open { self.old.session.clerk.desk.store.fault ≡ None }
+        requires is_open { IsOpen self.old.session.clerk.desk }
         ensures ok { IsTrusted D.told D.content D.may_leave self.old.session.clerk.desk → OnOk result (EndsLine D.content self.old self.new (K.written sink.old) (K.written sink.new)) }
         ensures trusted { OnOk result (IsTrusted D.told D.content D.may_leave self.old.session.clerk.desk → IsTrusted D.told D.content D.may_leave self.new.session.clerk.desk) }
         ensures goes { IsTrusted D.told D.content D.may_leave self.old.session.clerk.desk → OnOk result (Goes D.content D.moment D.left_since D.size self.old.session.clerk.desk self.new.session.clerk.desk) }
-        ensures is_open { OnOk result (self.new.session.clerk.desk.store.fault ≡ None) }
-        ensures err { IsTrusted D.told D.content D.may_leave self.old.session.clerk.desk → IfErr result (λ stop. Stopped D.content D.moment D.left_since D.size self.old.session.clerk.desk self.new.session.clerk.desk.store.disk (StopsWithin stop (K.faults sink.old) (K.faults sink.new) (state_of D.content self.old.session.clerk.desk) (line_requests self.old) (K.written sink.old) (K.written sink.new))) }
+        ensures is_open { OnOk result (IsOpen self.new.session.clerk.desk) }
+        ensures err { IsTrusted D.told D.content D.may_leave self.old.session.clerk.desk → IfErr result (λ stop. Stopped D.content D.moment D.left_since D.size self.old.session.clerk.desk (disk_of self.new.session.clerk.desk) (StopsWithin stop (K.faults sink.old) (K.faults sink.new) (state_of D.content self.old.session.clerk.desk) (line_requests self.old) (K.written sink.old) (K.written sink.new))) }
         ensures sink_later { K.faults sink.old ≤ K.faults sink.new }
-        ensures disk_later { D.faults self.old.session.clerk.desk.store.disk ≤ D.faults self.new.session.clerk.desk.store.disk }
-        ensures size { D.size self.new.session.clerk.desk.store.disk ≡ D.size self.old.session.clerk.desk.store.disk }
-        ensures cause { IfErr result (λ stop. Caused (IsTrusted D.told D.content D.may_leave self.old.session.clerk.desk) stop (K.faults sink.old) (K.faults sink.new) (D.faults self.old.session.clerk.desk.store.disk) (D.faults self.new.session.clerk.desk.store.disk)) }
+        ensures disk_later { D.faults (disk_of self.old.session.clerk.desk) ≤ D.faults (disk_of self.new.session.clerk.desk) }
+        ensures size { D.size (disk_of self.new.session.clerk.desk) ≡ D.size (disk_of self.old.session.clerk.desk) }
+        ensures cause { IfErr result (λ stop. Caused (IsTrusted D.told D.content D.may_leave self.old.session.clerk.desk) stop (K.faults sink.old) (K.faults sink.new) (D.faults (disk_of self.old.session.clerk.desk)) (D.faults (disk_of self.new.session.clerk.desk))) }
         ensures cuts { OnOk result (CutsLine self.old self.new) }
         ensures whole { OnOk result (HasWholeCards self.new.session) }
     {
@@ -103,16 +104,16 @@ impl<D: Disk> Flow<D> {
     fn byte<K: Sink>(&mut self, byte: u8, sink: &mut K) -> Result<(), Stop>
         requires few { self.old.session.number < 2 ^ 25 }
         requires whole { HasWholeCards self.old.session }
-        requires is_open { self.old.session.clerk.desk.store.fault ≡ None }
+        requires is_open { IsOpen self.old.session.clerk.desk }
         ensures ok { IsTrusted D.told D.content D.may_leave self.old.session.clerk.desk → OnOk result (Carries D.content self.old self.new (byte ∷ []) (K.written sink.old) (K.written sink.new)) }
         ensures trusted { OnOk result (IsTrusted D.told D.content D.may_leave self.old.session.clerk.desk → IsTrusted D.told D.content D.may_leave self.new.session.clerk.desk) }
         ensures goes { IsTrusted D.told D.content D.may_leave self.old.session.clerk.desk → OnOk result (Goes D.content D.moment D.left_since D.size self.old.session.clerk.desk self.new.session.clerk.desk) }
-        ensures is_open { OnOk result (self.new.session.clerk.desk.store.fault ≡ None) }
-        ensures err { IsTrusted D.told D.content D.may_leave self.old.session.clerk.desk → IfErr result (λ stop. Stopped D.content D.moment D.left_since D.size self.old.session.clerk.desk self.new.session.clerk.desk.store.disk (Breaks D.content stop (K.faults sink.old) (K.faults sink.new) self.old (byte ∷ []) (K.written sink.old) (K.written sink.new))) }
+        ensures is_open { OnOk result (IsOpen self.new.session.clerk.desk) }
+        ensures err { IsTrusted D.told D.content D.may_leave self.old.session.clerk.desk → IfErr result (λ stop. Stopped D.content D.moment D.left_since D.size self.old.session.clerk.desk (disk_of self.new.session.clerk.desk) (Breaks D.content stop (K.faults sink.old) (K.faults sink.new) self.old (byte ∷ []) (K.written sink.old) (K.written sink.new))) }
         ensures sink_later { K.faults sink.old ≤ K.faults sink.new }
-        ensures disk_later { D.faults self.old.session.clerk.desk.store.disk ≤ D.faults self.new.session.clerk.desk.store.disk }
-        ensures size { D.size self.new.session.clerk.desk.store.disk ≡ D.size self.old.session.clerk.desk.store.disk }
-        ensures cause { IfErr result (λ stop. Caused (IsTrusted D.told D.content D.may_leave self.old.session.clerk.desk) stop (K.faults sink.old) (K.faults sink.new) (D.faults self.old.session.clerk.desk.store.disk) (D.faults self.new.session.clerk.desk.store.disk)) }
+        ensures disk_later { D.faults (disk_of self.old.session.clerk.desk) ≤ D.faults (disk_of self.new.session.clerk.desk) }
+        ensures size { D.size (disk_of self.new.session.clerk.desk) ≡ D.size (disk_of self.old.session.clerk.desk) }
+        ensures cause { IfErr result (λ stop. Caused (IsTrusted D.told D.content D.may_leave self.old.session.clerk.desk) stop (K.faults sink.old) (K.faults sink.new) (D.faults (disk_of self.old.session.clerk.desk)) (D.faults (disk_of self.new.session.clerk.desk))) }
         ensures few { OnOk result (self.new.session.number + length self.new.partial.items ≤ self.old.session.number + length self.old.partial.items + 1) }
         ensures whole { OnOk result (HasWholeCards self.new.session) }
     {
@@ -128,16 +129,16 @@ impl<D: Disk> Flow<D> {
     pub fn feed<K: Sink>(&mut self, piece: &[u8], sink: &mut K) -> Result<(), Stop>
         requires few { self.old.session.number + length self.old.partial.items + length piece.now ≤ 2 ^ 24 }
         requires whole { HasWholeCards self.old.session }
-        requires is_open { self.old.session.clerk.desk.store.fault ≡ None }
+        requires is_open { IsOpen self.old.session.clerk.desk }
         ensures ok { IsTrusted D.told D.content D.may_leave self.old.session.clerk.desk → OnOk result (Carries D.content self.old self.new piece.now (K.written sink.old) (K.written sink.new)) }
         ensures trusted { OnOk result (IsTrusted D.told D.content D.may_leave self.old.session.clerk.desk → IsTrusted D.told D.content D.may_leave self.new.session.clerk.desk) }
         ensures goes { IsTrusted D.told D.content D.may_leave self.old.session.clerk.desk → OnOk result (Goes D.content D.moment D.left_since D.size self.old.session.clerk.desk self.new.session.clerk.desk) }
-        ensures is_open { OnOk result (self.new.session.clerk.desk.store.fault ≡ None) }
-        ensures err { IsTrusted D.told D.content D.may_leave self.old.session.clerk.desk → IfErr result (λ stop. Stopped D.content D.moment D.left_since D.size self.old.session.clerk.desk self.new.session.clerk.desk.store.disk (Breaks D.content stop (K.faults sink.old) (K.faults sink.new) self.old piece.now (K.written sink.old) (K.written sink.new))) }
+        ensures is_open { OnOk result (IsOpen self.new.session.clerk.desk) }
+        ensures err { IsTrusted D.told D.content D.may_leave self.old.session.clerk.desk → IfErr result (λ stop. Stopped D.content D.moment D.left_since D.size self.old.session.clerk.desk (disk_of self.new.session.clerk.desk) (Breaks D.content stop (K.faults sink.old) (K.faults sink.new) self.old piece.now (K.written sink.old) (K.written sink.new))) }
         ensures sink_later { K.faults sink.old ≤ K.faults sink.new }
-        ensures disk_later { D.faults self.old.session.clerk.desk.store.disk ≤ D.faults self.new.session.clerk.desk.store.disk }
-        ensures size { D.size self.new.session.clerk.desk.store.disk ≡ D.size self.old.session.clerk.desk.store.disk }
-        ensures cause { IfErr result (λ stop. Caused (IsTrusted D.told D.content D.may_leave self.old.session.clerk.desk) stop (K.faults sink.old) (K.faults sink.new) (D.faults self.old.session.clerk.desk.store.disk) (D.faults self.new.session.clerk.desk.store.disk)) }
+        ensures disk_later { D.faults (disk_of self.old.session.clerk.desk) ≤ D.faults (disk_of self.new.session.clerk.desk) }
+        ensures size { D.size (disk_of self.new.session.clerk.desk) ≡ D.size (disk_of self.old.session.clerk.desk) }
+        ensures cause { IfErr result (λ stop. Caused (IsTrusted D.told D.content D.may_leave self.old.session.clerk.desk) stop (K.faults sink.old) (K.faults sink.new) (D.faults (disk_of self.old.session.clerk.desk)) (D.faults (disk_of self.new.session.clerk.desk))) }
         ensures few { OnOk result (self.new.session.number + length self.new.partial.items ≤ self.old.session.number + length self.old.partial.items + length piece.now) }
         ensures whole { OnOk result (HasWholeCards self.new.session) }
     {
@@ -152,16 +153,16 @@ impl<D: Disk> Flow<D> {
     pub fn end<K: Sink>(&mut self, sink: &mut K) -> Result<bool, Stop>
         requires few { self.old.session.number < 2 ^ 25 }
         requires whole { HasWholeCards self.old.session }
-        requires is_open { self.old.session.clerk.desk.store.fault ≡ None }
+        requires is_open { IsOpen self.old.session.clerk.desk }
         ensures ok { IsTrusted D.told D.content D.may_leave self.old.session.clerk.desk → IfOk result (λ refused. Finishes D.content self.old (seen D.content self.new.session.clerk) refused (K.written sink.old) (K.written sink.new)) }
         ensures trusted { OnOk result (IsTrusted D.told D.content D.may_leave self.old.session.clerk.desk → IsTrusted D.told D.content D.may_leave self.new.session.clerk.desk) }
         ensures goes { IsTrusted D.told D.content D.may_leave self.old.session.clerk.desk → OnOk result (Goes D.content D.moment D.left_since D.size self.old.session.clerk.desk self.new.session.clerk.desk) }
-        ensures is_open { OnOk result (self.new.session.clerk.desk.store.fault ≡ None) }
-        ensures err { IsTrusted D.told D.content D.may_leave self.old.session.clerk.desk → IfErr result (λ stop. Stopped D.content D.moment D.left_since D.size self.old.session.clerk.desk self.new.session.clerk.desk.store.disk (FinishBreaks D.content stop (K.faults sink.old) (K.faults sink.new) self.old (K.written sink.old) (K.written sink.new))) }
+        ensures is_open { OnOk result (IsOpen self.new.session.clerk.desk) }
+        ensures err { IsTrusted D.told D.content D.may_leave self.old.session.clerk.desk → IfErr result (λ stop. Stopped D.content D.moment D.left_since D.size self.old.session.clerk.desk (disk_of self.new.session.clerk.desk) (FinishBreaks D.content stop (K.faults sink.old) (K.faults sink.new) self.old (K.written sink.old) (K.written sink.new))) }
         ensures sink_later { K.faults sink.old ≤ K.faults sink.new }
-        ensures disk_later { D.faults self.old.session.clerk.desk.store.disk ≤ D.faults self.new.session.clerk.desk.store.disk }
-        ensures size { D.size self.new.session.clerk.desk.store.disk ≡ D.size self.old.session.clerk.desk.store.disk }
-        ensures cause { IfErr result (λ stop. Caused (IsTrusted D.told D.content D.may_leave self.old.session.clerk.desk) stop (K.faults sink.old) (K.faults sink.new) (D.faults self.old.session.clerk.desk.store.disk) (D.faults self.new.session.clerk.desk.store.disk)) }
+        ensures disk_later { D.faults (disk_of self.old.session.clerk.desk) ≤ D.faults (disk_of self.new.session.clerk.desk) }
+        ensures size { D.size (disk_of self.new.session.clerk.desk) ≡ D.size (disk_of self.old.session.clerk.desk) }
+        ensures cause { IfErr result (λ stop. Caused (IsTrusted D.told D.content D.may_leave self.old.session.clerk.desk) stop (K.faults sink.old) (K.faults sink.new) (D.faults (disk_of self.old.session.clerk.desk)) (D.faults (disk_of self.new.session.clerk.desk))) }
     {
         let mut out = Text::new(self.session.clerk.alloc);
         match self.end_requests(&mut out) {
@@ -177,15 +178,15 @@ impl<D: Disk> Flow<D> {
     fn end_requests(&mut self, out: &mut Text) -> Result<(), Halt>
         requires few { self.old.session.number < 2 ^ 25 }
         requires whole { HasWholeCards self.old.session }
-        requires is_open { self.old.session.clerk.desk.store.fault ≡ None }
+        requires is_open { IsOpen self.old.session.clerk.desk }
         ensures serves { IsTrusted D.told D.content D.may_leave self.old.session.clerk.desk → OnOk result (Serves (seen D.content self.old.session.clerk) (seen D.content self.new.session.clerk) (end_requests self.old) out.old out.new) }
         ensures trusted { OnOk result (IsTrusted D.told D.content D.may_leave self.old.session.clerk.desk → IsTrusted D.told D.content D.may_leave self.new.session.clerk.desk) }
         ensures goes { IsTrusted D.told D.content D.may_leave self.old.session.clerk.desk → OnOk result (Goes D.content D.moment D.left_since D.size self.old.session.clerk.desk self.new.session.clerk.desk) }
-        ensures is_open { OnOk result (self.new.session.clerk.desk.store.fault ≡ None) }
-        ensures later { D.faults self.old.session.clerk.desk.store.disk ≤ D.faults self.new.session.clerk.desk.store.disk }
-        ensures size { D.size self.new.session.clerk.desk.store.disk ≡ D.size self.old.session.clerk.desk.store.disk }
-        ensures halt { IsTrusted D.told D.content D.may_leave self.old.session.clerk.desk → IfErr result (λ halt. Stopped D.content D.moment D.left_since D.size self.old.session.clerk.desk self.new.session.clerk.desk.store.disk (HaltsSo halt (state_of D.content self.old.session.clerk.desk) (end_requests self.old) out.old out.new)) }
-        ensures cause { IfErr result (λ halt. HaltCause (IsTrusted D.told D.content D.may_leave self.old.session.clerk.desk) halt (D.faults self.old.session.clerk.desk.store.disk) (D.faults self.new.session.clerk.desk.store.disk)) }
+        ensures is_open { OnOk result (IsOpen self.new.session.clerk.desk) }
+        ensures later { D.faults (disk_of self.old.session.clerk.desk) ≤ D.faults (disk_of self.new.session.clerk.desk) }
+        ensures size { D.size (disk_of self.new.session.clerk.desk) ≡ D.size (disk_of self.old.session.clerk.desk) }
+        ensures halt { IsTrusted D.told D.content D.may_leave self.old.session.clerk.desk → IfErr result (λ halt. Stopped D.content D.moment D.left_since D.size self.old.session.clerk.desk (disk_of self.new.session.clerk.desk) (HaltsSo halt (state_of D.content self.old.session.clerk.desk) (end_requests self.old) out.old out.new)) }
+        ensures cause { IfErr result (λ halt. HaltCause (IsTrusted D.told D.content D.may_leave self.old.session.clerk.desk) halt (D.faults (disk_of self.old.session.clerk.desk)) (D.faults (disk_of self.new.session.clerk.desk))) }
     {
         if self.partial.is_empty() {
             return self.session.end(out);

@@ -6,6 +6,7 @@ ghost use Rattle.batch_desk.specs.Listings.{catalog_mark, head_text, job_line, j
 ghost use Rattle.batch_desk.specs.Texts.{answer_text};
 ghost use Rattle.ckr_desk.specs.Model.Listing.{listed};
 ghost use Rattle.ckr_desk.specs.Soundness.{IsTrusted, state_of};
+ghost use Rattle.ckr_desk.specs.State.{layout_of};
 
 use crate::text::Text;
 use ckr_base::{DsName, NoMemory};
@@ -85,7 +86,7 @@ fn set_line(layout: &Layout, line: &Listed, out: &mut Text) -> Result<(), NoMemo
 
 /// The lines of the data sets, of which there is one.
 fn set_lines<D: Disk>(desk: &Desk<D>, out: &mut Text) -> Result<(), NoMemory>
-    ensures { IsTrusted D.told D.content D.may_leave desk.now → OnOk result (out.new ≡ out.old ++ flat_map (set_text desk.now.store.layout) (listed (state_of D.content desk.now).desk)) }
+    ensures { IsTrusted D.told D.content D.may_leave desk.now → OnOk result (out.new ≡ out.old ++ flat_map (set_text (layout_of desk.now)) (listed (state_of D.content desk.now).desk)) }
 {
     let mut place = 0u32;
     loop {
@@ -102,7 +103,7 @@ fn set_lines<D: Disk>(desk: &Desk<D>, out: &mut Text) -> Result<(), NoMemory>
 
 /// The data sets, in the order of their names.
 pub fn sets<D: Disk>(desk: &Desk<D>, out: &mut Text) -> Result<(), NoMemory>
-    ensures { IsTrusted D.told D.content D.may_leave desk.now → OnOk result (out.new ≡ out.old ++ answer_text (SetsListed desk.now.store.layout (listed (state_of D.content desk.now).desk))) }
+    ensures { IsTrusted D.told D.content D.may_leave desk.now → OnOk result (out.new ≡ out.old ++ answer_text (SetsListed (layout_of desk.now) (listed (state_of D.content desk.now).desk))) }
 {
     if desk.set_at(0).is_none() {
         return out.push(b"LIBRARY EMPTY\n");

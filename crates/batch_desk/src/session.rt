@@ -1,9 +1,10 @@
 //! What the desk has of a stream between two lines.
-ghost use Rattle.std.specs.Prelude.{◌≡◌, ◌<◌, ◌≤◌, ◌+◌, ◌*◌, ◌%◌, ◌^◌, [], ◌++◌, OnOk, IfErr, None, false, length};
+ghost use Rattle.std.specs.Prelude.{◌≡◌, ◌<◌, ◌≤◌, ◌+◌, ◌*◌, ◌%◌, ◌^◌, [], ◌++◌, OnOk, IfErr, false, length};
 ghost use Rattle.ckr_cards.specs.Session.{first_session, handed_deck, handed_before, handed_alone, handed_with, session_behind};
 ghost use Rattle.ckr_desk.specs.Soundness.{IsTrusted};
 ghost use Rattle.batch_desk.specs.Stops.{Goes, Stopped};
 ghost use Rattle.ckr_desk.specs.Soundness.{state_of};
+ghost use Rattle.ckr_desk.specs.State.{IsOpen, disk_of};
 ghost use Rattle.batch_desk.specs.Service.{HaltsSo, HaltCause, Serves, seen};
 ghost use Rattle.batch_desk.specs.Sessions.{standing_of, HasWholeCards, cards_left, cards_with};
 
@@ -30,15 +31,15 @@ pub struct Session<D: Disk> {
 fn end_deck<D: Disk>(clerk: &mut Clerk<D>, deck: &mut Vec<u8>, out: &mut Text) -> Result<(), Halt>
     requires whole { length deck.old.items % 81 ≡ 0 }
     requires few { length deck.old.items < 81 * 4294967295 }
-    requires is_open { clerk.old.desk.store.fault ≡ None }
+    requires is_open { IsOpen clerk.old.desk }
     ensures serves { IsTrusted D.told D.content D.may_leave clerk.old.desk → OnOk result (Serves (seen D.content clerk.old) (seen D.content clerk.new) (handed_deck deck.old.items) out.old out.new) }
     ensures trusted { OnOk result (IsTrusted D.told D.content D.may_leave clerk.old.desk → IsTrusted D.told D.content D.may_leave clerk.new.desk) }
     ensures goes { IsTrusted D.told D.content D.may_leave clerk.old.desk → OnOk result (Goes D.content D.moment D.left_since D.size clerk.old.desk clerk.new.desk) }
-    ensures is_open { OnOk result (clerk.new.desk.store.fault ≡ None) }
-    ensures later { D.faults clerk.old.desk.store.disk ≤ D.faults clerk.new.desk.store.disk }
-    ensures size { D.size clerk.new.desk.store.disk ≡ D.size clerk.old.desk.store.disk }
-    ensures halt { IsTrusted D.told D.content D.may_leave clerk.old.desk → IfErr result (λ halt. Stopped D.content D.moment D.left_since D.size clerk.old.desk clerk.new.desk.store.disk (HaltsSo halt (state_of D.content clerk.old.desk) (handed_deck deck.old.items) out.old out.new)) }
-    ensures cause { IfErr result (λ halt. HaltCause (IsTrusted D.told D.content D.may_leave clerk.old.desk) halt (D.faults clerk.old.desk.store.disk) (D.faults clerk.new.desk.store.disk)) }
+    ensures is_open { OnOk result (IsOpen clerk.new.desk) }
+    ensures later { D.faults (disk_of clerk.old.desk) ≤ D.faults (disk_of clerk.new.desk) }
+    ensures size { D.size (disk_of clerk.new.desk) ≡ D.size (disk_of clerk.old.desk) }
+    ensures halt { IsTrusted D.told D.content D.may_leave clerk.old.desk → IfErr result (λ halt. Stopped D.content D.moment D.left_since D.size clerk.old.desk (disk_of clerk.new.desk) (HaltsSo halt (state_of D.content clerk.old.desk) (handed_deck deck.old.items) out.old out.new)) }
+    ensures cause { IfErr result (λ halt. HaltCause (IsTrusted D.told D.content D.may_leave clerk.old.desk) halt (D.faults (disk_of clerk.old.desk)) (D.faults (disk_of clerk.new.desk))) }
     ensures deck { OnOk result (deck.new.items ≡ []) }
 {
     let _layout = clerk.desk.layout();
@@ -59,15 +60,15 @@ fn end_before<D: Disk>(
 ) -> Result<(), Halt>
     requires whole { length deck.old.items % 81 ≡ 0 }
     requires few { length deck.old.items < 81 * 4294967295 }
-    requires is_open { clerk.old.desk.store.fault ≡ None }
+    requires is_open { IsOpen clerk.old.desk }
     ensures serves { IsTrusted D.told D.content D.may_leave clerk.old.desk → OnOk result (Serves (seen D.content clerk.old) (seen D.content clerk.new) (handed_before kind deck.old.items) out.old out.new) }
     ensures trusted { OnOk result (IsTrusted D.told D.content D.may_leave clerk.old.desk → IsTrusted D.told D.content D.may_leave clerk.new.desk) }
     ensures goes { IsTrusted D.told D.content D.may_leave clerk.old.desk → OnOk result (Goes D.content D.moment D.left_since D.size clerk.old.desk clerk.new.desk) }
-    ensures is_open { OnOk result (clerk.new.desk.store.fault ≡ None) }
-    ensures later { D.faults clerk.old.desk.store.disk ≤ D.faults clerk.new.desk.store.disk }
-    ensures size { D.size clerk.new.desk.store.disk ≡ D.size clerk.old.desk.store.disk }
-    ensures halt { IsTrusted D.told D.content D.may_leave clerk.old.desk → IfErr result (λ halt. Stopped D.content D.moment D.left_since D.size clerk.old.desk clerk.new.desk.store.disk (HaltsSo halt (state_of D.content clerk.old.desk) (handed_before kind deck.old.items) out.old out.new)) }
-    ensures cause { IfErr result (λ halt. HaltCause (IsTrusted D.told D.content D.may_leave clerk.old.desk) halt (D.faults clerk.old.desk.store.disk) (D.faults clerk.new.desk.store.disk)) }
+    ensures is_open { OnOk result (IsOpen clerk.new.desk) }
+    ensures later { D.faults (disk_of clerk.old.desk) ≤ D.faults (disk_of clerk.new.desk) }
+    ensures size { D.size (disk_of clerk.new.desk) ≡ D.size (disk_of clerk.old.desk) }
+    ensures halt { IsTrusted D.told D.content D.may_leave clerk.old.desk → IfErr result (λ halt. Stopped D.content D.moment D.left_since D.size clerk.old.desk (disk_of clerk.new.desk) (HaltsSo halt (state_of D.content clerk.old.desk) (handed_before kind deck.old.items) out.old out.new)) }
+    ensures cause { IfErr result (λ halt. HaltCause (IsTrusted D.told D.content D.may_leave clerk.old.desk) halt (D.faults (disk_of clerk.old.desk)) (D.faults (disk_of clerk.new.desk))) }
     ensures deck { OnOk result (deck.new.items ≡ cards_left kind deck.old.items) }
 {
     let _layout = clerk.desk.layout();
@@ -100,15 +101,15 @@ fn serve_line<D: Disk>(
     text: &[u8],
     out: &mut Text,
 ) -> Result<(), Halt>
-    requires is_open { clerk.old.desk.store.fault ≡ None }
+    requires is_open { IsOpen clerk.old.desk }
     ensures serves { IsTrusted D.told D.content D.may_leave clerk.old.desk → OnOk result (Serves (seen D.content clerk.old) (seen D.content clerk.new) (handed_alone kind number text.now) out.old out.new) }
     ensures trusted { OnOk result (IsTrusted D.told D.content D.may_leave clerk.old.desk → IsTrusted D.told D.content D.may_leave clerk.new.desk) }
     ensures goes { IsTrusted D.told D.content D.may_leave clerk.old.desk → OnOk result (Goes D.content D.moment D.left_since D.size clerk.old.desk clerk.new.desk) }
-    ensures is_open { OnOk result (clerk.new.desk.store.fault ≡ None) }
-    ensures later { D.faults clerk.old.desk.store.disk ≤ D.faults clerk.new.desk.store.disk }
-    ensures size { D.size clerk.new.desk.store.disk ≡ D.size clerk.old.desk.store.disk }
-    ensures halt { IsTrusted D.told D.content D.may_leave clerk.old.desk → IfErr result (λ halt. Stopped D.content D.moment D.left_since D.size clerk.old.desk clerk.new.desk.store.disk (HaltsSo halt (state_of D.content clerk.old.desk) (handed_alone kind number text.now) out.old out.new)) }
-    ensures cause { IfErr result (λ halt. HaltCause (IsTrusted D.told D.content D.may_leave clerk.old.desk) halt (D.faults clerk.old.desk.store.disk) (D.faults clerk.new.desk.store.disk)) }
+    ensures is_open { OnOk result (IsOpen clerk.new.desk) }
+    ensures later { D.faults (disk_of clerk.old.desk) ≤ D.faults (disk_of clerk.new.desk) }
+    ensures size { D.size (disk_of clerk.new.desk) ≡ D.size (disk_of clerk.old.desk) }
+    ensures halt { IsTrusted D.told D.content D.may_leave clerk.old.desk → IfErr result (λ halt. Stopped D.content D.moment D.left_since D.size clerk.old.desk (disk_of clerk.new.desk) (HaltsSo halt (state_of D.content clerk.old.desk) (handed_alone kind number text.now) out.old out.new)) }
+    ensures cause { IfErr result (λ halt. HaltCause (IsTrusted D.told D.content D.may_leave clerk.old.desk) halt (D.faults (disk_of clerk.old.desk)) (D.faults (disk_of clerk.new.desk))) }
 {
     let _layout = clerk.desk.layout();
     match kind {
@@ -135,7 +136,7 @@ impl<D: Disk> Session<D> {
 
     /// The disk alone.
     pub fn close(self) -> D
-        ensures { result ≡ self.clerk.desk.store.disk }
+        ensures { result ≡ disk_of self.clerk.desk }
     {
         let Session { clerk, .. } = self;
         let Clerk { desk, .. } = clerk;
@@ -146,15 +147,15 @@ impl<D: Disk> Session<D> {
     pub fn line(&mut self, text: &[u8], out: &mut Text) -> Result<(), Halt>
         requires few { self.old.number < 2 ^ 25 }
         requires whole { HasWholeCards self.old }
-        requires is_open { self.old.clerk.desk.store.fault ≡ None }
+        requires is_open { IsOpen self.old.clerk.desk }
         ensures serves { IsTrusted D.told D.content D.may_leave self.old.clerk.desk → OnOk result (Serves (seen D.content self.old.clerk) (seen D.content self.new.clerk) (handed_with (standing_of self.old) text.now) out.old out.new) }
         ensures trusted { OnOk result (IsTrusted D.told D.content D.may_leave self.old.clerk.desk → IsTrusted D.told D.content D.may_leave self.new.clerk.desk) }
         ensures goes { IsTrusted D.told D.content D.may_leave self.old.clerk.desk → OnOk result (Goes D.content D.moment D.left_since D.size self.old.clerk.desk self.new.clerk.desk) }
-        ensures is_open { OnOk result (self.new.clerk.desk.store.fault ≡ None) }
-        ensures later { D.faults self.old.clerk.desk.store.disk ≤ D.faults self.new.clerk.desk.store.disk }
-        ensures size { D.size self.new.clerk.desk.store.disk ≡ D.size self.old.clerk.desk.store.disk }
-        ensures halt { IsTrusted D.told D.content D.may_leave self.old.clerk.desk → IfErr result (λ halt. Stopped D.content D.moment D.left_since D.size self.old.clerk.desk self.new.clerk.desk.store.disk (HaltsSo halt (state_of D.content self.old.clerk.desk) (handed_with (standing_of self.old) text.now) out.old out.new)) }
-        ensures cause { IfErr result (λ halt. HaltCause (IsTrusted D.told D.content D.may_leave self.old.clerk.desk) halt (D.faults self.old.clerk.desk.store.disk) (D.faults self.new.clerk.desk.store.disk)) }
+        ensures is_open { OnOk result (IsOpen self.new.clerk.desk) }
+        ensures later { D.faults (disk_of self.old.clerk.desk) ≤ D.faults (disk_of self.new.clerk.desk) }
+        ensures size { D.size (disk_of self.new.clerk.desk) ≡ D.size (disk_of self.old.clerk.desk) }
+        ensures halt { IsTrusted D.told D.content D.may_leave self.old.clerk.desk → IfErr result (λ halt. Stopped D.content D.moment D.left_since D.size self.old.clerk.desk (disk_of self.new.clerk.desk) (HaltsSo halt (state_of D.content self.old.clerk.desk) (handed_with (standing_of self.old) text.now) out.old out.new)) }
+        ensures cause { IfErr result (λ halt. HaltCause (IsTrusted D.told D.content D.may_leave self.old.clerk.desk) halt (D.faults (disk_of self.old.clerk.desk)) (D.faults (disk_of self.new.clerk.desk))) }
         ensures standing { OnOk result (standing_of self.new ≡ session_behind (standing_of self.old) text.now) }
         ensures whole { OnOk result (HasWholeCards self.new) }
     {
@@ -169,15 +170,15 @@ impl<D: Disk> Session<D> {
     pub fn end(&mut self, out: &mut Text) -> Result<(), Halt>
         requires few { self.old.number < 2 ^ 26 }
         requires whole { HasWholeCards self.old }
-        requires is_open { self.old.clerk.desk.store.fault ≡ None }
+        requires is_open { IsOpen self.old.clerk.desk }
         ensures serves { IsTrusted D.told D.content D.may_leave self.old.clerk.desk → OnOk result (Serves (seen D.content self.old.clerk) (seen D.content self.new.clerk) (handed_deck self.old.deck.items) out.old out.new) }
         ensures trusted { OnOk result (IsTrusted D.told D.content D.may_leave self.old.clerk.desk → IsTrusted D.told D.content D.may_leave self.new.clerk.desk) }
         ensures goes { IsTrusted D.told D.content D.may_leave self.old.clerk.desk → OnOk result (Goes D.content D.moment D.left_since D.size self.old.clerk.desk self.new.clerk.desk) }
-        ensures is_open { OnOk result (self.new.clerk.desk.store.fault ≡ None) }
-        ensures later { D.faults self.old.clerk.desk.store.disk ≤ D.faults self.new.clerk.desk.store.disk }
-        ensures size { D.size self.new.clerk.desk.store.disk ≡ D.size self.old.clerk.desk.store.disk }
-        ensures halt { IsTrusted D.told D.content D.may_leave self.old.clerk.desk → IfErr result (λ halt. Stopped D.content D.moment D.left_since D.size self.old.clerk.desk self.new.clerk.desk.store.disk (HaltsSo halt (state_of D.content self.old.clerk.desk) (handed_deck self.old.deck.items) out.old out.new)) }
-        ensures cause { IfErr result (λ halt. HaltCause (IsTrusted D.told D.content D.may_leave self.old.clerk.desk) halt (D.faults self.old.clerk.desk.store.disk) (D.faults self.new.clerk.desk.store.disk)) }
+        ensures is_open { OnOk result (IsOpen self.new.clerk.desk) }
+        ensures later { D.faults (disk_of self.old.clerk.desk) ≤ D.faults (disk_of self.new.clerk.desk) }
+        ensures size { D.size (disk_of self.new.clerk.desk) ≡ D.size (disk_of self.old.clerk.desk) }
+        ensures halt { IsTrusted D.told D.content D.may_leave self.old.clerk.desk → IfErr result (λ halt. Stopped D.content D.moment D.left_since D.size self.old.clerk.desk (disk_of self.new.clerk.desk) (HaltsSo halt (state_of D.content self.old.clerk.desk) (handed_deck self.old.deck.items) out.old out.new)) }
+        ensures cause { IfErr result (λ halt. HaltCause (IsTrusted D.told D.content D.may_leave self.old.clerk.desk) halt (D.faults (disk_of self.old.clerk.desk)) (D.faults (disk_of self.new.clerk.desk))) }
     {
         end_deck(&mut self.clerk, &mut self.deck, out)
     }

@@ -1,10 +1,11 @@
 //! The whole stream, from the source to the sink.
-ghost use Rattle.std.specs.Prelude.{◌≡◌, ◌<◌, ◌≤◌, ◌+◌, ◌*◌, ◌^◌, OnOk, OnErr, IfOk, IfErr, None, length, take};
+ghost use Rattle.std.specs.Prelude.{◌≡◌, ◌<◌, ◌≤◌, ◌+◌, ◌*◌, ◌^◌, OnOk, OnErr, IfOk, IfErr, length, take};
 ghost use Rattle.std.specs.Io.KnownBytes.{Consumes, Keeps, IsAtEnd};
 ghost use Rattle.ckr_outside.specs.Faults.{Rose};
 ghost use Rattle.ckr_desk.specs.Soundness.{IsTrusted};
 ghost use Rattle.batch_desk.specs.Stops.{Goes, Has, KeepsTo};
 ghost use Rattle.ckr_desk.specs.Soundness.{state_of};
+ghost use Rattle.ckr_desk.specs.State.{IsOpen, disk_of};
 ghost use Rattle.batch_desk.specs.Flows.{IsBegun};
 ghost use Rattle.batch_desk.specs.Service.{seen};
 ghost use Rattle.batch_desk.specs.Sessions.{HasWholeCards};
@@ -40,20 +41,20 @@ fn feed_all<S: Source, K: Sink, D: Disk>(
     sink: &mut K,
 ) -> Result<(), Stop>
     requires begun { IsBegun flow.old }
-    requires is_open { flow.old.session.clerk.desk.store.fault ≡ None }
+    requires is_open { IsOpen flow.old.session.clerk.desk }
     ensures ok { OnOk result (FedAll D.content (IsTrusted D.told D.content D.may_leave flow.old.session.clerk.desk) (seen D.content flow.old.session.clerk) flow.new (S.left source.old) (S.left source.new) (K.written sink.old) (K.written sink.new)) }
     ensures trusted { OnOk result (IsTrusted D.told D.content D.may_leave flow.old.session.clerk.desk → IsTrusted D.told D.content D.may_leave flow.new.session.clerk.desk) }
     ensures goes { IsTrusted D.told D.content D.may_leave flow.old.session.clerk.desk → OnOk result (Goes D.content D.moment D.left_since D.size flow.old.session.clerk.desk flow.new.session.clerk.desk) }
-    ensures is_open { OnOk result (flow.new.session.clerk.desk.store.fault ≡ None) }
+    ensures is_open { OnOk result (IsOpen flow.new.session.clerk.desk) }
     ensures few { OnOk result (flow.new.session.number < 2 ^ 25) }
     ensures whole { OnOk result (HasWholeCards flow.new.session) }
     ensures stop { IfErr result (λ stop. IsStopped (IsTrusted D.told D.content D.may_leave flow.old.session.clerk.desk)
-        (KeepsTo D.content D.moment D.left_since D.size flow.old.session.clerk.desk flow.new.session.clerk.desk.store.disk) (Has D.content D.moment D.left_since D.size flow.old.session.clerk.desk flow.new.session.clerk.desk.store.disk) (state_of D.content flow.old.session.clerk.desk) stop
-        (faults_of (S.faults source.old) (S.faults source.new) (K.faults sink.old) (K.faults sink.new) (D.faults flow.old.session.clerk.desk.store.disk) (D.faults flow.new.session.clerk.desk.store.disk)) (S.left source.old) (S.left source.new) (K.written sink.old) (K.written sink.new)) }
+        (KeepsTo D.content D.moment D.left_since D.size flow.old.session.clerk.desk (disk_of flow.new.session.clerk.desk)) (Has D.content D.moment D.left_since D.size flow.old.session.clerk.desk (disk_of flow.new.session.clerk.desk)) (state_of D.content flow.old.session.clerk.desk) stop
+        (faults_of (S.faults source.old) (S.faults source.new) (K.faults sink.old) (K.faults sink.new) (D.faults (disk_of flow.old.session.clerk.desk)) (D.faults (disk_of flow.new.session.clerk.desk))) (S.left source.old) (S.left source.new) (K.written sink.old) (K.written sink.new)) }
     ensures source_later { S.faults source.old ≤ S.faults source.new }
     ensures sink_later { K.faults sink.old ≤ K.faults sink.new }
-    ensures disk_later { D.faults flow.old.session.clerk.desk.store.disk ≤ D.faults flow.new.session.clerk.desk.store.disk }
-    ensures size { D.size flow.new.session.clerk.desk.store.disk ≡ D.size flow.old.session.clerk.desk.store.disk }
+    ensures disk_later { D.faults (disk_of flow.old.session.clerk.desk) ≤ D.faults (disk_of flow.new.session.clerk.desk) }
+    ensures size { D.size (disk_of flow.new.session.clerk.desk) ≡ D.size (disk_of flow.old.session.clerk.desk) }
 {
     let _layout = flow.session.clerk.desk.layout();
     let mut buffer = [0u8; PIECE_BYTES];
@@ -85,14 +86,14 @@ pub fn serve<S: Source, K: Sink, D: Disk>(
     sink: &mut K,
     desk: Desk<D>,
 ) -> Served<D>
-    requires is_open { desk.store.fault ≡ None }
+    requires is_open { IsOpen desk }
     ensures served { Serving (IsTrusted D.told D.content D.may_leave desk)
         (KeepsTo D.content D.moment D.left_since D.size desk result.disk) (Has D.content D.moment D.left_since D.size desk result.disk) (state_of D.content desk) result.outcome
-        (faults_of (S.faults source.old) (S.faults source.new) (K.faults sink.old) (K.faults sink.new) (D.faults desk.store.disk) (D.faults result.disk)) (S.left source.old) (S.left source.new) (K.written sink.old) (K.written sink.new) }
+        (faults_of (S.faults source.old) (S.faults source.new) (K.faults sink.old) (K.faults sink.new) (D.faults (disk_of desk)) (D.faults result.disk)) (S.left source.old) (S.left source.new) (K.written sink.old) (K.written sink.new) }
     ensures source_later { S.faults source.old ≤ S.faults source.new }
     ensures sink_later { K.faults sink.old ≤ K.faults sink.new }
-    ensures disk_later { D.faults desk.store.disk ≤ D.faults result.disk }
-    ensures size { D.size result.disk ≡ D.size desk.store.disk }
+    ensures disk_later { D.faults (disk_of desk) ≤ D.faults result.disk }
+    ensures size { D.size result.disk ≡ D.size (disk_of desk) }
 {
     let mut flow = Flow::new(alloc, desk);
     let outcome = serve_on(&mut flow, source, sink);
@@ -110,14 +111,14 @@ fn serve_on<S: Source, K: Sink, D: Disk>(
     sink: &mut K,
 ) -> Result<bool, Stop>
     requires begun { IsBegun flow.old }
-    requires is_open { flow.old.session.clerk.desk.store.fault ≡ None }
+    requires is_open { IsOpen flow.old.session.clerk.desk }
     ensures served { Serving (IsTrusted D.told D.content D.may_leave flow.old.session.clerk.desk)
-        (KeepsTo D.content D.moment D.left_since D.size flow.old.session.clerk.desk flow.new.session.clerk.desk.store.disk) (Has D.content D.moment D.left_since D.size flow.old.session.clerk.desk flow.new.session.clerk.desk.store.disk) (state_of D.content flow.old.session.clerk.desk) result
-        (faults_of (S.faults source.old) (S.faults source.new) (K.faults sink.old) (K.faults sink.new) (D.faults flow.old.session.clerk.desk.store.disk) (D.faults flow.new.session.clerk.desk.store.disk)) (S.left source.old) (S.left source.new) (K.written sink.old) (K.written sink.new) }
+        (KeepsTo D.content D.moment D.left_since D.size flow.old.session.clerk.desk (disk_of flow.new.session.clerk.desk)) (Has D.content D.moment D.left_since D.size flow.old.session.clerk.desk (disk_of flow.new.session.clerk.desk)) (state_of D.content flow.old.session.clerk.desk) result
+        (faults_of (S.faults source.old) (S.faults source.new) (K.faults sink.old) (K.faults sink.new) (D.faults (disk_of flow.old.session.clerk.desk)) (D.faults (disk_of flow.new.session.clerk.desk))) (S.left source.old) (S.left source.new) (K.written sink.old) (K.written sink.new) }
     ensures source_later { S.faults source.old ≤ S.faults source.new }
     ensures sink_later { K.faults sink.old ≤ K.faults sink.new }
-    ensures disk_later { D.faults flow.old.session.clerk.desk.store.disk ≤ D.faults flow.new.session.clerk.desk.store.disk }
-    ensures size { D.size flow.new.session.clerk.desk.store.disk ≡ D.size flow.old.session.clerk.desk.store.disk }
+    ensures disk_later { D.faults (disk_of flow.old.session.clerk.desk) ≤ D.faults (disk_of flow.new.session.clerk.desk) }
+    ensures size { D.size (disk_of flow.new.session.clerk.desk) ≡ D.size (disk_of flow.old.session.clerk.desk) }
 {
     feed_all(flow, source, sink)?;
     flow.end(sink)

@@ -118,6 +118,7 @@ fn format<S: Source, K: Sink, D: Disk>(
         (AllSound D.told D.may_leave D.size result.disk) result.status
         (faults_of (S.faults source.old) (S.faults source.new) (K.faults sink.old) (K.faults sink.new) (D.faults disk) (D.faults result.disk))
         (S.left source.old) (S.left source.new) (K.written sink.old) (K.written sink.new) }
+    ensures size { D.size result.disk ≡ D.size disk }
 {
     let outcome = format_disk(alloc, source, sink, &mut disk);
     Closed {
@@ -163,7 +164,8 @@ pub fn batch_desk<S: Source, K: Sink, D: Disk>(
         (faults_of (S.faults source.old) (S.faults source.new) (K.faults sink.old) (K.faults sink.new) (D.faults disk) (D.faults result.disk))
         (S.left source.old) (S.left source.new) (K.written sink.old) (K.written sink.new) }
 
-    ensures size { command_of (map string_bytes words.now) ≡ Ok Command.Run → D.size result.disk ≡ D.size disk }
+    // Whatever the words ask for, the disk that is handed back has its size.
+    ensures size { D.size result.disk ≡ D.size disk }
 
     // Of a run: a stop at any moment leaves a sound image; and the disk that is handed back is sound as the one was that was handed in, so
     // that it may be run again, any number of times.

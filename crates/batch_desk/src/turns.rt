@@ -5,6 +5,7 @@ ghost use Rattle.ckr_desk.specs.Model.Plans.{IsToldReply};
 ghost use Rattle.ckr_desk.specs.Requests.{spelled};
 ghost use Rattle.ckr_desk.specs.Turn.{behind_turn, event_of_turn, reply_of, turn_fits};
 ghost use Rattle.ckr_desk.specs.Soundness.{IsTrusted, state_of};
+ghost use Rattle.ckr_desk.specs.State.{IsOpen, disk_of, layout_of};
 ghost use Rattle.batch_desk.specs.Stops.{Goes, Has, Stopped};
 ghost use Rattle.batch_desk.specs.Calls.{Turned, plain_turn, turns, turns_fit, after_turns, is_idle};
 ghost use Rattle.batch_desk.specs.Events.{turns_events};
@@ -118,21 +119,21 @@ fn break_off(
 /// One turn of an initiator.
 fn one_turn<D: Disk>(desk: &mut Desk<D>, initiator: u8) -> Result<Reply, Halt>
     requires above { 1 ≤ initiator }
-    requires below { initiator ≤ desk.old.store.layout.initiators }
-    requires is_open { desk.old.store.fault ≡ None }
+    requires below { initiator ≤ (layout_of desk.old).initiators }
+    requires is_open { IsOpen desk.old }
     ensures reply { IsTrusted D.told D.content D.may_leave desk.old → IfOk result (λ reply. reply ≡ reply_of (state_of D.content desk.old) (plain_turn initiator)) }
     ensures told { IfOk result (λ reply. IsToldReply reply) }
     ensures fits { IsTrusted D.told D.content D.may_leave desk.old → OnOk result (turn_fits (state_of D.content desk.old) (plain_turn initiator) ≡ true) }
     ensures after { IsTrusted D.told D.content D.may_leave desk.old → OnOk result (state_of D.content desk.new ≡ behind_turn (state_of D.content desk.old) (plain_turn initiator)) }
-    ensures is_open { OnOk result (desk.new.store.fault ≡ None) }
-    ensures layout { desk.new.store.layout ≡ desk.old.store.layout }
-    ensures events { IsTrusted D.told D.content D.may_leave desk.old → OnOk result (Has D.content D.moment D.left_since D.size desk.old desk.new.store.disk (spelled (event_of_turn (state_of D.content desk.old) (plain_turn initiator)))) }
+    ensures is_open { OnOk result (IsOpen desk.new) }
+    ensures layout { layout_of desk.new ≡ layout_of desk.old }
+    ensures events { IsTrusted D.told D.content D.may_leave desk.old → OnOk result (Has D.content D.moment D.left_since D.size desk.old (disk_of desk.new) (spelled (event_of_turn (state_of D.content desk.old) (plain_turn initiator)))) }
     ensures trusted { OnOk result (IsTrusted D.told D.content D.may_leave desk.old → IsTrusted D.told D.content D.may_leave desk.new) }
     ensures goes { IsTrusted D.told D.content D.may_leave desk.old → OnOk result (Goes D.content D.moment D.left_since D.size desk.old desk.new) }
-    ensures later { D.faults desk.old.store.disk ≤ D.faults desk.new.store.disk }
-    ensures size { D.size desk.new.store.disk ≡ D.size desk.old.store.disk }
-    ensures halt { IsTrusted D.told D.content D.may_leave desk.old → IfErr result (λ halt. Stopped D.content D.moment D.left_since D.size desk.old desk.new.store.disk (TurnHalt halt initiator (state_of D.content desk.old))) }
-    ensures cause { IfErr result (λ halt. HaltCause (IsTrusted D.told D.content D.may_leave desk.old) halt (D.faults desk.old.store.disk) (D.faults desk.new.store.disk)) }
+    ensures later { D.faults (disk_of desk.old) ≤ D.faults (disk_of desk.new) }
+    ensures size { D.size (disk_of desk.new) ≡ D.size (disk_of desk.old) }
+    ensures halt { IsTrusted D.told D.content D.may_leave desk.old → IfErr result (λ halt. Stopped D.content D.moment D.left_since D.size desk.old (disk_of desk.new) (TurnHalt halt initiator (state_of D.content desk.old))) }
+    ensures cause { IfErr result (λ halt. HaltCause (IsTrusted D.told D.content D.may_leave desk.old) halt (D.faults (disk_of desk.old)) (D.faults (disk_of desk.new))) }
 {
     let turn = Turn {
         initiator,
@@ -157,21 +158,21 @@ pub fn turned<D: Disk>(
 ) -> Result<(), Halt>
     requires few { count ≤ 1_000_000 }
     requires above { 1 ≤ initiator }
-    requires below { initiator ≤ desk.old.store.layout.initiators }
-    requires is_open { desk.old.store.fault ≡ None }
+    requires below { initiator ≤ (layout_of desk.old).initiators }
+    requires is_open { IsOpen desk.old }
     ensures fits { IsTrusted D.told D.content D.may_leave desk.old → OnOk result (turns_fit initiator count (state_of D.content desk.old) ≡ true) }
-    ensures text { IsTrusted D.told D.content D.may_leave desk.old → OnOk result (out.new ≡ out.old ++ answer_text (Turned desk.old.store.layout initiator (turns initiator count (state_of D.content desk.old)))) }
+    ensures text { IsTrusted D.told D.content D.may_leave desk.old → OnOk result (out.new ≡ out.old ++ answer_text (Turned (layout_of desk.old) initiator (turns initiator count (state_of D.content desk.old)))) }
     ensures after { IsTrusted D.told D.content D.may_leave desk.old → OnOk result (state_of D.content desk.new ≡ after_turns initiator count (state_of D.content desk.old)) }
-    ensures is_open { OnOk result (desk.new.store.fault ≡ None) }
-    ensures layout { OnOk result (desk.new.store.layout ≡ desk.old.store.layout) }
-    ensures events { IsTrusted D.told D.content D.may_leave desk.old → OnOk result (Has D.content D.moment D.left_since D.size desk.old desk.new.store.disk
+    ensures is_open { OnOk result (IsOpen desk.new) }
+    ensures layout { OnOk result (layout_of desk.new ≡ layout_of desk.old) }
+    ensures events { IsTrusted D.told D.content D.may_leave desk.old → OnOk result (Has D.content D.moment D.left_since D.size desk.old (disk_of desk.new)
         (turns_events initiator (length (turns initiator count (state_of D.content desk.old))) (state_of D.content desk.old))) }
     ensures trusted { OnOk result (IsTrusted D.told D.content D.may_leave desk.old → IsTrusted D.told D.content D.may_leave desk.new) }
     ensures goes { IsTrusted D.told D.content D.may_leave desk.old → OnOk result (Goes D.content D.moment D.left_since D.size desk.old desk.new) }
-    ensures later { D.faults desk.old.store.disk ≤ D.faults desk.new.store.disk }
-    ensures size { D.size desk.new.store.disk ≡ D.size desk.old.store.disk }
-    ensures halt { IsTrusted D.told D.content D.may_leave desk.old → IfErr result (λ halt. Stopped D.content D.moment D.left_since D.size desk.old desk.new.store.disk (TurnsHalt desk.old.store.layout initiator halt count (state_of D.content desk.old) out.old out.new)) }
-    ensures cause { IfErr result (λ halt. HaltCause (IsTrusted D.told D.content D.may_leave desk.old) halt (D.faults desk.old.store.disk) (D.faults desk.new.store.disk)) }
+    ensures later { D.faults (disk_of desk.old) ≤ D.faults (disk_of desk.new) }
+    ensures size { D.size (disk_of desk.new) ≡ D.size (disk_of desk.old) }
+    ensures halt { IsTrusted D.told D.content D.may_leave desk.old → IfErr result (λ halt. Stopped D.content D.moment D.left_since D.size desk.old (disk_of desk.new) (TurnsHalt (layout_of desk.old) initiator halt count (state_of D.content desk.old) out.old out.new)) }
+    ensures cause { IfErr result (λ halt. HaltCause (IsTrusted D.told D.content D.may_leave desk.old) halt (D.faults (disk_of desk.old)) (D.faults (disk_of desk.new))) }
 {
     let _layout = desk.layout();
     let mut waiting = None;

@@ -6,3 +6,4 @@ pub mod Requests
 pub mod Records
 pub mod FullBooks
 pub mod OneEvent
+pub mod NextEvents

@@ -62,19 +62,24 @@ NotAsked old new (Stopped fault) = (old.store.fault ≡ Some fault) × IsSame ol
 NotAsked old new Misread = ⊥
 
 module _ {D : Type 0} (faults : D → ℕ) where
-  -- why an event that is ready isn't kept; it follows where the disk reads what was written
-  abbrev pub NotEntered : Event → Option Job → DeskView D → DeskView D → DeskError → Type 0
-  NotEntered event deck old new DiskFault = HasFailed faults old.store new.store × HasSameJobs old new
-  NotEntered event deck old new Misread = (may_follow event deck old ≡ false) × IsSame old new
-  NotEntered event deck old new _ = ⊥
+  -- why an event that follows and is ready isn't kept: the disk failed
+  abbrev pub NotEntered : DeskView D → DeskView D → DeskError → Type 0
+  NotEntered old new DiskFault = HasFailed faults old.store new.store × HasSameJobs old new
+  NotEntered old new _ = ⊥
 
-  -- why an event isn't kept
+  -- why an event of a turn that is ready isn't kept; it follows where the disk reads what was written
+  abbrev pub NotKeptByTurn : Event → DeskView D → DeskView D → DeskError → Type 0
+  NotKeptByTurn event old new DiskFault = NotEntered old new DiskFault
+  NotKeptByTurn event old new Misread = (may_follow event None old ≡ false) × IsSame old new
+  NotKeptByTurn event old new _ = ⊥
+
+  -- why an event that follows isn't kept
   abbrev pub NotKept : Event → Option Job → DeskView D → DeskView D → DeskError → Type 0
   NotKept event deck old new NoMemory = IsSame old new
   NotKept event deck old new DiskFault = HasFailed faults old.store new.store × HasSameJobs old new
   NotKept event deck old new (BookFull need room) = (need ≡ need_of event) × (room ≡ room_of old.store.book) × (room < need) × IsSame old new
   NotKept event deck old new (Stopped fault) = (old.store.fault ≡ Some fault) × IsSame old new
-  NotKept event deck old new Misread = (may_follow event deck old ≡ false) × IsSame old new
+  NotKept event deck old new Misread = ⊥
 
   -- why a call isn't done
   abbrev pub NotDone : Option Decked → DeskView D → DeskView D → DeskError → Type 0

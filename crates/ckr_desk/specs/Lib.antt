@@ -12,5 +12,6 @@ pub mod Rewrite
 pub mod Units
 pub mod Records
 pub mod NoChange
+pub mod CallOutcomes
 pub mod Preparation
 pub mod Model

@@ -69,6 +69,11 @@ abbrev pub TellsFull : ℕ → Option Event → DeskError → Type 0
 TellsFull room event (BookFull need left) = IsFull room event need left
 TellsFull room event _ = Unit {0}
 
+-- the numbers of a full book are those of some event
+abbrev pub TellsNumbers : ℕ → DeskError → Type 0
+TellsNumbers room (BookFull need left) = (event : Event) × IsFull room (Some event) need left
+TellsNumbers room _ = Unit {0}
+
 -- where the disk is trusted: the room of the book, and the event of the call, if it has one
 abbrev pub FailsBy : ℕ → Option Event → DeskError → Type 0
 FailsBy room event NoMemory = Unit {0}

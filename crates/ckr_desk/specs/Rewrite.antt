@@ -1,5 +1,5 @@
 -- A record written again in its place, and what a stop within it leaves.
-use Rattle.std.specs.Prelude.{◌≡◌, ◌≤◌, ◌⊎◌, ℕ, List, length, Option, Some, None}
+use Rattle.std.specs.Prelude.{◌≡◌, ◌⊎◌, ℕ, List, Some}
 use Rattle.ckr_events.specs.declared.event.Event.{Event}
 use Rattle.ckr_events.specs.declared.event.Event.TheVariants.{Rewritten}
 use Rattle.ckr_desk_memory.specs.Rewrite.{updated_by}
@@ -10,7 +10,7 @@ use Rattle.ckr_desk_refines.specs.Moves.{DiffersAt, IsWritten}
 use Rattle.ckr_desk_store.specs.OpenImages.{event_records, Opens}
 use Rattle.ckr_volumes.specs.declared.layout.Layout.{Layout}
 use Rattle.ckr_desk.specs.declared.error.DeskError.{DeskError}
-use Rattle.ckr_desk.specs.declared.error.DeskError.TheVariants.{DiskFault, Misread}
+use Rattle.ckr_desk.specs.declared.error.DeskError.TheVariants.{DiskFault}
 use Rattle.ckr_desk.specs.State.{DeskView}
 
 -- the disk opens with the same events
@@ -38,22 +38,7 @@ IsWrittenBy layout tables (Rewritten job taken writes lengths place image) befor
     → IsWritten layout table.set place image before after
 IsWrittenBy layout tables _ before after = after ≡ before
 
--- a record that an event tells can't be written by these tables: nothing is updated, or it doesn't fit
-abbrev pub DoesNotFit : ℕ → List ℕ → Option TableSet → Type 0
-DoesNotFit place image None = Unit {0}
-DoesNotFit place image (Some table) = (table.set.space ≤ place) ⊎ (length image ≡ table.set.lrecl → ⊥)
-
-abbrev pub CannotWriteIn : TablesModel → ℕ → List ℕ → Option Name → Type 0
-CannotWriteIn tables place image None = Unit {0}
-CannotWriteIn tables place image (Some name) = DoesNotFit place image (entry_at tables.sets name)
-
-abbrev pub CannotWrite : Event → TablesModel → Type 0
-CannotWrite (Rewritten job taken writes lengths place image) tables =
-    (row : RunRow) → run_of tables job ≡ Some row → CannotWriteIn tables place image (updated_by row)
-CannotWrite _ tables = ⊥
-
--- why the record that an event tells wasn't written, by the tables behind it
-abbrev pub NotWritten : ℕ → ℕ → Event → TablesModel → DeskError → Type 0
-NotWritten before now event tables DiskFault = Rose before now
-NotWritten before now event tables Misread = CannotWrite event tables
-NotWritten before now event tables _ = ⊥
+-- only the disk failed: its faults rose
+abbrev pub IsFault : ℕ → ℕ → DeskError → Type 0
+IsFault before now DiskFault = Rose before now
+IsFault before now _ = ⊥

@@ -1,5 +1,5 @@
 -- The desk on its disk: the open disk, and the jobs in memory.
-use Rattle.std.specs.Prelude.{ℕ, ◌+◌, List, length}
+use Rattle.std.specs.Prelude.{◌≡◌, ℕ, ◌+◌, List, length, Option, None}
 use Rattle.ckr_book.specs.Book.{room_of}
 use Rattle.ckr_events.specs.declared.event.Event.{Event}
 use Rattle.ckr_events.specs.Event.{spelling}
@@ -13,6 +13,32 @@ use Rattle.ckr_volumes.specs.declared.layout.Layout.{Layout}
 pub record DeskView (D : Type 0) : Type 0 where
   pub store : StoreView D
   pub jobs : JobsView
+
+-- ---- what a desk has
+
+-- the disk
+abbrev pub disk_of : {D : Type 0} → DeskView D → D
+disk_of desk = desk.store.disk
+
+-- its layout
+abbrev pub layout_of : {D : Type 0} → DeskView D → Layout
+layout_of desk = desk.store.layout
+
+-- the room of its book
+abbrev pub room_left : {D : Type 0} → DeskView D → ℕ
+room_left desk = room_of desk.store.book
+
+-- the fault of the disk at which the desk has stopped, if it has
+abbrev pub fault_of : {D : Type 0} → DeskView D → Option ℕ
+fault_of desk = desk.store.fault
+
+-- it hasn't stopped
+abbrev pub IsOpen : {D : Type 0} → DeskView D → Type 0
+IsOpen desk = fault_of desk ≡ None
+
+-- the tables of the jobs in memory
+abbrev pub tables_in_memory : {D : Type 0} → DeskView D → TablesModel
+tables_in_memory desk = desk.jobs.tables.desk
 
 -- the jobs are such as the layout of the disk has them
 abbrev pub IsKept : {D : Type 0} → DeskView D → Type 0

@@ -29,7 +29,7 @@ use Rattle.ckr_desk.specs.declared.error.DeskError.TheVariants.{DiskFault, Misre
 use Rattle.ckr_desk.specs.Calls.{HasGoneOn, IsLeftBy, may_follow, may_keep}
 use Rattle.ckr_desk.specs.Soundness.{IsTrusted, KeepsWithin, state_of}
 use Rattle.ckr_desk.specs.State.{DeskView}
-use Rattle.ckr_desk.specs.Rewrite.{CannotWrite, IsWrittenBy, LacksAtMost, OpensSame}
+use Rattle.ckr_desk.specs.Rewrite.{IsWrittenBy, LacksAtMost, OpensSame}
 use Rattle.ckr_desk.specs.Requests.{FailsBy, came_by, spelled}
 use Rattle.ckr_desk.specs.Turn.{behind_turn, event_of_turn, reply_of, turn_fits}
 
@@ -57,11 +57,6 @@ module _ {D : Type 0} (told : Type 0) (content : D → List ℕ) (may_leave : D 
     pub running : new.jobs.running ≡ moved ∷ without_first run old.jobs.running
     pub store : new.store ≡ record old.store { disk = new.store.disk }
     pub planned : IsToldOf old.store.layout old.jobs.tables.desk moved worked plan
-
--- why a unit wasn't done: the disk failed
-abbrev pub NotUnit : ℕ → ℕ → DeskError → Type 0
-NotUnit before now DiskFault = Rose before now
-NotUnit before now _ = ⊥
 
 -- ---- what a stop leaves
 
@@ -118,7 +113,7 @@ IsPlainTold (Work job) = ⊥
 -- why what a turn comes to wasn't done
 abbrev pub NotTold : {D : Type 0} → (D → ℕ) → Event → DeskView D → DeskView D → DeskError → Type 0
 NotTold faults event old new DiskFault = Rose (faults old.store.disk) (faults new.store.disk)
-NotTold faults event old new Misread = (may_follow event None old ≡ false) ⊎ CannotWrite event (after_event event None old.jobs.tables.desk)
+NotTold faults event old new Misread = may_follow event None old ≡ false
 NotTold faults event old new _ = ⊥
 
 abbrev pub NotBehind : {D : Type 0} → (D → ℕ) → Plan → DeskView D → DeskView D → DeskError → Type 0

@@ -1,21 +1,23 @@
 //! The jobs in memory with their disk.
-ghost use Rattle.std.specs.Prelude.{◌≡◌, ◌≤◌, ◌++◌, ◌∷◌, [], IfErr, IfSome, IsTrue, OnOk, Err, None, length, map, true};
-ghost use Rattle.std.specs.Option.{option_copied};
+ghost use Rattle.std.specs.Prelude.{◌≡◌, ◌≤◌, ◌++◌, ◌∷◌, [], IfErr, IfSome, IsTrue, OnOk, Err, None, false, length, map, true};
 ghost use Rattle.ckr_events.specs.Event.{IsCounted, spelling};
 ghost use Rattle.ckr_desk_memory.specs.Invariant.{IsAnyAccepted};
+ghost use Rattle.ckr_desk_memory.specs.Rewrite.{HasRecordPlace};
+ghost use Rattle.ckr_desk_memory.specs.TurnEvents.{is_of_step};
 ghost use Rattle.ckr_outside.specs.Disk.{EachSince, Only};
 ghost use Rattle.ckr_points.specs.Rows.{holding_of};
 ghost use Rattle.ckr_desk_refines.specs.Moves.{HasSameRecords};
 ghost use Rattle.ckr_desk_store.specs.OpenImages.{event_records};
 ghost use Rattle.ckr_points_tables.specs.Invariant.{is_plain_event, MaySubmit};
 ghost use Rattle.ckr_points_tables.specs.View.{line_of, seen_by};
-ghost use Rattle.ckr_desk.specs.Calls.{HasGoneOn, IsLeftBy, NotEntered, NotKept, may_follow};
+ghost use Rattle.ckr_desk.specs.Calls.{HasGoneOn, IsLeftBy, NotEntered, NotKept, NotKeptByTurn, may_follow};
 ghost use Rattle.ckr_desk.specs.Preparation.{IsReady};
 ghost use Rattle.ckr_desk.specs.Soundness.{IsTrusted, KeepsWithin};
+ghost use Rattle.ckr_desk.specs.State.{IsOpen, disk_of, layout_of, tables_in_memory};
 
 use crate::DeskError;
 use crate::preparation::Ready;
-use ckr_desk_memory::{Jobs, follows};
+use ckr_desk_memory::{Jobs, follows, is_of_step};
 use ckr_desk_store::Store;
 use ckr_events::Event;
 use ckr_jcl::Job;
@@ -48,40 +50,44 @@ impl<D: Disk> Desk<D> {
     /// The layout of the disk: where its book and its volumes stand, in bytes, and how many initiators there are. It takes no memory
     /// (this project's profile).
     pub fn layout(&self) -> &Layout
-        ensures layout { result.now ≡ self.now.store.layout }
-        ensures kept { self.now.store.fault ≡ None → IsTrusted D.told D.content D.may_leave self.now → KeepsWithin D.content D.moment D.left_since D.size self.now self.now [] }
+        ensures layout { result.now ≡ layout_of self.now }
+        ensures kept { IsOpen self.now → IsTrusted D.told D.content D.may_leave self.now → KeepsWithin D.content D.moment D.left_since D.size self.now self.now [] }
     {
         self.store.layout()
     }
 
     /// The data sets, with the lengths that are committed.
     pub fn library(&self) -> &Library
-        ensures { result.now.sets ≡ seen_by holding_of self.now.jobs.tables.desk.sets }
+        ensures { result.now.sets ≡ seen_by holding_of (tables_in_memory self.now).sets }
     {
         self.jobs.library()
     }
 
     /// The lines of the runs, in the order of their numbers.
     pub fn runs(&self) -> &[Run]
-        ensures { result.now ≡ map line_of self.now.jobs.tables.desk.runs }
+        ensures { result.now ≡ map line_of (tables_in_memory self.now).runs }
     {
         self.jobs.runs()
     }
 
     /// The disk alone.
     pub fn close(self) -> D
-        ensures { result ≡ self.store.disk }
+        ensures { result ≡ disk_of self }
     {
         let Desk { store, .. } = self;
         store.into_disk()
     }
 
-    /// Whether an event follows.
-    fn may_follow(&self, event: &Event, deck: Option<&Job>) -> bool
-        requires { IsTrue (is_plain_event event.now) }
-        ensures { result ≡ may_follow event.now (option_copied deck.entry) self.now }
+    /// Whether an event of a turn follows. One between the steps of a run does, and isn't tested.
+    fn may_tell(&self, event: &Event) -> bool
+        requires plain { IsTrue (is_plain_event event.now) }
+        requires between { is_of_step event.now ≡ false → may_follow event.now None self.now ≡ true }
+        ensures { result ≡ may_follow event.now None self.now }
     {
-        follows(self.jobs.tables(), self.store.layout(), event, deck)
+        if !is_of_step(event) {
+            return true;
+        }
+        follows(self.jobs.tables(), self.store.layout(), event, None)
     }
 
     /// Puts an event on the disk that is ready, behind all that was written before, and the jobs go on by it. It takes no memory.
@@ -97,11 +103,12 @@ impl<D: Disk> Desk<D> {
             ≡ event_records self.old.store.layout (D.content self.old.store.disk) ++ spelling event.now ∷ []) }
         ensures records { D.told → OnOk result (HasSameRecords self.old.store.layout (D.content self.old.store.disk) (D.content self.new.store.disk)) }
         ensures settled { OnOk result (Only (D.content self.new.store.disk) (D.may_leave self.new.store.disk)) }
+        ensures place { OnOk result (HasRecordPlace event.now self.new.jobs.tables.desk) }
         ensures left { EachSince D.moment D.left_since self.old.store.disk self.new.store.disk (IsLeftBy D.content D.may_leave D.size event.now deck self.old) }
         ensures size { D.size self.new.store.disk ≡ D.size self.old.store.disk }
         ensures faults { D.faults self.old.store.disk ≤ D.faults self.new.store.disk }
         ensures layout { self.new.store.layout ≡ self.old.store.layout }
-        ensures cause { IfErr result (NotEntered D.faults event.now deck self.old self.new) }
+        ensures cause { IfErr result (NotEntered D.faults self.old self.new) }
     {
         let _layout = self.store.layout();
         let Ready { bytes, prepared } = ready;
@@ -111,48 +118,46 @@ impl<D: Disk> Desk<D> {
         Ok(())
     }
 
-    /// Keeps a plain event that is ready: what was written before is synced, the event is put on the disk, and the jobs go on by it. It takes
-    /// no memory.
+    /// Keeps the event of a turn that is ready: what was written before is synced, the event is put on the disk, and the jobs go on by it.
+    /// It takes no memory.
     ///
     /// `DiskFault`: only where the disk's faults rose in this call; then the desk has stopped. `Misread`: exactly where the event doesn't
-    /// follow; nothing has changed then.
-    pub(crate) fn tell_ready(
-        &mut self,
-        event: &Event,
-        deck: Option<Job>,
-        ready: Ready,
-    ) -> Result<(), DeskError>
+    /// follow, which never is so between the steps of a run; nothing has changed then.
+    pub(crate) fn tell_ready(&mut self, event: &Event, ready: Ready) -> Result<(), DeskError>
         requires plain { IsTrue (is_plain_event event.now) }
-        requires deck { MaySubmit event.now deck }
-        requires accepted { IsAnyAccepted event.now deck }
-        requires ready { IsReady event.now deck self.old ready }
+        requires between { is_of_step event.now ≡ false → may_follow event.now None self.old ≡ true }
+        requires deck { MaySubmit event.now None }
+        requires accepted { IsAnyAccepted event.now None }
+        requires ready { IsReady event.now None self.old ready }
         requires is_open { self.old.store.fault ≡ None }
-        ensures ok { OnOk result (HasGoneOn event.now deck self.old self.new) }
+        ensures ok { OnOk result (HasGoneOn event.now None self.old self.new) }
         ensures told { D.told → OnOk result (event_records self.old.store.layout (D.content self.new.store.disk)
             ≡ event_records self.old.store.layout (D.content self.old.store.disk) ++ spelling event.now ∷ []) }
         ensures records { D.told → OnOk result (HasSameRecords self.old.store.layout (D.content self.old.store.disk) (D.content self.new.store.disk)) }
         ensures settled { OnOk result (Only (D.content self.new.store.disk) (D.may_leave self.new.store.disk)) }
-        ensures left { EachSince D.moment D.left_since self.old.store.disk self.new.store.disk (IsLeftBy D.content D.may_leave D.size event.now deck self.old) }
+        ensures place { OnOk result (HasRecordPlace event.now self.new.jobs.tables.desk) }
+        ensures left { EachSince D.moment D.left_since self.old.store.disk self.new.store.disk (IsLeftBy D.content D.may_leave D.size event.now None self.old) }
         ensures size { D.size self.new.store.disk ≡ D.size self.old.store.disk }
         ensures faults { D.faults self.old.store.disk ≤ D.faults self.new.store.disk }
         ensures layout { self.new.store.layout ≡ self.old.store.layout }
-        ensures cause { IfErr result (NotEntered D.faults event.now deck self.old self.new) }
+        ensures cause { IfErr result (NotKeptByTurn D.faults event.now self.old self.new) }
     {
         let _layout = self.store.layout();
-        if !self.may_follow(event, deck.as_ref()) {
+        if !self.may_tell(event) {
             return Err(DeskError::Misread);
         }
-        self.enter(event, deck, ready)
+        self.enter(event, None, ready)
     }
 
-    /// Keeps a plain event, with the memory that it needs. A deck is given exactly where the event is Submitted and its cards are a deck, and
-    /// it is that deck, accepted and of a form that the desk runs.
+    /// Keeps a plain event that follows, with the memory that it needs. A deck is given exactly where the event is Submitted and its cards
+    /// are a deck, and it is that deck, accepted and of a form that the desk runs.
     ///
-    /// `NoMemory`, also where a count of rewrites is at its end; `BookFull` where the event needs more than the room of the book; `Misread`
-    /// where it is ready and doesn't follow: the jobs and the disk are the same then. `DiskFault`: only where the disk's faults rose in
-    /// this call; then the desk has stopped. `Stopped`: exactly where it had stopped before (this project's profile).
-    pub fn tell(&mut self, event: &Event, deck: Option<Job>) -> Result<(), DeskError>
+    /// `NoMemory`, also where a count of rewrites is at its end; `BookFull` where the event needs more than the room of the book: the jobs
+    /// and the disk are the same then. `DiskFault`: only where the disk's faults rose in this call; then the desk has stopped. `Stopped`:
+    /// exactly where it had stopped before (this project's profile).
+    pub(crate) fn tell(&mut self, event: &Event, deck: Option<Job>) -> Result<(), DeskError>
         requires plain { IsTrue (is_plain_event event.now) }
+        requires follows { may_follow event.now deck self.old ≡ true }
         requires counted { IsCounted event.now }
         requires small { length (spelling event.now) ≤ 4294967289 }
         requires deck { MaySubmit event.now deck }
@@ -174,6 +179,6 @@ impl<D: Disk> Desk<D> {
             return Err(DeskError::Stopped { fault });
         }
         let ready = self.make_ready(event, deck.as_ref())?;
-        self.tell_ready(event, deck, ready)
+        self.enter(event, deck, ready)
     }
 }

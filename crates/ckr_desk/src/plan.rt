@@ -1,10 +1,12 @@
 //! What goes on behind what a turn comes to.
 ghost use Rattle.std.specs.Prelude.{◌≡◌, ◌≤◌, IfErr, IfOk, OnOk, None};
+ghost use Rattle.ckr_book.specs.Book.{room_of};
 ghost use Rattle.ckr_desk_memory.specs.Plans.{HasUnitDue, IsSpelledPlan, IsToldReply};
+ghost use Rattle.ckr_desk_memory.specs.TurnEvents.{FollowsBetween};
 ghost use Rattle.ckr_outside.specs.Disk.{EachSince};
 ghost use Rattle.ckr_desk_refines.specs.Moves.{event_in, reply_in};
 ghost use Rattle.ckr_desk.specs.Calls.{IsSettledBehind};
-ghost use Rattle.ckr_desk.specs.Requests.{MayFail};
+ghost use Rattle.ckr_desk.specs.Requests.{MayFail, TellsNumbers};
 ghost use Rattle.ckr_desk.specs.Preparation.{IsReadyFor};
 ghost use Rattle.ckr_desk.specs.NoChange.{HasHalted, StaysBy};
 ghost use Rattle.ckr_desk.specs.Units.{HasGoneBehind, HasTurned, IsLeftBehind, IsPlainPlan, IsPlainTold, IsPlanned, NotBehind};
@@ -22,6 +24,7 @@ impl<D: Disk> Desk<D> {
         requires is_open { self.old.store.fault ≡ None }
         requires spelled { IsSpelledPlan plan }
         requires plain { IsPlainTold plan }
+        requires follows { FollowsBetween self.old.store.layout self.old.jobs.tables.desk plan }
         requires ready { IsReadyFor (event_in plan) self.old ready }
         ensures reply { IfOk result (λ reply. reply ≡ reply_in plan) }
         ensures spelled { IfOk result IsToldReply }
@@ -40,7 +43,7 @@ impl<D: Disk> Desk<D> {
             Plan::Rest(reply) => Ok(reply),
             Plan::Tell { reply, event } => {
                 let Some(ready) = ready else { unreachable!() };
-                self.tell_ready(&event, None, ready)?;
+                self.tell_ready(&event, ready)?;
                 self.rewrite(&event)?;
                 Ok(reply)
             }
@@ -53,6 +56,7 @@ impl<D: Disk> Desk<D> {
         requires is_open { self.old.store.fault ≡ None }
         requires spelled { IsSpelledPlan plan }
         requires plain { IsPlainPlan plan }
+        requires follows { FollowsBetween self.old.store.layout self.old.jobs.tables.desk plan }
         requires works { HasUnitDue self.old.jobs plan }
         ensures turned { (turn : TurnOf) → IsPlanned D.told D.content D.may_leave self.old turn plan → HasTurned D.told D.content D.may_leave D.moment D.left_since D.size turn self.old self.new result }
         ensures spelled { IfOk result IsToldReply }
@@ -61,6 +65,7 @@ impl<D: Disk> Desk<D> {
         ensures size { D.size self.new.store.disk ≡ D.size self.old.store.disk }
         ensures faults { D.faults self.old.store.disk ≤ D.faults self.new.store.disk }
         ensures may_fail { IfErr result (MayFail (D.faults self.old.store.disk) (D.faults self.new.store.disk) self.old.store.fault) }
+        ensures full { IfErr result (TellsNumbers (room_of self.old.store.book)) }
         ensures stays { IfErr result (StaysBy D.content D.may_leave D.faults self.old self.new) }
     {
         let _layout = self.store.layout();

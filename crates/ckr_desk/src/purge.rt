@@ -1,13 +1,13 @@
 //! A run that is purged: it is taken from the queue.
 ghost use Rattle.std.specs.Prelude.{◌≡◌, ◌≤◌, ◌++◌, Err, IfErr, IfOk, IfSome, OnOk, None, true};
-ghost use Rattle.ckr_book.specs.Book.{room_of};
 ghost use Rattle.ckr_outside.specs.Disk.{EachSince};
 ghost use Rattle.ckr_desk_refines.specs.Moves.{HasSameRecords};
 ghost use Rattle.ckr_desk_store.specs.OpenImages.{event_records};
+ghost use Rattle.ckr_desk.specs.CallOutcomes.{HasComeTo, KeepsDesk};
 ghost use Rattle.ckr_desk.specs.Calls.{HasDone, IsLeftByCall, IsSettledBehind, NotDone, with_event};
-ghost use Rattle.ckr_desk.specs.Requests.{FailsBy, MayFail, TellsFull, behind_call, call_fits, came_by, event_in, spelled};
+ghost use Rattle.ckr_desk.specs.Requests.{TellsFull, behind_call, came_by, event_in, spelled};
 ghost use Rattle.ckr_desk.specs.Soundness.{IsTrusted, KeepsWithin, state_of};
-ghost use Rattle.ckr_desk.specs.NoChange.{StaysBy};
+ghost use Rattle.ckr_desk.specs.State.{IsOpen, disk_of, layout_of, room_left, tables_in_memory};
 ghost use Rattle.ckr_desk.specs.Submit.{is_queued, purge_call};
 
 use crate::{Desk, DeskError};
@@ -22,25 +22,17 @@ impl<D: Disk> Desk<D> {
     /// changed after these two. `DiskFault`: only where the disk's faults rose in this call; then the desk has stopped. `Stopped`: exactly
     /// where it had stopped before. `Misread`: never on a disk that reads what was written (this project's profile).
     pub fn purge(&mut self, job: u32) -> Result<bool, DeskError>
-        ensures answer { IfOk result (λ gone. gone ≡ is_queued self.old.jobs.tables.desk job) }
-        ensures fits { IsTrusted D.told D.content D.may_leave self.old → OnOk result (call_fits (state_of D.content self.old) (purge_call self.old.jobs.tables.desk job) ≡ true) }
-        ensures after { IsTrusted D.told D.content D.may_leave self.old → OnOk result (state_of D.content self.new ≡ behind_call (state_of D.content self.old) (purge_call self.old.jobs.tables.desk job)) }
-        ensures told { D.told → OnOk result (event_records self.old.store.layout (D.content self.new.store.disk)
-            ≡ event_records self.old.store.layout (D.content self.old.store.disk) ++ spelled (event_in (purge_call self.old.jobs.tables.desk job))) }
-        ensures trusted { IsTrusted D.told D.content D.may_leave self.old → OnOk result (IsTrusted D.told D.content D.may_leave self.new) }
-        ensures is_open { OnOk result (self.new.store.fault ≡ None) }
-        ensures layout { self.new.store.layout ≡ self.old.store.layout }
-        ensures size { D.size self.new.store.disk ≡ D.size self.old.store.disk }
-        ensures faults { D.faults self.old.store.disk ≤ D.faults self.new.store.disk }
-        ensures stopped { IfSome self.old.store.fault (λ fault. result ≡ Err (DeskError.Stopped fault)) }
-        ensures may_fail { IfErr result (MayFail (D.faults self.old.store.disk) (D.faults self.new.store.disk) self.old.store.fault) }
-        ensures cause { IsTrusted D.told D.content D.may_leave self.old → IfErr result (FailsBy (room_of self.old.store.book) (event_in (purge_call self.old.jobs.tables.desk job))) }
-        ensures full { IfErr result (TellsFull (room_of self.old.store.book) (event_in (purge_call self.old.jobs.tables.desk job))) }
-        ensures stays { IfErr result (StaysBy D.content D.may_leave D.faults self.old self.new) }
+        ensures answer { IfOk result (λ gone. gone ≡ is_queued (tables_in_memory self.old) job) }
+        ensures comes { IsTrusted D.told D.content D.may_leave self.old → HasComeTo D.told D.content D.may_leave (event_in (purge_call (tables_in_memory self.old) job))
+            (behind_call (state_of D.content self.old) (purge_call (tables_in_memory self.old) job)) self.old self.new result }
+        ensures told { D.told → OnOk result (event_records (layout_of self.old) (D.content (disk_of self.new))
+            ≡ event_records (layout_of self.old) (D.content (disk_of self.old)) ++ spelled (event_in (purge_call (tables_in_memory self.old) job))) }
+        ensures full { IfErr result (TellsFull (room_left self.old) (event_in (purge_call (tables_in_memory self.old) job))) }
+        ensures keeps { KeepsDesk D.content D.may_leave D.faults D.size self.old self.new result }
 
         // A stop at any moment leaves a sound image with the events before the call, or with its one event too; with none where it found no memory, or no room in the book.
-        ensures kept { self.old.store.fault ≡ None → IsTrusted D.told D.content D.may_leave self.old
-            → KeepsWithin D.content D.moment D.left_since D.size self.old self.new (came_by result (spelled (event_in (purge_call self.old.jobs.tables.desk job)))) }
+        ensures kept { IsOpen self.old → IsTrusted D.told D.content D.may_leave self.old
+            → KeepsWithin D.content D.moment D.left_since D.size self.old self.new (came_by result (spelled (event_in (purge_call (tables_in_memory self.old) job)))) }
     {
         let _layout = self.store.layout();
         self.take_out(job)

@@ -1,14 +1,13 @@
 //! The records of a data set as they stand on the disk.
-ghost use Rattle.std.specs.Prelude.{◌≡◌, ◌≤◌, ◌<◌, ◌∷◌, [], ◌++◌, Err, None, IfOk, IfErr, IfSome, OnOk};
-ghost use Rattle.ckr_book.specs.Book.{room_of};
+ghost use Rattle.std.specs.Prelude.{◌≡◌, ◌≤◌, ◌<◌, ◌∷◌, [], ◌++◌, None, IfOk, IfErr, OnOk};
 ghost use Rattle.ckr_outside.specs.Disk.{OnlyReads};
 ghost use Rattle.ckr_volumes.specs.Records.{record_at, records_on};
 ghost use Rattle.ckr_volumes.specs.Layouts.{StandsIn};
 ghost use Rattle.ckr_desk_refines.specs.Listing.{records_of};
-ghost use Rattle.ckr_desk.specs.NoChange.{StaysBy};
+ghost use Rattle.ckr_desk.specs.CallOutcomes.{HasComeTo, KeepsDesk};
 ghost use Rattle.ckr_desk.specs.Records.{ReadingCause};
-ghost use Rattle.ckr_desk.specs.Requests.{FailsBy, MayFail};
 ghost use Rattle.ckr_desk.specs.Soundness.{IsTrusted, KeepsWithin, state_of};
+ghost use Rattle.ckr_desk.specs.State.{IsOpen};
 
 use crate::{Desk, DeskError};
 use ckr_base::{DsName, Records};
@@ -70,19 +69,12 @@ impl<D: Disk> Desk<D> {
     /// had stopped before. `BookFull` and `Misread` don't come (this project's profile).
     pub fn records(&mut self, name: &DsName) -> Result<Option<Records>, DeskError>
         ensures records { IsTrusted D.told D.content D.may_leave self.old → IfOk result (λ found. found ≡ records_of (state_of D.content self.old).desk name.now) }
-        ensures after { IsTrusted D.told D.content D.may_leave self.old → OnOk result (state_of D.content self.new ≡ state_of D.content self.old) }
-        ensures trusted { IsTrusted D.told D.content D.may_leave self.old → OnOk result (IsTrusted D.told D.content D.may_leave self.new) }
-        ensures is_open { OnOk result (self.new.store.fault ≡ None) }
-        ensures layout { self.new.store.layout ≡ self.old.store.layout }
-        ensures size { D.size self.new.store.disk ≡ D.size self.old.store.disk }
-        ensures faults { D.faults self.old.store.disk ≤ D.faults self.new.store.disk }
-        ensures stopped { IfSome self.old.store.fault (λ fault. result ≡ Err (DeskError.Stopped fault)) }
-        ensures may_fail { IfErr result (MayFail (D.faults self.old.store.disk) (D.faults self.new.store.disk) self.old.store.fault) }
-        ensures cause { IsTrusted D.told D.content D.may_leave self.old → IfErr result (FailsBy (room_of self.old.store.book) None) }
-        ensures stays { IfErr result (StaysBy D.content D.may_leave D.faults self.old self.new) }
+        ensures comes { IsTrusted D.told D.content D.may_leave self.old
+            → HasComeTo D.told D.content D.may_leave None (state_of D.content self.old) self.old self.new result }
+        ensures keeps { KeepsDesk D.content D.may_leave D.faults D.size self.old self.new result }
 
         // A stop at any moment leaves a sound image with the same events.
-        ensures kept { self.old.store.fault ≡ None → IsTrusted D.told D.content D.may_leave self.old → KeepsWithin D.content D.moment D.left_since D.size self.old self.new [] }
+        ensures kept { IsOpen self.old → IsTrusted D.told D.content D.may_leave self.old → KeepsWithin D.content D.moment D.left_since D.size self.old self.new [] }
     {
         let _layout = self.store.layout();
         if let Some(fault) = self.store.fault() {

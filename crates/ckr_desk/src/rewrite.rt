@@ -1,9 +1,10 @@
 //! The record that an event tells of.
 ghost use Rattle.std.specs.Prelude.{◌≡◌, ◌≤◌, IfErr, OnOk, None};
+ghost use Rattle.ckr_desk_memory.specs.Rewrite.{HasRecordPlace};
 ghost use Rattle.ckr_outside.specs.Disk.{EachSince, Only};
 ghost use Rattle.ckr_desk_store.specs.OpenImages.{event_records};
 ghost use Rattle.ckr_desk.specs.Calls.{HasSameJobs};
-ghost use Rattle.ckr_desk.specs.Rewrite.{IsLackingBy, IsWrittenBy, NotWritten};
+ghost use Rattle.ckr_desk.specs.Rewrite.{IsFault, IsLackingBy, IsWrittenBy};
 ghost use Rattle.ckr_desk.specs.NoChange.{HasHalted};
 
 use crate::{Desk, DeskError};
@@ -11,9 +12,10 @@ use ckr_events::Event;
 use ckr_outside::Disk;
 
 impl<D: Disk> Desk<D> {
-    /// The record that an event tells of is written, for good, if it tells of one.
+    /// The record that an event tells of is written, for good, if it tells of one. It has its place, since the event was kept.
     pub(crate) fn rewrite(&mut self, event: &Event) -> Result<(), DeskError>
         requires is_open { self.old.store.fault ≡ None }
+        requires place { HasRecordPlace event.now self.old.jobs.tables.desk }
         ensures written { D.told → OnOk result (IsWrittenBy self.old.store.layout self.old.jobs.tables.desk event.now (D.content self.old.store.disk) (D.content self.new.store.disk)) }
         ensures settled { Only (D.content self.old.store.disk) (D.may_leave self.old.store.disk) → OnOk result (Only (D.content self.new.store.disk) (D.may_leave self.new.store.disk)) }
         ensures left { Only (D.content self.old.store.disk) (D.may_leave self.old.store.disk)
@@ -24,7 +26,7 @@ impl<D: Disk> Desk<D> {
         ensures layout { self.new.store.layout ≡ self.old.store.layout }
         ensures size { D.size self.new.store.disk ≡ D.size self.old.store.disk }
         ensures faults { D.faults self.old.store.disk ≤ D.faults self.new.store.disk }
-        ensures cause { IfErr result (NotWritten (D.faults self.old.store.disk) (D.faults self.new.store.disk) event.now self.old.jobs.tables.desk) }
+        ensures cause { IfErr result (IsFault (D.faults self.old.store.disk) (D.faults self.new.store.disk)) }
         ensures halted { IfErr result (HasHalted D.faults self.new.store) }
     {
         let _layout = self.store.layout();
@@ -38,14 +40,11 @@ impl<D: Disk> Desk<D> {
             return Ok(());
         };
         let Some(name) = self.jobs.updated(*job) else {
-            return Err(DeskError::Misread);
+            unreachable!()
         };
         let Some(set) = self.jobs.library().get(&name) else {
-            return Err(DeskError::Misread);
+            unreachable!()
         };
-        if *place >= set.space || image.bytes().len() != usize::from(set.lrecl) {
-            return Err(DeskError::Misread);
-        }
         self.store.write_record(set, *place, image)?;
         self.store.sync()?;
         Ok(())

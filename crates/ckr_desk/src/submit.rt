@@ -1,8 +1,7 @@
 //! Decks that are submitted.
-ghost use Rattle.std.specs.Prelude.{◌≡◌, ◌≤◌, ◌<◌, ◌*◌, ◌%◌, ◌++◌, ◌∷◌, [], Err, IfErr, IfOk, IfSome, MatchOption, None, OnOk, Some, length, true};
+ghost use Rattle.std.specs.Prelude.{◌≡◌, ◌≤◌, ◌<◌, ◌*◌, ◌%◌, ◌++◌, ◌∷◌, [], Err, IfErr, IfOk, IfSome, MatchOption, None, OnOk, Some, length};
 ghost use Rattle.ckr_events.specs.declared.event.Event.TheVariants as Events;
 ghost use Rattle.ckr_events.specs.Event.{spelling};
-ghost use Rattle.ckr_book.specs.Book.{room_of};
 ghost use Rattle.ckr_outside.specs.Disk.{EachSince, Only};
 ghost use Rattle.ckr_desk_refines.specs.Moves.{HasSameRecords};
 ghost use Rattle.ckr_points_decks.specs.Cards.{kept_of_stored};
@@ -10,11 +9,12 @@ ghost use Rattle.ckr_points_tables.specs.Invariant.{IsAnySubmittable};
 ghost use Rattle.ckr_desk_store.specs.OpenImages.{event_records};
 ghost use Rattle.ckr_points_decks.specs.Form.{submission_of};
 ghost use Rattle.ckr_points_decks.specs.declared.submit.Submission.TheVariants as Decks;
-ghost use Rattle.ckr_desk.specs.NoChange.{StaysBy};
-ghost use Rattle.ckr_desk.specs.Requests.{FailsBy, MayFail, TellsFull, behind_call, call_fits, came_by, event_in, spelled};
+ghost use Rattle.ckr_desk.specs.CallOutcomes.{HasComeTo, KeepsDesk};
+ghost use Rattle.ckr_desk.specs.Requests.{TellsFull, behind_call, came_by, event_in, spelled};
 ghost use Rattle.ckr_desk.specs.Soundness.{IsTrusted, KeepsWithin, state_of};
+ghost use Rattle.ckr_desk.specs.State.{IsOpen, disk_of, layout_of, room_left, tables_in_memory};
 ghost use Rattle.ckr_desk.specs.Calls.{HasDone, HasGoneOn, IsLeftBy, IsLeftByCall, IsSettledBehind, NotDone, NotKept, with_event};
-ghost use Rattle.ckr_desk.specs.Submit.{answer_to, call_by, number_for, submit_answer, submit_call};
+ghost use Rattle.ckr_desk.specs.Submit.{answer_to, call_by, next_number, number_for, submit_answer, submit_call};
 
 use crate::{Desk, DeskError};
 use ckr_desk_turn::Submitted;
@@ -40,6 +40,7 @@ impl<D: Disk> Desk<D> {
 
     /// Keeps a deck that is accepted as the job of the next number.
     fn enter_deck(&mut self, cards: &[u8], number: u32, job: Job) -> Result<(), DeskError>
+        requires next { number ≡ next_number self.old.jobs.tables.desk }
         requires some { 81 ≤ length cards.now }
         requires few { length cards.now < 81 * 4294967295 }
         requires accepted { submission_of cards.now ≡ Decks.Accepted job }
@@ -132,25 +133,17 @@ impl<D: Disk> Desk<D> {
         requires whole { length cards.now % 81 ≡ 0 }
         requires some { 81 ≤ length cards.now }
         requires few { length cards.now < 81 * 4294967295 }
-        ensures answer { IfOk result (λ answer. answer ≡ submit_answer self.old.jobs.tables.desk cards.now) }
-        ensures fits { IsTrusted D.told D.content D.may_leave self.old → OnOk result (call_fits (state_of D.content self.old) (submit_call self.old.jobs.tables.desk cards.now) ≡ true) }
-        ensures after { IsTrusted D.told D.content D.may_leave self.old → OnOk result (state_of D.content self.new ≡ behind_call (state_of D.content self.old) (submit_call self.old.jobs.tables.desk cards.now)) }
-        ensures told { D.told → OnOk result (event_records self.old.store.layout (D.content self.new.store.disk)
-            ≡ event_records self.old.store.layout (D.content self.old.store.disk) ++ spelled (event_in (submit_call self.old.jobs.tables.desk cards.now))) }
-        ensures trusted { IsTrusted D.told D.content D.may_leave self.old → OnOk result (IsTrusted D.told D.content D.may_leave self.new) }
-        ensures is_open { OnOk result (self.new.store.fault ≡ None) }
-        ensures layout { self.new.store.layout ≡ self.old.store.layout }
-        ensures size { D.size self.new.store.disk ≡ D.size self.old.store.disk }
-        ensures faults { D.faults self.old.store.disk ≤ D.faults self.new.store.disk }
-        ensures stopped { IfSome self.old.store.fault (λ fault. result ≡ Err (DeskError.Stopped fault)) }
-        ensures may_fail { IfErr result (MayFail (D.faults self.old.store.disk) (D.faults self.new.store.disk) self.old.store.fault) }
-        ensures cause { IsTrusted D.told D.content D.may_leave self.old → IfErr result (FailsBy (room_of self.old.store.book) (event_in (submit_call self.old.jobs.tables.desk cards.now))) }
-        ensures full { IfErr result (TellsFull (room_of self.old.store.book) (event_in (submit_call self.old.jobs.tables.desk cards.now))) }
-        ensures stays { IfErr result (StaysBy D.content D.may_leave D.faults self.old self.new) }
+        ensures answer { IfOk result (λ answer. answer ≡ submit_answer (tables_in_memory self.old) cards.now) }
+        ensures comes { IsTrusted D.told D.content D.may_leave self.old → HasComeTo D.told D.content D.may_leave (event_in (submit_call (tables_in_memory self.old) cards.now))
+            (behind_call (state_of D.content self.old) (submit_call (tables_in_memory self.old) cards.now)) self.old self.new result }
+        ensures told { D.told → OnOk result (event_records (layout_of self.old) (D.content (disk_of self.new))
+            ≡ event_records (layout_of self.old) (D.content (disk_of self.old)) ++ spelled (event_in (submit_call (tables_in_memory self.old) cards.now))) }
+        ensures full { IfErr result (TellsFull (room_left self.old) (event_in (submit_call (tables_in_memory self.old) cards.now))) }
+        ensures keeps { KeepsDesk D.content D.may_leave D.faults D.size self.old self.new result }
 
         // A stop at any moment leaves a sound image with the events before the call, or with its one event too; with none where it found no memory, or no room in the book.
-        ensures kept { self.old.store.fault ≡ None → IsTrusted D.told D.content D.may_leave self.old
-            → KeepsWithin D.content D.moment D.left_since D.size self.old self.new (came_by result (spelled (event_in (submit_call self.old.jobs.tables.desk cards.now)))) }
+        ensures kept { IsOpen self.old → IsTrusted D.told D.content D.may_leave self.old
+            → KeepsWithin D.content D.moment D.left_since D.size self.old self.new (came_by result (spelled (event_in (submit_call (tables_in_memory self.old) cards.now)))) }
     {
         let _layout = self.store.layout();
         self.hand_in(cards)

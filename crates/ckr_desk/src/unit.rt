@@ -13,12 +13,12 @@ ghost use Rattle.ckr_desk_store.specs.OpenImages.{event_records, Opens};
 ghost use Rattle.ckr_desk_turn.specs.declared.plan.Plan.{Plan as PlanOf};
 ghost use Rattle.ckr_desk_turn.specs.declared.plan.Plan.TheVariants as Plans;
 ghost use Rattle.ckr_desk_turn.specs.declared.reply.Turn.{Turn as TurnOf};
-ghost use Rattle.ckr_desk.specs.Requests.{MayFail};
+ghost use Rattle.ckr_desk.specs.Requests.{MayFail, TellsNumbers};
 ghost use Rattle.ckr_desk.specs.Calls.{HasSameJobs};
 ghost use Rattle.ckr_desk.specs.Preparation.{IsAhead, IsLookedAhead, IsWorkedOut, NotLooked};
-ghost use Rattle.ckr_desk.specs.Rewrite.{OpensSame};
+ghost use Rattle.ckr_desk.specs.Rewrite.{IsFault, OpensSame};
 ghost use Rattle.ckr_desk.specs.NoChange.{HasHalted, IsOfDisk, StaysBy};
-ghost use Rattle.ckr_desk.specs.Units.{HasDoneUnit, HasTurned, IsPlanned, IsLeftByUnit, NotUnit};
+ghost use Rattle.ckr_desk.specs.Units.{HasDoneUnit, HasTurned, IsPlanned, IsLeftByUnit};
 
 use crate::preparation::Ready;
 use crate::{Desk, DeskError};
@@ -54,7 +54,7 @@ fn do_unit<D: Disk>(
     ensures layout { store.new.layout ≡ store.old.layout }
     ensures size { D.size store.new.disk ≡ D.size store.old.disk }
     ensures faults { D.faults store.old.disk ≤ D.faults store.new.disk }
-    ensures cause { IfErr result (NotUnit (D.faults store.old.disk) (D.faults store.new.disk)) }
+    ensures cause { IfErr result (IsFault (D.faults store.old.disk) (D.faults store.new.disk)) }
     ensures halted { IfErr result (HasHalted D.faults store.new) }
 {
     let _layout = store.layout();
@@ -111,7 +111,7 @@ impl<D: Disk> Desk<D> {
         ensures layout { self.new.store.layout ≡ self.old.store.layout }
         ensures size { D.size self.new.store.disk ≡ D.size self.old.store.disk }
         ensures faults { D.faults self.old.store.disk ≤ D.faults self.new.store.disk }
-        ensures cause { IfErr result (NotUnit (D.faults self.old.store.disk) (D.faults self.new.store.disk)) }
+        ensures cause { IfErr result (IsFault (D.faults self.old.store.disk) (D.faults self.new.store.disk)) }
         ensures halted { IfErr result (HasHalted D.faults self.new.store) }
     {
         let _layout = self.store.layout();
@@ -162,6 +162,7 @@ impl<D: Disk> Desk<D> {
         ensures size { D.size self.new.store.disk ≡ D.size self.old.store.disk }
         ensures faults { D.faults self.old.store.disk ≤ D.faults self.new.store.disk }
         ensures may_fail { IfErr result (MayFail (D.faults self.old.store.disk) (D.faults self.new.store.disk) self.old.store.fault) }
+        ensures full { IfErr result (TellsNumbers (room_of self.old.store.book)) }
         ensures stays { IfErr result (StaysBy D.content D.may_leave D.faults self.old self.new) }
     {
         let _layout = self.store.layout();

@@ -16,12 +16,12 @@ use Rattle.ckr_points.specs.declared.run.Run.{Run}
 use Rattle.ckr_points.specs.declared.run.RunState.TheVariants.{On}
 use Rattle.ckr_points.specs.Payload.{lengths_kept, writes_in}
 use Rattle.ckr_points.specs.Restart.{place_of, step_in}
-use Rattle.ckr_points.specs.Rows.{RunRow, TableSet, TablesModel, run_of, step_of_run}
+use Rattle.ckr_points.specs.Rows.{RunRow, TableSet, TablesModel, run_of, step_of_run, holding_of}
 use Rattle.ckr_points_decks.specs.DeckLimits.{FitsAllocation, IsWithinLimits}
 use Rattle.ckr_points_decks.proofs.AllocationNeeds.{all_fit}
 use Rattle.ckr_points_decks.proofs.DeckLimits.{steps_within}
 use Rattle.ckr_points_tables.specs.declared.run_table.RunTable.{RunTable}
-use Rattle.ckr_points_tables.specs.View.{RunTableView, facts_in, facts_of, row_with, seen_by, table_of}
+use Rattle.ckr_points_tables.specs.View.{RunTableView, facts_in, facts_of, row_with, seen_by}
 use Rattle.ckr_desk_turn.specs.Codes.{CodePlaceModel, kept_reached, reached_by, running_reached}
 use Rattle.ckr_desk_turn.specs.Jobs.{TurnStep, running_in}
 use Rattle.ckr_desk_turn.specs.Queue.{AreNumbered}
@@ -158,24 +158,24 @@ known-some tables numbered few rows job (Some table) seen = known-of tables numb
 -- ---- how far it has come
 
 -- the lengths of the tables are those of their library
-kept-names : (sets : Named Holding) (names : List Name) → map (length_in sets) names ≡ map (λ name. option_map_or (λ (one : TableSet). one.set.length) (entry_at (seen_by table_of sets) name) 0) names
-kept-names sets [] = refl
-kept-names sets (name ∷ names) = ap (λ n. n ∷ map (length_in sets) names) one ∙ ap (λ ns. option_map_or (λ (one : TableSet). one.set.length) (entry_at (seen_by table_of sets) name) 0 ∷ ns) (kept-names sets names)
+kept-names : (tables : Named TableSet) (names : List Name) → map (length_in (seen_by holding_of tables)) names ≡ map (λ name. option_map_or (λ (one : TableSet). one.set.length) (entry_at tables name) 0) names
+kept-names tables [] = refl
+kept-names tables (name ∷ names) = ap (λ n. n ∷ map (length_in (seen_by holding_of tables)) names) one ∙ ap (λ ns. option_map_or (λ (one : TableSet). one.set.length) (entry_at tables name) 0 ∷ ns) (kept-names tables names)
   where
-    by : (found : Option Holding) → option_map_or (λ (holding : Holding). holding.set.length) found 0 ≡ option_map_or (λ (one : TableSet). one.set.length) (option_map table_of found) 0
+    by : (found : Option TableSet) → option_map_or (λ (holding : Holding). holding.set.length) (option_map holding_of found) 0 ≡ option_map_or (λ (one : TableSet). one.set.length) found 0
     by None = refl
-    by (Some holding) = refl
+    by (Some table) = refl
 
-    one : length_in sets name ≡ option_map_or (λ (one : TableSet). one.set.length) (entry_at (seen_by table_of sets) name) 0
-    one = by (entry_at sets name) ∙ ap (λ (found : Option TableSet). option_map_or (λ (one : TableSet). one.set.length) found 0) (sym (at-viewed table_of sets name))
+    one : length_in (seen_by holding_of tables) name ≡ option_map_or (λ (one : TableSet). one.set.length) (entry_at tables name) 0
+    one = ap (λ (found : Option Holding). option_map_or (λ (holding : Holding). holding.set.length) found 0) (at-viewed holding_of tables name) ∙ by (entry_at tables name)
 
-pub kept-lengths : (sets : Named Holding) (row : RunRow)
-    → lengths_of_row sets row ≡ option_map_or (λ owned. lengths_kept row.job.root owned (seen_by table_of sets)) (step_of_run row (step_in (place_of row))) []
-kept-lengths sets row = by (step_of_run row (step_in (place_of row)))
+pub kept-lengths : (tables : Named TableSet) (row : RunRow)
+    → lengths_of_row (seen_by holding_of tables) row ≡ option_map_or (λ owned. lengths_kept row.job.root owned tables) (step_of_run row (step_in (place_of row))) []
+kept-lengths tables row = by (step_of_run row (step_in (place_of row)))
   where
-    by : (found : Option OwnedStep) → option_map_or (lengths_in sets row.job.root) found [] ≡ option_map_or (λ owned. lengths_kept row.job.root owned (seen_by table_of sets)) found []
+    by : (found : Option OwnedStep) → option_map_or (lengths_in (seen_by holding_of tables) row.job.root) found [] ≡ option_map_or (λ owned. lengths_kept row.job.root owned tables) found []
     by None = refl
-    by (Some owned) = kept-names sets (output_names row.job.root owned)
+    by (Some owned) = kept-names tables (output_names row.job.root owned)
 
 -- the running step as a turn sees it
 pub running-found : (jobs : JobsView) (run : ℕ) (found : Option RunningStepView) → found ≡ find (λ (on : RunningStepView). on.run == run) jobs.running → running_in (jobs_of jobs) run ≡ option_map (running_of jobs.tables.desk) found
@@ -192,12 +192,11 @@ module _ (jobs : JobsView) (run : ℕ) (table : RunTable) (known : IsKnown jobs.
       ∙ ap (λ (ls : List ℕ). let one : CodePlaceModel = record { writes = on.step.writes; lengths = ls } in one) (lengths ∙ sym (lengths-known jobs.tables.desk run table known on is))
       ∙ ap (λ (step : Option TurnStep). option_map_or running_reached step (kept_reached (jobs_of jobs) (row_for run table))) (sym (running-found jobs run (Some on) found))
 
-  pub reached-kept : (sets : Named Holding) → seen_by table_of sets ≡ jobs.tables.desk.sets → None ≡ find (λ (step : RunningStepView). step.run == run) jobs.running → (reached : CodePlaceModel)
+  pub reached-kept : (sets : Named Holding) → sets ≡ seen_by holding_of jobs.tables.desk.sets → None ≡ find (λ (step : RunningStepView). step.run == run) jobs.running → (reached : CodePlaceModel)
       → reached.writes ≡ writes_in (place_of (row_for run table)) → reached.lengths ≡ lengths_of_row sets (row_for run table) → reached ≡ reached_by (jobs_of jobs) (row_for run table)
   unfolding jobs_of
   reached-kept sets seen found reached writes lengths =
       ap (λ (n : ℕ). let one : CodePlaceModel = record { writes = n; lengths = reached.lengths } in one) writes
       ∙ ap (λ (ls : List ℕ). let one : CodePlaceModel = record { writes = writes_in (place_of (row_for run table)); lengths = ls } in one)
-      (lengths ∙ kept-lengths sets (row_for run table)
-      ∙ ap (λ (all : Named TableSet). option_map_or (λ owned. lengths_kept run owned all) (step_of_run (row_for run table) (step_in (place_of (row_for run table)))) []) seen)
+      (lengths ∙ ap (λ all. lengths_of_row all (row_for run table)) seen ∙ kept-lengths jobs.tables.desk.sets (row_for run table))
       ∙ ap (λ (step : Option TurnStep). option_map_or running_reached step (kept_reached (jobs_of jobs) (row_for run table))) (sym (running-found jobs run None found))

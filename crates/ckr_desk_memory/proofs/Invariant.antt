@@ -1,8 +1,8 @@
 -- What holds of the jobs in memory holds behind an event that follows.
-use Rattle.std.proofs.Common.{◌≡◌, ◌+◌, ◌≤◌, ◌==◌, ◌&&◌, ℕ, zero, suc, Bool, true, false, not, cond, IsTrue, List, [], ◌∷◌, ◌++◌, map, filter, length, refl, ap, sym, ◌∙◌, slice_set, subst, Option, None, Some, Ok, arith, length-append}
+use Rattle.std.proofs.Common.{◌≡◌, ◌+◌, ◌≤◌, ◌==◌, ◌&&◌, ◌||◌, ℕ, zero, suc, Bool, true, false, not, cond, IsTrue, List, [], ◌∷◌, ◌++◌, map, filter, length, refl, ap, sym, ◌∙◌, slice_set, subst, Option, None, Some, Ok, arith, length-append}
 use Rattle.std.proofs.lemmas.Bool.{false≢true}
 use Rattle.std.specs.List.{AllByRecursion}
-use Rattle.std.specs.Option.{is_some}
+use Rattle.std.specs.Option.{is_none, is_some}
 use Rattle.ckr_base.proofs.Bools.{and-first}
 use Rattle.ckr_base.proofs.Options.{is_some-from}
 use Rattle.ckr_base.proofs.Numbers.{equal-true, nat_le-true}
@@ -18,12 +18,16 @@ use Rattle.ckr_meaning.specs.declared.place.Place.{Place}
 use Rattle.ckr_meaning.specs.declared.place.Place.TheVariants.{Before, Opened, Within}
 use Rattle.ckr_volumes.specs.declared.layout.Layout.{Layout}
 use Rattle.ckr_points.specs.Tables.{after_commit, queued_run}
-use Rattle.ckr_points.specs.Follows.{follows}
+use Rattle.ckr_points.specs.declared.run.RunState.{RunState}
+use Rattle.ckr_points.specs.declared.run.RunState.TheVariants.{Queued, Purged as PurgedRun}
+use Rattle.ckr_points.specs.Follows.{follows, is_in_state}
 use Rattle.ckr_points.specs.Restart.{after_abnormal, after_coded, after_ended, after_event, place_of, step_in}
 use Rattle.ckr_points.specs.Rows.{RunRow, TablesModel, step_of_run, with_row}
 use Rattle.ckr_queue.specs.declared.entry.QueueEntry.{QueueEntry}
 use Rattle.ckr_points_decks.specs.Form.{is_run}
+use Rattle.ckr_points_invariant.proofs.Holders.Rows.{queued-is}
 use Rattle.ckr_points_tables.specs.Invariant.{MayFollow, MaySubmit, is_plain_event, is_submission}
+use Rattle.ckr_desk_turn.specs.Invariant.{is_on_one}
 use Rattle.ckr_desk_turn.specs.Queue.{AreNumbered, queue_behind, queue_of}
 use Rattle.ckr_desk_memory.specs.Invariant.{IsAcceptedRow, IsAnyAccepted, IsPlacedRow}
 use Rattle.ckr_desk_memory.specs.Parts.{AreQueued, step_seen}
@@ -31,6 +35,7 @@ use Rattle.ckr_desk_memory.specs.declared.jobs.RunningStep.{RunningStep}
 use Rattle.ckr_desk_memory.specs.View.{RunningStepView}
 use Rattle.ckr_desk_memory.specs.EventChanges.{MayQueue, without_run}
 use Rattle.ckr_desk_memory.proofs.Starts.Steps.{row-among}
+use Rattle.ckr_desk_memory.proofs.Extents.{tested}
 use Rattle.ckr_desk_memory.proofs.Queue.{may-queue, queue-behind}
 use Rattle.ckr_desk_memory.proofs.Runs.{Kind, by-run, by-step, kind_of, long-stay, numbered-more, numbered-stay, rest_in, runs-stay}
 
@@ -139,67 +144,79 @@ placed_put rows (suc place) row is placed = at rows place placed
     at (first ∷ rows) (suc place) placed = (placed.0, at rows place placed.1)
 
 placed_abnormal : (row : RunRow) (place : Place) (tables : TablesModel) → IsPlacedRow row → ArePlaced tables → ArePlaced (after_abnormal row place tables)
-placed_abnormal row (Before step) tables is placed = placed_put tables.runs row.number _ (record { place = is.place; code = tt }) placed
-placed_abnormal row (Opened step) tables is placed = placed_put tables.runs row.number _ (record { place = is.place; code = tt }) placed
+placed_abnormal row (Before step) tables is placed = placed_put tables.runs row.number _ (record { place = is.place; state = refl; lodged = refl; code = refl }) placed
+placed_abnormal row (Opened step) tables is placed = placed_put tables.runs row.number _ (record { place = is.place; state = refl; lodged = refl; code = refl }) placed
 placed_abnormal row (Within step writes) tables is placed =
-    by-step ArePlaced tables (step_of_run row step) _ placed (λ owned there. placed_put tables.runs row.number _ (record { place = is.place; code = tt }) placed)
+    by-step ArePlaced tables (step_of_run row step) _ placed (λ owned there. placed_put tables.runs row.number _ (record { place = is.place; state = refl; lodged = refl; code = refl }) placed)
 
 placed_commit : (row : RunRow) (owned : OwnedStep) (step writes : ℕ) (lengths : List ℕ) (tables : TablesModel) → step_of_run row step ≡ Some owned → IsPlacedRow row → ArePlaced tables → ArePlaced (after_commit row owned step writes lengths tables)
 placed_commit row owned step writes lengths tables there is placed =
-    placed_put tables.runs row.number _ (record { place = is_some-from (step_of_run row step) owned there; code = is.code }) placed
+    placed_put tables.runs row.number _ (record { place = is_some-from (step_of_run row step) owned there; state = is.state; lodged = is.lodged; code = is.code }) placed
 
 placed_coded : (row : RunRow) (writes : ℕ) (lengths : List ℕ) (tables : TablesModel) → IsPlacedRow row → ArePlaced tables → ArePlaced (after_coded row writes lengths tables)
 placed_coded row writes lengths tables is placed =
     by-step ArePlaced tables (step_of_run row (step_in (place_of row))) _ placed
     (λ owned there.
     placed_abnormal (record row { place = Some (Within (step_in (place_of row)) writes) }) (Within (step_in (place_of row)) writes) (after_commit row owned (step_in (place_of row)) writes lengths tables)
-    (record { place = is_some-from (step_of_run row (step_in (place_of row))) owned there; code = is.code })
+    (record { place = is_some-from (step_of_run row (step_in (place_of row))) owned there; state = is.state; lodged = is.lodged; code = is.code })
     (placed_commit row owned (step_in (place_of row)) writes lengths tables there is placed))
 
 placed_ended : (row : RunRow) (ending : Ending) (tables : TablesModel) → IsPlacedRow row → ArePlaced tables → ArePlaced (after_ended row ending tables)
-placed_ended row Completed tables is placed = placed_put tables.runs row.number _ (record { place = is.place; code = tt }) placed
+placed_ended row Completed tables is placed = placed_put tables.runs row.number _ (record { place = is.place; state = refl; lodged = refl; code = refl }) placed
 placed_ended row (Coded code rule writes lengths) tables is placed = placed_coded row writes lengths.items tables is placed
 placed_ended row (Allocation dd cause first second) tables is placed = placed_abnormal row (place_of row) tables is placed
 
 placed_selected : (tables : TablesModel) (job initiator earlier step : ℕ) (id : Option (List ℕ)) (deck : Option Job) → earlier ≡ 0 → ArePlaced tables → ArePlaced (after_event (Selected job initiator earlier step id) deck tables)
 placed_selected tables job initiator earlier step id deck is placed =
     subst (λ n. ArePlaced (after_event (Selected job initiator n step id) deck tables)) (sym is)
-    (by-run ArePlaced tables job _ placed (λ row at. placed_put tables.runs row.number _ (record { place = tt; code = (row-among IsPlacedRow tables job row placed at).code }) placed))
+    (by-run ArePlaced tables job _ placed (λ row at. placed_put tables.runs row.number _ (record { place = tt; state = refl; lodged = refl; code = (row-among IsPlacedRow tables job row placed at).code }) placed))
 
 placed_submitted : (tables : TablesModel) (job : ℕ) (cards : List ℕ) (deck : Option Job) → ArePlaced tables → ArePlaced (after_event (Submitted job cards) deck tables)
 placed_submitted tables job cards None placed = placed
-placed_submitted tables job cards (Some deck) placed = each-append IsPlacedRow tables.runs (queued_run job deck ∷ []) placed (record { place = tt; code = tt }, tt)
+placed_submitted tables job cards (Some deck) placed = each-append IsPlacedRow tables.runs (queued_run job deck ∷ []) placed (record { place = tt; state = refl; lodged = refl; code = refl }, tt)
 
--- a plain event leaves a run within no step that it hasn't, and gives no code
-pub placed-behind : (tables : TablesModel) (event : Event) (deck : Option Job) → is_plain_event event ≡ true → AllByRecursion IsPlacedRow tables.runs → AllByRecursion IsPlacedRow (after_event event deck tables).runs
-placed-behind tables (Submitted job cards) deck plain placed = placed_submitted tables job cards deck placed
-placed-behind tables (Selected job initiator earlier step id) deck plain placed = placed_selected tables job initiator earlier step id deck (equal-true earlier 0 plain) placed
-placed-behind tables (Started job step items) deck plain placed =
+-- a run that waits is on no initiator, also where it is purged
+off_purged : (row : RunRow) → is_in_state Queued row ≡ true → IsPlacedRow row → IsPlacedRow (record row { state = PurgedRun })
+off_purged row waits is = record {
+  place = is.place;
+  state = refl;
+  lodged = sym (ap (λ (state : RunState). is_none row.initiator || is_on_one state) (queued-is row.state waits)) ∙ is.lodged;
+  code = is.code;
+}
+
+-- a plain event that follows leaves a run within no step that it hasn't, holds no run, and gives no code
+pub placed-behind : (layout : Layout) (tables : TablesModel) (event : Event) (deck : Option Job) → is_plain_event event ≡ true → follows layout tables event deck ≡ true → AllByRecursion IsPlacedRow tables.runs → AllByRecursion IsPlacedRow (after_event event deck tables).runs
+placed-behind layout tables (Submitted job cards) deck plain follow placed = placed_submitted tables job cards deck placed
+placed-behind layout tables (Selected job initiator earlier step id) deck plain follow placed = placed_selected tables job initiator earlier step id deck (equal-true earlier 0 plain) placed
+placed-behind layout tables (Started job step items) deck plain follow placed =
     by-run ArePlaced tables job _ placed
     (λ row at.
+    let is = row-among IsPlacedRow tables job row placed at in
     by-step ArePlaced tables (step_of_run row step) _ placed
     (λ owned there.
-    placed_put tables.runs row.number _ (record { place = is_some-from (step_of_run row step) owned there; code = (row-among IsPlacedRow tables job row placed at).code }) placed))
-placed-behind tables (Rewritten job taken writes lengths place image) deck plain placed =
-    by-run ArePlaced tables job _ placed
-    (λ row at.
-    by-step ArePlaced tables (step_of_run row (step_in (place_of row))) _ placed
-    (λ owned there.
-    placed_put tables.runs row.number _
-    (record { place = is_some-from (step_of_run row (step_in (place_of row))) owned there; code = (row-among IsPlacedRow tables job row placed at).code }) placed))
-placed-behind tables (StepEnded job step rc writes lengths) deck plain placed =
+    placed_put tables.runs row.number _ (record { place = is_some-from (step_of_run row step) owned there; state = is.state; lodged = is.lodged; code = is.code }) placed))
+placed-behind layout tables (Rewritten job taken writes lengths place image) deck plain follow placed =
     by-run ArePlaced tables job _ placed
     (λ row at.
     let is = row-among IsPlacedRow tables job row placed at in
     by-step ArePlaced tables (step_of_run row (step_in (place_of row))) _ placed
     (λ owned there.
-    placed_put (after_commit row owned (step_in (place_of row)) writes lengths.items tables).runs row.number _ (record { place = tt; code = is.code })
+    placed_put tables.runs row.number _
+    (record { place = is_some-from (step_of_run row (step_in (place_of row))) owned there; state = is.state; lodged = is.lodged; code = is.code }) placed))
+placed-behind layout tables (StepEnded job step rc writes lengths) deck plain follow placed =
+    by-run ArePlaced tables job _ placed
+    (λ row at.
+    let is = row-among IsPlacedRow tables job row placed at in
+    by-step ArePlaced tables (step_of_run row (step_in (place_of row))) _ placed
+    (λ owned there.
+    placed_put (after_commit row owned (step_in (place_of row)) writes lengths.items tables).runs row.number _ (record { place = tt; state = is.state; lodged = is.lodged; code = is.code })
     (placed_commit row owned (step_in (place_of row)) writes lengths.items tables there is placed)))
-placed-behind tables (Ended job ending) deck plain placed =
+placed-behind layout tables (Ended job ending) deck plain follow placed =
     by-run ArePlaced tables job _ placed (λ row at. placed_ended row ending tables (row-among IsPlacedRow tables job row placed at) placed)
-placed-behind tables (Purged job) deck plain placed =
-    by-run ArePlaced tables job _ placed (λ row at. placed_put tables.runs row.number _ (record { place = (row-among IsPlacedRow tables job row placed at).place; code = (row-among IsPlacedRow tables job row placed at).code }) placed)
-placed-behind tables _ deck plain placed = absurd (false≢true plain)
+placed-behind layout tables (Purged job) deck plain follow placed =
+    by-run ArePlaced tables job _ placed
+    (λ row at. placed_put tables.runs row.number _ (off_purged row (tested tables job (is_in_state Queued) follow row at) (row-among IsPlacedRow tables job row placed at)) placed)
+placed-behind layout tables _ deck plain follow placed = absurd (false≢true plain)
 
 -- ---- the running steps
 

@@ -5,7 +5,9 @@ pub mod DueUnits
 pub mod WorkPlans
 pub mod RuleCases
 pub mod FailedRuns
+pub mod Masters
 pub mod RecordCounts
+pub mod Rewrites
 pub mod Invariant
 pub mod Extents
 pub mod Queue
@@ -13,4 +15,5 @@ pub mod Replays
 pub mod Runs
 pub mod SetCopies
 pub mod Starts
+pub mod TurnEvents
 pub mod RunningSteps

@@ -104,6 +104,6 @@ jobs-replayed layout old new event numbered goes tables running are =
     record {
       laid = subst (λ (t : TablesModel). AreLaidOut layout t.sets) (sym tables) (laid-behind layout old.tables.desk are.laid event (deck_of event) its.plain its.follow);
       rows = subst (λ (t : TablesModel). AllByRecursion IsAcceptedRow t.runs) (sym tables) (accepted-behind old.tables.desk event (deck_of event) numbered its.plain (any_accepted event its.run) are.rows);
-      placed = subst (λ (t : TablesModel). AllByRecursion IsPlacedRow t.runs) (sym tables) (placed-behind old.tables.desk event (deck_of event) its.plain are.placed);
+      placed = subst (λ (t : TablesModel). AllByRecursion IsPlacedRow t.runs) (sym tables) (placed-behind layout old.tables.desk event (deck_of event) its.plain its.follow are.placed);
       running = subst (AllByRecursion (IsRunnable layout)) (sym running) are.running;
     }

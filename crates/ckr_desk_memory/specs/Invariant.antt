@@ -1,6 +1,7 @@
 -- What holds of the jobs in memory, whatever the disk reads.
-use Rattle.std.specs.Prelude.{◌≡◌, ℕ, true, IsSome, List, Ok, Option, None, Some}
+use Rattle.std.specs.Prelude.{◌≡◌, ◌||◌, ℕ, true, IsSome, List, Ok, Option, None, Some}
 use Rattle.std.specs.List.{AllByRecursion}
+use Rattle.std.specs.Option.{is_none}
 use Rattle.ckr_events.specs.declared.event.Event.{Event}
 use Rattle.ckr_events.specs.declared.event.Event.TheVariants.{Submitted}
 use Rattle.ckr_jcl.specs.declared.deck.Job.{Job}
@@ -13,11 +14,11 @@ use Rattle.ckr_points.specs.Tables.{queued_run}
 use Rattle.ckr_points.specs.Follows.{follows}
 use Rattle.ckr_points.specs.Rows.{RunRow}
 use Rattle.ckr_points.specs.Soundness.{AreLaidOut}
+use Rattle.ckr_desk_turn.specs.Invariant.{is_on_one, is_plain_state}
 use Rattle.ckr_steps.specs.Inputs.{AreStored, AreThere}
 use Rattle.ckr_steps.specs.StepUnit.{AreCounted}
 use Rattle.ckr_points_decks.specs.Form.{is_run}
 use Rattle.ckr_volumes.specs.declared.layout.Layout.{Layout}
-use Rattle.ckr_desk_memory.specs.Plans.{IsAnyCode}
 use Rattle.ckr_desk_memory.specs.View.{JobsView, RunningStepView}
 
 -- a run of a deck that was accepted, of a form that the desk runs
@@ -46,10 +47,12 @@ abbrev pub IsAnyPlaceOf : Effective → Option Place → Type 0
 IsAnyPlaceOf job None = Unit {0}
 IsAnyPlaceOf job (Some place) = IsPlaceOf job place
 
--- so it is with this run, and its code, if it has one, has a spelling
+-- so it is with this run; it was never held, it has an initiator only where it is on it, and it has no code
 pub record IsPlacedRow (row : RunRow) : Type 0 where
   pub place : IsAnyPlaceOf row.job row.place
-  pub code : IsAnyCode row.code
+  pub state : is_plain_state row.state ≡ true
+  pub lodged : (is_none row.initiator || is_on_one row.state) ≡ true
+  pub code : row.code ≡ None
 
 -- the parm asks for no checkpoint, and cancels none
 pub record AsksNone (parm : Parm) : Type 0 where

@@ -8,5 +8,6 @@ pub mod Preparation
 pub mod Replay
 pub mod View
 pub mod Start
+pub mod TurnEvents
 pub mod Rewrite
 pub mod Model

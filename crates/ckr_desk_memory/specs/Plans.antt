@@ -32,6 +32,7 @@ use Rattle.ckr_desk_turn.specs.Spelling.{IsCode, IsSpelled}
 use Rattle.ckr_volumes.specs.declared.layout.Layout.{Layout}
 use Rattle.ckr_desk_memory.specs.declared.run_code.CodePlace.{CodePlace}
 use Rattle.ckr_desk_memory.specs.EventChanges.{is_of_run}
+use Rattle.ckr_desk_memory.specs.TurnEvents.{is_coded}
 use Rattle.ckr_desk_memory.specs.View.{JobsView, RunningStepView}
 
 -- a run by its number and by what the tables keep of it; a plan asks no more of its line
@@ -111,10 +112,10 @@ Tells (Rest reply) = ⊥
 Tells (Tell reply event) = Unit {0}
 Tells (Work job) = ⊥
 
--- what a unit tells, if it tells an event: a rewrite in place, or the end of its run
+-- what a unit tells, if it tells an event: a rewrite in place, or the end of its run by a code
 abbrev pub is_unit_event : Event → Bool
 is_unit_event (RewrittenEvent job taken writes lengths place image) = true
-is_unit_event (EndedEvent job ending) = true
+is_unit_event (EndedEvent job ending) = is_coded ending
 is_unit_event _ = false
 
 abbrev pub IsUnitPlan : Plan → Type 0

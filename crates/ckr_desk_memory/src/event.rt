@@ -6,6 +6,7 @@ ghost use Rattle.ckr_desk_memory.specs.RunningSteps.{GoesOn, MayRun};
 ghost use Rattle.ckr_desk_memory.specs.Invariant.{AreJobs, IsAnyAccepted, MayGoOn};
 ghost use Rattle.ckr_desk_memory.specs.Parts.{step_seen};
 ghost use Rattle.ckr_desk_memory.specs.Preparation.{HasQueueRoom, IsPrepared};
+ghost use Rattle.ckr_desk_memory.specs.Rewrite.{HasRecordPlace};
 ghost use Rattle.ckr_desk_memory.specs.declared.jobs.RunningStep.{RunningStep as StepOnIt};
 ghost use Rattle.ckr_points.specs.Follows.{follows};
 ghost use Rattle.ckr_points.specs.Restart.{after_event};
@@ -103,7 +104,7 @@ fn keep_failed(failed: &mut Vec<u32>, event: &Event)
 impl Jobs {
     /// Goes on by a plain event that follows, with the memory that `prepare` took for it. A deck is given exactly where the event is
     /// Submitted and its cards are a deck, and it is that deck, accepted and of a form that the desk runs. It takes no memory, and
-    /// doesn't fail (this project's profile).
+    /// doesn't fail. A record that the event tells has its place then (this project's profile).
     pub fn keep(&mut self, event: &Event, deck: Option<Job>, prepared: Prepared)
         requires plain { IsTrue (is_plain_event event.now) }
         requires follows { MayGoOn self.old event.now deck }
@@ -114,6 +115,7 @@ impl Jobs {
         ensures tables { self.new.tables.desk ≡ after_event event.now deck self.old.tables.desk }
         ensures running { GoesOn event.now self.new.tables.desk self.old.running self.new.running }
         ensures failed { self.new.failed ≡ failed_behind event.now self.old.failed }
+        ensures place { HasRecordPlace event.now self.new.tables.desk }
         ensures jobs { (layout : LayoutOfDisk) → AreJobs layout self.old → follows layout self.old.tables.desk event.now deck ≡ true → AreJobs layout self.new }
     {
         self.go_on(event, deck, prepared.uses);

@@ -1,7 +1,7 @@
 //! The jobs of a desk in memory.
 ghost use Rattle.std.specs.Prelude.{◌≡◌, ◌≤◌, [], length, map};
 ghost use Rattle.ckr_points.specs.Rows.{no_tables, holding_of};
-ghost use Rattle.ckr_points_tables.specs.View.{line_of, seen_by, table_of};
+ghost use Rattle.ckr_points_tables.specs.View.{line_of, seen_by};
 ghost use Rattle.ckr_desk_memory.specs.Parts.{step_seen};
 
 use ckr_library::Library;
@@ -71,7 +71,6 @@ impl Jobs {
     /// The data sets, with the lengths that are committed.
     pub fn library(&self) -> &Library
         ensures sets { result.now.sets ≡ seen_by holding_of self.now.tables.desk.sets }
-        ensures seen { seen_by table_of result.now.sets ≡ self.now.tables.desk.sets }
     {
         self.tables.library()
     }

@@ -12,12 +12,14 @@ mod rewrite;
 mod run_code;
 mod set_copy;
 mod start;
+mod turn_events;
 mod unit_reply;
 mod unit_step;
 
 pub use jobs::{Jobs, RunningStep};
 pub use preparation::Prepared;
 pub use set_copy::copy_of_set;
+pub use turn_events::is_of_step;
 
 // What the desk asks of the tables beside the jobs.
 pub use ckr_points_follows::{follows, may_count, purged_follows};

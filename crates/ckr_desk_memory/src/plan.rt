@@ -5,6 +5,7 @@ ghost use Rattle.std.specs.Option.{option_map_or};
 ghost use Rattle.ckr_events.specs.declared.event.Event.TheVariants.{StepEnded as StepEndedEvent};
 ghost use Rattle.ckr_desk_memory.specs.Invariant.{AreJobs, IsAcceptedRow};
 ghost use Rattle.ckr_desk_memory.specs.Plans.{next_step, row_for, HasCounts, HasDd, HasPlanRoom, HasUnitDue, IsAnyCode, IsKnown, IsSpelledPlan, Tells};
+ghost use Rattle.ckr_desk_memory.specs.TurnEvents.{FollowsBetween};
 ghost use Rattle.ckr_desk_memory.specs.View.{jobs_of, lengths_of_row};
 ghost use Rattle.ckr_meaning.specs.EffectiveJob.{OwnedStep};
 ghost use Rattle.ckr_points.specs.Follows.{own_step};
@@ -13,8 +14,10 @@ ghost use Rattle.ckr_points.specs.Rows.{run_of, step_of_run, RunRow};
 ghost use Rattle.ckr_steps.specs.StepUnit.{AreCounted};
 ghost use Rattle.ckr_points_decks.specs.DeckLimits.{IsWithinLimits};
 ghost use Rattle.ckr_desk_turn.specs.Codes.{code_plan, reached_by};
+ghost use Rattle.ckr_desk_turn.specs.Invariant.{IsTurnOf};
 ghost use Rattle.ckr_desk_turn.specs.Jobs.{is_failed, running_in, step_name_of};
 ghost use Rattle.ckr_desk_turn.specs.Plans.{allocation_ended, between_plan, chosen_plan, fail_plan, free_plan, plan_of, run_plan, running_plan};
+ghost use Rattle.ckr_desk_turn.specs.Queue.{AreNumbered};
 ghost use Rattle.ckr_desk_turn.specs.Spelling.{IsCode};
 
 use crate::run_code::{Extents, code_plan, lengths_of, place_of};
@@ -71,6 +74,7 @@ impl Jobs {
     /// `NoMemory`: there may be no room for the event, or none to find the place of what a step makes.
     pub fn plan(&mut self, layout: &Layout, turn: Turn) -> Result<Plan, NoMemory>
         requires few { length layout.now.volumes.items ≤ 32 }
+        requires turn { IsTurnOf layout.now turn }
         requires code { IsAnyCode turn.fail }
         requires jobs { AreJobs layout.now self.old }
         ensures plan { IfOk result (λ plan. plan ≡ plan_of layout.now (jobs_of self.old) turn) }
@@ -80,6 +84,9 @@ impl Jobs {
         ensures failed { self.new.failed ≡ self.old.failed }
         ensures jobs { AreJobs layout.now self.new }
         ensures room { IfOk result (HasPlanRoom self.new.tables) }
+
+        // What it tells between the steps of a run follows, whatever the disk reads.
+        ensures follows { IfOk result (FollowsBetween layout.now self.new.tables.desk) }
 
         // A unit is due where the turn comes to one.
         ensures works { IfOk result (HasUnitDue self.new) }
@@ -111,6 +118,7 @@ impl Jobs {
         requires few { length layout.now.volumes.items ≤ 32 }
         requires code { IsAnyCode turn.fail }
         requires jobs { AreJobs layout.now self.old }
+        ensures numbered { AreNumbered 1 self.old.tables.desk.runs }
         ensures plan { IfOk result (λ plan. plan ≡ plan_of layout.now (jobs_of self.old) turn) }
         ensures spelled { IfOk result IsSpelledPlan }
         ensures tables { self.new.tables.desk ≡ self.old.tables.desk }

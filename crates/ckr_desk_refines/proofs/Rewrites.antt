@@ -10,5 +10,4 @@ pub mod Commits
 pub mod Records
 pub mod Requests
 pub mod Desk
-pub mod Masters
 pub mod LastRecord

@@ -4,3 +4,4 @@ pub mod Jobs
 pub mod Tables
 pub mod Desks
 pub mod Turns
+pub mod Checkpoints

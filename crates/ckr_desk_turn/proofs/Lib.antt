@@ -14,3 +14,4 @@ pub mod Units
 pub mod Turns
 pub mod Rewrite
 pub mod Queue
+pub mod Checkpoints

@@ -1,18 +1,20 @@
 -- The events of turns have a spelling, which is short.
-use Rattle.std.proofs.Common.{◌≡◌, ◌≤◌, ◌<◌, ◌+◌, ◌*◌, ◌^◌, ◌&&◌, ℕ, suc, refl, IsTrue, nat_le, List, [], ◌∷◌, ◌++◌, length, drop, arith, length-append}
+use Rattle.std.proofs.Common.{◌≡◌, ◌≤◌, ◌<◌, ◌+◌, ◌*◌, ◌^◌, ◌&&◌, ℕ, true, refl, IsTrue, nat_le, List, [], ◌∷◌, ◌++◌, length, arith, length-append}
 use Rattle.std.proofs.lemmas.Bool.Decides.{nat_tests}
 use Rattle.arrayvec.specs.ArrayVec.{ArrayVec}
+use Rattle.std.specs.List.{list_all}
+use Rattle.ckr_base.specs.Grammar.{is_check_id, is_name_byte}
 use Rattle.ckr_base.specs.declared.code.Code.{Code}
 use Rattle.ckr_base.specs.declared.code.Code.TheVariants.{System, User}
-use Rattle.ckr_events.specs.declared.event.Event.TheVariants.{Started as StartedEvent, Rewritten as RewrittenEvent, StepEnded as StepEndedEvent, Ended as EndedEvent}
+use Rattle.ckr_events.specs.declared.event.Event.TheVariants.{Checkpointed as CheckpointedEvent, Started as StartedEvent, Rewritten as RewrittenEvent, StepEnded as StepEndedEvent, Ended as EndedEvent}
 use Rattle.ckr_events.specs.declared.event.Ending.TheVariants.{Coded}
+use Rattle.ckr_base.proofs.Bools.{and-first, and-second}
+use Rattle.ckr_base.proofs.Numbers.{nat_le-true}
 use Rattle.ckr_fields.specs.Fields.{each_fits, spell_each}
 use Rattle.std.specs.Int.{w16, w32, to_be_bytes}
-use Rattle.ckr_events.specs.Format.{length_list, piece, piece_list, made, all_made}
+use Rattle.ckr_events.specs.Format.{length_list, piece_list, made, all_made}
 use Rattle.ckr_events.specs.declared.event.Made.{Made}
 use Rattle.ckr_events.specs.declared.event.Piece.{Piece}
-use Rattle.ckr_rules.specs.declared.cases.Rule.{Rule}
-use Rattle.ckr_rules.specs.RuleTables.{rule_number}
 use Rattle.ckr_desk_turn.specs.Spelling.{IsSpelled, IsCode}
 
 lengths_long : (lengths : List ℕ) → length (length_list.spell lengths) ≡ 1 + 4 * length lengths
@@ -86,3 +88,25 @@ rewritten_spelled job taken writes place lengths image j t w p fits short = reco
     length-append (length_list.spell lengths.items) (to_be_bytes w32 place ++ (to_be_bytes w16 (length image) ++ image)),
   );
 }
+
+pub checkpointed_spelled : (job taken writes place bytes : ℕ) (id : List ℕ) (lengths : ArrayVec ℕ) → job < 2 ^ 32 → taken < 2 ^ 32 → writes < 2 ^ 32 → place < 2 ^ 32 → bytes < 2 ^ 32
+    → IsTrue (is_check_id id) → length_list.fits lengths.items → IsSpelled (CheckpointedEvent job id taken writes lengths place bytes)
+checkpointed_spelled job taken writes place bytes id lengths j t w p b grammar fits = record {
+  event = (j, (((omega (arith, few_bytes), sized), grammar), (t, (w, (fits, (p, b))))));
+  counted = tt;
+  small = tt;
+  short = omega (
+    arith,
+    lengths_long lengths.items,
+    few lengths.items fits,
+    few_bytes,
+    length-append id (to_be_bytes w32 taken ++ (to_be_bytes w32 writes ++ (length_list.spell lengths.items ++ (to_be_bytes w32 place ++ to_be_bytes w32 bytes)))),
+    length-append (length_list.spell lengths.items) (to_be_bytes w32 place ++ to_be_bytes w32 bytes),
+  );
+}
+  where
+    sized : (nat_le 1 (length id) && nat_le (length id) 16) ≡ true
+    sized = and-first (nat_le 1 (length id) && nat_le (length id) 16) (list_all is_name_byte id) grammar
+
+    few_bytes : length id ≤ 16
+    few_bytes = nat_le-true (length id) 16 (and-second (nat_le 1 (length id)) (nat_le (length id) 16) sized)

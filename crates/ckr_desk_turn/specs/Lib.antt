@@ -10,3 +10,6 @@ pub mod Queue
 pub mod Spelling
 pub mod Units
 pub mod RunEvents
+pub mod EntryStates
+pub mod Checkpoints
+pub mod EntryForms

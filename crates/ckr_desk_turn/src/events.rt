@@ -7,7 +7,7 @@ ghost use Rattle.ckr_desk_turn.specs.Spelling.{IsSpelled, IsCode};
 
 use crate::Cause;
 use arrayvec::ArrayVec;
-use ckr_base::{Code, Rec};
+use ckr_base::{CheckId, Code, Rec};
 use ckr_events::{Ending, Event, Made};
 use ckr_rules::Rule;
 
@@ -53,6 +53,41 @@ pub fn step_ended_event(
         writes,
         lengths,
     }
+}
+
+/// A step has written a checkpoint's entry behind the last record of its data set: its identifier, the records taken and the writes made so
+/// far, the place of its first record, counted from 0, and the number of its bytes.
+pub fn checkpointed_event(
+    job: u32,
+    id: CheckId,
+    taken: u32,
+    writes: u32,
+    lengths: ArrayVec<u32, 16>,
+    place: u32,
+    bytes: u32,
+) -> Event
+    requires lengths { length_list.fits lengths.items }
+    ensures event { result ≡ Event.Checkpointed job id taken writes lengths place bytes }
+    ensures spelled { IsSpelled result }
+{
+    let _grammar = id.text();
+    Event::Checkpointed {
+        job,
+        id,
+        taken,
+        writes,
+        lengths,
+        place,
+        bytes,
+    }
+}
+
+/// A step has cancelled the request for automatic restarts.
+pub fn cancelled_event(job: u32) -> Event
+    ensures event { result ≡ Event.Cancelled job }
+    ensures spelled { IsSpelled result }
+{
+    Event::Cancelled { job }
 }
 
 /// A job has ended behind its last step.

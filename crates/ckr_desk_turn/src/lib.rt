@@ -1,6 +1,7 @@
 //! What a turn of the desk comes to, with its reply and its event or none, and that turns keep the events of the desk.
 #![tactic(auto)]
 
+mod checkpoint_laws;
 mod event_laws;
 mod events;
 mod opening_law;
@@ -11,11 +12,16 @@ mod step_laws;
 mod turn_laws;
 mod unit_laws;
 
+pub use checkpoint_laws::{
+    cancels_are_due_behind_checkpoints, checkpoints_are_due_once, checkpoints_leave_kept_events,
+    entries_have_the_state_of_the_program, entries_in_range_have_a_spelling,
+    events_of_checkpoints_may_come, written_entries_are_kept, written_entries_count,
+};
 pub use ckr_points_library::Cause;
 pub use event_laws::{events_between_steps_may_come, events_of_calls_may_come};
 pub use events::{
-    allocation_event, coded_event, completed_event, purged_event, rewritten_event, selected_event,
-    started_event, step_ended_event,
+    allocation_event, cancelled_event, checkpointed_event, coded_event, completed_event,
+    purged_event, rewritten_event, selected_event, started_event, step_ended_event,
 };
 pub use opening_law::{opened_desks_are_desks, sound_events_open_to_a_desk};
 pub use plan::Plan;

@@ -1,6 +1,6 @@
 -- An entry by its definitions: the first checkpoint of a COPY of 60 records that has taken and written 20.
 use Rattle.std.specs.Prelude.{◌≡◌, ℕ, List, [], ◌∷◌, Bool, true, false, Some, codes, refl}
-use Rattle.ckr_jcl.specs.declared.deck.Kind.TheVariants.{Copy}
+use Rattle.ckr_programs.specs.Kinds.Kind.TheVariants.{Copy}
 use Rattle.ckr_library.specs.NameMaps.{Name}
 use Rattle.ckr_entry.specs.declared.point.Mark.{Mark}
 use Rattle.ckr_entry.specs.declared.point.State.TheVariants.{Plain}

@@ -3,8 +3,8 @@ use Rattle.std.specs.Prelude.{◌≡◌, ◌+◌, ◌^◌, ◌==◌, ◌&&◌, �
 use Rattle.arrayvec.specs.ArrayVec.{ArrayVec}
 use Rattle.ckr_fields.specs.Readers.{Reading, ◌>>=◌}
 use Rattle.ckr_fields.specs.Fields.{Field, byte_at, byte, four_bytes, judged, between, depending, ◌&◌, text, record_bytes, seen_at}
-use Rattle.ckr_jcl.specs.declared.deck.Kind.{Kind}
-use Rattle.ckr_jcl.specs.declared.deck.Kind.TheVariants.{Copy, Select, Merge, Master, Update, Print}
+use Rattle.ckr_programs.specs.Kinds.Kind.{Kind}
+use Rattle.ckr_programs.specs.Kinds.Kind.TheVariants.{Copy, Select, Merge, Master, Update, Print}
 use Rattle.ckr_programs.specs.declared.state.ProgState.{ProgState}
 use Rattle.ckr_match.specs.declared.state.MatchState.{MatchState}
 use Rattle.ckr_entry.specs.declared.point.State.{State}

@@ -11,9 +11,8 @@ use crate::point::{State, key_of};
 use arrayvec::ArrayVec;
 use ckr_base::Rec;
 use ckr_fields::{Fields, ReadError};
-use ckr_jcl::Kind;
 use ckr_match::MatchState;
-use ckr_programs::ProgState;
+use ckr_programs::{Kind, ProgState};
 
 /// The records taken of the two inputs, `taken` together.
 #[tactic(auto, unfolding(ckr_fields::specs::Fields::judged_at))]

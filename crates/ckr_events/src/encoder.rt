@@ -30,11 +30,12 @@ pub fn encode(alloc: Global, event: &Event) -> Result<Vec<u8>, NoMemory>
 }
 
 /// Puts the one spelling of an event, which isn't `Submitted`, behind what stands in the vector. The vector has room
-/// for 4,096 bytes more, and no memory is taken.
+/// for 4,096 bytes more, and no memory is taken: its capacity doesn't fall.
 pub fn encode_small(event: &Event, buf: &mut Vec<u8>)
     requires small { IsSmall event.now }
     requires room { vec_len buf.old + 4096 ≤ vec_capacity buf.old }
-    ensures { buf.new.items ≡ buf.old.items ++ spelling event.now }
+    ensures items { buf.new.items ≡ buf.old.items ++ spelling event.now }
+    ensures capacity { vec_capacity buf.old ≤ vec_capacity buf.new }
 {
     match event {
         Event::Submitted { .. } => unreachable!(),

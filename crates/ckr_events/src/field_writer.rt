@@ -125,7 +125,8 @@ fn put_optional_name(out: &mut Vec<u8>, name: &Option<DsName>)
 /// A code and the rule, with the writes and the lengths that go with them, behind their own byte.
 fn put_coded(out: &mut Vec<u8>, code: Code, rule: u8, writes: u32, lengths: &ArrayVec<u32, 16>)
     requires { vec_len out.old + 100 ≤ vec_capacity out.old }
-    ensures { out.new.items ≡ out.old.items ++ (1 ∷ coded.spell (code, (rule, (writes, lengths.now)))) }
+    ensures items { out.new.items ≡ out.old.items ++ (1 ∷ coded.spell (code, (rule, (writes, lengths.now)))) }
+    ensures capacity { vec_capacity out.old ≤ vec_capacity out.new }
 {
     put_byte(out, 1);
     put_code(out, code);
@@ -137,7 +138,8 @@ fn put_coded(out: &mut Vec<u8>, code: Code, rule: u8, writes: u32, lengths: &Arr
 /// A DD and the cause, with its numbers, behind their own byte.
 fn put_allocation(out: &mut Vec<u8>, dd: u8, cause: u8, first: u32, second: u32)
     requires { vec_len out.old + 100 ≤ vec_capacity out.old }
-    ensures { out.new.items ≡ out.old.items ++ (2 ∷ allocation.spell ((dd, cause), (first, second))) }
+    ensures items { out.new.items ≡ out.old.items ++ (2 ∷ allocation.spell ((dd, cause), (first, second))) }
+    ensures capacity { vec_capacity out.old ≤ vec_capacity out.new }
 {
     put_byte(out, 2);
     put_byte(out, dd);
@@ -149,7 +151,8 @@ fn put_allocation(out: &mut Vec<u8>, dd: u8, cause: u8, first: u32, second: u32)
 /// How the run ended.
 fn put_ending(out: &mut Vec<u8>, ending: &Ending)
     requires { vec_len out.old + 100 ≤ vec_capacity out.old }
-    ensures { out.new.items ≡ out.old.items ++ ending_spell ending.now }
+    ensures items { out.new.items ≡ out.old.items ++ ending_spell ending.now }
+    ensures capacity { vec_capacity out.old ≤ vec_capacity out.new }
 {
     match ending {
         Ending::Completed => put_byte(out, 0),
@@ -178,7 +181,8 @@ pub(crate) fn put_selected(
     id: &Option<CheckId>,
 )
     requires { vec_len out.old + 4096 ≤ vec_capacity out.old }
-    ensures { out.new.items ≡ out.old.items ++ (2 ∷ selected.spell (job, (initiator, (earlier, (step, id.now))))) }
+    ensures items { out.new.items ≡ out.old.items ++ (2 ∷ selected.spell (job, (initiator, (earlier, (step, id.now))))) }
+    ensures capacity { vec_capacity out.old ≤ vec_capacity out.new }
 {
     put_byte(out, 2);
     put_four_bytes(out, job);
@@ -191,7 +195,8 @@ pub(crate) fn put_selected(
 /// The event `Denied`.
 pub(crate) fn put_denied(out: &mut Vec<u8>, job: u32, rule: u8, name: &Option<DsName>)
     requires { vec_len out.old + 4096 ≤ vec_capacity out.old }
-    ensures { out.new.items ≡ out.old.items ++ (3 ∷ denied.spell (job, (rule, name.now))) }
+    ensures items { out.new.items ≡ out.old.items ++ (3 ∷ denied.spell (job, (rule, name.now))) }
+    ensures capacity { vec_capacity out.old ≤ vec_capacity out.new }
 {
     put_byte(out, 3);
     put_four_bytes(out, job);
@@ -202,7 +207,8 @@ pub(crate) fn put_denied(out: &mut Vec<u8>, job: u32, rule: u8, name: &Option<Ds
 /// The event `Started`.
 pub(crate) fn put_started(out: &mut Vec<u8>, job: u32, step: u8, listing: &ArrayVec<Made, 80>)
     requires { vec_len out.old + 4096 ≤ vec_capacity out.old }
-    ensures { out.new.items ≡ out.old.items ++ (4 ∷ started.spell (job, (step, listing.now))) }
+    ensures items { out.new.items ≡ out.old.items ++ (4 ∷ started.spell (job, (step, listing.now))) }
+    ensures capacity { vec_capacity out.old ≤ vec_capacity out.new }
 {
     put_byte(out, 4);
     put_four_bytes(out, job);
@@ -221,7 +227,8 @@ pub(crate) fn put_rewritten(
     image: &Rec,
 )
     requires { vec_len out.old + 4096 ≤ vec_capacity out.old }
-    ensures { out.new.items ≡ out.old.items ++ (5 ∷ rewritten.spell (job, (taken, (writes, (lengths.now, (place, image.now)))))) }
+    ensures items { out.new.items ≡ out.old.items ++ (5 ∷ rewritten.spell (job, (taken, (writes, (lengths.now, (place, image.now)))))) }
+    ensures capacity { vec_capacity out.old ≤ vec_capacity out.new }
 {
     put_byte(out, 5);
     put_four_bytes(out, job);
@@ -244,7 +251,8 @@ pub(crate) fn put_checkpointed(
     bytes: u32,
 )
     requires { vec_len out.old + 4096 ≤ vec_capacity out.old }
-    ensures { out.new.items ≡ out.old.items ++ (6 ∷ checkpointed.spell (job, (id.now, (taken, (writes, (lengths.now, (place, bytes))))))) }
+    ensures items { out.new.items ≡ out.old.items ++ (6 ∷ checkpointed.spell (job, (id.now, (taken, (writes, (lengths.now, (place, bytes))))))) }
+    ensures capacity { vec_capacity out.old ≤ vec_capacity out.new }
 {
     put_byte(out, 6);
     put_four_bytes(out, job);
@@ -266,7 +274,8 @@ pub(crate) fn put_step_ended(
     lengths: &ArrayVec<u32, 16>,
 )
     requires { vec_len out.old + 4096 ≤ vec_capacity out.old }
-    ensures { out.new.items ≡ out.old.items ++ (8 ∷ step_ended.spell (job, (step, (rc, (writes, lengths.now))))) }
+    ensures items { out.new.items ≡ out.old.items ++ (8 ∷ step_ended.spell (job, (step, (rc, (writes, lengths.now))))) }
+    ensures capacity { vec_capacity out.old ≤ vec_capacity out.new }
 {
     put_byte(out, 8);
     put_four_bytes(out, job);
@@ -285,7 +294,8 @@ pub(crate) fn put_restarted(
     checkpoint: bool,
 )
     requires { vec_len out.old + 4096 ≤ vec_capacity out.old }
-    ensures { out.new.items ≡ out.old.items ++ (9 ∷ restarted.spell (job, (initiator, (code, checkpoint)))) }
+    ensures items { out.new.items ≡ out.old.items ++ (9 ∷ restarted.spell (job, (initiator, (code, checkpoint)))) }
+    ensures capacity { vec_capacity out.old ≤ vec_capacity out.new }
 {
     put_byte(out, 9);
     put_four_bytes(out, job);
@@ -303,7 +313,8 @@ pub(crate) fn put_held(
     lengths: &ArrayVec<u32, 16>,
 )
     requires { vec_len out.old + 4096 ≤ vec_capacity out.old }
-    ensures { out.new.items ≡ out.old.items ++ (10 ∷ held.spell (job, (code, (writes, lengths.now)))) }
+    ensures items { out.new.items ≡ out.old.items ++ (10 ∷ held.spell (job, (code, (writes, lengths.now)))) }
+    ensures capacity { vec_capacity out.old ≤ vec_capacity out.new }
 {
     put_byte(out, 10);
     put_four_bytes(out, job);
@@ -315,7 +326,8 @@ pub(crate) fn put_held(
 /// The event `Ended`.
 pub(crate) fn put_ended(out: &mut Vec<u8>, job: u32, ending: &Ending)
     requires { vec_len out.old + 4096 ≤ vec_capacity out.old }
-    ensures { out.new.items ≡ out.old.items ++ (12 ∷ ended.spell (job, ending.now)) }
+    ensures items { out.new.items ≡ out.old.items ++ (12 ∷ ended.spell (job, ending.now)) }
+    ensures capacity { vec_capacity out.old ≤ vec_capacity out.new }
 {
     put_byte(out, 12);
     put_four_bytes(out, job);
@@ -325,7 +337,8 @@ pub(crate) fn put_ended(out: &mut Vec<u8>, job: u32, ending: &Ending)
 /// An event of this kind that has a job alone.
 pub(crate) fn put_job(out: &mut Vec<u8>, kind: u8, job: u32)
     requires { vec_len out.old + 4096 ≤ vec_capacity out.old }
-    ensures { out.new.items ≡ out.old.items ++ (kind ∷ to_be_bytes w32 job) }
+    ensures items { out.new.items ≡ out.old.items ++ (kind ∷ to_be_bytes w32 job) }
+    ensures capacity { vec_capacity out.old ≤ vec_capacity out.new }
 {
     put_byte(out, kind);
     put_four_bytes(out, job);

@@ -4,7 +4,42 @@ use ckr_outside::{
     StdSource, put_all,
 };
 use std::fs::{self, File};
+use std::io::{self, ErrorKind, Read, Write};
 use std::test::Fail;
+
+/// A stream of which every other call is interrupted.
+#[derive(Drop)]
+struct Unsteady {
+    interrupted: bool,
+}
+
+impl Unsteady {
+    fn call(&mut self) -> io::Result<()> {
+        self.interrupted = !self.interrupted;
+        if self.interrupted {
+            return Err(io::Error::from(ErrorKind::Interrupted));
+        }
+        Ok(())
+    }
+}
+
+impl Read for Unsteady {
+    fn read(&mut self, buf: &mut [u8]) -> io::Result<usize> {
+        self.call()?;
+        b"$Q".as_slice().read(buf)
+    }
+}
+
+impl Write for Unsteady {
+    fn write(&mut self, buf: &[u8]) -> io::Result<usize> {
+        self.call()?;
+        Ok(buf.len())
+    }
+
+    fn flush(&mut self) -> io::Result<()> {
+        Ok(())
+    }
+}
 
 #[test]
 fn a_source_gives_its_bytes_and_fails_where_listed(rt: HostRuntime) -> Result<(), Fail> {
@@ -46,6 +81,17 @@ fn adapters_pass_on_what_memory_holds(rt: HostRuntime) -> Result<(), Fail> {
     let mut sink = StdSink::new(&mut text);
     put_all(&mut sink, b"I1 IDLE")?;
     assert!(rt; text.as_slice() == b"I1 IDLE".as_slice());
+    Ok(())
+}
+
+#[test]
+fn a_call_that_was_interrupted_is_made_again(rt: HostRuntime) -> Result<(), Fail> {
+    let mut source = StdSource::new(Unsteady { interrupted: false });
+    let mut buf = [0; 3];
+    assert!(rt; source.take(&mut buf)? == 2);
+    assert!(rt; buf.as_slice() == b"$Q\0".as_slice());
+    let mut sink = StdSink::new(Unsteady { interrupted: false });
+    assert!(rt; sink.put(b"I1 IDLE")? == 7);
     Ok(())
 }
 

@@ -1,3 +1,4 @@
+pub mod EntryRooms
 pub mod Filings
 pub mod Laws
 pub mod Named

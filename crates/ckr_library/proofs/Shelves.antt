@@ -42,7 +42,7 @@ has_entry None P has = absurd has
 has_entry (Some holding) P has = refl
 
 -- a name with a data set stands at its place
-placed : (items : List Held) → Rise items → (name : Name) → IsSome (entry_at (entries_of items) name) → (old : Held) × (slice_get items (place_in name items) ≡ Some old) × (name_cmp name old.name ≡ Equal)
+pub placed : (items : List Held) → Rise items → (name : Name) → IsSome (entry_at (entries_of items) name) → (old : Held) × (slice_get items (place_in name items) ≡ Some old) × (name_cmp name old.name ≡ Equal)
 placed items rise name there = at_place name_cmp entry_of nat_list_cmp_total name items (T-from-true _ rise) there
 
 -- the names in ascending order
@@ -55,14 +55,14 @@ none_of : (found : Option Holding) → option_map (λ (h : Holding). h.set) foun
 none_of None e = refl
 none_of (Some holding) e = absurd (some-not-none _ e)
 
-item_is : (items : List Held) (place : ℕ) (held d : Held) → place < length items → held ≡ slice_index_or items place d → slice_get items place ≡ Some held
+pub item_is : (items : List Held) (place : ℕ) (held d : Held) → place < length items → held ≡ slice_index_or items place d → slice_get items place ≡ Some held
 item_is [] place held d inside is = absurd (omega (arith, inside))
 item_is (first ∷ items) zero held d inside is = ap Some (sym is)
 item_is (first ∷ items) (suc place) held d inside is = item_is items place held d (omega (arith, inside)) is
 
 -- the items of a shelf that is seen so, and a name at its place
 module _ (items : List Held) (rise : Rise items) (sets : Named Holding) (seen : entries_of items ≡ sets) (name : Name) (place : ℕ) (at : place ≡ place_in name items) where
-  there : (P : DataSet → Type 0) → IsSomeAnd (option_map (λ (h : Holding). h.set) (entry_at sets name)) P → IsSome (entry_at (entries_of items) name)
+  pub there : (P : DataSet → Type 0) → IsSomeAnd (option_map (λ (h : Holding). h.set) (entry_at sets name)) P → IsSome (entry_at (entries_of items) name)
   there P has = subst (λ s. IsSome (entry_at s name)) (sym seen) (has_entry (entry_at sets name) P has)
 
   -- the place of a name with a data set lies inside

@@ -1,6 +1,6 @@
 -- What a contract sees of a library.
-use Rattle.std.specs.Prelude.{ℕ, ◌+◌, ◌/◌, Bool, List, [], filter, nat_le, Option, Some, None, IsSomeAnd}
-use Rattle.std.specs.Option.{option_map}
+use Rattle.std.specs.Prelude.{ℕ, ◌+◌, ◌/◌, ◌≤◌, Bool, List, [], ◌∷◌, ◌++◌, filter, nat_le, Option, Some, None, IsSomeAnd}
+use Rattle.std.specs.Option.{option_map, option_map_or}
 use Rattle.ckr_library.specs.declared.sets.DataSet.{DataSet}
 use Rattle.ckr_library.specs.declared.sets.Kept.{Kept}
 use Rattle.ckr_library.specs.declared.sets.Stamp.{Stamp}
@@ -11,10 +11,11 @@ pub record Holding : Type 0 where
   pub set : DataSet
   pub kept : List Kept
 
--- the data sets by name, and how many more fit with no memory taken
+-- the data sets by name, and what fits with no memory taken: how many more of them, and how many more entries of each name
 pub record Catalog : Type 0 where
   pub sets : Named Holding
   pub room : ℕ
+  pub entry_rooms : Named ℕ
 
 -- the data set of a name
 abbrev pub set_of : Catalog → Name → Option DataSet
@@ -27,6 +28,14 @@ kept_in (Some holding) = holding.kept
 -- the entries that the data set of a name keeps, and none for a name that isn't there
 abbrev pub kept_of : Catalog → Name → List Kept
 kept_of catalog name = kept_in (entry_at catalog.sets name)
+
+-- how many more entries the data set of a name keeps with no memory taken
+abbrev pub entry_room : Catalog → Name → ℕ
+entry_room catalog name = option_map_or (λ room. room) (entry_at catalog.entry_rooms name) 0
+
+-- each name has no less room for entries than before
+abbrev pub KeepsEntryRoom : Catalog → Catalog → Type 0
+KeepsEntryRoom old new = (name : Name) → entry_room old name ≤ entry_room new name
 
 -- how many records of 256 bytes an entry takes
 abbrev pub records_of : ℕ → ℕ
@@ -45,6 +54,10 @@ with_stamp stamp holding = record holding { set = record holding.set { stamp = s
 
 abbrev pub with_catalog : Bool → Holding → Holding
 with_catalog on holding = record holding { set = record holding.set { cataloged = on } }
+
+-- with one more entry behind the others
+abbrev pub with_kept : Kept → Holding → Holding
+with_kept kept holding = record holding { kept = holding.kept ++ kept ∷ [] }
 
 -- a data set with no entry kept
 abbrev pub fresh_holding : DataSet → Holding

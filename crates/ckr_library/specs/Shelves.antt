@@ -1,5 +1,5 @@
 -- How the items of a library are read as its catalog.
-use Rattle.std.specs.Prelude.{ℕ, Bool, List, map}
+use Rattle.std.specs.Prelude.{ℕ, ◌-◌, Bool, List, map, vec_len, vec_capacity}
 use Rattle.std.specs.Ordering.{is_gt}
 use Rattle.std.specs.FinMap.Entries.{is_sorted}
 use Rattle.ckr_library.specs.declared.shelf.Held.{Held}
@@ -16,6 +16,13 @@ entry_of held = (held.name, holding_of held)
 
 abbrev pub entries_of : List Held → Named Holding
 entries_of items = map entry_of items
+
+-- how many more entries an item keeps with no memory taken, under its name
+abbrev pub room_of : Held → Name × ℕ
+room_of held = (held.name, vec_capacity held.kept - vec_len held.kept)
+
+abbrev pub rooms_of : List Held → Named ℕ
+rooms_of items = map room_of items
 
 -- whether the items stand in ascending order of their names, each name once
 abbrev pub are_in_order : List Held → Bool

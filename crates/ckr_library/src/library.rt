@@ -1,7 +1,7 @@
 //! The data sets by name.
 ghost use Rattle.std.specs.Prelude.{◌≡◌, ◌+◌, ◌<◌, ◌≤◌, [], None, IsOk, IsTrue, OnOk, OnErr, slice_get};
 ghost use Rattle.std.specs.Option.{option_copied};
-ghost use Rattle.ckr_library.specs.Catalog.{set_of, kept_of, fresh_holding, with_catalog, with_length, with_stamp, HasSet};
+ghost use Rattle.ckr_library.specs.Catalog.{set_of, kept_of, entry_room, fresh_holding, with_catalog, with_kept, with_length, with_stamp, HasSet, KeepsEntryRoom};
 ghost use Rattle.ckr_library.specs.NameMaps.{are_named_in_order, names_of, with_entry, without_entry, with_changed};
 ghost use Rattle.ckr_library.specs.Spread.{spread_on};
 
@@ -26,7 +26,7 @@ impl Model for Library {
 
     ghost Value = { Catalog };
 
-    ghost view = { λ a. record { sets = a.shelf.sets; room = min a.shelf.room (a.spread.room / 25) } };
+    ghost view = { λ a. record { sets = a.shelf.sets; room = min a.shelf.room (a.spread.room / 25); entry_rooms = a.shelf.entry_rooms } };
 
     ghost invariant = { λ a. a.spread.spans ≡ spans_of_all a.shelf.sets };
 }
@@ -85,6 +85,7 @@ impl Library {
         ensures ok { OnOk result (more ≤ self.new.room) }
         ensures room { self.old.room ≤ self.new.room }
         ensures succeeds { more ≤ self.old.room → IsOk result }
+        ensures entries { KeepsEntryRoom self.old self.new }
     {
         self.shelf.reserve(more)?;
         self.spread.reserve(more)?;
@@ -141,7 +142,38 @@ impl Library {
         requires { HasSet self.old name.now (λ set. length ≤ set.space) }
         ensures sets { self.new.sets ≡ with_changed name.now (with_length length) self.old.sets }
         ensures room { self.new.room ≡ self.old.room }
+        ensures entries { KeepsEntryRoom self.old self.new }
     {
         self.shelf.set_length(name, length);
+    }
+
+    /// Makes room for one more entry of the data set of a name, so that the next call of `keep` takes no memory. A name that isn't
+    /// there needs none.
+    ///
+    /// `NoMemory`: the data sets and the room are as before.
+    pub fn reserve_entry(&mut self, name: &DsName) -> Result<(), NoMemory>
+        ensures sets { self.new.sets ≡ self.old.sets }
+        ensures ok { OnOk result (HasSet self.new name.now (λ _. Unit {0}) → 0 < entry_room self.new name.now) }
+        ensures succeeds { 0 < entry_room self.old name.now → IsOk result }
+        ensures room { self.new.room ≡ self.old.room }
+        ensures entries { KeepsEntryRoom self.old self.new }
+    {
+        match self.shelf.find(name) {
+            Some(_) => self.shelf.reserve_entry(name),
+            None => Ok(()),
+        }
+    }
+
+    /// Keeps an entry of a checkpoint data set, behind those that it keeps. It takes no memory where there is room.
+    ///
+    /// `NoMemory`: nothing has changed.
+    pub fn keep(&mut self, name: &DsName, kept: Kept) -> Result<(), NoMemory>
+        requires { HasSet self.old name.now (λ _. Unit {0}) }
+        ensures ok { OnOk result (self.new.sets ≡ with_changed name.now (with_kept kept) self.old.sets) }
+        ensures err { OnErr result (self.new.sets ≡ self.old.sets) }
+        ensures succeeds { 0 < entry_room self.old name.now → IsOk result }
+        ensures room { self.new.room ≡ self.old.room }
+    {
+        self.shelf.keep(name, kept)
     }
 }

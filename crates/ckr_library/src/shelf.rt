@@ -1,10 +1,10 @@
 //! The data sets in the order of their names.
-ghost use Rattle.std.specs.Prelude.{◌≡◌, ◌+◌, ◌<◌, ◌≤◌, [], None, Some, IsOk, IsTrue, OnOk, OnErr, length, slice_get, filter};
+ghost use Rattle.std.specs.Prelude.{◌≡◌, ◌+◌, ◌<◌, ◌≤◌, [], None, Some, IsOk, IsTrue, OnOk, OnErr, length, slice_get, filter, vec_len, vec_capacity};
 ghost use Rattle.std.specs.Option.{option_copied, option_map};
 ghost use Rattle.std.specs.Ordering.{is_gt, is_eq};
-ghost use Rattle.ckr_library.specs.Catalog.{set_of, ends_within, fresh_holding, with_catalog, with_length, with_stamp, HasSet};
+ghost use Rattle.ckr_library.specs.Catalog.{set_of, ends_within, entry_room, fresh_holding, with_catalog, with_kept, with_length, with_stamp, HasSet, KeepsEntryRoom};
 ghost use Rattle.ckr_library.specs.NameMaps.{name_cmp, are_named_in_order, names_of, entry_at, with_entry, without_entry, with_changed};
-ghost use Rattle.ckr_library.specs.Shelves.{holding_of, entries_of, are_in_order, place_in};
+ghost use Rattle.ckr_library.specs.Shelves.{holding_of, entries_of, are_in_order, place_in, room_of};
 
 use crate::{DataSet, Kept, Stamp};
 use ckr_base::{DsName, NoMemory};
@@ -31,9 +31,9 @@ impl Model for Shelf {
 
     ghost Value = { Catalog };
 
-    ghost use Rattle.ckr_library.specs.Shelves.{entries_of, are_in_order};
+    ghost use Rattle.ckr_library.specs.Shelves.{entries_of, rooms_of, are_in_order};
 
-    ghost view = { λ a. record { sets = entries_of a.items.items; room = vec_capacity a.items - vec_len a.items } };
+    ghost view = { λ a. record { sets = entries_of a.items.items; room = vec_capacity a.items - vec_len a.items; entry_rooms = rooms_of a.items.items } };
 
     ghost invariant = { λ a. IsTrue (are_in_order a.items.items) };
 }
@@ -72,6 +72,7 @@ impl Shelf {
         ensures ok { OnOk result (more ≤ self.new.room) }
         ensures room { self.old.room ≤ self.new.room }
         ensures succeeds { more ≤ self.old.room → IsOk result }
+        ensures entries { KeepsEntryRoom self.old self.new }
     {
         self.items.reserve(more as usize)?;
         Ok(())
@@ -132,16 +133,67 @@ impl Shelf {
         ensures order { IsTrue (are_named_in_order self.old.sets) }
         ensures sets { self.new.sets ≡ with_changed name.now (with_length length) self.old.sets }
         ensures room { self.new.room ≡ self.old.room }
+        ensures entries { KeepsEntryRoom self.old self.new }
     {
         let place = place_of(self.items.as_slice(), name);
         cut(&mut self.items[place], length);
     }
+
+    /// Makes room for one more entry of a data set.
+    pub(crate) fn reserve_entry(&mut self, name: &DsName) -> Result<(), NoMemory>
+        requires { HasSet self.old name.now (λ _. Unit {0}) }
+        ensures sets { self.new.sets ≡ self.old.sets }
+        ensures ok { OnOk result (0 < entry_room self.new name.now) }
+        ensures succeeds { 0 < entry_room self.old name.now → IsOk result }
+        ensures room { self.new.room ≡ self.old.room }
+        ensures entries { KeepsEntryRoom self.old self.new }
+    {
+        let place = place_of(self.items.as_slice(), name);
+        make_room(&mut self.items[place])
+    }
+
+    /// Keeps an entry of a data set, behind those that it keeps.
+    pub(crate) fn keep(&mut self, name: &DsName, kept: Kept) -> Result<(), NoMemory>
+        requires { HasSet self.old name.now (λ _. Unit {0}) }
+        ensures order { IsTrue (are_named_in_order self.old.sets) }
+        ensures ok { OnOk result (self.new.sets ≡ with_changed name.now (with_kept kept) self.old.sets) }
+        ensures err { OnErr result (self.new.sets ≡ self.old.sets) }
+        ensures succeeds { 0 < entry_room self.old name.now → IsOk result }
+        ensures room { self.new.room ≡ self.old.room }
+    {
+        let place = place_of(self.items.as_slice(), name);
+        put(&mut self.items[place], kept)
+    }
+}
+
+/// Makes room for one more entry of an item.
+fn make_room(held: &mut Held) -> Result<(), NoMemory>
+    ensures name { held.new.name ≡ held.old.name }
+    ensures holding { holding_of held.new ≡ holding_of held.old }
+    ensures ok { OnOk result (0 < (room_of held.new).1) }
+    ensures succeeds { 0 < (room_of held.old).1 → IsOk result }
+    ensures room { (room_of held.old).1 ≤ (room_of held.new).1 }
+{
+    held.kept.reserve(1)?;
+    Ok(())
+}
+
+/// Puts an entry behind those of an item.
+fn put(held: &mut Held, kept: Kept) -> Result<(), NoMemory>
+    ensures name { held.new.name ≡ held.old.name }
+    ensures ok { OnOk result (holding_of held.new ≡ with_kept kept (holding_of held.old)) }
+    ensures err { OnErr result (holding_of held.new ≡ holding_of held.old) }
+    ensures succeeds { 0 < (room_of held.old).1 → IsOk result }
+{
+    held.kept.push(kept)?;
+    Ok(())
 }
 
 /// Sets the length of an item, and drops the entries that end beyond it.
 fn cut(held: &mut Held, length: u32)
     ensures name { held.new.name ≡ held.old.name }
     ensures holding { holding_of held.new ≡ with_length length (holding_of held.old) }
+    ensures room { (room_of held.old).1 ≤ (room_of held.new).1 }
 {
     held.set.length = length;
     drop_beyond(&mut held.kept, length);
@@ -149,7 +201,9 @@ fn cut(held: &mut Held, length: u32)
 
 /// Drops the entries that end beyond a length.
 fn drop_beyond(kept: &mut Vec<Kept>, length: u32)
-    ensures { kept.new.items ≡ filter (ends_within length) kept.old.items }
+    ensures items { kept.new.items ≡ filter (ends_within length) kept.old.items }
+    ensures bound { vec_len kept.new ≤ vec_len kept.old }
+    ensures capacity { vec_capacity kept.new ≡ vec_capacity kept.old }
 {
     kept.retain(|entry| ends_within(entry, length));
 }

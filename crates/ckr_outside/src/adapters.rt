@@ -3,7 +3,7 @@ ghost use Rattle.std.specs.Prelude.{◌≡◌};
 
 use crate::failure::{Failed, count_on};
 use crate::{Sink, Source};
-use std::io::{Read, Write};
+use std::io::{ErrorKind, Read, Write};
 
 /// A reader as a source. It tells of its bytes what the reader tells.
 #[derive(Drop)]
@@ -29,15 +29,17 @@ impl<R: Read> Source for StdSource<R> {
 
     ghost faults = { λ s. s.failures };
 
-    /// Each error of the reader is a fault, an interrupted read too.
+    /// Each error of the reader is a fault, but that a read that was interrupted is made again.
     fn take(&mut self, buf: &mut [u8]) -> Result<usize, Failed> {
-        match self.inner.read(buf) {
-            Ok(taken) => Ok(taken),
-            Err(_) => {
-                count_on(&mut self.failures);
-                Err(Failed)
+        for _ in 0..u64::MAX {
+            match self.inner.read(buf) {
+                Ok(taken) => return Ok(taken),
+                Err(error) if error.kind() == ErrorKind::Interrupted => {}
+                Err(_) => break,
             }
         }
+        count_on(&mut self.failures);
+        Err(Failed)
     }
 }
 
@@ -65,14 +67,17 @@ impl<W: Write> Sink for StdSink<W> {
 
     ghost faults = { λ s. s.failures };
 
-    /// Each error of the writer is a fault, and so is a write that takes none of a piece that isn't empty.
+    /// Each error of the writer is a fault, but that a write that was interrupted is made again. So is a write that takes
+    /// none of a piece that isn't empty.
     fn put(&mut self, bytes: &[u8]) -> Result<usize, Failed> {
-        match self.inner.write(bytes) {
-            Ok(taken) if taken > 0 || bytes.is_empty() => Ok(taken),
-            _ => {
-                count_on(&mut self.failures);
-                Err(Failed)
+        for _ in 0..u64::MAX {
+            match self.inner.write(bytes) {
+                Ok(taken) if taken > 0 || bytes.is_empty() => return Ok(taken),
+                Err(error) if error.kind() == ErrorKind::Interrupted => {}
+                _ => break,
             }
         }
+        count_on(&mut self.failures);
+        Err(Failed)
     }
 }

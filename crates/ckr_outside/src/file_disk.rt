@@ -1,12 +1,13 @@
 //! A file of the system as a disk. What it holds can't be told.
 ghost use Rattle.std.specs.Prelude.{◌≤◌, []};
+ghost use Rattle.std.specs.Io.{ReadsAtMost};
 ghost use Rattle.std.proofs.Common.{lit< as literal_below};
 ghost use Rattle.ckr_outside.specs.Faults.{Rose};
 
 use crate::Disk;
 use crate::failure::{Failed, count_on};
 use std::fs::File;
-use std::io;
+use std::io::{self, ErrorKind};
 use std::os::unix::fs::FileExt;
 
 /// How many bytes it has, whatever the file's length.
@@ -36,16 +37,33 @@ impl FileDisk {
     }
 }
 
+/// Reads into the front of the buffer what the file has from this place on, and answers how many bytes: 0 at its end. A
+/// call that was interrupted is made again.
+fn read_some(file: &File, at: u64, buf: &mut [u8]) -> io::Result<usize>
+    ensures { ReadsAtMost result buf.new }
+{
+    for _ in 0..u64::MAX {
+        match file.read_at(buf, at) {
+            Err(error) if error.kind() == ErrorKind::Interrupted => {}
+            answer => return answer,
+        }
+    }
+    Err(io::Error::from(ErrorKind::Interrupted))
+}
+
 /// Fills the buffer from this place of the file on, and with zeros past its end.
 fn read_or_zeros(file: &File, at: u64, buf: &mut [u8]) -> io::Result<()> {
-    let behind = file.metadata()?.len().saturating_sub(at);
-    let there = if behind < buf.len() as u64 {
-        behind as usize
-    } else {
-        buf.len()
-    };
-    file.read_exact_at(&mut buf[..there], at)?;
-    buf[there..].fill(0);
+    let mut filled = 0;
+    while filled < buf.len() {
+        let place = at.saturating_add(filled as u64);
+        match read_some(file, place, &mut buf[filled..])? {
+            0 => {
+                buf[filled..].fill(0);
+                filled = buf.len();
+            }
+            taken => filled += taken,
+        }
+    }
     Ok(())
 }
 

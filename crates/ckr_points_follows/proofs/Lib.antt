@@ -1,3 +1,4 @@
+pub mod Checkpoints
 pub mod Lists
 pub mod RewriteCounts
 pub mod RunFacts

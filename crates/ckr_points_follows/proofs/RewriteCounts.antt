@@ -20,10 +20,10 @@ use Rattle.ckr_library.specs.declared.sets.DataSet.{DataSet}
 use Rattle.ckr_library.specs.Catalog.{Holding}
 use Rattle.ckr_library.specs.NameMaps.{EachEntry, Name, Named, are_named_in_order, entry_at, name_cmp, names_of}
 use Rattle.ckr_library.proofs.OrderedLists.{find-tied}
-use Rattle.ckr_points.specs.Rows.{TableSet}
+use Rattle.ckr_points.specs.Rows.{TableSet, holding_of}
 use Rattle.ckr_points_tables.specs.Invariant.{MayCount}
 use Rattle.ckr_points_tables.specs.Rewrite.{HasFewRewrites}
-use Rattle.ckr_points_tables.specs.View.{seen_by, table_of}
+use Rattle.ckr_points_tables.specs.View.{seen_by}
 use Rattle.ckr_points_follows.specs.RewriteCounts.{has_few_rewrites, have_few_rewrites, may_count}
 
 -- ---- by the place of a name
@@ -42,25 +42,35 @@ at-place (one ∷ sets) rise (suc place) entry there = by (name_cmp entry.0 one.
 abbrev pub rewrites : Name × TableSet → ℕ
 rewrites entry = entry.1.set.stamp.rewrites
 
-seen-at : (sets : Named Holding) (place : ℕ) → slice_get (seen_by table_of sets) place ≡ option_map (λ (entry : Name × Holding). (entry.0, table_of entry.1)) (slice_get sets place)
-seen-at sets place = slice_get-map (λ (entry : Name × Holding). (entry.0, table_of entry.1)) sets place
+abbrev counts : Name × Holding → ℕ
+counts entry = entry.1.set.stamp.rewrites
 
-pub counted-at : (sets : Named Holding) → IsTrue (are_named_in_order sets) → (place : ℕ) (name : Name) → Some name ≡ slice_get (names_of sets) place → (found : Option DataSet) → found ≡ option_map (λ (h : Holding). h.set) (entry_at sets name)
-    → option_map (λ (set : DataSet). set.stamp.rewrites) found ≡ option_map rewrites (slice_get (seen_by table_of sets) place)
-counted-at sets rise place name named found is = by (slice_get sets place) refl
+seen-at : (sets : Named Holding) (tables : Named TableSet) → sets ≡ seen_by holding_of tables → (place : ℕ) → option_map counts (slice_get sets place) ≡ option_map rewrites (slice_get tables place)
+seen-at sets tables is place =
+    ap (λ all. option_map counts (slice_get all place)) is
+    ∙ ap (option_map counts) (slice_get-map (λ (entry : Name × TableSet). (entry.0, holding_of entry.1)) tables place)
+    ∙ by (slice_get tables place)
   where
-    by : (entry : Option (Name × Holding)) → slice_get sets place ≡ entry → option_map (λ (set : DataSet). set.stamp.rewrites) found ≡ option_map rewrites (slice_get (seen_by table_of sets) place)
+    by : (found : Option (Name × TableSet)) → option_map counts (option_map (λ (entry : Name × TableSet). (entry.0, holding_of entry.1)) found) ≡ option_map rewrites found
+    by None = refl
+    by (Some entry) = refl
+
+pub counted-at : (sets : Named Holding) (tables : Named TableSet) → sets ≡ seen_by holding_of tables → IsTrue (are_named_in_order sets) → (place : ℕ) (name : Name) → Some name ≡ slice_get (names_of sets) place → (found : Option DataSet) → found ≡ option_map (λ (h : Holding). h.set) (entry_at sets name)
+    → option_map (λ (set : DataSet). set.stamp.rewrites) found ≡ option_map rewrites (slice_get tables place)
+counted-at sets tables seen rise place name named found is = by (slice_get sets place) refl
+  where
+    by : (entry : Option (Name × Holding)) → slice_get sets place ≡ entry → option_map (λ (set : DataSet). set.stamp.rewrites) found ≡ option_map rewrites (slice_get tables place)
     by None e = absurd (some-not-none _ (named ∙ slice_get-map (λ (one : Name × Holding). one.0) sets place ∙ ap (option_map (λ (one : Name × Holding). one.0)) e))
     by (Some entry) e =
         let same : name ≡ entry.0 = same_Some name entry.0 (named ∙ slice_get-map (λ (one : Name × Holding). one.0) sets place ∙ ap (option_map (λ (one : Name × Holding). one.0)) e) in
         ap (option_map (λ (set : DataSet). set.stamp.rewrites)) (is ∙ ap (λ n. option_map (λ (h : Holding). h.set) (entry_at sets n)) same ∙ ap (option_map (λ (h : Holding). h.set)) (at-place sets (T-from-true _ rise) place entry e))
-        ∙ sym (ap (option_map rewrites) (seen-at sets place ∙ ap (option_map (λ (one : Name × Holding). (one.0, table_of one.1))) e))
+        ∙ sym (sym (seen-at sets tables seen place) ∙ ap (option_map counts) e)
 
-pub none-at : (sets : Named Holding) (place : ℕ) → None ≡ slice_get (names_of sets) place → None ≡ option_map rewrites (slice_get (seen_by table_of sets) place)
-none-at sets place none = by (slice_get sets place) refl
+pub none-at : (sets : Named Holding) (tables : Named TableSet) → sets ≡ seen_by holding_of tables → (place : ℕ) → None ≡ slice_get (names_of sets) place → None ≡ option_map rewrites (slice_get tables place)
+none-at sets tables seen place none = by (slice_get sets place) refl
   where
-    by : (entry : Option (Name × Holding)) → slice_get sets place ≡ entry → None ≡ option_map rewrites (slice_get (seen_by table_of sets) place)
-    by None e = sym (ap (option_map rewrites) (seen-at sets place ∙ ap (option_map (λ (one : Name × Holding). (one.0, table_of one.1))) e))
+    by : (entry : Option (Name × Holding)) → slice_get sets place ≡ entry → None ≡ option_map rewrites (slice_get tables place)
+    by None e = sym (sym (seen-at sets tables seen place) ∙ ap (option_map counts) e)
     by (Some entry) e = absurd (some-not-none _ (sym (none ∙ slice_get-map (λ (one : Name × Holding). one.0) sets place ∙ ap (option_map (λ (one : Name × Holding). one.0)) e)))
 
 -- ---- place by place

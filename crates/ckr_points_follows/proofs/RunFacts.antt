@@ -10,10 +10,10 @@ use Rattle.ckr_library.specs.NameMaps.{Name, Named, entry_at}
 use Rattle.ckr_library.proofs.Named.{at-viewed}
 use Rattle.ckr_meaning.specs.EffectiveJob.{HasDistinctNames, plain_job}
 use Rattle.ckr_points.specs.declared.run.Run.{Run}
-use Rattle.ckr_points.specs.Rows.{RunRow, TableSet, TablesModel, run_of}
+use Rattle.ckr_points.specs.Rows.{RunRow, TableSet, TablesModel, holding_of, run_of}
 use Rattle.ckr_points_tables.specs.declared.run_table.RunTable.{RunTable}
 use Rattle.ckr_points_tables.specs.PlainRows.{IsPlainRow}
-use Rattle.ckr_points_tables.specs.View.{RunTableView, facts_in, facts_of, line_of, row_of, row_with, seen_by, table_of}
+use Rattle.ckr_points_tables.specs.View.{RunTableView, facts_in, facts_of, line_of, row_of, row_with, seen_by}
 use Rattle.ckr_points_follows.specs.Runs.{IsWholeRun, row_now}
 use Rattle.ckr_points_follows.specs.declared.runs.WholeRun.{WholeRun}
 
@@ -56,9 +56,9 @@ module _ (desk : TablesModel) (job : ℕ) (plain : (row : RunRow) → run_of des
       }
 
 -- the data set of a name, as the tables see it
-pub set-seen : (sets : Named Holding) (name : Name) → option_map (λ (holding : Holding). holding.set) (entry_at sets name) ≡ option_map (λ (table : TableSet). table.set) (entry_at (seen_by table_of sets) name)
-set-seen sets name = by (entry_at sets name) ∙ ap (option_map (λ (table : TableSet). table.set)) (sym (at-viewed table_of sets name))
+pub set-seen : (sets : Named Holding) (tables : Named TableSet) → sets ≡ seen_by holding_of tables → (name : Name) → option_map (λ (holding : Holding). holding.set) (entry_at sets name) ≡ option_map (λ (table : TableSet). table.set) (entry_at tables name)
+set-seen sets tables is name = ap (λ all. option_map (λ (holding : Holding). holding.set) (entry_at all name)) is ∙ ap (option_map (λ (holding : Holding). holding.set)) (at-viewed holding_of tables name) ∙ by (entry_at tables name)
   where
-    by : (found : Option Holding) → option_map (λ (holding : Holding). holding.set) found ≡ option_map (λ (table : TableSet). table.set) (option_map table_of found)
+    by : (found : Option TableSet) → option_map (λ (holding : Holding). holding.set) (option_map holding_of found) ≡ option_map (λ (table : TableSet). table.set) found
     by None = refl
-    by (Some holding) = refl
+    by (Some table) = refl

@@ -1,3 +1,4 @@
+pub mod Checkpoint
 pub mod Clearance
 pub mod RewriteCounts
 pub mod Stretches

@@ -2,8 +2,9 @@
 ghost use Rattle.std.specs.Prelude.{◌≡◌, ◌≤◌, IsTrue, length};
 ghost use Rattle.std.specs.Option.{option_copied};
 ghost use Rattle.ckr_points.specs.Follows.{follows};
-ghost use Rattle.ckr_points_tables.specs.Invariant.{is_plain_event};
+ghost use Rattle.ckr_points_tables.specs.Invariant.{is_kept_event};
 
+use crate::checkpoint::{cancelled_follows, checkpointed_follows};
 use crate::rewrite::rewritten_follows;
 use crate::select::{purged_follows, selected_follows};
 use crate::start::started_follows;
@@ -14,10 +15,10 @@ use ckr_jcl::Job;
 use ckr_points_tables::Tables;
 use ckr_volumes::Layout;
 
-/// Whether a plain event follows on the tables: one of a run that continues none, and no checkpoint, restart or denial. The deck is
+/// Whether an event follows on the tables: one of a run that continues none, and no restart, denial or holding. The deck is
 /// given for Submitted, where its cards are one. It takes no memory (this project's profile).
 pub fn follows(tables: &Tables, layout: &Layout, event: &Event, deck: Option<&Job>) -> bool
-    requires plain { IsTrue (is_plain_event event.now) }
+    requires kept { IsTrue (is_kept_event event.now) }
     ensures { result ≡ follows layout.now tables.now.desk event.now (option_copied deck.entry) }
 {
     match event {
@@ -39,6 +40,15 @@ pub fn follows(tables: &Tables, layout: &Layout, event: &Event, deck: Option<&Jo
             image,
             ..
         } => rewritten_follows(tables, *job, lengths.as_slice(), *place, image.bytes()),
+        Event::Checkpointed {
+            job,
+            id,
+            lengths,
+            place,
+            bytes,
+            ..
+        } => checkpointed_follows(tables, *job, id, lengths.as_slice(), *place, *bytes),
+        Event::Cancelled { job } => cancelled_follows(tables, *job),
         Event::StepEnded {
             job,
             step,

@@ -1,6 +1,7 @@
 //! Whether an event follows on the tables of a desk.
 #![tactic(auto)]
 
+mod checkpoint;
 mod clearance;
 mod deck_conflicts;
 mod event;
@@ -17,6 +18,7 @@ mod steps;
 mod stretches;
 mod submit;
 
+pub use checkpoint::{cancelled_follows, checkpointed_follows};
 pub use event::follows;
 pub use rewrite::rewritten_follows;
 pub use rewrite_counts::{may_count, what_can_be_counted_may_be};

@@ -84,7 +84,7 @@ part_of volume space (Err lack) = Err lack
 
 -- a new part on a volume, beside these data sets
 abbrev pub part_in : Layout → Named Holding → Dd → ℕ → Result Part Lack
-part_in layout sets dd volume = part_of volume (space_of dd) (allocated layout (record { sets = sets; room = 0 }) volume dd.lrecl (space_of dd))
+part_in layout sets dd volume = part_of volume (space_of dd) (allocated layout (record { sets = sets; room = 0; entry_rooms = [] }) volume dd.lrecl (space_of dd))
 
 abbrev pub here_or_later : Result Part Lack → Result Part Lack → Result Part Lack
 here_or_later (Ok part) later = Ok part

@@ -1,5 +1,5 @@
 -- The outputs of a step, and their lengths as a commit sets them.
-use Rattle.std.specs.Prelude.{ℕ, ◌≤◌, List, [], ◌∷◌, filter, Option, Some, None, if◌then◌else◌}
+use Rattle.std.specs.Prelude.{ℕ, ◌≤◌, Bool, true, false, List, [], ◌∷◌, filter, Option, Some, None, if◌then◌else◌}
 use Rattle.std.specs.List.{filter_map}
 use Rattle.ckr_jcl.specs.declared.deck.Dd.{Dd}
 use Rattle.ckr_library.specs.Catalog.{Holding}
@@ -31,3 +31,8 @@ abbrev pub AreWithinSpace : List Name → List ℕ → Named Holding → Type 0
 AreWithinSpace [] lengths sets = Unit {0}
 AreWithinSpace (name ∷ names) [] sets = Unit {0}
 AreWithinSpace (name ∷ names) (most ∷ lengths) sets = IsWithinSpace most (entry_at sets name) × AreWithinSpace names lengths sets
+
+-- whether a name isn't empty
+abbrev pub is_named : Name → Bool
+is_named [] = false
+is_named (first ∷ rest) = true

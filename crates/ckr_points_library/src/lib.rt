@@ -13,7 +13,7 @@ mod volume_room;
 pub use allocation::allocate_step;
 pub use allotment::{Allotment, Flaw, allotment_of, is_passed};
 pub use cause::{Cause, MadeList, Refusal};
-pub use commit::{commit_lengths, output_name};
+pub use commit::{commit_lengths, has_text, output_name};
 pub use laws::{allocated_steps_have_no_flaw, dispositions_are_those_of_the_step};
 pub use outputs::open_outputs;
 pub use step_end::{end_passed, end_step};

@@ -14,7 +14,8 @@ use Rattle.ckr_jcl.specs.declared.deck.Dd.{Dd}
 use Rattle.ckr_library.specs.declared.sets.Stamp.{Stamp}
 use Rattle.ckr_library.specs.Catalog.{Holding, fresh_holding}
 use Rattle.ckr_library.specs.NameMaps.{Name, Named, entry_at}
-use Rattle.ckr_library.proofs.Named.{at-viewed, at-with_changed-keeps, viewed}
+use Rattle.ckr_library.proofs.Named.{at-with_changed-keeps}
+use Rattle.ckr_points_tables.proofs.NamedViews.{at-viewed, viewed}
 use Rattle.ckr_meaning.specs.Allotments.{AllotmentModel, found, made, refused, DdAllotment, is_output, opened_by, opened_one, opened_all}
 use Rattle.ckr_meaning.specs.Dispositions.{Stock}
 use Rattle.ckr_meaning.specs.EffectiveJob.{OwnedStep, flaws_in, name_of, names_of, placed_in, stamp_of}
@@ -27,7 +28,7 @@ use Rattle.ckr_points.specs.Follows.{are_items, are_lengths, are_made_clear, is_
 use Rattle.ckr_points_tables.specs.NewSets.{made_named, MayMakeAll, MayMakeNamed}
 use Rattle.ckr_points.specs.Restart.{place_of, step_in}
 use Rattle.ckr_points.specs.Rows.{RunRow, TableSet, TablesModel, standing_of, table_ways}
-use Rattle.ckr_points_tables.specs.View.{RunTableView, has_few_dds, row_with, table_of}
+use Rattle.ckr_points_tables.specs.View.{RunTableView, Writings, has_few_dds, row_with, table_in}
 use Rattle.ckr_points_tables.specs.Start.{MayStartIn}
 use Rattle.ckr_points_tables.proofs.RunChanges.{MakesSame, MakesSameAt}
 use Rattle.ckr_points_tables.proofs.Starts.Items.{count, count-items, makes}
@@ -59,36 +60,36 @@ opened-absent stamp (one ∷ placed) sets name none =
 
 -- ---- from the tables to the library
 
-entry-seen : (sets : Named Holding) (name : Name) → entry_at (viewed table_of sets) name ≡ None → entry_at sets name ≡ None
-entry-seen sets name none = by (entry_at sets name) (sym (at-viewed table_of sets name) ∙ none)
+entry-seen : (writings : Writings) (sets : Named Holding) (name : Name) → entry_at (viewed (table_in writings) sets) name ≡ None → entry_at sets name ≡ None
+entry-seen writings sets name none = by (entry_at sets name) (sym (at-viewed (table_in writings) sets name) ∙ none)
   where
-    by : (found : Option Holding) → option_map table_of found ≡ None → found ≡ None
+    by : (found : Option Holding) → option_map (table_in writings name) found ≡ None → found ≡ None
     by None e = refl
     by (Some holding) e = absurd (some-not-none _ e)
 
-may-make : (stamp : Stamp) (items : List Made) (named : Dd → Option Name) (number : ℕ) (dds : List Dd) (sets : Named Holding) → MayMakeAll table_kit.fresh stamp items named number dds (viewed table_of sets) → MayMakeAll fresh_holding stamp items named number dds sets
-may-make stamp items named number [] sets may = tt
-may-make stamp items named number (dd ∷ dds) sets may = (
+may-make : (writings : Writings) (stamp : Stamp) (items : List Made) (named : Dd → Option Name) (number : ℕ) (dds : List Dd) (sets : Named Holding) → MayMakeAll table_kit.fresh stamp items named number dds (viewed (table_in writings) sets) → MayMakeAll fresh_holding stamp items named number dds sets
+may-make writings stamp items named number [] sets may = tt
+may-make writings stamp items named number (dd ∷ dds) sets may = (
   one (named dd) may.0,
-  may-make stamp items named (suc number) dds (made_named fresh_holding stamp items number dd (named dd) sets)
-      (subst (MayMakeAll table_kit.fresh stamp items named (suc number) dds) (sym (named-seen table_of holding_kit table_kit table_view stamp items number dd (named dd) sets)) may.1),
+  may-make writings stamp items named (suc number) dds (made_named fresh_holding stamp items number dd (named dd) sets)
+      (subst (MayMakeAll table_kit.fresh stamp items named (suc number) dds) (sym (named-seen (table_in writings) holding_kit table_kit (table_view writings) stamp items number dd (named dd) sets)) may.1),
 )
   where
-    one : (name : Option Name) → MayMakeNamed table_kit.fresh stamp items number dd name (viewed table_of sets) → MayMakeNamed fresh_holding stamp items number dd name sets
+    one : (name : Option Name) → MayMakeNamed table_kit.fresh stamp items number dd name (viewed (table_in writings) sets) → MayMakeNamed fresh_holding stamp items number dd name sets
     one None may = tt
-    one (Some name) may = record { absent = λ has. entry-seen sets name (may.absent has); few = may.few; whole = may.whole; small = may.small; wide = may.wide }
+    one (Some name) may = record { absent = λ has. entry-seen writings sets name (may.absent has); few = may.few; whole = may.whole; small = may.small; wide = may.wide }
 
 -- ---- a step that starts
 
-module _ (layout : Layout) (line : Run) (facts : RunTableView) (sets : Named Holding) (runs : List RunRow) where
+module _ (layout : Layout) (writings : Writings) (line : Run) (facts : RunTableView) (sets : Named Holding) (runs : List RunRow) where
   abbrev desk : TablesModel
-  desk = record { sets = viewed table_of sets; runs = runs }
+  desk = record { sets = viewed (table_in writings) sets; runs = runs }
 
   abbrev row : RunRow
   row = row_with line facts
 
   abbrev now : Going TableSet
-  now = going line facts (viewed table_of sets)
+  now = going line facts (viewed (table_in writings) sets)
 
   starts-in : (step : ℕ) (items : List Made) (own : OwnedStep) → step_of now step ≡ Some own → IsTrue (has_few_dds own.step) → are_distinct (names_of line.number own) ≡ true
       → are_items layout (stamp_of own step) desk.sets (placed_in table_ways (standing_of row desk) line.number own) items ≡ true
@@ -106,8 +107,8 @@ module _ (layout : Layout) (line : Run) (facts : RunTableView) (sets : Named Hol
       (each placed items whole) clear distinct
       (λ name among none. opened-absent stamp placed desk.sets name none) (few_serials own.step few) in (
         all.0,
-        may-make stamp items (name_of line.number own) 1 own.step.dds (opened_in_kit holding_kit step own (going line facts sets))
-            (subst (MayMakeAll table_kit.fresh stamp items (name_of line.number own) 1 own.step.dds) (sym (opened-seen table_of holding_kit table_kit table_view step own (going line facts sets))) all.1),
+        may-make writings stamp items (name_of line.number own) 1 own.step.dds (opened_in_kit holding_kit step own (going line facts sets))
+            (subst (MayMakeAll table_kit.fresh stamp items (name_of line.number own) 1 own.step.dds) (sym (opened-seen (table_in writings) holding_kit table_kit (table_view writings) step own (going line facts sets))) all.1),
       )
     where
       each : (placed : List DdAllotment) (some : List Made) → list_all (is_part_whole placed) some ≡ true → AllByRecursion (λ (item : Made). 1 ≤ item.dd → is_part_whole placed item ≡ true) some
@@ -131,9 +132,9 @@ module _ (layout : Layout) (line : Run) (facts : RunTableView) (sets : Named Hol
   -- ---- lengths
 
   within-space : (name : Name) (most : ℕ) → option_map_or (λ (table : TableSet). nat_le table.set.length most && nat_le most table.set.space) (entry_at desk.sets name) false ≡ true → IsWithinSpace most (entry_at sets name)
-  within-space name most e = by (entry_at sets name) (ap (λ found. option_map_or (λ (table : TableSet). nat_le table.set.length most && nat_le most table.set.space) found false) (sym (at-viewed table_of sets name)) ∙ e)
+  within-space name most e = by (entry_at sets name) (ap (λ found. option_map_or (λ (table : TableSet). nat_le table.set.length most && nat_le most table.set.space) found false) (sym (at-viewed (table_in writings) sets name)) ∙ e)
     where
-      by : (found : Option Holding) → option_map_or (λ (table : TableSet). nat_le table.set.length most && nat_le most table.set.space) (option_map table_of found) false ≡ true → IsWithinSpace most found
+      by : (found : Option Holding) → option_map_or (λ (table : TableSet). nat_le table.set.length most && nat_le most table.set.space) (option_map (table_in writings name) found) false ≡ true → IsWithinSpace most found
       by None e = tt
       by (Some holding) e = nat_le-true most holding.set.space (and-second (nat_le holding.set.length most) (nat_le most holding.set.space) e)
 

@@ -7,6 +7,7 @@ pub mod StepEnd
 pub mod SetViews
 pub mod Follows
 pub mod Events
+pub mod KeptEvents
 pub mod RunIdentity
 pub mod Calls
 pub mod RoomGrowth
@@ -14,4 +15,7 @@ pub mod RewriteCounts
 pub mod RecordWidths
 pub mod Starts
 pub mod Allocations
+pub mod CheckpointRuns
+pub mod Checkpoints
+pub mod NamedViews
 pub mod MeaningViews

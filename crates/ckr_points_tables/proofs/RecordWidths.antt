@@ -4,7 +4,7 @@ use Rattle.std.specs.Option.{option_map_or}
 use Rattle.ckr_points_library.specs.Commit.{committed}
 use Rattle.ckr_points_library.specs.Holdings.{holding_ways}
 use Rattle.ckr_events.specs.declared.event.Event.{Event}
-use Rattle.ckr_events.specs.declared.event.Event.TheVariants.{Started, Rewritten, StepEnded, Ended}
+use Rattle.ckr_events.specs.declared.event.Event.TheVariants.{Started, Rewritten, Checkpointed, StepEnded, Ended}
 use Rattle.ckr_events.specs.declared.event.Ending.{Ending}
 use Rattle.ckr_events.specs.declared.event.Ending.TheVariants.{Completed, Coded, Allocation}
 use Rattle.ckr_events.specs.declared.event.Made.{Made}
@@ -15,7 +15,7 @@ use Rattle.ckr_jcl.specs.declared.deck.Dd.{Dd}
 use Rattle.ckr_jcl.specs.declared.deck.Status.{Status}
 use Rattle.ckr_jcl.specs.declared.deck.Status.TheVariants.{New, Old, Shr, Mod}
 use Rattle.ckr_library.specs.declared.sets.Stamp.{Stamp}
-use Rattle.ckr_library.specs.Catalog.{Holding, fresh_holding, with_catalog, with_length}
+use Rattle.ckr_library.specs.Catalog.{Holding, fresh_holding, with_catalog, with_kept, with_length}
 use Rattle.ckr_library.specs.NameMaps.{EachEntry, Name, Named, with_changed, with_entry, without_entry}
 use Rattle.ckr_library.proofs.Named.{each-with_changed, each-with_entry, each-without_entry}
 use Rattle.ckr_meaning.specs.Allotments.{AllotmentModel, found, made, refused, DdAllotment, is_output, opened_all, opened_by, opened_one}
@@ -23,14 +23,14 @@ use Rattle.ckr_meaning.specs.Dispositions.{Disposal, Stock, disposed_all, dispos
 use Rattle.ckr_meaning.specs.EffectiveJob.{OwnedStep, name_of, placed_in, stamp_of}
 use Rattle.ckr_meaning.specs.declared.place.Place.{Place}
 use Rattle.ckr_meaning.specs.declared.place.Place.TheVariants.{Before, Opened, Within}
-use Rattle.ckr_points.specs.Tables.{is_updates, name_with_role, parts_from}
+use Rattle.ckr_points.specs.Tables.{is_checkpoints, is_updates, name_with_role, parts_from}
 use Rattle.ckr_points.specs.Restart.{step_in}
 use Rattle.ckr_points.specs.Rows.{TableSet}
-use Rattle.ckr_points_tables.specs.RunChange.{Going, by_step_of, changed, coded, committed_by, disposed, disposed_of, ended, ended_at, ended_by, ended_in, holding_kit, opened_by as opened_in_kit, place_now, restamped, rewritten, started, step_ended, step_of, within}
+use Rattle.ckr_points_tables.specs.RunChange.{Going, by_step_of, changed, checkpointed, kept_by, coded, committed_by, disposed, ended_at, ended_by, ended_in, holding_kit, opened_by as opened_in_kit, place_now, restamped, rewritten, started, step_ended, step_of, within}
 use Rattle.ckr_points_tables.specs.StepEnd.{disposals_at}
 use Rattle.ckr_points_tables.specs.Invariant.{IsWide}
 use Rattle.ckr_points_tables.specs.NewSets.{MayMakeAll, MayMakeNamed, fresh_set, has_items, made_from, made_named}
-use Rattle.ckr_points_tables.specs.View.{seen_by, table_of}
+use Rattle.ckr_points_tables.specs.View.{Writings, seen_under, table_in}
 use Rattle.ckr_points_tables.specs.Start.{MayStartIn}
 
 abbrev AreWide : Named Holding → Type 0
@@ -143,6 +143,11 @@ changed-wide (Rewritten job taken writes lengths place image) now may wide =
     let running = step_in (place_now now.facts) in
     by_step-wide running (rewritten holding_kit running writes lengths.items now) now wide
     (λ own. each-with_changed IsWide (name_with_role now.line.number own is_updates) (restamped holding_kit own.owner running) _ (λ holding is. is) (committed-wide _ lengths.items now.sets wide))
+changed-wide (Checkpointed job id taken writes lengths place bytes) now may wide =
+    let running = step_in (place_now now.facts) in
+    let kept = kept_by now id place bytes in
+    by_step-wide running (checkpointed holding_kit running kept taken writes lengths.items now) now wide
+    (λ own. each-with_changed IsWide (name_with_role now.line.number own is_checkpoints) (with_kept kept) _ (λ holding is. is) (committed-wide _ lengths.items now.sets wide))
 changed-wide (StepEnded job step rc writes lengths) now may wide =
     let running = step_in (place_now now.facts) in
     by_step-wide running (step_ended holding_kit running rc lengths.items now) now wide
@@ -151,6 +156,6 @@ changed-wide (Ended job ending) now may wide = ended_by-wide ending now wide
 changed-wide _ now may wide = wide
 
 -- as the tables see them
-pub seen-wide : (sets : Named Holding) → AreWide sets → EachEntry (λ (table : TableSet). 1 ≤ table.set.lrecl) (seen_by table_of sets)
-seen-wide [] wide = tt
-seen-wide (entry ∷ sets) wide = (wide.0, seen-wide sets wide.1)
+pub seen-wide : (writings : Writings) (sets : Named Holding) → AreWide sets → EachEntry (λ (table : TableSet). 1 ≤ table.set.lrecl) (seen_under (table_in writings) sets)
+seen-wide writings [] wide = tt
+seen-wide writings (entry ∷ sets) wide = (wide.0, seen-wide writings sets wide.1)

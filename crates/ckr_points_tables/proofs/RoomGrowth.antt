@@ -1,27 +1,33 @@
 -- More room for a run changes nothing of the tables.
-use Rattle.std.proofs.Common.{◌≡◌, ℕ, zero, suc, ◌+◌, ◌≤◌, IsTrue, List, [], ◌∷◌, length, map, slice_get, slice_set, refl, ap, sym, ◌∙◌, subst, arith, Some}
+use Rattle.std.proofs.Common.{◌≡◌, ℕ, zero, suc, ◌+◌, ◌<◌, ◌≤◌, IsSome, IsSomeAnd, IsTrue, List, [], ◌∷◌, length, map, slice_get, slice_set, refl, ap, sym, ◌∙◌, subst, arith, Option, None, Some}
 use Rattle.std.specs.List.{list_all}
 use Rattle.std.specs.Option.{option_map}
 use Rattle.std.proofs.lemmas.Option.{same_Some, slice_get-map, slice_get_within}
+use Rattle.std.proofs.lemmas.Bool.{false≢true}
 use Rattle.std.proofs.Math.ListN.{length-set}
 use Rattle.ckr_base.proofs.Options.{some-not-none}
 use Rattle.ckr_base.proofs.Sequences.{get-set-same, set-same}
 use Rattle.ckr_entry.specs.declared.point.Mark.{Mark}
 use Rattle.ckr_jcl.specs.declared.deck.Job.{Job}
-use Rattle.ckr_library.specs.Catalog.{Catalog, Holding}
-use Rattle.ckr_library.specs.NameMaps.{Named}
-use Rattle.ckr_meaning.specs.EffectiveJob.{HasDistinctNames, names_of_job, plain_job, step_at}
+use Rattle.ckr_library.specs.Catalog.{Catalog, HasSet, Holding}
+use Rattle.ckr_library.specs.NameMaps.{Name, Named, entry_at}
+use Rattle.ckr_meaning.specs.EffectiveJob.{HasDistinctNames, OwnedStep, names_of_job, plain_job, step_at}
 use Rattle.ckr_points.specs.declared.run.Run.{Run}
+use Rattle.ckr_base.specs.RoomyLists.{Roomy}
 use Rattle.ckr_points_tables.specs.declared.run_table.RunTable.{RunTable}
+use Rattle.ckr_points_tables.specs.declared.run_table.WrittenEntry.{WrittenEntry}
 use Rattle.ckr_points_tables.specs.declared.tables.Spare.{Spare}
 use Rattle.ckr_points_tables.specs.RunChange.{place_now}
 use Rattle.ckr_points_tables.specs.StepEnd.{HasPassedRoom}
-use Rattle.ckr_points_tables.specs.Invariant.{AreKept, AreRuns, HasEndRoom, HasStartRoom, IsRun, room_at}
+use Rattle.ckr_points_tables.specs.Invariant.{AreKept, AreRuns, HasEndRoom, HasEntryRoom, HasKeptRoom, HasRoomUnder, HasStartRoom, IsRun, entries_at, room_at}
 use Rattle.ckr_points.specs.Restart.{step_in}
 use Rattle.ckr_points_tables.specs.Rewrite.{has_master}
-use Rattle.ckr_points_tables.specs.Rooms.{EndsFit, HasNoLess, HasNoPlace, StartsFit}
+use Rattle.ckr_points_tables.specs.Rooms.{EndsFit, EntryFits, HasNoLess, HasNoPlace, HasRoomFor, KeepsFit, StartsFit}
+use Rattle.ckr_points_tables.specs.Checkpoint.{checkpoint_name}
+use Rattle.ckr_points_tables.specs.Needs.{step_now}
+use Rattle.ckr_points_tables.proofs.NamedViews.{at-viewed, viewed}
 use Rattle.ckr_points.specs.Rows.{RunRow, TablesModel, run_of}
-use Rattle.ckr_points_tables.specs.View.{TablesRoom, RunTableView, RunRoom, facts_of, is_within_limits, room_of, row_of, row_with, rows_of}
+use Rattle.ckr_points_tables.specs.View.{RoomyTables, TablesRoom, RunTableView, RunRoom, Writings, facts_of, is_within_limits, kept_room, table_in, room_of, row_of, row_with, rows_of}
 use Rattle.ckr_points_tables.proofs.Runs.{rows-at, runs-at, runs-set}
 
 -- a run has a line
@@ -77,14 +83,14 @@ module _ (lines : List Run) (tables : List RunTable) (are : AreRuns 1 lines tabl
         }))
 
     -- what is kept
-    pub kept_there : (sets : Named Holding) (index : List ℕ) (marks : List Mark) → AreKept sets lines tables index marks → AreKept sets lines (slice_set tables place new) index marks
-    kept_there sets index marks kept = record {
-      bare = kept.bare;
+    pub kept_there : (sets : Named Holding) (index : List ℕ) (marks : List Mark) (writings : List (Roomy WrittenEntry)) → AreKept sets lines tables index marks writings → AreKept sets lines (slice_set tables place new) index marks writings
+    kept_there sets index marks writings kept = record {
       wide = kept.wide;
       runs = runs_there;
       few = subst (λ n. n ≤ 9999999) (sym (length-set tables place new)) kept.few;
       indexed = kept.indexed;
       spare = kept.spare;
+      written = kept.written ∙ sym (length-set tables place new);
     }
 
     row_there : (row : RunRow) → slice_get (rows_of lines (slice_set tables place new)) place ≡ Some row → row ≡ row_of line_there.0 new
@@ -137,7 +143,68 @@ module _ (lines : List Run) (tables : List RunTable) (are : AreRuns 1 lines tabl
   each_by more before after is_before is_after (suc k) one two first second =
       each_there more k one two (ap (λ all. slice_get all k) (sym is_before) ∙ first) (ap (λ all. slice_get all k) (sym is_after) ∙ second)
 
+pub no-less : {one two : ℕ} → one ≡ two → one ≤ two
+no-less same = omega (arith, same)
+
+pub entries-stay : (before after : TablesRoom) → before.entries ≡ after.entries → (job one two : ℕ) → entries_at before job ≡ Some one → entries_at after job ≡ Some two → one ≤ two
+entries-stay before after same zero one two first second = absurd (some-not-none _ (sym first))
+entries-stay before after same (suc place) one two first second = no-less (same_Some one two (sym first ∙ ap (λ rooms. slice_get rooms place) same ∙ second))
+
+as-much : (one two : RunRoom) → one ≡ two → HasNoLess one two
+as-much one two same = subst (HasNoLess one) same (record { points = omega arith; codes = omega arith; passed = omega arith })
+
+pub each-stays : (before after : TablesRoom) → before.each ≡ after.each → (job : ℕ) (one two : RunRoom) → room_at before job ≡ Some one → room_at after job ≡ Some two → HasNoLess one two
+each-stays before after same zero one two first second = absurd (some-not-none _ (sym first))
+each-stays before after same (suc place) one two first second = as-much one two (same_Some one two (sym first ∙ ap (λ rooms. slice_get rooms place) same ∙ second))
+
 -- no run is beyond the last one
 pub none_beyond : (tables : TablesModel) (job : ℕ) (row : RunRow) → HasNoPlace job (length tables.runs) → run_of tables job ≡ Some row → ⊥
 none_beyond tables zero row none found = some-not-none _ (sym found)
 none_beyond tables (suc place) row none found = omega (arith, slice_get_within tables.runs place row found, none)
+
+-- each run has no less room for entries
+entries-grow : (all : List (Roomy WrittenEntry)) (place k one two : ℕ) (old new : Roomy WrittenEntry) → slice_get all place ≡ Some old → old.room ≤ new.room
+    → slice_get (map (λ (written : Roomy WrittenEntry). written.room) all) k ≡ Some one → slice_get (map (λ (written : Roomy WrittenEntry). written.room) (slice_set all place new)) k ≡ Some two → one ≤ two
+entries-grow [] place k one two old new here more first second = absurd (some-not-none _ (sym here))
+entries-grow (written ∷ all) zero zero one two old new here more first second =
+    omega (arith, more, ap (λ (w : Roomy WrittenEntry). w.room) (same_Some written old here), same_Some written.room one first, same_Some new.room two second)
+entries-grow (written ∷ all) zero (suc k) one two old new here more first second = no-less (same_Some one two (sym first ∙ second))
+entries-grow (written ∷ all) (suc place) zero one two old new here more first second = no-less (same_Some one two (sym first ∙ second))
+entries-grow (written ∷ all) (suc place) (suc k) one two old new here more first second = entries-grow all place k one two old new here more first second
+
+pub entries_by : (all : List (Roomy WrittenEntry)) (place : ℕ) (old new : Roomy WrittenEntry) → slice_get all place ≡ Some old → old.room ≤ new.room → (before after : TablesRoom)
+    → before.entries ≡ map (λ (written : Roomy WrittenEntry). written.room) all → after.entries ≡ map (λ (written : Roomy WrittenEntry). written.room) (slice_set all place new)
+    → (job one two : ℕ) → entries_at before job ≡ Some one → entries_at after job ≡ Some two → one ≤ two
+entries_by all place old new here more before after is_before is_after zero one two first second = absurd (some-not-none _ (sym first))
+entries_by all place old new here more before after is_before is_after (suc k) one two first second =
+    entries-grow all place k one two old new here more (ap (λ rooms. slice_get rooms k) (sym is_before) ∙ first) (ap (λ rooms. slice_get rooms k) (sym is_after) ∙ second)
+
+-- what the tables have is in the library
+pub has-seen : (writings : Writings) (library : Catalog) (name : Name) → IsSome (entry_at (viewed (table_in writings) library.sets) name) → HasSet library name (λ _. Unit {0})
+has-seen writings library name there = by (entry_at library.sets name) (subst IsSome (at-viewed (table_in writings) library.sets name) there)
+  where
+    by : (found : Option Holding) → IsSome (option_map (table_in writings name) found) → IsSomeAnd (option_map (λ (h : Holding). h.set) found) (λ _. Unit {0})
+    by None e = absurd (false≢true e)
+    by (Some holding) e = tt
+
+-- room for a checkpoint
+pub checkpoint_there : (line : Run) (table : RunTable) (now : RoomyTables) (library : Catalog) (spare : Spare) (written : Roomy WrittenEntry) → EntryFits line.number table written library spare
+    → now.room.sorted ≡ spare.sorted.room → now.room.marks ≡ spare.marks.room → now.room.passed ≡ spare.passed.room → now.room.kept ≡ library.entry_rooms
+    → ((name : Name) → IsSome (entry_at now.desk.sets name) → HasSet library name (λ _. Unit {0})) → ((more : ℕ) → entries_at now.room line.number ≡ Some more → 0 < more)
+    → HasEntryRoom now (row_of line table)
+checkpoint_there line table now library spare written fits sorted marks passed kept has entries = record {
+  sorted = subst (λ n. length (names_of_job (plain_job line.number table.job)) ≤ n) (sym sorted) fits.point.sorted;
+  marks = subst (λ n. length (names_of_job (plain_job line.number table.job)) ≤ n) (sym marks) fits.point.marks;
+  passed = subst (λ n. length table.passed.items ≤ n) (sym passed) fits.point.passed;
+  entries = entries;
+  few = fits.few;
+  kept = by (step_at (plain_job line.number table.job) (step_now table)) fits.kept;
+}
+  where
+    under : (found : Option Name) → HasRoomFor library found → HasRoomUnder now found
+    under None fit = tt
+    under (Some name) fit = λ there. subst (λ rooms. 0 < kept_room rooms name) (sym kept) (fit (has name there))
+
+    by : (found : Option OwnedStep) → KeepsFit library line.number found → HasKeptRoom now line.number found
+    by None fit = tt
+    by (Some own) fit = under (checkpoint_name line.number own) fit

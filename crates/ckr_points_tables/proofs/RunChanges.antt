@@ -14,7 +14,7 @@ use Rattle.ckr_points_library.specs.Disposals.{disposals_by, with_names}
 use Rattle.ckr_uses.specs.Disposal.{dispose, is_temporary}
 use Rattle.ckr_events.specs.Jobs.{job_of}
 use Rattle.ckr_events.specs.declared.event.Event.{Event}
-use Rattle.ckr_events.specs.declared.event.Event.TheVariants.{Submitted, Selected, Started, Rewritten, StepEnded, Ended, Purged}
+use Rattle.ckr_events.specs.declared.event.Event.TheVariants.{Submitted, Selected, Started, Rewritten, Checkpointed, Cancelled, StepEnded, Ended, Purged}
 use Rattle.ckr_events.specs.declared.event.Ending.{Ending}
 use Rattle.ckr_events.specs.declared.event.Ending.TheVariants.{Completed, Coded, Allocation}
 use Rattle.ckr_events.specs.declared.event.Made.{Made}
@@ -22,20 +22,21 @@ use Rattle.ckr_jcl.specs.declared.deck.Dd.{Dd}
 use Rattle.ckr_jcl.specs.declared.deck.Job.{Job}
 use Rattle.ckr_jcl.specs.declared.deck.Step.{Step}
 use Rattle.ckr_entry.specs.declared.point.Mark.{Mark}
-use Rattle.ckr_library.specs.NameMaps.{Name, Named, same_name, with_entry}
+use Rattle.ckr_library.specs.declared.sets.Kept.{Kept}
+use Rattle.ckr_library.specs.NameMaps.{Name, Named, same_name, with_changed, with_entry}
 use Rattle.ckr_library.proofs.Named.{name-same}
 use Rattle.ckr_meaning.specs.Dispositions.{Disposal, Stock, disposed_all, passed_ended}
-use Rattle.ckr_meaning.specs.EffectiveJob.{OwnedStep, placed_in, stamp_of, is_among, name_of, names_of, owned_by}
+use Rattle.ckr_meaning.specs.EffectiveJob.{OwnedStep, placed_in, stamp_of, is_among, name_of, names_of, names_of_job, owned_by, plain_job}
 use Rattle.ckr_meaning.specs.declared.place.Place.{Place}
 use Rattle.ckr_meaning.specs.declared.place.Place.TheVariants.{Before, Opened, Within}
 use Rattle.ckr_points.specs.declared.run.Run.{Run}
 use Rattle.ckr_points.specs.declared.run.RunState.TheVariants.{Purged as PurgedRun}
-use Rattle.ckr_points_tables.specs.RunChange.{Going, going, fresh_point, opened_by, changed, coded, desk_with, disposed, disposed_of, ended, ended_at, ended_by, ended_in, gone_on, place_now, rewritten, started, step_ended, step_of, table_kit}
+use Rattle.ckr_points_tables.specs.RunChange.{Going, going, fresh_point, opened_by, changed, check_point, checkpointed, checkpointed_facts, committed_by, coded, desk_with, disposed, disposed_of, ended, ended_at, ended_by, ended_in, gone_on, place_now, rewritten, started, step_ended, step_of, table_kit}
 use Rattle.ckr_points_tables.specs.StepEnd.{made_at, made_in}
-use Rattle.ckr_points.specs.Tables.{made_tables, start_point, after_commit, after_rewritten, after_dispositions, after_started, after_step_ended, earlier_made, own_made, run_disposal, step_made, steps_made}
+use Rattle.ckr_points.specs.Tables.{made_tables, start_point, after_cancelled, after_checkpointed, after_commit, after_rewritten, is_checkpoints, kept_entry, name_with_role, with_kept_entry, after_dispositions, after_started, after_step_ended, earlier_made, own_made, run_disposal, step_made, steps_made}
 use Rattle.ckr_points_tables.specs.NewSets.{made_from}
-use Rattle.ckr_points_tables.specs.Invariant.{is_plain_event, is_submission}
-use Rattle.ckr_points.specs.Marks.{carried_marks, is_marked_absent, made_names, mark_at, mark_now, marked_under, own_names, point_at, with_point}
+use Rattle.ckr_points_tables.specs.Invariant.{is_kept_event, is_submission}
+use Rattle.ckr_points.specs.Marks.{carried_marks, is_marked_absent, made_names, mark_at, mark_now, marked_under, marks_for, marks_now, own_names, point_at, with_point}
 use Rattle.ckr_points.specs.Restart.{after_event, after_abnormal, after_chosen, after_ended, after_passed_ended, by_run, by_step, step_in}
 use Rattle.ckr_points.specs.Rows.{RunRow, StartPoint, TableSet, TablesModel, run_of, step_of_run, table_ways, with_row, with_run, with_standing}
 use Rattle.ckr_points_tables.specs.View.{RunTableView, row_with}
@@ -238,14 +239,28 @@ module _ (desk : TablesModel) (line : Run) (facts : RunTableView) (found : run_o
   rewritten-by writes lengths None = unchanged-in
   rewritten-by writes lengths (Some own) = refl
 
-  -- the marks of a step point: all names are the run's own
-  point-same : (step : ℕ) (sets : Named TableSet) → start_point run step sets ≡ fresh_point table_kit step sets now
-  point-same step sets =
-      ap (λ all. record (fresh_point table_kit step sets now) { marks = map (λ entry. entry.1) all })
+  -- the marks of a point: all names are the run's own
+  marks-same : (sets : Named TableSet) → marks_now run sets ≡ marks_for (mark_now sets) (names_of_job (plain_job line.number facts.job))
+  marks-same sets =
+      ap (λ all. map (λ entry. entry.1) all)
       (marked-among (λ name. own_mark sets (is_among (own_names run) name) name) (mark_now sets) (own_names run) (λ name among. ap (λ b. own_mark sets b name) among))
     where
       own_mark : Named TableSet → Bool → Name → Mark
       own_mark sets own name = if own then mark_now sets name else option_map_or (λ mark. mark) (mark_at (carried_marks run) name) (mark_now sets name)
+
+  point-same : (step : ℕ) (sets : Named TableSet) → start_point run step sets ≡ fresh_point table_kit step sets now
+  point-same step sets = ap (λ marks. record (fresh_point table_kit step sets now) { marks = marks }) (marks-same sets)
+
+  checkpointed-by : (kept : Kept) (taken writes : ℕ) (lengths : List ℕ) (there : Option OwnedStep)
+      → option_map_or (λ own. after_checkpointed run own (step_in (place_now facts)) kept taken writes lengths desk) there desk
+      ≡ desk_with (option_map_or (checkpointed table_kit (step_in (place_now facts)) kept taken writes lengths now) there now) desk
+  checkpointed-by kept taken writes lengths None = unchanged-in
+  checkpointed-by kept taken writes lengths (Some own) =
+      let step = step_in (place_now facts) in
+      let sets = (committed_by table_kit lengths own now).sets in
+      let set = name_with_role line.number own is_checkpoints in
+      let point = check_point table_kit step taken writes sets now own in
+      ap (λ marks. desk_with (going line (checkpointed_facts step writes set kept facts) (with_changed set (with_kept_entry (kept_entry kept (record point { marks = marks }))) sets)) desk) (marks-same sets)
 
   started-by : (step : ℕ) (items : List Made) (there : Option OwnedStep) → MakesSameAt items step now there
       → option_map_or (λ own. after_started run own step items desk) there desk
@@ -259,8 +274,8 @@ module _ (desk : TablesModel) (line : Run) (facts : RunTableView) (found : run_o
   run-in : (job : ℕ) (change : RunRow → TablesModel) → line.number ≡ job → by_run job desk change ≡ change run
   run-in job change same = ap (λ (one : Option RunRow). option_map_or change one desk) (ap (run_of desk) (sym same) ∙ found)
 
-  -- a plain event of the run
-  pub event_in : (event : Event) (deck : Option Job) → is_plain_event event ≡ true → is_submission event ≡ false → line.number ≡ job_of event → MakesSameBy event now → after_event event deck desk ≡ desk_with (changed table_kit event now) desk
+  -- an event of the run
+  pub event_in : (event : Event) (deck : Option Job) → is_kept_event event ≡ true → is_submission event ≡ false → line.number ≡ job_of event → MakesSameBy event now → after_event event deck desk ≡ desk_with (changed table_kit event now) desk
   event_in (Submitted job cards) deck plain other same makes = absurd (false≢true (sym other))
   event_in (Selected job initiator earlier step id) deck plain other same makes =
       run-in job (λ row. after_chosen row initiator earlier step id desk) same ∙ ap (λ e. after_chosen run initiator e step id desk) (zero_of earlier plain)
@@ -272,6 +287,13 @@ module _ (desk : TablesModel) (line : Run) (facts : RunTableView) (found : run_o
   event_in (Rewritten job taken writes lengths place image) deck plain other same makes =
       run-in job (λ row. by_step (λ own step. after_rewritten row own step writes lengths.items desk) row desk) same
       ∙ rewritten-by writes lengths.items (step_of now (step_in (place_now facts)))
+  event_in (Checkpointed job id taken writes lengths place bytes) deck plain other same makes =
+      let running = step_in (place_now facts) in
+      let there = step_of now running in
+      run-in job (λ row. by_step (λ own step. after_checkpointed row own step (record { id = id; run = job; place = place; bytes = bytes }) taken writes lengths.items desk) row desk) same
+      ∙ checkpointed-by (record { id = id; run = job; place = place; bytes = bytes }) taken writes lengths.items there
+      ∙ ap (λ n. desk_with (option_map_or (checkpointed table_kit running (record { id = id; run = n; place = place; bytes = bytes }) taken writes lengths.items now) there now) desk) (sym same)
+  event_in (Cancelled job) deck plain other same makes = run-in job (λ row. after_cancelled row desk) same
   event_in (StepEnded job step rc writes lengths) deck plain other same makes =
       run-in job (λ row. by_step (λ own step. after_step_ended row own step rc writes lengths.items desk) row desk) same
       ∙ step_ended-by rc writes lengths.items (step_of now (step_in (place_now facts)))

@@ -5,14 +5,14 @@ use Rattle.std.proofs.lemmas.Bool.{false≢true}
 use Rattle.std.proofs.lemmas.Option.{same_Some}
 use Rattle.ckr_base.proofs.Options.{some-not-none}
 use Rattle.ckr_events.specs.declared.event.Event.{Event}
-use Rattle.ckr_events.specs.declared.event.Event.TheVariants.{Selected, Started, Rewritten, StepEnded, Ended, Purged}
+use Rattle.ckr_events.specs.declared.event.Event.TheVariants.{Selected, Started, Rewritten, Checkpointed, Cancelled, StepEnded, Ended, Purged}
 use Rattle.ckr_events.specs.declared.event.Ending.{Ending}
 use Rattle.ckr_events.specs.declared.event.Ending.TheVariants.{Completed, Coded, Allocation}
 use Rattle.ckr_library.specs.Catalog.{Holding}
 use Rattle.ckr_meaning.specs.EffectiveJob.{OwnedStep}
 use Rattle.ckr_meaning.specs.declared.place.Place.{Place}
 use Rattle.ckr_meaning.specs.declared.place.Place.TheVariants.{Before, Opened, Within}
-use Rattle.ckr_points_tables.specs.RunChange.{Going, by_step_of, changed, coded, ended, ended_at, ended_by, ended_in, holding_kit, place_now, rewritten, started, step_ended, step_of}
+use Rattle.ckr_points_tables.specs.RunChange.{Going, by_step_of, changed, checkpointed, coded, ended, ended_at, ended_by, ended_in, holding_kit, kept_by, place_now, rewritten, started, step_ended, step_of}
 use Rattle.ckr_points_tables.specs.Invariant.{is_queued}
 use Rattle.ckr_points.specs.Restart.{step_in}
 
@@ -65,6 +65,9 @@ stays (Started job step items) now =
     by_step-stays (Started job step items) now step (started holding_kit step items.items now) (λ own. record { number = refl; name = refl; job = refl; free = λ e. (e, refl); on = λ i e. inl e })
 stays (Rewritten job taken writes lengths place image) now =
     by_step-stays (Rewritten job taken writes lengths place image) now (step_in (place_now now.facts)) (rewritten holding_kit (step_in (place_now now.facts)) writes lengths.items now) (λ own. record { number = refl; name = refl; job = refl; free = λ e. (e, refl); on = λ i e. inl e })
+stays (Checkpointed job id taken writes lengths place bytes) now =
+    by_step-stays (Checkpointed job id taken writes lengths place bytes) now (step_in (place_now now.facts)) (checkpointed holding_kit (step_in (place_now now.facts)) (kept_by now id place bytes) taken writes lengths.items now) (λ own. record { number = refl; name = refl; job = refl; free = λ e. (e, refl); on = λ i e. inl e })
+stays (Cancelled job) now = record { number = refl; name = refl; job = refl; free = λ e. (e, refl); on = λ i e. inl e }
 stays (StepEnded job step rc writes lengths) now =
     by_step-stays (StepEnded job step rc writes lengths) now (step_in (place_now now.facts)) (step_ended holding_kit (step_in (place_now now.facts)) rc lengths.items now) (λ own. record { number = refl; name = refl; job = refl; free = λ e. (e, refl); on = λ i e. inl e })
 stays (Ended job ending) now = ended_by-stays (Ended job ending) now ending

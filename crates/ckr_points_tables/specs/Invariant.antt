@@ -1,29 +1,32 @@
 -- What holds of the tables in code, and what an event needs of them.
-use Rattle.std.specs.Prelude.{◌≡◌, ◌≤◌, ◌<◌, ℕ, zero, suc, ◌==◌, Bool, true, false, ◌&&◌, nat_le, IsTrue, List, [], ◌∷◌, length, slice_get, slice_set, slice_index, Option, None, Some}
+use Rattle.std.specs.Prelude.{◌≡◌, ◌≤◌, ◌<◌, ℕ, zero, suc, ◌==◌, Bool, true, false, ◌&&◌, nat_le, IsSome, IsTrue, List, [], ◌∷◌, length, slice_get, slice_set, slice_index, Option, None, Some}
 use Rattle.std.specs.Option.{option_and_then}
 use Rattle.std.specs.List.{list_all}
+use Rattle.ckr_base.specs.RoomyLists.{Roomy}
 use Rattle.ckr_points_library.specs.Holdings.{owned}
 use Rattle.ckr_uses.specs.Uses.{are_distinct}
 use Rattle.ckr_events.specs.Jobs.{job_of}
 use Rattle.ckr_events.specs.declared.event.Event.{Event}
-use Rattle.ckr_events.specs.declared.event.Event.TheVariants.{Submitted, Selected, Started, Rewritten, StepEnded, Ended, Purged}
+use Rattle.ckr_events.specs.declared.event.Event.TheVariants.{Submitted, Selected, Started, Rewritten, Checkpointed, Cancelled, StepEnded, Ended, Purged}
 use Rattle.ckr_jcl.specs.declared.deck.Job.{Job}
 use Rattle.ckr_jcl.specs.declared.deck.Step.{Step}
 use Rattle.ckr_entry.specs.declared.point.Mark.{Mark}
 use Rattle.ckr_library.specs.Catalog.{Holding}
-use Rattle.ckr_library.specs.NameMaps.{EachEntry, Named}
+use Rattle.ckr_library.specs.NameMaps.{EachEntry, Name, Named, entry_at}
 use Rattle.ckr_volumes.specs.declared.layout.Layout.{Layout}
-use Rattle.ckr_meaning.specs.EffectiveJob.{HasDistinctNames, names_of, names_of_job, plain_job}
+use Rattle.ckr_meaning.specs.EffectiveJob.{HasDistinctNames, OwnedStep, names_of, names_of_job, plain_job}
 use Rattle.ckr_points.specs.declared.run.Run.{Run}
 use Rattle.ckr_points.specs.declared.run.RunState.{RunState}
 use Rattle.ckr_points.specs.declared.run.RunState.TheVariants.{Queued}
 use Rattle.ckr_points_tables.specs.declared.run_table.RunTable.{RunTable}
+use Rattle.ckr_points_tables.specs.declared.run_table.WrittenEntry.{WrittenEntry}
+use Rattle.ckr_points_tables.specs.Checkpoint.{checkpoint_name}
 use Rattle.ckr_points_tables.specs.StepEnd.{HasPassedRoom}
 use Rattle.ckr_points.specs.Follows.{follows}
 use Rattle.ckr_points.specs.Rows.{TableSet, TablesModel, RunRow, run_of, step_of_run}
 use Rattle.ckr_points_tables.specs.Rewrite.{HasFewRewrites, has_master}
 use Rattle.ckr_points.specs.Restart.{place_of, step_in}
-use Rattle.ckr_points_tables.specs.View.{AreBare, RunRoom, TablesRoom, RoomyTables, is_within_limits}
+use Rattle.ckr_points_tables.specs.View.{RunRoom, TablesRoom, RoomyTables, is_within_limits, kept_room}
 
 -- ---- what holds of runs
 
@@ -66,17 +69,30 @@ pub record IsIndexOf (index : List ℕ) (lines : List Run) : Type 0 where
 abbrev pub IsWide : Holding → Type 0
 IsWide holding = 1 ≤ holding.set.lrecl
 
-pub record AreKept (sets : Named Holding) (lines : List Run) (tables : List RunTable) (index : List ℕ) (marks : List Mark) : Type 0 where
-  pub bare : AreBare sets
+pub record AreKept (sets : Named Holding) (lines : List Run) (tables : List RunTable) (index : List ℕ) (marks : List Mark) (writings : List (Roomy WrittenEntry)) : Type 0 where
   pub wide : EachEntry IsWide sets
   pub runs : AreRuns 1 lines tables
   pub few : length tables ≤ 9999999
   pub indexed : IsIndexOf index lines
   pub spare : marks ≡ []
+  pub written : length writings ≡ length tables
 
 -- ---- what an event needs
 
--- the events that are kept by now: no checkpoints, and no restarts
+-- the events that the tables keep by now: no restarts, and none of a run that is held or denied
+abbrev pub is_kept_event : Event → Bool
+is_kept_event (Submitted job cards) = true
+is_kept_event (Selected job initiator earlier step id) = earlier == 0
+is_kept_event (Started job step made) = true
+is_kept_event (Rewritten job taken writes lengths place image) = true
+is_kept_event (Checkpointed job id taken writes lengths place bytes) = true
+is_kept_event (Cancelled job) = true
+is_kept_event (StepEnded job step rc writes lengths) = true
+is_kept_event (Ended job ending) = true
+is_kept_event (Purged job) = true
+is_kept_event _ = false
+
+-- those that the desk brings about by now: no checkpoints either
 abbrev pub is_plain_event : Event → Bool
 is_plain_event (Submitted job cards) = true
 is_plain_event (Selected job initiator earlier step id) = earlier == 0
@@ -120,10 +136,16 @@ abbrev pub room_at : TablesRoom → ℕ → Option RunRoom
 room_at room zero = None
 room_at room (suc place) = slice_get room.each place
 
+-- how many more entries a run has room for
+abbrev pub entries_at : TablesRoom → ℕ → Option ℕ
+entries_at room zero = None
+entries_at room (suc place) = slice_get room.entries place
+
 -- room for a run
 pub record HasRunRoom (room : TablesRoom) : Type 0 where
   pub runs : 0 < room.runs
   pub lines : 0 < room.lines
+  pub writings : 0 < room.writings
 
 -- room for the start of a step
 pub record HasStartRoom (room : TablesRoom) (row : RunRow) (one : RunRoom) : Type 0 where
@@ -142,6 +164,28 @@ pub record HasEndRoom (row : RunRow) (one : RunRoom) : Type 0 where
 abbrev pub CanStart : RoomyTables → ℕ → Type 0
 CanStart now job = (row : RunRow) (one : RunRoom) → run_of now.desk job ≡ Some row → room_at now.room job ≡ Some one → HasStartRoom now.room row one
 
+-- room for one more entry in the data set of a name, if it is there
+abbrev pub HasRoomUnder : RoomyTables → Option Name → Type 0
+HasRoomUnder now None = Unit {0}
+HasRoomUnder now (Some name) = IsSome (entry_at now.desk.sets name) → 0 < kept_room now.room.kept name
+
+abbrev pub HasKeptRoom : RoomyTables → ℕ → Option OwnedStep → Type 0
+HasKeptRoom now root None = Unit {0}
+HasKeptRoom now root (Some own) = HasRoomUnder now (checkpoint_name root own)
+
+-- room for a checkpoint: for what its point is made of, and for its entry, which can be counted
+pub record HasEntryRoom (now : RoomyTables) (row : RunRow) : Type 0 where
+  pub sorted : length (names_of_job row.job) ≤ now.room.sorted
+  pub marks : length (names_of_job row.job) ≤ now.room.marks
+  pub passed : length row.passed ≤ now.room.passed
+  pub entries : (more : ℕ) → entries_at now.room row.number ≡ Some more → 0 < more
+  pub few : row.count < 4294967295
+  pub kept : HasKeptRoom now row.job.root (step_of_run row (step_in (place_of row)))
+
+-- room for a checkpoint of a run, if it is there
+abbrev pub CanKeep : RoomyTables → ℕ → Type 0
+CanKeep now job = (row : RunRow) → run_of now.desk job ≡ Some row → HasEntryRoom now row
+
 -- room for the end of a step of a run, if it is there
 abbrev pub CanEnd : RoomyTables → ℕ → Type 0
 CanEnd now job = (row : RunRow) (one : RunRoom) → run_of now.desk job ≡ Some row → room_at now.room job ≡ Some one → HasEndRoom row one
@@ -152,13 +196,14 @@ HasListRoom room (Submitted job cards) = HasRunRoom room
 HasListRoom room _ = Unit {0}
 
 -- room for what the event makes of its run
-abbrev pub HasRoomIn : TablesRoom → RunRow → RunRoom → Event → Type 0
-HasRoomIn room row one (Started job step made) = HasStartRoom room row one
-HasRoomIn room row one (StepEnded job step rc writes lengths) = HasEndRoom row one
-HasRoomIn room row one (Ended job ending) = HasEndRoom row one
-HasRoomIn room row one _ = Unit {0}
+abbrev pub HasRoomIn : RoomyTables → RunRow → RunRoom → Event → Type 0
+HasRoomIn now row one (Started job step made) = HasStartRoom now.room row one
+HasRoomIn now row one (Checkpointed job id taken writes lengths place bytes) = HasEntryRoom now row
+HasRoomIn now row one (StepEnded job step rc writes lengths) = HasEndRoom row one
+HasRoomIn now row one (Ended job ending) = HasEndRoom row one
+HasRoomIn now row one _ = Unit {0}
 
 -- there is room for an event
 pub record HasRoom (now : RoomyTables) (event : Event) : Type 0 where
   pub lists : HasListRoom now.room event
-  pub run : (row : RunRow) (one : RunRoom) → run_of now.desk (job_of event) ≡ Some row → room_at now.room (job_of event) ≡ Some one → HasRoomIn now.room row one event
+  pub run : (row : RunRow) (one : RunRoom) → run_of now.desk (job_of event) ≡ Some row → room_at now.room (job_of event) ≡ Some one → HasRoomIn now row one event

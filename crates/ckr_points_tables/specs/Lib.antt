@@ -1,4 +1,5 @@
 pub mod Allocation
+pub mod Checkpoint
 pub mod RunChange
 pub mod StepEnd
 pub mod Parts

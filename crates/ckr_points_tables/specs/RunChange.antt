@@ -4,13 +4,14 @@ use Rattle.std.specs.Option.{option_map, option_map_or}
 use Rattle.ckr_points_library.specs.Commit.{committed, output_names}
 use Rattle.ckr_points_library.specs.Holdings.{holding_ways}
 use Rattle.ckr_events.specs.declared.event.Event.{Event}
-use Rattle.ckr_events.specs.declared.event.Event.TheVariants.{Selected, Started, Rewritten, StepEnded, Ended, Purged}
+use Rattle.ckr_events.specs.declared.event.Event.TheVariants.{Selected, Started, Rewritten, Checkpointed, Cancelled, StepEnded, Ended, Purged}
 use Rattle.ckr_events.specs.declared.event.Ending.{Ending}
 use Rattle.ckr_events.specs.declared.event.Ending.TheVariants.{Completed, Coded, Allocation}
 use Rattle.ckr_events.specs.declared.event.Made.{Made}
 use Rattle.ckr_entry.specs.declared.point.Mark.{Mark}
 use Rattle.ckr_library.specs.declared.sets.DataSet.{DataSet}
-use Rattle.ckr_library.specs.Catalog.{Holding, fresh_holding, with_length}
+use Rattle.ckr_library.specs.Catalog.{Holding, fresh_holding, with_kept, with_length}
+use Rattle.ckr_library.specs.declared.sets.Kept.{Kept}
 use Rattle.ckr_library.specs.NameMaps.{Name, Named, with_changed}
 use Rattle.ckr_library.specs.declared.sets.Stamp.{Stamp}
 use Rattle.ckr_meaning.specs.StepRun.{rewritten_stamp}
@@ -23,12 +24,12 @@ use Rattle.ckr_meaning.specs.declared.place.Place.TheVariants.{Before, Opened, W
 use Rattle.ckr_points.specs.declared.run.Run.{Run}
 use Rattle.ckr_points.specs.declared.run.RunState.TheVariants.{On, Ended as EndedRun, Purged as PurgedRun}
 use Rattle.ckr_points_tables.specs.StepEnd.{disposals_at}
-use Rattle.ckr_points.specs.Tables.{effect_rewritten, is_updates, name_with_role, point_rewritten}
+use Rattle.ckr_points.specs.Tables.{effect_rewritten, fresh_effect, is_checkpoints, is_updates, kept_entry, name_with_role, point_rewritten, with_kept_entry}
 use Rattle.ckr_points_tables.specs.NewSets.{made_from}
 use Rattle.ckr_points.specs.Marks.{mark_now, marks_for, point_at, with_point}
 use Rattle.ckr_points.specs.Restart.{step_in}
-use Rattle.ckr_points.specs.Rows.{StartPoint, TableSet, TablesModel, cut_set, table_ways, with_run}
-use Rattle.ckr_points_tables.specs.View.{RunTableView, row_with, seen_by, table_of}
+use Rattle.ckr_points.specs.Rows.{EntryPoint, StartPoint, TableSet, TablesModel, cut_set, table_ways, with_run}
+use Rattle.ckr_points_tables.specs.View.{RunTableView, Writing, row_with, seen_by, table_of}
 
 -- a run with its line, and the data sets
 pub record Going (X : Type 0) : Type 0 where
@@ -46,6 +47,7 @@ pub record Kit (X : Type 0) : Type 0 where
   pub fresh : DataSet → X
   pub mark : Named X → Name → Mark
   pub stamp : X → Stamp
+  pub keep : Kept → EntryPoint → X → X
 
 -- those of the tables
 abbrev pub table_kit : Kit TableSet
@@ -55,6 +57,7 @@ table_kit = record {
   fresh = λ set. record { set = set; entries = [] };
   mark = mark_now;
   stamp = λ table. table.set.stamp;
+  keep = λ kept point table. with_kept_entry (kept_entry kept point) table;
 }
 
 -- those of the library
@@ -65,6 +68,7 @@ holding_kit = record {
   fresh = fresh_holding;
   mark = λ sets. mark_now (seen_by table_of sets);
   stamp = λ holding. holding.set.stamp;
+  keep = λ kept point holding. with_kept kept holding;
 }
 
 abbrev pub step_of : {X : Type 0} → Going X → ℕ → Option OwnedStep
@@ -90,6 +94,19 @@ selected initiator now =
       line = record now.line { state = On; initiator = Some initiator };
       facts = record now.facts { place = Some (Before 1) };
     }
+
+-- no checkpoint is in effect
+abbrev pub cancelled : {X : Type 0} → Going X → Going X
+cancelled now = record now { facts = record now.facts { in_effect = None } }
+
+-- the entry of a run that begins at this record
+abbrev pub kept_by : {X : Type 0} → Going X → Name → ℕ → ℕ → Kept
+kept_by now id place bytes = record { id = id; run = now.line.number; place = place; bytes = bytes }
+
+-- a run behind a checkpoint, which is in effect
+abbrev pub checkpointed_facts : ℕ → ℕ → Name → Kept → RunTableView → RunTableView
+checkpointed_facts step writes set kept facts =
+    record facts { place = Some (Within step writes); count = suc facts.count; in_effect = Some (fresh_effect set kept) }
 
 abbrev pub purged : {X : Type 0} → Going X → Going X
 purged now = record now { line = record now.line { state = PurgedRun } }
@@ -142,6 +159,44 @@ module _ {X : Type 0} (kit : Kit X) where
       going now.line (rewritten_facts step writes now.facts)
       (with_changed (name_with_role now.line.number own is_updates) (restamped own.owner step) (committed_by lengths own now).sets)
 
+  -- the point of a checkpoint, by the data sets
+  abbrev pub check_point : ℕ → ℕ → ℕ → Named X → Going X → OwnedStep → EntryPoint
+  check_point step taken writes sets now own = record {
+    job = now.facts.job.name;
+    run = now.line.number;
+    owner = own.owner;
+    step = step;
+    step_name = own.step.name;
+    count = suc now.facts.count;
+    taken = taken;
+    writes = writes;
+    marks = marks_for (kit.mark sets) (names_of_job (plain_job now.line.number now.facts.job));
+    passed = now.facts.passed;
+  }
+
+  -- a checkpoint: the lengths are committed, and its entry is kept
+  abbrev pub checkpointed : ℕ → Kept → ℕ → ℕ → List ℕ → Going X → OwnedStep → Going X
+  checkpointed step kept taken writes lengths now own =
+      let sets = (committed_by lengths own now).sets in
+      let set = name_with_role now.line.number own is_checkpoints in
+      going now.line (checkpointed_facts step writes set kept now.facts) (with_changed set (kit.keep kept (check_point step taken writes sets now own)) sets)
+
+  -- what the run wrote with it
+  abbrev pub check_writing : ℕ → Kept → ℕ → ℕ → Named X → Going X → OwnedStep → Writing
+  check_writing step kept taken writes sets now own = record {
+    set = name_with_role now.line.number own is_checkpoints;
+    id = kept.id;
+    place = kept.place;
+    point = check_point step taken writes sets now own;
+  }
+
+  -- what a run has written by an event
+  abbrev pub written_after : Event → Going X → List Writing → List Writing
+  written_after (Checkpointed job id taken writes lengths place bytes) now before =
+      let running = step_in (place_now now.facts) in
+      option_map_or (λ own. before ++ check_writing running (kept_by now id place bytes) taken writes (committed_by lengths.items own now).sets now own ∷ []) (step_of now running) before
+  written_after _ now before = before
+
   -- the dispositions of a step
   abbrev pub disposed_of : ℕ → Bool → OwnedStep → Going X → Stock X
   disposed_of step abnormal own now =
@@ -184,13 +239,17 @@ module _ {X : Type 0} (kit : Kit X) where
       by_step_of step (coded step writes lengths.items now) now
   ended_by (Allocation dd cause first second) now = ended_at (place_now now.facts) now
 
-  -- what a plain event of the run makes of it
+  -- what an event of the run makes of it
   abbrev pub changed : Event → Going X → Going X
   changed (Selected job initiator earlier step id) now = selected initiator now
   changed (Started job step items) now = by_step_of step (started step items.items now) now
   changed (Rewritten job taken writes lengths place image) now =
       let running = step_in (place_now now.facts) in
       by_step_of running (rewritten running writes lengths.items now) now
+  changed (Checkpointed job id taken writes lengths place bytes) now =
+      let running = step_in (place_now now.facts) in
+      by_step_of running (checkpointed running (kept_by now id place bytes) taken writes lengths.items now) now
+  changed (Cancelled job) now = cancelled now
   changed (StepEnded job step rc writes lengths) now =
       let running = step_in (place_now now.facts) in
       by_step_of running (step_ended running rc lengths.items now) now

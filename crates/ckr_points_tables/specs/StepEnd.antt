@@ -1,7 +1,8 @@
 -- Which names the steps of a run that continues none made, and the dispositions that follow from it.
-use Rattle.std.specs.Prelude.{◌≡◌, ◌≤◌, ◌<◌, ℕ, suc, pred, Bool, false, ◌&&◌, ◌||◌, List, [], ◌∷◌, length, map, take, Option, None, Some}
+use Rattle.std.specs.Prelude.{◌≡◌, ◌≤◌, ◌<◌, ℕ, suc, pred, Bool, true, false, ◌&&◌, ◌||◌, List, [], ◌∷◌, length, map, take, Option, None, Some}
+use Rattle.std.specs.List.{list_all}
 use Rattle.std.specs.Option.{option_map_or}
-use Rattle.ckr_points_library.specs.Commit.{output_names, AreWithinSpace}
+use Rattle.ckr_points_library.specs.Commit.{is_named, output_names, AreWithinSpace}
 use Rattle.ckr_points_library.specs.Disposals.{disposals_in}
 use Rattle.ckr_points_library.specs.Holdings.{owned}
 use Rattle.ckr_events.specs.declared.event.Ending.{Ending}
@@ -48,6 +49,11 @@ pub record AreLengths (run : ℕ) (lengths : List ℕ) (sets : Named Holding) (o
 abbrev pub AreLengthsOf : ℕ → List ℕ → Named Holding → Option OwnedStep → Type 0
 AreLengthsOf run lengths sets None = Unit {0}
 AreLengthsOf run lengths sets (Some own) = AreLengths run lengths sets own
+
+-- each output of a step has a name
+abbrev pub HasNamedOutputs : ℕ → Option OwnedStep → Type 0
+HasNamedOutputs run None = Unit {0}
+HasNamedOutputs run (Some own) = list_all is_named (output_names run own) ≡ true
 
 -- a spare place in a passed list for each name of a step
 abbrev pub HasPassedRoom : ℕ → Option OwnedStep → Type 0

@@ -1,13 +1,15 @@
 -- How the tables in code are seen.
-use Rattle.std.specs.Prelude.{◌≡◌, ℕ, zero, suc, ◌==◌, Bool, false, ◌&&◌, nat_le, nat_eq, List, [], ◌∷◌, map, length, find, Option, Some, None}
+use Rattle.std.specs.Prelude.{ℕ, zero, suc, ◌==◌, Bool, false, ◌&&◌, nat_le, nat_eq, if◌then◌else◌, List, [], ◌∷◌, map, length, find, slice_get, Option, Some, None}
 use Rattle.std.specs.Option.{option_map, option_map_or, option_eq}
 use Rattle.std.specs.List.{list_all}
+use Rattle.ckr_base.specs.RoomyLists.{Roomy}
 use Rattle.ckr_base.specs.declared.code.Code.{Code}
 use Rattle.ckr_jcl.specs.declared.deck.Dd.{Dd}
 use Rattle.ckr_jcl.specs.declared.deck.Job.{Job}
 use Rattle.ckr_jcl.specs.declared.deck.Step.{Step}
 use Rattle.ckr_library.specs.Catalog.{Holding}
-use Rattle.ckr_library.specs.NameMaps.{Named}
+use Rattle.ckr_library.specs.NameMaps.{Name, Named, entry_at, same_name}
+use Rattle.ckr_library.specs.declared.sets.Kept.{Kept}
 use Rattle.ckr_entry.specs.declared.point.Passed.{Passed}
 use Rattle.ckr_meaning.specs.EffectiveJob.{plain_job}
 use Rattle.ckr_meaning.specs.JobRun.{StepCodes}
@@ -17,10 +19,72 @@ use Rattle.ckr_points_tables.specs.declared.run_table.StepPoint.{StepPoint}
 use Rattle.ckr_points_tables.specs.declared.run_table.InEffect.{InEffect}
 use Rattle.ckr_points_tables.specs.declared.run_table.ReturnCode.{ReturnCode}
 use Rattle.ckr_points_tables.specs.declared.run_table.RunTable.{RunTable}
-use Rattle.ckr_points.specs.Rows.{TableSet, StartPoint, EffectPoint, RunRow, TablesModel}
+use Rattle.ckr_points_tables.specs.declared.run_table.WrittenEntry.{WrittenEntry}
+use Rattle.ckr_points.specs.Rows.{EntryPoint, TableSet, StartPoint, EffectPoint, RunRow, TablesModel}
+use Rattle.ckr_points.specs.Tables.{kept_entry}
 
--- ---- data sets: none keeps an entry
+-- ---- the entries that runs have written
 
+-- the point of an entry that a run has written
+abbrev pub entry_point_of : WrittenEntry → EntryPoint
+entry_point_of written = record {
+  job = written.job;
+  run = written.run;
+  owner = written.owner;
+  step = written.step;
+  step_name = written.step_name;
+  count = written.count;
+  taken = written.taken;
+  writes = written.writes;
+  marks = written.marks.items;
+  passed = written.passed.items;
+}
+
+-- an entry that a run has written: the data set into which it wrote it, its identifier, where it begins there, and its point
+pub record Writing : Type 0 where
+  pub set : Name
+  pub id : Name
+  pub place : ℕ
+  pub point : EntryPoint
+
+abbrev pub writing_of : WrittenEntry → Writing
+writing_of written = record { set = written.set; id = written.id; place = written.place; point = entry_point_of written }
+
+-- whether this is the entry that the data set of a name keeps
+abbrev pub is_entry : Name → Kept → Writing → Bool
+is_entry set kept writing = same_name writing.set set && same_name writing.id kept.id && writing.place == kept.place
+
+abbrev pub later_or : {A : Type 0} → Option A → Option A → Option A
+later_or (Some later) first = Some later
+later_or None first = first
+
+-- the last item that passes a test
+abbrev pub find_last : {A : Type 0} → (A → Bool) → List A → Option A
+find_last p [] = None
+find_last p (item ∷ items) = later_or (find_last p items) (if p item then Some item else None)
+
+abbrev pub written_of : Roomy WrittenEntry → List Writing
+written_of entries = map writing_of entries.items
+
+-- what each run has written, in the order of their numbers
+abbrev pub Writings : Type 0
+Writings = List (List Writing)
+
+abbrev pub written_by : Writings → ℕ → List Writing
+written_by writings zero = []
+written_by writings (suc place) = option_map_or (λ written. written) (slice_get writings place) []
+
+-- no point
+abbrev pub no_point : EntryPoint
+no_point = record { job = []; run = 0; owner = 0; step = 0; step_name = []; count = 0; taken = 0; writes = 0; marks = []; passed = [] }
+
+-- the point of an entry that a data set keeps: that of the last entry that its run wrote there
+abbrev pub point_for : Writings → Name → Kept → EntryPoint
+point_for writings set kept = option_map_or (λ (writing : Writing). writing.point) (find_last (is_entry set kept) (written_by writings kept.run)) no_point
+
+-- ---- data sets
+
+-- a data set without its entries
 abbrev pub table_of : Holding → TableSet
 table_of holding = record { set = holding.set; entries = [] }
 
@@ -28,12 +92,13 @@ table_of holding = record { set = holding.set; entries = [] }
 abbrev pub seen_by : {X Y : Type 0} → (X → Y) → Named X → Named Y
 seen_by view named = map (λ entry. (entry.0, view entry.1)) named
 
-abbrev pub bare : Holding → Holding
-bare holding = record { set = holding.set; kept = [] }
+-- a data set with the points of its entries
+abbrev pub table_in : Writings → Name → Holding → TableSet
+table_in writings set holding = record { set = holding.set; entries = map (λ kept. kept_entry kept (point_for writings set kept)) holding.kept }
 
--- no data set keeps an entry
-abbrev pub AreBare : Named Holding → Type 0
-AreBare sets = seen_by bare sets ≡ sets
+-- the map with each entry seen so, under its name
+abbrev pub seen_under : {X Y : Type 0} → (Name → X → Y) → Named X → Named Y
+seen_under view named = map (λ entry. (entry.0, view entry.0 entry.1)) named
 
 -- ---- runs
 
@@ -135,6 +200,10 @@ rows_of [] tables = []
 rows_of (line ∷ lines) [] = []
 rows_of (line ∷ lines) (table ∷ tables) = row_of line table ∷ rows_of lines tables
 
+-- how many more entries the data set of a name keeps
+abbrev pub kept_room : Named ℕ → Name → ℕ
+kept_room rooms name = option_map_or (λ room. room) (entry_at rooms name) 0
+
 -- the place of a run by its number
 abbrev pub place_of : ℕ → Option ℕ
 place_of zero = None
@@ -167,15 +236,19 @@ pub record RunRoom : Type 0 where
 abbrev pub room_of : RunTable → RunRoom
 room_of table = record { points = table.points.room; codes = table.codes.room; passed = table.passed.room }
 
--- how much more the tables take: data sets, runs and their lines, what a step point is made of, and what each run takes
+-- how much more the tables take: data sets, and entries of each; runs, their lines and lists of entries; what a point is made of; what each run takes, and
+-- how many more entries of each
 pub record TablesRoom : Type 0 where
   pub sets : ℕ
+  pub kept : Named ℕ
   pub runs : ℕ
   pub lines : ℕ
   pub sorted : ℕ
   pub marks : ℕ
   pub passed : ℕ
   pub each : List RunRoom
+  pub writings : ℕ
+  pub entries : List ℕ
 
 -- the tables, and how much more they take with no memory
 pub record RoomyTables : Type 0 where

@@ -1,8 +1,9 @@
 //! The tables go on by an event.
 ghost use Rattle.std.specs.Prelude.{◌≡◌, ℕ, suc, ◌≤◌, ◌<◌, [], ◌∷◌, ◌++◌, true, false, Some, IsTrue, Option, length, vec_len, vec_capacity};
+ghost use Rattle.ckr_library.specs.NameMaps.{are_named_in_order};
 ghost use Rattle.ckr_jcl.specs.declared.deck.Job.{Job as JobOfDeck};
 ghost use Rattle.ckr_points.specs.Tables.{after_submitted};
-ghost use Rattle.ckr_points_tables.specs.Invariant.{is_plain_event, is_submission, is_submittable, put_at, HasRoom, HasRunRoom, MayCount, MayFollow, MaySubmit};
+ghost use Rattle.ckr_points_tables.specs.Invariant.{is_kept_event, is_submission, is_submittable, put_at, HasRoom, HasRunRoom, MayCount, MayFollow, MaySubmit};
 ghost use Rattle.ckr_points.specs.Restart.{after_event};
 ghost use Rattle.ckr_points_tables.specs.View.{facts_of, fresh_facts};
 
@@ -12,6 +13,7 @@ use ckr_base::RoomyList;
 use ckr_entry::PassedList;
 use ckr_events::Event;
 use ckr_jcl::Job;
+use ckr_library::Library;
 use ckr_points::{Run, RunState};
 use std::alloc::Global;
 
@@ -20,7 +22,7 @@ impl Tables {
     /// Submitted and its cards are a deck, and it is that deck. There is room for the event, by `make_room` for it or for one
     /// that differs from it in its writes and lengths alone; Rewritten needs none. It takes no memory (this project's profile).
     pub fn apply(&mut self, event: &Event, job: Option<Job>)
-        requires plain { IsTrue (is_plain_event event.now) }
+        requires kept { IsTrue (is_kept_event event.now) }
         requires follows { MayFollow self.old.desk event.now job }
         requires deck { MaySubmit event.now job }
         requires room { HasRoom self.old event.now }
@@ -49,9 +51,9 @@ impl Tables {
         }
     }
 
-    /// A run of the tables goes on by a plain event that follows. There is room for it.
+    /// A run of the tables goes on by an event that follows. There is room for it.
     fn change(&mut self, event: &Event)
-        requires plain { is_plain_event event.now ≡ true }
+        requires kept { is_kept_event event.now ≡ true }
         requires other { is_submission event.now ≡ false }
         requires follows { (deck : Option JobOfDeck) → MayFollow self.old.desk event.now deck }
         requires room { HasRoom self.old event.now }
@@ -61,12 +63,14 @@ impl Tables {
         let number = event.job();
         let place = number as usize - 1;
         let before = self.lines[place].initiator;
+        in_order(&self.library);
         change_run(
             event,
             &mut self.lines[place],
             &mut self.tables[place],
             &mut self.library,
             &mut self.spare,
+            &mut self.writings[place],
         );
         let after = self.lines[place].initiator;
         put_at(&mut self.index, before, 0);
@@ -89,7 +93,15 @@ impl Tables {
         };
         put(&mut self.lines, line);
         put(&mut self.tables, fresh_table(alloc, job));
+        put(&mut self.writings, RoomyList::new(alloc));
     }
+}
+
+/// The data sets stand in the order of their names.
+fn in_order(library: &Library)
+    ensures { IsTrue (are_named_in_order library.now.sets) }
+{
+    let _ = library.name_at(0);
 }
 
 /// Whether a deck is submitted.

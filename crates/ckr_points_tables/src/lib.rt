@@ -2,6 +2,7 @@
 #![tactic(auto)]
 
 mod allocation;
+mod checkpoint;
 mod event;
 mod made_names;
 mod marks_in_order;
@@ -17,9 +18,10 @@ mod step_points;
 mod submit;
 mod tables;
 
+pub use checkpoint::{checkpoint_dd, checkpoint_name};
 pub use rewrite::{master_dd, master_name};
 pub use run_change::is_plain;
-pub use run_table::{InEffect, ReturnCode, RunTable, StepPoint};
+pub use run_table::{InEffect, ReturnCode, RunTable, StepPoint, WrittenEntries, WrittenEntry};
 pub use start::{point_at, step_at};
 pub use step_end::place_now;
 pub use step_points::StepPoints;

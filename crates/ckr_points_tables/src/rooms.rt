@@ -1,20 +1,23 @@
 //! Memory for an event, before it is written.
 ghost use Rattle.std.specs.Prelude.{◌≡◌, ℕ, suc, Some, None, ◌+◌, ◌*◌, ◌≤◌, ◌<◌, OnOk, IsTrue, length, vec_len, vec_capacity};
-ghost use Rattle.std.specs.Option.{option_map_or};
+ghost use Rattle.std.specs.Option.{option_and_then, option_map_or};
 ghost use Rattle.ckr_events.specs.declared.event.Event.{Event as EventOfDesk};
 ghost use Rattle.ckr_meaning.specs.EffectiveJob.{plain_job, step_at, OwnedStep};
 ghost use Rattle.ckr_points_tables.specs.StepEnd.{HasPassedRoom};
-ghost use Rattle.ckr_points_tables.specs.Invariant.{CanEnd, CanStart, HasRoom, HasRunRoom};
+ghost use Rattle.ckr_points_tables.specs.Invariant.{CanEnd, CanKeep, CanStart, HasRoom, HasRunRoom};
+ghost use Rattle.ckr_library.specs.Catalog.{KeepsEntryRoom};
+ghost use Rattle.ckr_points_tables.specs.Checkpoint.{checkpoint_name};
 ghost use Rattle.ckr_points_tables.specs.Needs.{step_now};
-ghost use Rattle.ckr_points_tables.specs.Rooms.{dds_of, HasNoPlace, AreRoomier, EndsFit, FitsPoint, HasNoLess, IsRoomier, StartsFit};
+ghost use Rattle.ckr_points_tables.specs.Rooms.{dds_of, HasNoPlace, AreRoomier, EndsFit, EntryFits, FitsPoint, HasNoLess, IsRoomier, KeepsFit, StartsFit};
 ghost use Rattle.ckr_points_tables.specs.View.{facts_of, is_within_limits, room_of};
 ghost use Rattle.ckr_points_tables.specs.Start.{HasPointRoom};
 
+use crate::checkpoint::checkpoint_name;
 use crate::start::step_at;
 use crate::step_end::step_now;
 use crate::tables::Spare;
-use crate::{RunTable, Tables};
-use ckr_base::NoMemory;
+use crate::{RunTable, Tables, WrittenEntries};
+use ckr_base::{DsName, NoMemory};
 use ckr_entry::Passed;
 use ckr_events::Event;
 use ckr_jcl::{Job, Step};
@@ -32,6 +35,7 @@ impl Tables {
         match event {
             Event::Submitted { .. } => self.room_to_submit(),
             Event::Started { job, .. } => self.room_to_start(*job),
+            Event::Checkpointed { job, .. } => self.room_to_keep(*job),
             Event::StepEnded { job, .. } | Event::Ended { job, .. } => self.room_to_end(*job),
             _ => Ok(()),
         }
@@ -45,6 +49,7 @@ impl Tables {
     {
         self.lines.reserve(1)?;
         self.tables.reserve(1)?;
+        self.writings.reserve(1)?;
         Ok(())
     }
 
@@ -58,6 +63,24 @@ impl Tables {
             Some(place) => {
                 reserve_start(&mut self.tables[place], &mut self.library, &mut self.spare)
             }
+            None => Ok(()),
+        }
+    }
+
+    /// Makes room for a checkpoint of a run, if there is such a run.
+    fn room_to_keep(&mut self, job: u32) -> Result<(), NoMemory>
+        ensures desk { self.new.desk ≡ self.old.desk }
+        ensures ok { OnOk result (CanKeep self.new job) }
+        ensures room { IsRoomier self.old.room self.new.room }
+    {
+        match place_in(job, self.tables.as_slice()) {
+            Some(place) => reserve_checkpoint(
+                job,
+                &self.tables[place],
+                &mut self.writings[place],
+                &mut self.library,
+                &mut self.spare,
+            ),
             None => Ok(()),
         }
     }
@@ -160,4 +183,54 @@ fn reserve_end(table: &mut RunTable) -> Result<(), NoMemory>
     table.passed.reserve(more)?;
     table.codes.reserve(1)?;
     Ok(())
+}
+
+/// The name of the data set to which a run writes its checkpoints in the step that it is in.
+fn checkpoint_set(run: u32, table: &RunTable) -> Option<DsName>
+    requires { run ≤ 9999999 }
+    ensures { result ≡ option_and_then (checkpoint_name run) (step_at (plain_job run table.now.job) (step_now table.now)) }
+{
+    match step_at(&table.job, step_now(table)) {
+        Some(own) => checkpoint_name(run, own),
+        None => None,
+    }
+}
+
+/// Makes room for one more entry in the data set of a run's checkpoints.
+fn reserve_kept(run: u32, table: &RunTable, library: &mut Library) -> Result<(), NoMemory>
+    requires { run ≤ 9999999 }
+    ensures sets { library.new.sets ≡ library.old.sets }
+    ensures ok { OnOk result (KeepsFit library.new run (step_at (plain_job run table.now.job) (step_now table.now))) }
+    ensures room { library.new.room ≡ library.old.room }
+    ensures entries { KeepsEntryRoom library.old library.new }
+{
+    match checkpoint_set(run, table) {
+        Some(name) => library.reserve_entry(&name),
+        None => Ok(()),
+    }
+}
+
+/// Makes room for a checkpoint of a run: for its point and its entry. There is none where the entries are counted out.
+fn reserve_checkpoint(
+    run: u32,
+    table: &RunTable,
+    entries: &mut WrittenEntries,
+    library: &mut Library,
+    spare: &mut Spare,
+) -> Result<(), NoMemory>
+    requires run { run ≤ 9999999 }
+    requires limits { IsTrue (is_within_limits table.now.job) }
+    ensures entries { entries.new.items ≡ entries.old.items }
+    ensures sets { library.new.sets ≡ library.old.sets }
+    ensures marks { spare.new.marks.items ≡ spare.old.marks.items }
+    ensures ok { OnOk result (EntryFits run table.now entries.new library.new spare.new) }
+    ensures room { entries.old.room ≤ entries.new.room }
+    ensures more { AreRoomier library.old library.new spare.old spare.new }
+{
+    if table.count == u32::MAX {
+        return Err(NoMemory);
+    }
+    reserve_point(&table.job, table.passed.as_slice(), spare)?;
+    entries.reserve(1)?;
+    reserve_kept(run, table, library)
 }

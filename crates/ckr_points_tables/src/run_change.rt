@@ -1,18 +1,19 @@
 //! What an event makes of its run, and of the library.
 ghost use Rattle.std.specs.Prelude.{◌≡◌, ◌≤◌, [], IsTrue};
-ghost use Rattle.ckr_points_tables.specs.RunChange.{by_step_of, changed, going, holding_kit, started};
+ghost use Rattle.ckr_points_tables.specs.RunChange.{by_step_of, changed, going, holding_kit, started, written_after};
 ghost use Rattle.ckr_points_tables.specs.Invariant.{is_plain_event};
 ghost use Rattle.ckr_points_tables.specs.Needs.{MayChange};
-ghost use Rattle.ckr_points_tables.specs.View.{facts_of, is_within_limits};
+ghost use Rattle.ckr_points_tables.specs.View.{facts_of, is_within_limits, written_of};
 ghost use Rattle.ckr_points_tables.specs.Start.{MayStartNow};
 
-use crate::RunTable;
+use crate::checkpoint::{Progress, checkpoint_run};
 use crate::rewrite::rewrite_run;
 use crate::start::start_run;
 use crate::step_end::{end_run, end_step_of, step_now};
 use crate::tables::Spare;
+use crate::{RunTable, WrittenEntries};
 use ckr_events::{Event, Made};
-use ckr_library::Library;
+use ckr_library::{Kept, Library};
 use ckr_meaning::Place;
 use ckr_points::{Run, RunState};
 
@@ -51,20 +52,22 @@ fn start(
     start_run(line.number, step, items, table, library, spare);
 }
 
-/// A run goes on by a plain event.
+/// A run goes on by an event.
 pub(crate) fn change_run(
     event: &Event,
     line: &mut Run,
     table: &mut RunTable,
     library: &mut Library,
     spare: &mut Spare,
+    entries: &mut WrittenEntries,
 )
     requires run { line.old.number ≤ 9999999 }
     requires limits { IsTrue (is_within_limits table.old.job) }
     requires empty { spare.old.marks.items ≡ [] }
-    requires may { MayChange event.now line.old.number table.old library.old spare.old }
+    requires may { MayChange event.now line.old.number table.old entries.old library.old spare.old }
     ensures going { going line.new (facts_of table.new) library.new.sets ≡ changed holding_kit event.now (going line.old (facts_of table.old) library.old.sets) }
     ensures empty { spare.new.marks.items ≡ [] }
+    ensures entries { written_of entries.new ≡ written_after holding_kit event.now (going line.old (facts_of table.old) library.old.sets) (written_of entries.old) }
 {
     match event {
         Event::Selected { initiator, .. } => {
@@ -80,6 +83,38 @@ pub(crate) fn change_run(
             lengths,
             ..
         } => rewrite_run(line, *writes, lengths.as_slice(), table, library),
+        Event::Checkpointed {
+            id,
+            taken,
+            writes,
+            lengths,
+            place,
+            bytes,
+            ..
+        } => {
+            let kept = Kept {
+                id: id.copied(),
+                run: line.number,
+                place: *place,
+                bytes: *bytes,
+            };
+            let far = Progress {
+                step: step_now(table),
+                taken: *taken,
+                writes: *writes,
+            };
+            checkpoint_run(
+                line,
+                far,
+                kept,
+                lengths.as_slice(),
+                table,
+                entries,
+                library,
+                spare,
+            );
+        }
+        Event::Cancelled { .. } => table.in_effect = None,
         Event::StepEnded { rc, lengths, .. } => {
             let step = step_now(table);
             end_step_of(line, step, *rc, lengths.as_slice(), table, library);

@@ -1,7 +1,7 @@
 //! What the tables keep of a run besides its line.
 
 use crate::StepPoints;
-use ckr_base::{Code, DsName, RoomyList};
+use ckr_base::{CheckId, Code, DsName, Name8, RoomyList};
 use ckr_entry::{Marks, PassedList};
 use ckr_jcl::Job;
 use ckr_library::Kept;
@@ -43,6 +43,39 @@ pub struct InEffect {
     /// Whether the run rewrote a record in place since.
     pub rewritten: bool,
 }
+
+/// A checkpoint entry that a run has written, with its point, the state of the program aside.
+#[derive(Drop)]
+pub struct WrittenEntry {
+    /// The name of the data set into which it was written.
+    pub set: DsName,
+    /// The identifier that names it.
+    pub id: CheckId,
+    /// The record of the data set at which it begins, counted from 0.
+    pub place: u32,
+    /// The name of the job.
+    pub job: Name8,
+    /// The number of the run, from 1.
+    pub run: u32,
+    /// The number of the run that owns the step, from 1.
+    pub owner: u32,
+    /// The number of the step, from 1.
+    pub step: u8,
+    pub step_name: Name8,
+    /// How many checkpoint entries the job had written, this one included.
+    pub count: u32,
+    /// How many records the step had taken.
+    pub taken: u32,
+    /// How many writes the step had made.
+    pub writes: u32,
+    /// The marks of the names of the job.
+    pub marks: Marks,
+    /// What was passed on and not yet received.
+    pub passed: PassedList,
+}
+
+/// The entries that a run has written, in the order in which it wrote them.
+pub type WrittenEntries = RoomyList<WrittenEntry>;
 
 /// How far a run has come, and what a restart of it needs.
 #[derive(Drop)]

@@ -101,7 +101,7 @@ fn put_passed(items: &[Passed], passed: &mut PassedList)
 }
 
 /// The marks of a run's names now, out of the spare ones.
-fn take_marks(run: u32, job: &Job, library: &Library, spare: &mut Spare) -> Marks
+pub(crate) fn take_marks(run: u32, job: &Job, library: &Library, spare: &mut Spare) -> Marks
     requires run { run ≤ 9999999 }
     requires empty { spare.old.marks.items ≡ [] }
     requires sorted { length (names_of_job (plain_job run job.now)) ≤ spare.old.sorted.room }
@@ -114,6 +114,18 @@ fn take_marks(run: u32, job: &Job, library: &Library, spare: &mut Spare) -> Mark
     let mut marks = mem::replace(&mut spare.marks, Marks::new(spare.alloc));
     put_marks(spare.sorted.as_slice(), &mut marks);
     marks
+}
+
+/// The same passed list, out of the spare one.
+pub(crate) fn take_passed(items: &[Passed], spare: &mut Spare) -> PassedList
+    requires { length items.now ≤ spare.old.passed.room }
+    ensures passed { result.items ≡ items.now }
+    ensures marks { spare.new.marks ≡ spare.old.marks }
+{
+    spare.passed.clear();
+    let mut passed = mem::replace(&mut spare.passed, PassedList::new(spare.alloc));
+    put_passed(items, &mut passed);
+    passed
 }
 
 /// The step point of a step that starts, with its outputs opened.
@@ -131,9 +143,7 @@ fn take_point(
     ensures empty { spare.new.marks.items ≡ [] }
 {
     let marks = take_marks(run, &table.job, library, spare);
-    spare.passed.clear();
-    let mut passed = mem::replace(&mut spare.passed, PassedList::new(spare.alloc));
-    put_passed(table.passed.as_slice(), &mut passed);
+    let passed = take_passed(table.passed.as_slice(), spare);
     StepPoint {
         step,
         restarts: restarts_at(table.points.as_slice(), step),

@@ -3,11 +3,11 @@ ghost use Rattle.std.specs.Prelude.{◌≡◌, ℕ, ◌≤◌, ◌<◌, IsTrue, 
 ghost use Rattle.std.specs.Option.{is_some, option_map_or};
 ghost use Rattle.ckr_points_library.specs.Commit.{committed, output_names};
 ghost use Rattle.ckr_points_library.specs.Holdings.{holding_ways, standing};
-ghost use Rattle.ckr_library.specs.Catalog.{with_length};
+ghost use Rattle.ckr_library.specs.Catalog.{with_length, KeepsEntryRoom};
 ghost use Rattle.ckr_meaning.specs.Dispositions.{disposed_all};
 ghost use Rattle.ckr_meaning.specs.EffectiveJob.{plain_job, step_at};
 ghost use Rattle.ckr_points_tables.specs.RunChange.{by_step_of, ended, ended_at, ended_by, ended_in, coded, going, gone_on, holding_kit, place_now, step_ended};
-ghost use Rattle.ckr_points_tables.specs.StepEnd.{disposals_at, AreLengthsOf, HasLengths, HasPassedRoom};
+ghost use Rattle.ckr_points_tables.specs.StepEnd.{disposals_at, AreLengthsOf, HasLengths, HasNamedOutputs, HasPassedRoom};
 ghost use Rattle.ckr_points.specs.Restart.{step_in};
 ghost use Rattle.ckr_points_tables.specs.View.{facts_of, is_within_limits, point_of};
 
@@ -41,7 +41,9 @@ fn steps_before(steps: &[Step], step: u8) -> &[Step]
 pub(crate) fn commit(run: u32, step: u8, job: &Job, lengths: &[u32], library: &mut Library)
     requires run { run ≤ 9999999 }
     requires lengths { AreLengthsOf run lengths.now library.old.sets (step_at (plain_job run job.now) step) }
-    ensures { library.new.sets ≡ option_map_or (λ own. committed with_length (output_names run own) lengths.now library.old.sets) (step_at (plain_job run job.now) step) library.old.sets }
+    ensures sets { library.new.sets ≡ option_map_or (λ own. committed with_length (output_names run own) lengths.now library.old.sets) (step_at (plain_job run job.now) step) library.old.sets }
+    ensures entries { KeepsEntryRoom library.old library.new }
+    ensures named { HasNamedOutputs run (step_at (plain_job run job.now) step) }
 {
     if let Some(own) = step_at(job, step) {
         commit_lengths(own, run, run, lengths, library);

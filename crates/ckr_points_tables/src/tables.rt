@@ -4,10 +4,10 @@ ghost use Rattle.std.specs.Option.{option_copied, option_map};
 ghost use Rattle.ckr_library.specs.NameMaps.{EachEntry};
 ghost use Rattle.ckr_points.specs.Rows.{no_tables, run_of, holding_of, RunRow, TableSet};
 ghost use Rattle.ckr_points_tables.specs.PlainRows.{IsPlainRow};
-ghost use Rattle.ckr_points_tables.specs.View.{facts_in, facts_of, line_of, place_of, run_on, table_of, seen_by};
+ghost use Rattle.ckr_points_tables.specs.View.{facts_in, facts_of, line_of, place_of, run_on, seen_by};
 
-use crate::RunTable;
 use crate::marks_in_order::MarksInOrder;
+use crate::{RunTable, WrittenEntries};
 use ckr_base::NoMemory;
 use ckr_entry::{Marks, PassedList};
 use ckr_library::Library;
@@ -34,6 +34,8 @@ pub struct Tables {
     /// By initiator, the number of the run that is on it, or 0.
     pub(crate) index: [u32; 256],
     pub(crate) spare: Spare,
+    /// What each run has written, in the order of their numbers. An entry stays when its data set no longer keeps it.
+    pub(crate) writings: Vec<WrittenEntries>,
 }
 
 impl Model for Tables {
@@ -64,13 +66,13 @@ impl Tables {
                 marks: Marks::new(alloc),
                 passed: PassedList::new(alloc),
             },
+            writings: Vec::new(alloc),
         }
     }
 
     /// The data sets. Each has records of at least one byte.
     pub fn library(&self) -> &Library
         ensures sets { result.now.sets ≡ seen_by holding_of self.now.desk.sets }
-        ensures seen { seen_by table_of result.now.sets ≡ self.now.desk.sets }
         ensures wide { EachEntry (λ (table : TableSet). 1 ≤ table.set.lrecl) self.now.desk.sets }
     {
         &self.library

@@ -6,3 +6,4 @@ pub mod Pages
 pub mod Work
 pub mod Units
 pub mod Steps
+pub mod Kinds

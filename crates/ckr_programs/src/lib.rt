@@ -9,6 +9,7 @@ mod state;
 mod units;
 mod writes;
 
+pub use ckr_jcl::Kind;
 pub use counts::{DueState, due_at};
 pub use laws::{
     first_state_stands_for_no_records, read_parms_are_in_range, same_states_have_the_same_rest,

@@ -91,13 +91,13 @@ there_grown : (files : Files) (old new : Catalog) (output : Output) → AreThere
 there_grown files old new output there is = there_kept files old new (by (end_set files output) (end_there files old there output) is) there
   where
     by : (name : Option Name) → IsSetThere old name → new.sets ≡ grown_in name old.sets → (other : Name) → HasSet old other (λ _. Unit {0}) → HasSet new other (λ _. Unit {0})
-    by None at is other has = subst (λ sets. HasSet (record { sets = sets; room = 0 }) other (λ _. Unit {0})) (sym is) has
+    by None at is other has = subst (λ sets. HasSet (record { sets = sets; room = 0; entry_rooms = [] }) other (λ _. Unit {0})) (sym is) has
     by (Some name) at is other has = let found = set_there old name at in there_longer name found.0 old new (is_longer name found.0 old new found.1 is) other has
 
 pub same_room : (files : Files) (old new : Catalog) → new.sets ≡ old.sets → room_of new files ≡ room_of old files
 unfolding room_of
 same_room files old new is =
-    ap (λ sets. let catalog : Catalog = record { sets = sets; room = 0 } in let room : OutputRoom = record { main = room_at catalog files.main; rejects = room_at catalog files.rejects } in room) is
+    ap (λ sets. let catalog : Catalog = record { sets = sets; room = 0; entry_rooms = [] } in let room : OutputRoom = record { main = room_at catalog files.main; rejects = room_at catalog files.rejects } in room) is
 
 next_room : (files : Files) (old mid : Catalog) (output : Output) (left : OutputRoom) → AreThere files old → mid.sets ≡ grown_in (end_set files output) old.sets → room_behind output (room_of old files) ≡ Some left → left ≡ room_of mid files
 next_room files old mid Main left there is behind =
@@ -119,9 +119,9 @@ room_left files (write ∷ writes) old new left there is fits = by (room_behind 
         → ((old new : Catalog) (left : OutputRoom) → AreThere files old → new.sets ≡ grown files writes old.sets → room_after writes (room_of old files) ≡ Some left → left ≡ room_of new files) → left ≡ room_of new files
     by None e fits others = absurd (some-not-none left (sym fits))
     by (Some behind) e fits others =
-        let here = next_room files old (record { sets = grown_in (end_set files write.output) old.sets; room = 0 }) write.output behind there refl e in
-        others (record { sets = grown_in (end_set files write.output) old.sets; room = 0 }) new left
-        (there_grown files old (record { sets = grown_in (end_set files write.output) old.sets; room = 0 }) write.output there refl) is
+        let here = next_room files old (record { sets = grown_in (end_set files write.output) old.sets; room = 0; entry_rooms = [] }) write.output behind there refl e in
+        others (record { sets = grown_in (end_set files write.output) old.sets; room = 0; entry_rooms = [] }) new left
+        (there_grown files old (record { sets = grown_in (end_set files write.output) old.sets; room = 0; entry_rooms = [] }) write.output there refl) is
         (ap (room_after writes) (sym here) ∙ fits)
 
 pub room_after-append : (first more : List Write) (room : OutputRoom) → room_after (first ++ more) room ≡ option_and_then (room_after more) (room_after first room)

@@ -14,3 +14,4 @@ pub mod LaterWrites
 pub mod UnitProgress
 pub mod Start
 pub mod Rewrites
+pub mod EntryRecords

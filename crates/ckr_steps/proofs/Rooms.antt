@@ -1,5 +1,5 @@
 -- The space that is left in the outputs, before a write and behind it.
-use Rattle.std.proofs.Common.{◌≡◌, ◌≤◌, ℕ, zero, suc, ◌+◌, ◌-◌, Bool, true, false, Option, Some, None, Result, Ok, Err, IfOk, refl, ap, sym, ◌∙◌, arith}
+use Rattle.std.proofs.Common.{◌≡◌, ◌≤◌, ℕ, zero, suc, ◌+◌, ◌-◌, Bool, true, false, [], Option, Some, None, Result, Ok, Err, IfOk, refl, ap, sym, ◌∙◌, arith}
 use Rattle.std.specs.Prelude.{IsTrue, nat_lt, if◌then◌else◌}
 use Rattle.std.specs.Option.{option_map_or, is_some}
 use Rattle.std.proofs.lemmas.Bool.{false≢true}
@@ -62,7 +62,7 @@ room_here (Some name) old new there is =
 -- and the other one has as much as before
 room_other : (name other : Option Name) (old new : Catalog) → IsSetThere old name → new.sets ≡ grown_in name old.sets → (AreSameSet other name → ⊥) → room_at new other ≡ room_at old other
 room_other name None old new there is differ = refl
-room_other None (Some other) old new there is differ = ap (λ sets. room_at (record { sets = sets; room = 0 }) (Some other)) is
+room_other None (Some other) old new there is differ = ap (λ sets. room_at (record { sets = sets; room = 0; entry_rooms = [] }) (Some other)) is
 room_other (Some name) (Some other) old new there is differ =
     let found = set_there old name there in
     let grows = is_longer name found.0 old new found.1 is in
@@ -130,8 +130,8 @@ module _ (files : Files) (old new : Catalog) (there : AreThere files old) (outpu
 pub grown_in-grown : (name : Option Name) (old new : Catalog) → IsSetThere old name → new.sets ≡ grown_in name old.sets → IsGrown old new
 grown_in-grown None old new there is = record {
   each = λ name set was. let le : set.length ≤ set.length = omega arith in
-      (set, ap (λ sets. set_of (record { sets = sets; room = 0 }) name) is ∙ was, record { parts = refl; lrecl = refl }, le);
-  back = λ name later was. (later, ap (λ sets. set_of (record { sets = sets; room = 0 }) name) (sym is) ∙ was, record { parts = refl; lrecl = refl });
+      (set, ap (λ sets. set_of (record { sets = sets; room = 0; entry_rooms = [] }) name) is ∙ was, record { parts = refl; lrecl = refl }, le);
+  back = λ name later was. (later, ap (λ sets. set_of (record { sets = sets; room = 0; entry_rooms = [] }) name) (sym is) ∙ was, record { parts = refl; lrecl = refl });
 }
 grown_in-grown (Some name) old new there is =
     let found = set_there old name there in

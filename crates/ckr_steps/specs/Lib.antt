@@ -4,3 +4,4 @@ pub mod Inputs
 pub mod Writes
 pub mod StepUnit
 pub mod Places
+pub mod EntryRecords

@@ -1,20 +1,22 @@
 //! A running step.
-ghost use Rattle.std.specs.Prelude.{◌≡◌, ◌≤◌, ◌<◌, ℕ, Bool, true, false, IsTrue, IfOk, OnOk, Some};
+ghost use Rattle.std.specs.Prelude.{◌≡◌, ◌≤◌, ◌<◌, ◌+◌, ℕ, Bool, true, false, IsTrue, IfOk, OnOk, Some, length};
 ghost use Rattle.std.specs.Option.{option_map_or};
 ghost use Rattle.ckr_base.specs.declared.programs.NextDue.TheVariants.{Unit as OneUnit};
 ghost use Rattle.ckr_outside.specs.Disk.{OnlyReads, HasCause};
 ghost use Rattle.ckr_library.specs.declared.sets.DataSet.{DataSet as OneSet};
-ghost use Rattle.ckr_library.specs.Catalog.{Catalog, Holding, set_of};
+ghost use Rattle.ckr_library.specs.Catalog.{Catalog, Holding, records_of, set_of};
 ghost use Rattle.ckr_library.specs.NameMaps.{Name, entry_at};
 ghost use Rattle.ckr_meaning.specs.StepRun.{StepStart};
 ghost use Rattle.ckr_programs.specs.Ranges.{IsInRange};
 ghost use Rattle.ckr_volumes.specs.declared.layout.Layout.{Layout as OneLayout};
-ghost use Rattle.ckr_volumes.specs.Layouts.{is_laid_out, disk_needed};
+ghost use Rattle.ckr_volumes.specs.Layouts.{is_laid_out, disk_needed, StandsIn};
 ghost use Rattle.ckr_steps.specs.Files.{files_of};
 ghost use Rattle.ckr_steps.specs.Units.{first_state, due_of, served_of, taken_of, entries_of};
 ghost use Rattle.ckr_steps.specs.Inputs.{AreStored, AreThere};
 ghost use Rattle.ckr_steps.specs.Writes.{grown, ChangesKeeping};
+ghost use Rattle.ckr_steps.specs.EntryRecords.{HasEntry, ChangesRecords, bytes_on};
 
+use crate::entry_records::put_entry;
 use crate::files::{Files, files_of};
 use crate::heads::heads_of;
 use crate::unit_ahead::{UnitAhead, gained};
@@ -23,7 +25,7 @@ use crate::units;
 use ckr_base::{Code, DsName, Duplicate, NextDue, NoMemory, Rec};
 use ckr_entry::State;
 use ckr_jcl::{Parm, Step};
-use ckr_library::Library;
+use ckr_library::{DataSet, Library};
 use ckr_outside::{Disk, Failed};
 use ckr_volumes::Layout;
 use std::alloc::Global;
@@ -150,6 +152,41 @@ impl StepRun {
             Some(set) => set.length + gained(ahead.writes.as_slice(), &self.files, name),
             None => 0,
         }
+    }
+
+    /// Writes the records of an entry behind the last one of a data set for checkpoints, whose length stays: 256 bytes each, with zeros behind
+    /// the entry's last one (IBM GC28-6708). The data set has 256 bytes a record, and space for them. No memory is taken. Answers the place
+    /// of the first one, counted from 0.
+    ///
+    /// `Failed`: only where the disk's faults rose in this call; then these records alone may hold any bytes.
+    pub fn checkpoint<D: Disk>(
+        &self,
+        disk: &mut D,
+        layout: &Layout,
+        set: &DataSet,
+        entry: &[u8],
+    ) -> Result<u32, Failed>
+        requires layout { IsTrue (is_laid_out layout.now) }
+        requires fits { disk_needed layout.now ≤ D.size disk.old }
+        requires stands { StandsIn layout.now set.now }
+        requires records { set.now.lrecl ≡ 256 }
+        requires space { set.now.length + records_of (length entry.now) ≤ set.now.space }
+        ensures place { IfOk result (λ place. place ≡ set.now.length) }
+        ensures written { D.told → OnOk result (HasEntry (D.content disk.new) layout.now set.now set.now.length entry.now) }
+
+        // The bytes that stand there are the entry.
+        ensures reads_back { D.told → OnOk result (bytes_on (D.content disk.new) layout.now set.now set.now.length (length entry.now) ≡ entry.now) }
+
+        // Every other record is as before, also in each image that a stop may leave.
+        ensures changes { ChangesRecords D.told D.content D.may_leave D.moment D.left_since layout.now set.now set.now.length (records_of (length entry.now)) disk.old disk.new }
+
+        // So the records stay that each data set of a library has, where this is one of them.
+        ensures keeps { (library : Catalog) (name : Name) → AreStored layout.now library → set_of library name ≡ Some set.now → ChangesKeeping D.told D.content D.may_leave D.moment D.left_since layout.now library disk.old disk.new }
+        ensures size { D.size disk.new ≡ D.size disk.old }
+        ensures cause { HasCause (D.faults disk.old) (D.faults disk.new) result }
+    {
+        put_entry(disk, layout, set, set.length, entry)?;
+        Ok(set.length)
     }
 
     /// Works the next unit out: it reads the next records of the inputs. Nothing is written, and the step stays where it is. It takes no

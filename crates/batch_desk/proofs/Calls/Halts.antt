@@ -3,7 +3,7 @@ use Rattle.std.proofs.Common.{◌≡◌, ◌++◌, ℕ, List, Result, Ok, Err, I
 use Rattle.ckr_cards.specs.Session.{Handed}
 use Rattle.ckr_desk.specs.Model.OpenImages.{event_records}
 use Rattle.ckr_desk.specs.Soundness.{state_of}
-use Rattle.ckr_desk.specs.State.{DeskView}
+use Rattle.ckr_desk.specs.State.{DeskView, disk_of, layout_of}
 use Rattle.batch_desk.specs.declared.clerk.Clerk.{Clerk}
 use Rattle.batch_desk.specs.declared.stop.Halt.{Halt}
 use Rattle.batch_desk.specs.declared.stop.Halt.TheVariants as Halts
@@ -36,20 +36,20 @@ module _ {D : Type 0} (content : D → List ℕ) (moment : D → ℕ) (left_sinc
 
   -- memory ran out behind requests that were served
   pub memory_behind : {T : Type 0} (r : Result T Halt) (a b : Clerk D) (xs ys : List Handed) (t u v w : List ℕ) → Goes content moment left_since size a.desk b.desk → Serves (seen content a) (seen content b) xs t u
-      → IsErrAnd r (λ h. h ≡ Halts.Memory) → IfErr r (λ h. Stopped content moment left_since size a.desk b.desk.store.disk (HaltsSo h (state_of content a.desk) (xs ++ ys) v w))
+      → IsErrAnd r (λ h. h ≡ Halts.Memory) → IfErr r (λ h. Stopped content moment left_since size a.desk (disk_of b.desk) (HaltsSo h (state_of content a.desk) (xs ++ ys) v w))
   memory_behind (Ok x) a b xs ys t u v w goes serves is = tt
   memory_behind (Err h) a b xs ys t u v w goes serves is =
       let s = state_of content a.desk in
       let more = events_told-front s xs ys in
-      subst (λ (k : Halt). Stopped content moment left_since size a.desk b.desk.store.disk (HaltsSo k s (xs ++ ys) v w)) (sym is)
+      subst (λ (k : Halt). Stopped content moment left_since size a.desk (disk_of b.desk) (HaltsSo k s (xs ++ ys) v w)) (sym is)
       (stopped_here content moment left_since size a.desk b.desk goes (events_told s xs) (HaltsSo Halts.Memory s (xs ++ ys) v w) serves.events (comes_all (events_told s (xs ++ ys)) more.0 (events_told s xs) more.1))
 
   -- memory ran out for a text, behind events that came
   pub memory_here : {T : Type 0} (r : Result T Halt) (a b b' : DeskView D) (came : List (List ℕ)) (So : Halt → List (List ℕ) → List (List ℕ) → Type 0) → b' ≡ b → Goes content moment left_since size a b
-      → event_records b.store.layout (content b.store.disk) ≡ event_records a.store.layout (content a.store.disk) ++ came → So Halts.Memory came came → IfErr r (λ h. h ≡ Halts.Memory)
-      → IfErr r (λ h. Stopped content moment left_since size a b'.store.disk (So h))
+      → event_records (layout_of b) (content (disk_of b)) ≡ event_records (layout_of a) (content (disk_of a)) ++ came → So Halts.Memory came came → IfErr r (λ h. h ≡ Halts.Memory)
+      → IfErr r (λ h. Stopped content moment left_since size a (disk_of b') (So h))
   memory_here (Ok x) a b b' came So same goes behind so is = tt
   memory_here (Err h) a b b' came So same goes behind so is =
-      subst (λ (k : Halt). Stopped content moment left_since size a b'.store.disk (So k)) (sym is)
-      (subst (λ (w : DeskView D). Stopped content moment left_since size a w.store.disk (So Halts.Memory)) (sym same)
+      subst (λ (k : Halt). Stopped content moment left_since size a (disk_of b') (So k)) (sym is)
+      (subst (λ (w : DeskView D). Stopped content moment left_since size a (disk_of w) (So Halts.Memory)) (sym same)
       (stopped_here content moment left_since size a b goes came (So Halts.Memory) behind so))

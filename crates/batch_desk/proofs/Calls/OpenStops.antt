@@ -6,30 +6,30 @@ use Rattle.ckr_desk.specs.Model.OpenImages.{event_records}
 use Rattle.ckr_desk.specs.declared.error.OpenError.{OpenError}
 use Rattle.ckr_desk.specs.FirstSync.{FailsLate, FromSync, IsLeft}
 use Rattle.ckr_desk.specs.Soundness.{AllSound, HasKept, Sound}
-use Rattle.ckr_desk.specs.State.{DeskView}
+use Rattle.ckr_desk.specs.State.{DeskView, disk_of, layout_of}
 use Rattle.batch_desk.specs.Stops.{Has, KeepsTo}
 use Rattle.batch_desk.proofs.Calls.Stops.{kept_more}
 
 module _ {D : Type 0} (told : Type 0) (content : D → List ℕ) (may_leave : D → List ℕ → Type 0) (moment : D → ℕ) (left_since : D → ℕ → List ℕ → Type 0) (size : D → ℕ) where
   -- the disk is opened, and then these events came
   pub each_served : (disk : D) (desk : DeskView D) (end : D)
-      → FromSync content may_leave moment left_since disk desk.store.disk (HasKept desk.store.layout (size disk) (event_records desk.store.layout (content disk)) [])
-      → event_records desk.store.layout (content desk.store.disk) ≡ event_records desk.store.layout (content disk) → size desk.store.disk ≡ size disk
+      → FromSync content may_leave moment left_since disk (disk_of desk) (HasKept (layout_of desk) (size disk) (event_records (layout_of desk) (content disk)) [])
+      → event_records (layout_of desk) (content (disk_of desk)) ≡ event_records (layout_of desk) (content disk) → size (disk_of desk) ≡ size disk
       → (came : List (List ℕ)) → KeepsTo content moment left_since size desk end came
-      → FromSync content may_leave moment left_since disk end (HasKept desk.store.layout (size disk) (event_records desk.store.layout (content disk)) came)
+      → FromSync content may_leave moment left_since disk end (HasKept (layout_of desk) (size disk) (event_records (layout_of desk) (content disk)) came)
   each_served disk desk end opened same same_size came each = record {
     synced = opened.synced;
     reads = opened.reads;
     settled = opened.settled;
-    since = and_then moment left_since opened.synced desk.store.disk end _ _ (HasKept desk.store.layout (size disk) (event_records desk.store.layout (content disk)) came) opened.since each
-        (λ image kept. kept_more desk.store.layout (size disk) (event_records desk.store.layout (content disk)) [] came image kept)
+    since = and_then moment left_since opened.synced (disk_of desk) end _ _ (HasKept (layout_of desk) (size disk) (event_records (layout_of desk) (content disk)) came) opened.since each
+        (λ image kept. kept_more (layout_of desk) (size disk) (event_records (layout_of desk) (content disk)) [] came image kept)
         (λ image kept.
-        subst (λ (events : List (List ℕ)). HasKept desk.store.layout (size disk) events came image) same
-        (subst (λ (n : ℕ). HasKept desk.store.layout n (event_records desk.store.layout (content desk.store.disk)) came image) same_size kept));
+        subst (λ (events : List (List ℕ)). HasKept (layout_of desk) (size disk) events came image) same
+        (subst (λ (n : ℕ). HasKept (layout_of desk) n (event_records (layout_of desk) (content (disk_of desk))) came image) same_size kept));
   }
 
-  pub has_served : (disk : D) (desk : DeskView D) (end : D) → event_records desk.store.layout (content desk.store.disk) ≡ event_records desk.store.layout (content disk)
-      → (kept : List (List ℕ)) → Has content moment left_since size desk end kept → event_records desk.store.layout (content end) ≡ event_records desk.store.layout (content disk) ++ kept
+  pub has_served : (disk : D) (desk : DeskView D) (end : D) → event_records (layout_of desk) (content (disk_of desk)) ≡ event_records (layout_of desk) (content disk)
+      → (kept : List (List ℕ)) → Has content moment left_since size desk end kept → event_records (layout_of desk) (content end) ≡ event_records (layout_of desk) (content disk) ++ kept
   has_served disk desk end same kept has = has ∙ ap (λ l. l ++ kept) same
 
   -- ---- sound images

@@ -9,7 +9,7 @@ use Rattle.ckr_desk.specs.Model.OpenImages.{event_records}
 use Rattle.ckr_desk.specs.NoChange.{StaysBy}
 use Rattle.ckr_desk.specs.Requests.{came_by}
 use Rattle.ckr_desk.specs.Soundness.{HasKept, KeepsWithin}
-use Rattle.ckr_desk.specs.State.{DeskView}
+use Rattle.ckr_desk.specs.State.{DeskView, disk_of, layout_of}
 use Rattle.batch_desk.specs.Stops.{Comes, Goes, Has, KeepsTo, Stopped}
 use Rattle.batch_desk.proofs.Service.Events.{front_of_few}
 
@@ -33,66 +33,66 @@ kept_behind layout size before first came image has = record {
 }
 
 -- the events behind a call, with the layout behind it
-pub came_there : {D : Type 0} (content : D → List ℕ) (old new : DeskView D) (came : List (List ℕ)) → new.store.layout ≡ old.store.layout
-    → event_records old.store.layout (content new.store.disk) ≡ event_records old.store.layout (content old.store.disk) ++ came
-    → event_records new.store.layout (content new.store.disk) ≡ event_records old.store.layout (content old.store.disk) ++ came
-came_there content old new came layout told = ap (λ (l : Layout). event_records l (content new.store.disk)) layout ∙ told
+pub came_there : {D : Type 0} (content : D → List ℕ) (old new : DeskView D) (came : List (List ℕ)) → layout_of new ≡ layout_of old
+    → event_records (layout_of old) (content (disk_of new)) ≡ event_records (layout_of old) (content (disk_of old)) ++ came
+    → event_records (layout_of new) (content (disk_of new)) ≡ event_records (layout_of old) (content (disk_of old)) ++ came
+came_there content old new came layout told = ap (λ (l : Layout). event_records l (content (disk_of new))) layout ∙ told
 
 module _ {D : Type 0} (content : D → List ℕ) (moment : D → ℕ) (left_since : D → ℕ → List ℕ → Type 0) (size : D → ℕ) where
   abbrev events_of : DeskView D → List (List ℕ)
-  events_of desk = event_records desk.store.layout (content desk.store.disk)
+  events_of desk = event_records (layout_of desk) (content (disk_of desk))
 
   -- nothing is done
   pub goes_nowhere : (desk : DeskView D) → KeepsWithin content moment left_since size desk desk [] → Goes content moment left_since size desk desk
   goes_nowhere desk kept = record { came = []; each = kept; has = sym (append-nil (events_of desk)); same_layout = refl; same_size = refl }
 
   -- a call of the desk
-  pub goes_done : (old new : DeskView D) (came : List (List ℕ)) → new.store.layout ≡ old.store.layout → size new.store.disk ≡ size old.store.disk
-      → KeepsWithin content moment left_since size old new came → Has content moment left_since size old new.store.disk came → Goes content moment left_since size old new
+  pub goes_done : (old new : DeskView D) (came : List (List ℕ)) → layout_of new ≡ layout_of old → size (disk_of new) ≡ size (disk_of old)
+      → KeepsWithin content moment left_since size old new came → Has content moment left_since size old (disk_of new) came → Goes content moment left_since size old new
   goes_done old new came same_layout same_size kept has = record { came = came; each = kept; has = has; same_layout = same_layout; same_size = same_size }
 
   -- which events came, by those behind
   pub came_is : (a b : DeskView D) (goes : Goes content moment left_since size a b) (came : List (List ℕ)) → events_of b ≡ events_of a ++ came → goes.came ≡ came
   came_is a b goes came behind =
       append_cancel_left (events_of a) goes.came came
-      (sym goes.has ∙ ap (λ (l : Layout). event_records l (content b.store.disk)) (sym goes.same_layout) ∙ behind)
+      (sym goes.has ∙ ap (λ (l : Layout). event_records l (content (disk_of b))) (sym goes.same_layout) ∙ behind)
 
   pub events_behind : (a b : DeskView D) (goes : Goes content moment left_since size a b) → events_of b ≡ events_of a ++ goes.came
-  events_behind a b goes = ap (λ (l : Layout). event_records l (content b.store.disk)) goes.same_layout ∙ goes.has
+  events_behind a b goes = ap (λ (l : Layout). event_records l (content (disk_of b))) goes.same_layout ∙ goes.has
 
   -- exactly these came
   pub came_exactly : (a b : DeskView D) (goes : Goes content moment left_since size a b) (came : List (List ℕ)) → events_of b ≡ events_of a ++ came
-      → KeepsTo content moment left_since size a b.store.disk came × Has content moment left_since size a b.store.disk came
+      → KeepsTo content moment left_since size a (disk_of b) came × Has content moment left_since size a (disk_of b) came
   came_exactly a b goes came behind =
       let same : goes.came ≡ came = came_is a b goes came behind in
-      (subst (KeepsTo content moment left_since size a b.store.disk) same goes.each, subst (Has content moment left_since size a b.store.disk) same goes.has)
+      (subst (KeepsTo content moment left_since size a (disk_of b)) same goes.each, subst (Has content moment left_since size a (disk_of b)) same goes.has)
 
   kept_from : (a b : DeskView D) (goes : Goes content moment left_since size a b) (came : List (List ℕ)) (image : List ℕ)
-      → HasKept b.store.layout (size b.store.disk) (events_of b) came image → HasKept a.store.layout (size a.store.disk) (events_of a) (goes.came ++ came) image
+      → HasKept (layout_of b) (size (disk_of b)) (events_of b) came image → HasKept (layout_of a) (size (disk_of a)) (events_of a) (goes.came ++ came) image
   kept_from a b goes came image kept =
-      kept_behind a.store.layout (size a.store.disk) (events_of a) goes.came came image
-      (subst (λ (events : List (List ℕ)). HasKept a.store.layout (size a.store.disk) events came image) goes.has
-      (subst (λ (n : ℕ). HasKept a.store.layout n (event_records a.store.layout (content b.store.disk)) came image) goes.same_size
-      (subst (λ (l : Layout). HasKept l (size b.store.disk) (event_records l (content b.store.disk)) came image) goes.same_layout kept)))
+      kept_behind (layout_of a) (size (disk_of a)) (events_of a) goes.came came image
+      (subst (λ (events : List (List ℕ)). HasKept (layout_of a) (size (disk_of a)) events came image) goes.has
+      (subst (λ (n : ℕ). HasKept (layout_of a) n (event_records (layout_of a) (content (disk_of b))) came image) goes.same_size
+      (subst (λ (l : Layout). HasKept l (size (disk_of b)) (event_records l (content (disk_of b))) came image) goes.same_layout kept)))
 
   pub each_then : (a b : DeskView D) (c : D) (goes : Goes content moment left_since size a b) (came : List (List ℕ)) → KeepsTo content moment left_since size b c came
       → KeepsTo content moment left_since size a c (goes.came ++ came)
   each_then a b c goes came second =
-      and_then moment left_since a.store.disk b.store.disk c _ _ (HasKept a.store.layout (size a.store.disk) (events_of a) (goes.came ++ came)) goes.each second
-      (λ image kept. kept_more a.store.layout (size a.store.disk) (events_of a) goes.came came image kept)
+      and_then moment left_since (disk_of a) (disk_of b) c _ _ (HasKept (layout_of a) (size (disk_of a)) (events_of a) (goes.came ++ came)) goes.each second
+      (λ image kept. kept_more (layout_of a) (size (disk_of a)) (events_of a) goes.came came image kept)
       (kept_from a b goes came)
 
   pub has_then : (a b : DeskView D) (c : D) (goes : Goes content moment left_since size a b) (kept : List (List ℕ)) → Has content moment left_since size b c kept
       → Has content moment left_since size a c (goes.came ++ kept)
   has_then a b c goes kept second =
-      subst (λ (l : Layout). event_records l (content c) ≡ event_records l (content b.store.disk) ++ kept) goes.same_layout second
+      subst (λ (l : Layout). event_records l (content c) ≡ event_records l (content (disk_of b)) ++ kept) goes.same_layout second
       ∙ ap (λ l. l ++ kept) goes.has ∙ append_assoc (events_of a) goes.came kept
 
   pub goes_then : (a b c : DeskView D) → Goes content moment left_since size a b → Goes content moment left_since size b c → Goes content moment left_since size a c
   goes_then a b c first second = record {
     came = first.came ++ second.came;
-    each = each_then a b c.store.disk first second.came second.each;
-    has = has_then a b c.store.disk first second.came second.has;
+    each = each_then a b (disk_of c) first second.came second.each;
+    has = has_then a b (disk_of c) first second.came second.has;
     same_layout = second.same_layout ∙ first.same_layout;
     same_size = second.same_size ∙ first.same_size;
   }
@@ -121,7 +121,7 @@ module _ {D : Type 0} (content : D → List ℕ) (moment : D → ℕ) (left_sinc
 
   -- nothing more came
   pub stopped_here : (a b : DeskView D) (goes : Goes content moment left_since size a b) (came : List (List ℕ)) (So : List (List ℕ) → List (List ℕ) → Type 0)
-      → events_of b ≡ events_of a ++ came → So came came → Stopped content moment left_since size a b.store.disk So
+      → events_of b ≡ events_of a ++ came → So came came → Stopped content moment left_since size a (disk_of b) So
   stopped_here a b goes came So behind so = record {
     came = goes.came;
     kept = goes.came;
@@ -144,19 +144,19 @@ module _ {D : Type 0} (content : D → List ℕ) (moment : D → ℕ) (left_sinc
   -- ---- a call of the desk that wasn't done
 
   -- the disk reads as before
-  pub nothing_came : (old new : DeskView D) (So : List (List ℕ) → List (List ℕ) → Type 0) → KeepsWithin content moment left_since size old new [] → content new.store.disk ≡ content old.store.disk → So [] []
-      → Stopped content moment left_since size old new.store.disk So
+  pub nothing_came : (old new : DeskView D) (So : List (List ℕ) → List (List ℕ) → Type 0) → KeepsWithin content moment left_since size old new [] → content (disk_of new) ≡ content (disk_of old) → So [] []
+      → Stopped content moment left_since size old (disk_of new) So
   nothing_came old new So kept reads so = record {
     came = [];
     kept = [];
     so = so;
     each = kept;
-    has = ap (event_records old.store.layout) reads ∙ sym (append-nil (events_of old));
+    has = ap (event_records (layout_of old)) reads ∙ sym (append-nil (events_of old));
   }
 
   -- there was no memory
   pub without_memory : (T : Type 0) (may_leave : D → List ℕ → Type 0) (faults : D → ℕ) (old new : DeskView D) (error : DeskError) (came : List (List ℕ)) (So : List (List ℕ) → List (List ℕ) → Type 0) → error ≡ NoMemory
-      → KeepsWithin content moment left_since size old new (came_by {T = T} (Err error) came) → StaysBy content may_leave faults old new error → So [] [] → Stopped content moment left_since size old new.store.disk So
+      → KeepsWithin content moment left_since size old new (came_by {T = T} (Err error) came) → StaysBy content may_leave faults old new error → So [] [] → Stopped content moment left_since size old (disk_of new) So
   without_memory T may_leave faults old new error came So is kept stays so =
       nothing_came old new So (subst (λ (e : DeskError). KeepsWithin content moment left_since size old new (came_by {T = T} (Err e) came)) is kept)
       (subst (StaysBy content may_leave faults old new) is stays).reads so
@@ -164,18 +164,18 @@ module _ {D : Type 0} (content : D → List ℕ) (moment : D → ℕ) (left_sinc
   -- the book was full
   pub with_full_book : (T : Type 0) (may_leave : D → List ℕ → Type 0) (faults : D → ℕ) (old new : DeskView D) (error : DeskError) (need left : ℕ) (came : List (List ℕ)) (So : List (List ℕ) → List (List ℕ) → Type 0)
       → error ≡ BookFull need left
-      → KeepsWithin content moment left_since size old new (came_by {T = T} (Err error) came) → StaysBy content may_leave faults old new error → So [] [] → Stopped content moment left_since size old new.store.disk So
+      → KeepsWithin content moment left_since size old new (came_by {T = T} (Err error) came) → StaysBy content may_leave faults old new error → So [] [] → Stopped content moment left_since size old (disk_of new) So
   with_full_book T may_leave faults old new error need left came So is kept stays so =
       nothing_came old new So (subst (λ (e : DeskError). KeepsWithin content moment left_since size old new (came_by {T = T} (Err e) came)) is kept)
       (subst (StaysBy content may_leave faults old new) is stays).reads so
 
   -- the disk failed, of which a read gives one of the images: its event was kept or it wasn't
-  pub with_failed_disk : (may_leave : D → List ℕ → Type 0) (old new : DeskView D) (came : List (List ℕ)) (So : List (List ℕ) → List (List ℕ) → Type 0) → may_leave new.store.disk (content new.store.disk)
-      → ((t : ℕ) (image : List ℕ) → t ≤ moment new.store.disk → may_leave new.store.disk image → left_since new.store.disk t image)
+  pub with_failed_disk : (may_leave : D → List ℕ → Type 0) (old new : DeskView D) (came : List (List ℕ)) (So : List (List ℕ) → List (List ℕ) → Type 0) → may_leave (disk_of new) (content (disk_of new))
+      → ((t : ℕ) (image : List ℕ) → t ≤ moment (disk_of new) → may_leave (disk_of new) image → left_since (disk_of new) t image)
       → length came ≤ 1 → KeepsWithin content moment left_since size old new came → ((kept : List (List ℕ)) → (kept ≡ came) ⊎ (kept ≡ []) → So came kept)
-      → Stopped content moment left_since size old new.store.disk So
+      → Stopped content moment left_since size old (disk_of new) So
   with_failed_disk may_leave old new came So reads counts few kept so =
-      let has = kept.each (content new.store.disk) (counts (moment old.store.disk) (content new.store.disk) kept.later reads) in
+      let has = kept.each (content (disk_of new)) (counts (moment (disk_of old)) (content (disk_of new)) kept.later reads) in
       record {
         came = came;
         kept = has.front;
@@ -190,20 +190,20 @@ module _ {D : Type 0} (content : D → List ℕ) (moment : D → ℕ) (left_sinc
   failed_kept T old new error came is kept = subst (λ (e : DeskError). KeepsWithin content moment left_since size old new (came_by {T = T} (Err e) came)) is kept
 
   -- the events behind a call's result
-  pub events_on : {T E : Type 0} (r : Result T E) (a b : DeskView D) (came : List (List ℕ)) → OnOk r (b.store.layout ≡ a.store.layout) → OnOk r (Has content moment left_since size a b.store.disk came)
+  pub events_on : {T E : Type 0} (r : Result T E) (a b : DeskView D) (came : List (List ℕ)) → OnOk r (layout_of b ≡ layout_of a) → OnOk r (Has content moment left_since size a (disk_of b) came)
       → OnOk r (events_of b ≡ events_of a ++ came)
-  events_on (Ok x) a b came layout has = ap (λ (l : Layout). event_records l (content b.store.disk)) layout ∙ has
+  events_on (Ok x) a b came layout has = ap (λ (l : Layout). event_records l (content (disk_of b))) layout ∙ has
   events_on (Err e) a b came layout has = tt
 
   pub same_events : (a b : DeskView D) → b ≡ a → events_of b ≡ events_of a ++ []
   same_events a b is = ap events_of is ∙ sym (append-nil (events_of a))
 
   -- a call that tells no event
-  pub has_none : (may_leave : D → List ℕ → Type 0) (old new : DeskView D) → may_leave new.store.disk (content new.store.disk)
-      → ((t : ℕ) (image : List ℕ) → t ≤ moment new.store.disk → may_leave new.store.disk image → left_since new.store.disk t image)
-      → KeepsWithin content moment left_since size old new [] → Has content moment left_since size old new.store.disk []
+  pub has_none : (may_leave : D → List ℕ → Type 0) (old new : DeskView D) → may_leave (disk_of new) (content (disk_of new))
+      → ((t : ℕ) (image : List ℕ) → t ≤ moment (disk_of new) → may_leave (disk_of new) image → left_since (disk_of new) t image)
+      → KeepsWithin content moment left_since size old new [] → Has content moment left_since size old (disk_of new) []
   has_none may_leave old new reads counts kept =
-      let has = kept.each (content new.store.disk) (counts (moment old.store.disk) (content new.store.disk) kept.later reads) in
+      let has = kept.each (content (disk_of new)) (counts (moment (disk_of old)) (content (disk_of new)) kept.later reads) in
       has.events ∙ ap (λ l. events_of old ++ l) (none has.front has.more has.split)
     where
       none : (front more : List (List ℕ)) → ◌≡◌ {A = List (List ℕ)} [] (front ++ more) → front ≡ []

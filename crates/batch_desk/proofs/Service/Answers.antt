@@ -6,7 +6,7 @@ use Rattle.ckr_cards.specs.Session.{Handed}
 use Rattle.ckr_cards.specs.Session.Handed.{Deck, Order as Command}
 use Rattle.ckr_desk.specs.Requests.{call_fits, event_in, spelled}
 use Rattle.ckr_desk.specs.Soundness.{IsTrusted, state_of}
-use Rattle.ckr_desk.specs.State.{RoomyDesk, DeskView}
+use Rattle.ckr_desk.specs.State.{DeskView, RoomyDesk, tables_in_memory}
 use Rattle.ckr_desk.specs.Submit.{purge_call, submit_answer}
 use Rattle.ckr_desk.specs.Model.Submitted.{Submitted}
 use Rattle.ckr_desk.specs.Model.Submitted.TheVariants.{Job, Refused}
@@ -24,7 +24,7 @@ use Rattle.batch_desk.proofs.Service.Order.{serves_one, text_to-one}
 
 -- the tables in memory are those behind the events
 pub tables_in : {D : Type 0} (told : Type 0) (content : D → List ℕ) (may_leave : D → List ℕ → Type 0) (desk : DeskView D) → IsTrusted told content may_leave desk
-    → desk.jobs.tables.desk ≡ tables_of (state_of content desk)
+    → tables_in_memory desk ≡ tables_of (state_of content desk)
 tables_in told content may_leave desk trusted = trusted.stands.tables
 
 -- ---- a deck

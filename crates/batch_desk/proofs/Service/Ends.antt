@@ -1,7 +1,7 @@
 -- How a call ends.
 use Rattle.std.proofs.Common.{◌≡◌, ◌≤◌, ℕ, Bool, List, [], ◌++◌, Option, Result, Ok, Err, unwrap_or, sym, subst}
 use Rattle.ckr_desk.specs.Soundness.{IsTrusted, state_of}
-use Rattle.ckr_desk.specs.State.{RoomyDesk, DeskView}
+use Rattle.ckr_desk.specs.State.{DeskView, RoomyDesk, disk_of}
 use Rattle.batch_desk.specs.declared.stop.Stop.{Stop}
 use Rattle.batch_desk.specs.declared.stop.Stop.TheVariants as Stops
 use Rattle.batch_desk.specs.Feeds.{Faults, StopCause, StopsAt, Serving, faults_of}
@@ -63,11 +63,11 @@ pub serving_by : {D : Type 0} (told : Type 0) (content : D → List ℕ) (may_le
     (outcome : Result Bool Stop) (a b c d : ℕ) (left rest old new : Option (List ℕ))
     → inside ≡ desk → disk ≡ end
     → Serving (IsTrusted told content may_leave inside) (KeepsTo content moment left_since size inside end) (Has content moment left_since size inside end) (state_of content inside) outcome
-    (faults_of a b c d (faults inside.store.disk) (faults end)) left rest old new
+    (faults_of a b c d (faults (disk_of inside)) (faults end)) left rest old new
     → Serving (IsTrusted told content may_leave desk) (KeepsTo content moment left_since size desk disk) (Has content moment left_since size desk disk) (state_of content desk) outcome
-    (faults_of a b c d (faults desk.store.disk) (faults disk)) left rest old new
+    (faults_of a b c d (faults (disk_of desk)) (faults disk)) left rest old new
 serving_by {D = D} told content may_leave moment left_since size faults inside desk end disk outcome a b c d left rest old new is back s =
     subst (λ (w : DeskView D). Serving (IsTrusted told content may_leave w) (KeepsTo content moment left_since size w disk) (Has content moment left_since size w disk) (state_of content w) outcome
-    (faults_of a b c d (faults w.store.disk) (faults disk)) left rest old new) is
+    (faults_of a b c d (faults (disk_of w)) (faults disk)) left rest old new) is
     (subst (λ (w : D). Serving (IsTrusted told content may_leave inside) (KeepsTo content moment left_since size inside w) (Has content moment left_since size inside w) (state_of content inside) outcome
-    (faults_of a b c d (faults inside.store.disk) (faults w)) left rest old new) (sym back) s)
+    (faults_of a b c d (faults (disk_of inside)) (faults w)) left rest old new) (sym back) s)

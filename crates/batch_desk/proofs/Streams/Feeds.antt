@@ -6,7 +6,7 @@ use Rattle.std.proofs.lemmas.List.{take_at, take-take, length-take-le}
 use Rattle.std.proofs.lemmas.List.Elements.{All-nil}
 use Rattle.ckr_base.proofs.KnownBytes.{Appends-nil, Consumes-trans}
 use Rattle.ckr_outside.specs.Faults.{Rose}
-use Rattle.ckr_desk.specs.State.{RoomyDesk}
+use Rattle.ckr_desk.specs.State.{RoomyDesk, disk_of}
 use Rattle.batch_desk.specs.declared.clerk.Clerk.{Clerk}
 use Rattle.batch_desk.specs.declared.flow.Flow.{Flow}
 use Rattle.batch_desk.specs.declared.stop.Stop.{Stop}
@@ -157,9 +157,9 @@ module _ {D : Type 0} (content : D → List ℕ) (moment : D → ℕ) (left_sinc
   -- the source failed
   pub stopped_by_source : (f : Flow D) (count : ℕ) (left mid rest old now : Option (List ℕ)) (stop : Stop) (before between after c d c' d' : ℕ)
       → Feeding content trusted first f count left mid old now → count ≤ 16_777_216 → Keeps mid rest → (trusted → GoesTo f) → before ≤ between → stop ≡ Stops.Source → Rose between after
-      → IsStopped trusted (EachTo f.session.clerk.desk.store.disk) (HasTo f.session.clerk.desk.store.disk) first.state stop (faults_of before after c d c' d') left rest old now
+      → IsStopped trusted (EachTo (disk_of f.session.clerk.desk)) (HasTo (disk_of f.session.clerk.desk)) first.state stop (faults_of before after c d c' d') left rest old now
   stopped_by_source f count left mid rest old now stop before between after c d c' d' h few kept goes later e rose =
-      subst (λ (s : Stop). IsStopped trusted (EachTo f.session.clerk.desk.store.disk) (HasTo f.session.clerk.desk.store.disk) first.state s (faults_of before after c d c' d') left rest old now) (sym e)
+      subst (λ (s : Stop). IsStopped trusted (EachTo (disk_of f.session.clerk.desk)) (HasTo (disk_of f.session.clerk.desk)) first.state s (faults_of before after c d c' d') left rest old now) (sym e)
       (record {
         taken = h.taken;
         given = Consumes-kept left mid rest h.taken h.given kept;
@@ -174,7 +174,7 @@ module _ {D : Type 0} (content : D → List ℕ) (moment : D → ℕ) (left_sinc
   -- one byte more than the limit was given
   pub stopped_by_limit : (f g : Flow D) (count n : ℕ) (left mid rest old now new : Option (List ℕ)) (piece : List ℕ) (faults : Faults)
       → Feeding content trusted first f count left mid old now → Consumes mid rest piece → length piece ≡ suc n → count + suc n ≡ 16_777_217 → (trusted → GoesTo g) → (trusted → Carries content f g (take n piece) now new)
-      → IsStopped trusted (EachTo g.session.clerk.desk.store.disk) (HasTo g.session.clerk.desk.store.disk) first.state Stops.Limit faults left rest old new
+      → IsStopped trusted (EachTo (disk_of g.session.clerk.desk)) (HasTo (disk_of g.session.clerk.desk)) first.state Stops.Limit faults left rest old new
   stopped_by_limit f g count n left mid rest old now new piece faults h given long all goes carries =
       let front : take 16_777_216 (h.taken ++ piece) ≡ h.taken ++ take n piece =
       ap (take 16_777_216) (ap (λ l. h.taken ++ l) (sym (take-append-drop n piece)) ∙ sym (append_assoc h.taken (take n piece) (drop n piece)))
@@ -199,7 +199,7 @@ module _ {D : Type 0} (content : D → List ℕ) (moment : D → ℕ) (left_sinc
 
   served : (f g : Flow D) (refused : Bool) (left rest old mid new : Option (List ℕ)) → a.refused ≡ false
       → FedAll content trusted first f left rest old mid → (trusted → GoesTo g) → (trusted → Finishes content f (seen content g.session.clerk) refused mid new)
-      → IsServed trusted (EachTo g.session.clerk.desk.store.disk) (HasTo g.session.clerk.desk.store.disk) first.state refused left rest old new
+      → IsServed trusted (EachTo (disk_of g.session.clerk.desk)) (HasTo (disk_of g.session.clerk.desk)) first.state refused left rest old new
   served f g refused left rest old mid new clean h goes finishes = record {
     all = h.all;
     given = h.given;
@@ -238,13 +238,13 @@ module _ {D : Type 0} (content : D → List ℕ) (moment : D → ℕ) (left_sinc
   pub serving_on : (here : Type 0) (f g : Flow D) (r : Result Bool Stop) (left rest old mid new : Option (List ℕ)) (c d before between after before' between' after' : ℕ) → a.refused ≡ false
       → FedAll content trusted first f left rest old mid → (trusted → GoesTo f) → (trusted → OnOk r (Goes content moment left_since size f.session.clerk.desk g.session.clerk.desk))
       → (trusted → IfOk r (λ refused. Finishes content f (seen content g.session.clerk) refused mid new))
-      → (trusted → IfErr r (λ stop. Stopped content moment left_since size f.session.clerk.desk g.session.clerk.desk.store.disk (FinishBreaks content stop between after f mid new)))
+      → (trusted → IfErr r (λ stop. Stopped content moment left_since size f.session.clerk.desk (disk_of g.session.clerk.desk) (FinishBreaks content stop between after f mid new)))
       → before ≤ between → before' ≤ between' → (trusted → here) → IfErr r (λ stop. Caused here stop between after between' after')
-      → Serving trusted (EachTo g.session.clerk.desk.store.disk) (HasTo g.session.clerk.desk.store.disk) first.state r (faults_of c d before after before' after') left rest old new
+      → Serving trusted (EachTo (disk_of g.session.clerk.desk)) (HasTo (disk_of g.session.clerk.desk)) first.state r (faults_of c d before after before' after') left rest old new
   serving_on here f g (Ok refused) left rest old mid new c d before between after before' between' after' clean h goes goes_on ok err later later' stays cause =
       served f g refused left rest old mid new clean h (λ holds. goes_then content moment left_since size a.desk f.session.clerk.desk g.session.clerk.desk (goes holds) (goes_on holds)) ok
   serving_on here f g (Err stop) left rest old mid new c d before between after before' between' after' clean h goes goes_on ok err later later' stays cause =
-      stopped_at_end here f g.session.clerk.desk.store.disk left rest old mid new stop c d before between after before' between' after' h goes err later later' stays cause
+      stopped_at_end here f (disk_of g.session.clerk.desk) left rest old mid new stop c d before between after before' between' after' h goes err later later' stays cause
 
 -- the exit of a `?` that hands the stop on, of a whole stream
 pub serving_stopped : (trusted : Type 0) (each has : List (List ℕ) → Type 0) (state : RoomyDesk) (r : Result Bool Stop) (stop : Stop) (faults : Faults) (left rest old new : Option (List ℕ)) → IsErrAnd r (λ s. s ≡ stop)

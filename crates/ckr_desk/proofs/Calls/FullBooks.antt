@@ -1,13 +1,16 @@
--- A full book has no room for the event of the call.
-use Rattle.std.proofs.Common.{◌≡◌, ◌<◌, ℕ, subst, false, Option, Some, None}
+-- Whether the book has room for the event of a call.
+use Rattle.std.proofs.Common.{◌≡◌, ◌<◌, ◌∙◌, ℕ, List, subst, sym, true, false, Option, Some, None, Result, OnOk}
 use Rattle.ckr_base.proofs.Numbers.{nat_le-beyond}
+use Rattle.ckr_book.specs.Book.{room_of}
 use Rattle.ckr_events.specs.declared.event.Event.{Event}
 use Rattle.ckr_desk_turn.specs.declared.reply.Turn.{Turn}
 use Rattle.ckr_points.specs.Restart.{Decked}
 use Rattle.ckr_desk.specs.declared.error.DeskError.{DeskError}
-use Rattle.ckr_desk.specs.declared.error.DeskError.TheVariants.{BookFull}
-use Rattle.ckr_desk.specs.Requests.{FailsBy, IsFull, call_fits, event_in, has_room}
-use Rattle.ckr_desk.specs.State.{RoomyDesk, need_of}
+use Rattle.ckr_desk.specs.declared.error.DeskError.TheVariants.{NoMemory, DiskFault, BookFull, Stopped, Misread}
+use Rattle.ckr_desk.specs.NoChange.{IsOfDisk}
+use Rattle.ckr_desk.specs.Preparation.{NotLooked, NotReadyFor}
+use Rattle.ckr_desk.specs.Requests.{FailsBy, IsFull, TellsNumbers, call_fits, event_in, has_room}
+use Rattle.ckr_desk.specs.State.{DeskView, RoomyDesk, need_of}
 use Rattle.ckr_desk.specs.Turn.{event_of_turn, turn_fits}
 
 no-room : (room : ℕ) (event : Option Event) (need left : ℕ) → IsFull room event need left → has_room room event ≡ false
@@ -24,3 +27,45 @@ turn-full s turn error need left is cause = fails-full s.room (event_of_turn s t
 pub call-full : (s : RoomyDesk) (call : Option Decked) (error : DeskError) (need left : ℕ) → error ≡ BookFull need left → FailsBy s.room (event_in call) error → call_fits s call ≡ false
 unfolding call_fits
 call-full s call error need left is cause = fails-full s.room (event_in call) error need left is cause
+
+-- ---- there is room for the event of a call that is done
+
+pub turn-has_room : {T : Type 0} (s : RoomyDesk) (result : Result T DeskError) (turn : Turn) → OnOk result (turn_fits s turn ≡ true) → OnOk result (has_room s.room (event_of_turn s turn) ≡ true)
+unfolding turn_fits
+turn-has_room s result turn fits = fits
+
+pub turn-fits : (s : RoomyDesk) (turn : Turn) → has_room s.room (event_of_turn s turn) ≡ true → turn_fits s turn ≡ true
+unfolding turn_fits
+turn-fits s turn room = room
+
+pub call-fits : (s : RoomyDesk) (call : Option Decked) → has_room s.room (event_in call) ≡ true → call_fits s call ≡ true
+unfolding call_fits
+call-fits s call room = room
+
+-- ---- the numbers of a full book, on any disk
+
+pub of-disk-numbers : (room : ℕ) (error : DeskError) → IsOfDisk error → TellsNumbers room error
+of-disk-numbers room NoMemory is = tt
+of-disk-numbers room DiskFault is = tt
+of-disk-numbers room (BookFull need left) is = absurd is
+of-disk-numbers room (Stopped fault) is = tt
+of-disk-numbers room Misread is = tt
+
+module _ {D : Type 0} (old new : DeskView D) where
+  pub unready-numbers : (event : Option Event) (error : DeskError) → NotReadyFor event old new error → TellsNumbers (room_of old.store.book) error
+  unready-numbers None error not = absurd not
+  unready-numbers (Some event) NoMemory not = tt
+  unready-numbers (Some event) DiskFault not = tt
+  unready-numbers (Some event) (BookFull need left) not = (event, (not.0, not.1, not.2))
+  unready-numbers (Some event) (Stopped fault) not = tt
+  unready-numbers (Some event) Misread not = tt
+
+  pub unlooked-numbers : (told : Type 0) (content : D → List ℕ) (faults : D → ℕ) (run : ℕ) → room_of new.store.book ≡ room_of old.store.book
+      → (error : DeskError) → NotLooked told content faults run old new error → TellsNumbers (room_of old.store.book) error
+  unlooked-numbers told content faults run room NoMemory not = tt
+  unlooked-numbers told content faults run room DiskFault not = tt
+  unlooked-numbers told content faults run room (BookFull need left) not =
+      let its = not.1 in
+      (its.ahead.event, (its.needed, its.left ∙ room, subst (λ n. n < need) (sym its.left) (subst (λ n. room_of new.store.book < n) (sym its.needed) its.full)))
+  unlooked-numbers told content faults run room (Stopped fault) not = tt
+  unlooked-numbers told content faults run room Misread not = tt

@@ -1,5 +1,5 @@
 -- The records of a data set that no run holds, and a call that reads them.
-use Rattle.std.proofs.Common.{◌≡◌, ℕ, List, Bool, true, false, cond, Option, Some, None, refl, ap, sym, ◌∙◌, subst}
+use Rattle.std.proofs.Common.{◌≡◌, ◌++◌, ℕ, List, [], Bool, true, false, cond, Option, Some, None, Result, Err, IfSome, append-nil, refl, ap, sym, ◌∙◌, subst}
 use Rattle.std.proofs.lemmas.Option.{none-some, same_Some}
 use Rattle.std.specs.Option.{option_map, option_map_or}
 use Rattle.ckr_book.specs.Book.{room_of}
@@ -13,6 +13,7 @@ use Rattle.ckr_desk_refines.specs.Listing.{free_set, is_held, records_of, set_by
 use Rattle.ckr_outside.specs.Disk.{OnlyReads}
 use Rattle.ckr_points.specs.Rows.{TableSet, TablesModel}
 use Rattle.ckr_desk_refines.specs.Standing.{StandsForDesk}
+use Rattle.ckr_desk_store.specs.OpenImages.{event_records}
 use Rattle.ckr_desk_store.specs.State.{StoreView}
 use Rattle.ckr_volumes.specs.declared.layout.Layout.{Layout}
 use Rattle.ckr_desk_turn.specs.Desk.{DeskModel}
@@ -65,6 +66,9 @@ module _ {D : Type 0} (told : Type 0) (content : D → List ℕ) (may_leave : D 
         trusted-same told content may_leave (record { store = old; jobs = jobs }) (record { store = new; jobs = jobs }) (read-before jobs old new kept reads)
         (subst (IsTrusted told content may_leave) (sym view) trusted)
 
+    pub events-read : event_records now.store.layout (content new.disk) ≡ event_records now.store.layout (content now.store.disk) ++ []
+    events-read = ap (event_records now.store.layout) (reads.same ∙ ap (λ (s : DeskView D). content s.store.disk) view) ∙ sym (append-nil (event_records now.store.layout (content now.store.disk)))
+
   -- what is told of the records of a data set holds of the desk of the events, where it is trusted
   pub of-desk : (jobs : JobsView) (store : StoreView D) (now : DeskView D) (name : Name) (set : Option DataSet) → record { store = store; jobs = jobs } ≡ now
       → ((desk : DeskModel) (image : List ℕ) (layout : Layout) → StandsForDesk layout jobs image desk → option_map (λ (its : DataSet). records_on image layout its its.length) set ≡ records_of desk name)
@@ -73,6 +77,10 @@ module _ {D : Type 0} (told : Type 0) (content : D → List ℕ) (may_leave : D 
       let its = subst (IsTrusted told content may_leave) (sym view) trusted in
       so (state_of content (record { store = store; jobs = jobs })).desk (content store.disk) store.layout its.stands
       ∙ ap (λ (s : DeskView D). records_of (state_of content s).desk name) view
+
+-- a desk that hasn't stopped
+pub not-stopped : {T : Type 0} (fault : Option ℕ) (result : Result T DeskError) → fault ≡ None → IfSome fault (λ at. result ≡ Err (Stopped at))
+not-stopped fault result is = subst (λ f. IfSome f (λ at. result ≡ Err (Stopped at))) (sym is) tt
 
 module _ {D : Type 0} (faults : D → ℕ) (old new : StoreView D) where
   pub reading-may-fail : (error : DeskError) → ReadingCause faults old new error → MayFail (faults old.disk) (faults new.disk) old.fault error

@@ -8,13 +8,11 @@ use Rattle.ckr_events.specs.declared.event.Event.TheVariants.{Submitted, Purged}
 use Rattle.ckr_events.specs.Event.{IsEvent}
 use Rattle.ckr_jcl.specs.declared.deck.Job.{Job}
 use Rattle.ckr_desk_memory.proofs.Queue.{run-there}
-use Rattle.ckr_desk_turn.proofs.NextEvents.BetweenSteps.{submitted_comes}
 use Rattle.ckr_outside.specs.Disk.{EachSince}
 use Rattle.ckr_outside.specs.Moments.{in_other_words, started}
 use Rattle.ckr_points.specs.declared.run.RunState.TheVariants.{Queued}
-use Rattle.ckr_points.specs.Follows.{follows, is_in_state}
+use Rattle.ckr_points.specs.Follows.{is_in_state}
 use Rattle.ckr_points.specs.Restart.{Decked}
-use Rattle.ckr_points.specs.Rows.{TablesModel}
 use Rattle.ckr_points_invariant.proofs.Holders.Rows.{queued-is}
 use Rattle.ckr_desk_refines.specs.Moves.{HasSameRecords}
 use Rattle.ckr_desk_store.specs.OpenImages.{event_records}
@@ -33,8 +31,8 @@ use Rattle.ckr_desk.proofs.Images.Soundness.{kept-before}
 use Rattle.ckr_desk.proofs.Calls.Stops.{opens-so}
 use Rattle.ckr_desk.specs.declared.error.DeskError.{DeskError}
 use Rattle.ckr_desk.specs.declared.error.DeskError.TheVariants.{NoMemory, DiskFault, BookFull, Stopped, Misread}
-use Rattle.ckr_desk.specs.Requests.{FailsBy, MayFail, TellsFull, behind_call, call_fits, came_by, event_in, spelled}
-use Rattle.ckr_desk.specs.Calls.{HasDone, IsLeftByCall, IsSettledBehind, NotDone, may_follow, with_event}
+use Rattle.ckr_desk.specs.Requests.{FailsBy, MayFail, TellsFull, behind_call, came_by, event_in, has_room, spelled}
+use Rattle.ckr_desk.specs.Calls.{HasDone, IsLeftByCall, IsSettledBehind, NotDone, with_event}
 use Rattle.ckr_desk.specs.Soundness.{HasKept, IsTrusted, KeepsWithin, state_of}
 use Rattle.ckr_desk.specs.State.{DeskView, need_of}
 use Rattle.ckr_desk.specs.NoChange.{StaysBy}
@@ -70,36 +68,36 @@ module _ {D : Type 0} (faults : D → ℕ) (old new : DeskView D) where
   call-may-fail None DiskFault not = absurd not
   call-may-fail None (BookFull need room) not = tt
   call-may-fail None (Stopped fault) not = not.0
-  call-may-fail None Misread not = tt
+  call-may-fail None Misread not = absurd not
   call-may-fail (Some call) NoMemory not = tt
   call-may-fail (Some call) DiskFault not = not.0.0
   call-may-fail (Some call) (BookFull need room) not = tt
   call-may-fail (Some call) (Stopped fault) not = not.0
-  call-may-fail (Some call) Misread not = tt
+  call-may-fail (Some call) Misread not = absurd not
 
   pub call-stays : (content : D → List ℕ) (may_leave : D → List ℕ → Type 0) (call : Option Decked) (error : DeskError) → NotDone faults call old new error → StaysBy content may_leave faults old new error
   call-stays content may_leave None NoMemory not = same-unchanged content may_leave old new not.jobs not.store
   call-stays content may_leave None DiskFault not = absurd not
   call-stays content may_leave None (BookFull need room) not = absurd not
   call-stays content may_leave None (Stopped fault) not = same-unchanged content may_leave old new not.1.jobs not.1.store
-  call-stays content may_leave None Misread not = tt
+  call-stays content may_leave None Misread not = absurd not
   call-stays content may_leave (Some call) NoMemory not = same-unchanged content may_leave old new not.jobs not.store
   call-stays content may_leave (Some call) DiskFault not = ap (λ (s : StoreView D). s.fault) not.0.1
   call-stays content may_leave (Some call) (BookFull need room) not = same-unchanged content may_leave old new not.3.jobs not.3.store
   call-stays content may_leave (Some call) (Stopped fault) not = same-unchanged content may_leave old new not.1.jobs not.1.store
-  call-stays content may_leave (Some call) Misread not = tt
+  call-stays content may_leave (Some call) Misread not = absurd not
 
   pub call-full : (call : Option Decked) (error : DeskError) → NotDone faults call old new error → TellsFull (room_of old.store.book) (event_in call) error
   call-full None NoMemory not = tt
   call-full None DiskFault not = tt
   call-full None (BookFull need room) not = not
   call-full None (Stopped fault) not = tt
-  call-full None Misread not = tt
+  call-full None Misread not = absurd not
   call-full (Some call) NoMemory not = tt
   call-full (Some call) DiskFault not = tt
   call-full (Some call) (BookFull need room) not = (not.0, not.1, not.2)
   call-full (Some call) (Stopped fault) not = tt
-  call-full (Some call) Misread not = tt
+  call-full (Some call) Misread not = absurd not
 
   pub call-open : (call : Option Decked) → HasDone call old new → old.store.fault ≡ None → new.store.fault ≡ None
   call-open None done is_open = ap (λ (s : DeskView D). s.store.fault) done ∙ is_open
@@ -120,10 +118,10 @@ module _ {D : Type 0} (told : Type 0) (content : D → List ℕ) (may_leave : D 
   abbrev before : List (List ℕ)
   before = event_records old.store.layout (content old.store.disk)
 
-  -- the event of the call follows, and what is to be known of it
+  -- what is to be known of the event of the call
   abbrev pub IsCalledSo : Option Decked → Type 0
   IsCalledSo None = Unit {0}
-  IsCalledSo (Some call) = (may_follow call.0 call.1 old ≡ true) × IsCalled told content may_leave size old trusted call.0 call.1
+  IsCalledSo (Some call) = IsCalled told content may_leave size old trusted call.0 call.1
 
   pub call-cause : (faults : D → ℕ) (new : DeskView D) (call : Option Decked) → IsCalledSo call → (error : DeskError) → NotDone faults call old new error → FailsBy (room_of old.store.book) (event_in call) error
   call-cause faults new None its NoMemory not = tt
@@ -135,11 +133,10 @@ module _ {D : Type 0} (told : Type 0) (content : D → List ℕ) (may_leave : D 
   call-cause faults new (Some call) its DiskFault not = tt
   call-cause faults new (Some call) its (BookFull need room) not = (not.0, not.1, not.2)
   call-cause faults new (Some call) its (Stopped fault) not = tt
-  call-cause faults new (Some call) its Misread not = absurd (false≢true (sym not.0 ∙ its.0))
+  call-cause faults new (Some call) its Misread not = absurd not
 
   module _ (new : DeskView D) (same : new.store.layout ≡ old.store.layout) where
-    pub call-fits : (call : Option Decked) → IsCalledSo call → HasDone call old new → call_fits (state_of content old) call ≡ true
-    unfolding call_fits
+    pub call-fits : (call : Option Decked) → IsCalledSo call → HasDone call old new → has_room (room_of old.store.book) (event_in call) ≡ true
     call-fits None its done = refl
     call-fits (Some call) its done = le-leb (need_of call.0) (room_of old.store.book) done.fits
 
@@ -149,14 +146,14 @@ module _ {D : Type 0} (told : Type 0) (content : D → List ℕ) (may_leave : D 
         → state_of content new ≡ behind_call (state_of content old) call
     unfolding behind_call
     call-state None its done events records settled = ap (state_of content) done
-    call-state (Some call) its done events records settled = called-state told content may_leave size old trusted call.0 call.1 its.1 new same done events records settled
+    call-state (Some call) its done events records settled = called-state told content may_leave size old trusted call.0 call.1 its new same done events records settled
 
     pub call-trusted : (call : Option Decked) → IsCalledSo call → HasDone call old new
         → event_records layout (content new.store.disk) ≡ with_event before call
         → HasSameRecords layout (content old.store.disk) (content new.store.disk) → IsSettledBehind content may_leave (event_in call) new
         → IsTrusted told content may_leave new
     call-trusted None its done events records settled = subst (IsTrusted told content may_leave) (sym done) trusted
-    call-trusted (Some call) its done events records settled = called-trusted told content may_leave size old trusted call.0 call.1 its.1 new same done events records settled
+    call-trusted (Some call) its done events records settled = called-trusted told content may_leave size old trusted call.0 call.1 its new same done events records settled
 
   module _ (moment : D → ℕ) (left_since : D → ℕ → List ℕ → Type 0) (sound : IsSound content may_leave size old.store) (is_open : old.store.fault ≡ None) where
     -- an image of before
@@ -165,7 +162,7 @@ module _ {D : Type 0} (told : Type 0) (content : D → List ℕ) (may_leave : D 
 
     image-kept : (call : Option Decked) → IsCalledSo call → (image : List ℕ) → IsLeftByCall content may_leave size call old image → HasKept layout (size old.store.disk) before (spelled (event_in call)) image
     image-kept None its image left = kept-now image left
-    image-kept (Some call) its image left = called-kept told content may_leave size old trusted call.0 call.1 its.1 image left
+    image-kept (Some call) its image left = called-kept told content may_leave size old trusted call.0 call.1 its image left
 
     pub call-kept : (new : DeskView D) (call : Option Decked) → IsCalledSo call → EachSince moment left_since old.store.disk new.store.disk (IsLeftByCall content may_leave size call old)
         → KeepsWithin content moment left_since size old new (spelled (event_in call))
@@ -210,12 +207,6 @@ module _ {D : Type 0} (told : Type 0) (content : D → List ℕ) (may_leave : D 
   is-small : (number : ℕ) (deck : Job) → is_submittable number deck ≡ true → number ≤ 9999999
   is-small number deck fits = grind (arith, nat_tests, and-first (nat_le number 9999999) _ (and-first _ _ (and-first _ _ fits)))
 
-  deck-follows : (kept : List ℕ) (count : ℕ) (deck : Job) → 1 ≤ count → length kept ≡ 80 * count → may_follow (Submitted (suc (length old.jobs.tables.desk.runs)) kept) (Some deck) old ≡ true
-  deck-follows [] count deck some long = absurd (let none : ⊥ = omega (arith, some, long) in none)
-  deck-follows (first ∷ rest) count deck some long =
-      subst (λ (t : TablesModel). follows layout t (Submitted (suc (length t.runs)) (first ∷ rest)) (Some deck) ≡ true) (sym trusted.stands.tables)
-      (and-first _ _ (submitted_comes (state_of content old).desk first rest deck))
-
   module _ (cards : List ℕ) (some : 81 ≤ length cards) where
     numbered : (deck : Job) → submission_of cards ≡ Accepted deck → (fits : Bool) → is_submittable (suc (length old.jobs.tables.desk.runs)) deck ≡ fits
         → IsCalledSo (entered cards deck (cond fits (Some (suc (length old.jobs.tables.desk.runs))) None))
@@ -225,10 +216,8 @@ module _ {D : Type 0} (told : Type 0) (content : D → List ℕ) (may_leave : D 
         let few = few-accepted cards deck is in
         let long = kept_long cards in
         let number = is-small (suc (length old.jobs.tables.desk.runs)) deck fits in
-        let told_so = submitted_spelled (suc (length old.jobs.tables.desk.runs)) (kept_of_stored cards) (length cards / 81) (omega (arith, number)) (omega (arith, some)) long (omega (arith, few)) in (
-          deck-follows (kept_of_stored cards) (length cards / 81) deck (omega (arith, some)) long,
-          called-deck told content may_leave size old trusted cards deck some its.0 its.1 fits told_so.event,
-        )
+        let told_so = submitted_spelled (suc (length old.jobs.tables.desk.runs)) (kept_of_stored cards) (length cards / 81) (omega (arith, number)) (omega (arith, some)) long (omega (arith, few)) in
+        called-deck told content may_leave size old trusted cards deck some its.0 its.1 fits told_so.event
 
     submitted : (submission : Submission) → submission_of cards ≡ submission → IsCalledSo (call_by old.jobs.tables.desk cards submission)
     unfolding number_for
@@ -245,7 +234,7 @@ module _ {D : Type 0} (told : Type 0) (content : D → List ℕ) (may_leave : D 
   purged job is_event false is = tt
   purged job is_event true is =
       let there = run-there old.jobs.tables.desk job (is_in_state Queued) is in
-      (is, called-purged told content may_leave size old trusted job there.0 there.1 (queued-is there.0.state there.2) is_event)
+      called-purged told content may_leave size old trusted job there.0 there.1 (queued-is there.0.state there.2) is_event
 
   pub purge-called : (job : ℕ) → IsEvent (Purged job) → IsCalledSo (purge_call old.jobs.tables.desk job)
   purge-called job is_event = purged job is_event (is_queued old.jobs.tables.desk job) refl

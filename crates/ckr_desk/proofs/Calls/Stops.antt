@@ -132,13 +132,13 @@ module _ {D : Type 0} (event : Event) (deck : Option Job) (store : StoreView D) 
     same-store : (new : DeskView D) → IsSame (record { store = store; jobs = two }) new → IsSame (record { store = store; jobs = one }) new
     same-store new same = record { jobs = same-as-before new same.jobs; store = same.store }
 
-    pub prepared-cause : (faults : D → ℕ) (new : DeskView D) (error : DeskError) → NotEntered faults event deck (record { store = store; jobs = two }) new error
+    pub prepared-cause : (faults : D → ℕ) (new : DeskView D) (error : DeskError) → NotEntered faults (record { store = store; jobs = two }) new error
         → NotKept faults event deck (record { store = store; jobs = one }) new error
     prepared-cause faults new NoMemory cause = absurd cause
     prepared-cause faults new DiskFault cause = (cause.0, same-as-before new cause.1)
     prepared-cause faults new (BookFull need room) cause = absurd cause
     prepared-cause faults new (Stopped fault) cause = absurd cause
-    prepared-cause faults new Misread cause = (subst (λ (t : TablesModel). follows store.layout t event deck ≡ false) desk cause.0, same-store new cause.1)
+    prepared-cause faults new Misread cause = absurd cause
 
 -- an event that isn't ready isn't kept
 pub unready-cause : {D : Type 0} (event : Event) (deck : Option Job) (faults : D → ℕ) (old new : DeskView D) (error : DeskError) → NotReady event old new error → NotKept faults event deck old new error

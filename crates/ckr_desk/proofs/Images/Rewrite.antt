@@ -6,7 +6,7 @@ use Rattle.ckr_base.proofs.Options.{some-not-none}
 use Rattle.arrayvec.specs.ArrayVec.{ArrayVec}
 use Rattle.ckr_events.specs.declared.event.Event.{Event}
 use Rattle.ckr_events.specs.declared.event.Event.TheVariants.{Rewritten}
-use Rattle.ckr_desk_memory.specs.Rewrite.{updated_by}
+use Rattle.ckr_desk_memory.specs.Rewrite.{HasPlaceFor, HasRecordPlace, updated_by}
 use Rattle.ckr_library.specs.declared.sets.DataSet.{DataSet}
 use Rattle.ckr_library.specs.Catalog.{Catalog, Holding, set_of}
 use Rattle.ckr_library.specs.NameMaps.{EachEntry, Name, Named, entry_at}
@@ -24,7 +24,7 @@ use Rattle.ckr_volumes.specs.Places.{address_of}
 use Rattle.ckr_volumes.specs.Records.{record_at, records_on}
 use Rattle.ckr_volumes.specs.Layouts.{StandsIn, is_laid_out, lie_apart}
 use Rattle.ckr_desk.specs.State.{DeskView}
-use Rattle.ckr_desk.specs.Rewrite.{CannotWrite, CannotWriteIn, DoesNotFit, IsLackingBy, IsWrittenBy, LacksAtMost, OpensSame}
+use Rattle.ckr_desk.specs.Rewrite.{IsLackingBy, IsWrittenBy, LacksAtMost, OpensSame}
 
 module _ (layout : Layout) (laid : IsTrue (is_laid_out layout)) (set : DataSet) (stands : StandsIn layout set) (place : ℕ) (within : place < set.space)
     (old new : List ℕ) (same : SameOutside (address_of layout set place) set.lrecl old new) where
@@ -80,31 +80,30 @@ set-stands layout catalog sets name found seen is stand =
     let there = in-tables catalog sets name found seen is in
     subst (StandsIn layout) (sym there.same) (each-at (λ (table : TableSet). StandsIn layout table.set) sets stand name there.table there.at)
 
-pub none-there : (catalog : Catalog) (sets : Named TableSet) (name : Name) (place : ℕ) (image : List ℕ) → catalog.sets ≡ seen_by holding_of sets → set_of catalog name ≡ None → DoesNotFit place image (entry_at sets name)
-none-there catalog sets name place image seen is = by (entry_at sets name) refl
-  where
-    by : (entry : Option TableSet) → entry_at sets name ≡ entry → DoesNotFit place image entry
-    by None at = tt
-    by (Some table) at =
-        absurd (some-not-none table.set
-        (sym
-        (sym is
-        ∙ ap (λ all. option_map (λ (held : Holding). held.set) (entry_at all name)) seen
-        ∙ ap (option_map (λ (held : Holding). held.set)) (at-viewed holding_of sets name ∙ ap (option_map holding_of) at))))
-
-pub no-fit : (catalog : Catalog) (sets : Named TableSet) (name : Name) (found : DataSet) (place : ℕ) (image : List ℕ) → catalog.sets ≡ seen_by holding_of sets → set_of catalog name ≡ Some found
-    → (found.space ≤ place) ⊎ (length image ≡ found.lrecl → ⊥) → DoesNotFit place image (entry_at sets name)
-no-fit catalog sets name found place image seen is not =
-    let there = in-tables catalog sets name found seen is in
-    subst (DoesNotFit place image) (sym there.at)
-    (subst (λ (s : DataSet). (s.space ≤ place) ⊎ (length image ≡ s.lrecl → ⊥)) there.same not)
-
 -- ---- by the event
 
-pub cannot-write : (tables : TablesModel) (job taken writes place : ℕ) (lengths : ArrayVec ℕ) (image : List ℕ) (event : Event) (name : Name) → event ≡ Rewritten job taken writes lengths place image
-    → ((row : RunRow) → run_of tables job ≡ Some row → updated_by row ≡ Some name) → DoesNotFit place image (entry_at tables.sets name) → CannotWrite event tables
-cannot-write tables job taken writes place lengths image event name is updated not =
-    subst (λ e. CannotWrite e tables) (sym is) (λ row at. subst (CannotWriteIn tables place image) (sym (updated row at)) not)
+-- the record of a rewrite has its place where that of its event has one
+rewrite-place : (tables : TablesModel) (job taken writes place : ℕ) (lengths : ArrayVec ℕ) (image : List ℕ) (event : Event) → event ≡ Rewritten job taken writes lengths place image → HasRecordPlace event tables → HasPlaceFor tables job place image
+rewrite-place tables job taken writes place lengths image event is has = subst (λ e. HasRecordPlace e tables) is has
+
+-- so its step updates something
+pub updated-some : (tables : TablesModel) (job taken writes place : ℕ) (lengths : ArrayVec ℕ) (image : List ℕ) (event : Event) → event ≡ Rewritten job taken writes lengths place image → HasRecordPlace event tables
+    → ((row : RunRow) → run_of tables job ≡ Some row → None ≡ updated_by row) → ⊥
+updated-some tables job taken writes place lengths image event is has none =
+    let its = rewrite-place tables job taken writes place lengths image event is has in
+    some-not-none its.name (sym its.updates ∙ sym (none its.row its.found))
+
+-- and the library has it
+pub set-some : (tables : TablesModel) (job taken writes place : ℕ) (lengths : ArrayVec ℕ) (image : List ℕ) (event : Event) → event ≡ Rewritten job taken writes lengths place image → HasRecordPlace event tables
+    → (name : Name) → ((row : RunRow) → run_of tables job ≡ Some row → updated_by row ≡ Some name) → (catalog : Catalog) → catalog.sets ≡ seen_by holding_of tables.sets → set_of catalog name ≡ None → ⊥
+set-some tables job taken writes place lengths image event is has name updated catalog seen none =
+    let its = rewrite-place tables job taken writes place lengths image event is has in
+    let same : name ≡ its.name = same_Some name its.name (sym (updated its.row its.found) ∙ its.updates) in
+    some-not-none its.table.set
+    (sym
+    (sym none
+    ∙ ap (λ all. option_map (λ (held : Holding). held.set) (entry_at all name)) seen
+    ∙ ap (option_map (λ (held : Holding). held.set)) (at-viewed holding_of tables.sets name ∙ ap (option_map holding_of) (ap (entry_at tables.sets) same ∙ its.there))))
 
 module _ (layout : Layout) (tables : TablesModel) (job taken writes place : ℕ) (lengths : ArrayVec ℕ) (image : List ℕ) (event : Event) (is : event ≡ Rewritten job taken writes lengths place image)
     (name : Name) (updated : (row : RunRow) → run_of tables job ≡ Some row → updated_by row ≡ Some name)
@@ -113,6 +112,17 @@ module _ (layout : Layout) (tables : TablesModel) (job taken writes place : ℕ)
   found-is row its table at is_updated entry =
       set-so catalog tables.sets name found table seen there
       (ap (entry_at tables.sets) (same_Some name its (sym (updated row at) ∙ is_updated)) ∙ entry)
+
+  -- the record has its place there
+  pub place-there : HasRecordPlace event tables → place < found.space
+  place-there has =
+      let its = rewrite-place tables job taken writes place lengths image event is has in
+      subst (λ (set : DataSet). place < set.space) (sym (found-is its.row its.name its.table its.found its.updates its.there)) its.within
+
+  pub image-there : HasRecordPlace event tables → length image ≡ found.lrecl
+  image-there has =
+      let its = rewrite-place tables job taken writes place lengths image event is has in
+      its.long ∙ ap (λ (set : DataSet). set.lrecl) (sym (found-is its.row its.name its.table its.found its.updates its.there))
 
   pub written-by : (before after : List ℕ) → IsWritten layout found place image before after → IsWrittenBy layout tables event before after
   written-by before after written =

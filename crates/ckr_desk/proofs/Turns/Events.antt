@@ -37,7 +37,7 @@ use Rattle.ckr_desk.proofs.Turns.PlainEvents.{IsQuietPlan, is_quiet, plan-quiet,
 use Rattle.ckr_desk.proofs.Trust.Events.{IsBehind, IsComing, desk-behind}
 use Rattle.ckr_desk.specs.Requests.{has_room, room_behind}
 use Rattle.ckr_desk.specs.Calls.{HasGoneOn, IsLeftBy, IsSettledBehind, may_follow, may_keep}
-use Rattle.ckr_desk.specs.Rewrite.{CannotWrite, IsWrittenBy, LacksAtMost, OpensSame}
+use Rattle.ckr_desk.specs.Rewrite.{IsWrittenBy, LacksAtMost, OpensSame}
 use Rattle.ckr_desk.specs.Turn.{behind_turn, event_of_turn, turn_fits}
 use Rattle.ckr_desk.specs.Units.{HasGoneBehind, HasWrittenBehind, IsLeftBehind}
 use Rattle.ckr_desk.specs.Soundness.{HasKept, IsTrusted, office_on, state_of}
@@ -55,10 +55,6 @@ quiet-written _ quiet layout tables before after is = is
 quiet-lacks : (event : Event) → is_quiet event ≡ true → (layout : Layout) (tables : _) (before after : List ℕ) → LacksAtMost layout tables event before after → ⊥
 quiet-lacks (Rewritten job taken writes lengths place image) quiet layout tables before after lacks = absurd (subst (λ (b : Bool). elim b as (λ _. Type 0) [ true ↦ ⊥ | false ↦ Unit {0} ]) quiet tt)
 quiet-lacks _ quiet layout tables before after lacks = lacks
-
-pub quiet-cannot : (event : Event) → is_quiet event ≡ true → (tables : _) → CannotWrite event tables → ⊥
-quiet-cannot (Rewritten job taken writes lengths place image) quiet tables cannot = absurd (subst (λ (b : Bool). elim b as (λ _. Type 0) [ true ↦ ⊥ | false ↦ Unit {0} ]) quiet tt)
-quiet-cannot _ quiet tables cannot = cannot
 
 -- one of a plain run runs no deck
 pub small-runs : (event : Event) → IsSmall event → is_run_by event None ≡ true

@@ -1,5 +1,5 @@
 -- A turn that is no unit, from the desk as it stood.
-use Rattle.std.proofs.Common.{◌≡◌, ◌<◌, ◌++◌, [], ℕ, List, Bool, true, false, refl, ap, sym, ◌∙◌, subst, ⊎_elim, append-nil, arith, Option, Some, None, Result, Ok, Err, IfOk, IsSome, nat_le}
+use Rattle.std.proofs.Common.{◌≡◌, ◌<◌, ◌++◌, [], ℕ, List, Bool, true, false, refl, ap, sym, ◌∙◌, subst, append-nil, arith, Option, Some, None, Result, Ok, Err, IfOk, IsSome, nat_le}
 use Rattle.std.proofs.lemmas.Bool.{leb-true, true≢false}
 use Rattle.ckr_book.specs.Book.{room_of}
 use Rattle.ckr_events.specs.declared.event.Event.{Event}
@@ -19,7 +19,7 @@ use Rattle.ckr_desk_turn.specs.Plans.{plan_of}
 use Rattle.ckr_desk.proofs.Turns.Preparation.{same-unchanged}
 use Rattle.ckr_desk.proofs.Images.Soundness.{kept-before}
 use Rattle.ckr_desk.proofs.Trust.Events.{trusted-behind}
-use Rattle.ckr_desk.proofs.Turns.Events.{behind-turn-so, coming-turn, event-so, follows-so, image-kept, quiet-cannot, quiet-so, state-behind, turn-fits-so, turned}
+use Rattle.ckr_desk.proofs.Turns.Events.{behind-turn-so, coming-turn, event-so, follows-so, image-kept, state-behind, turn-fits-so, turned}
 use Rattle.ckr_desk.specs.declared.error.DeskError.{DeskError}
 use Rattle.ckr_desk.specs.declared.error.DeskError.TheVariants.{NoMemory, DiskFault, BookFull, Stopped, Misread}
 use Rattle.ckr_desk.specs.Requests.{FailsBy, IsFull, MayFail, has_room, room_behind, spelled}
@@ -221,8 +221,5 @@ module _ {D : Type 0} (told : Type 0) (content : D → List ℕ) (may_leave : D 
   go-cause (Tell reply event) new DiskFault is shape rests not = tt
   go-cause (Tell reply event) new (BookFull need room) is shape rests not = absurd not
   go-cause (Tell reply event) new (Stopped fault) is shape rests not = absurd not
-  go-cause (Tell reply event) new Misread is shape rests not = ⊎_elim
-      (λ unfollowed. true≢false (sym (follows-so told content may_leave size old trusted turn its reply event is shape.0) ∙ unfollowed))
-      (λ cannot. quiet-cannot event (quiet-so told content may_leave size old trusted turn its reply event is shape.0) _ cannot)
-      not
+  go-cause (Tell reply event) new Misread is shape rests not = true≢false (sym (follows-so told content may_leave size old trusted turn its reply event is shape.0) ∙ not)
   go-cause (Work job) new error is shape rests not = absurd (true≢false rests)

@@ -1,11 +1,10 @@
 -- What the event of a unit brings about, where its step ends with a code or rewrites a record.
-use Rattle.std.proofs.Common.{◌≡◌, ◌≤◌, ◌<◌, ℕ, List, length, refl, ap, sym, ◌∙◌, subst, ⊎_elim, arith, slice_set, Option, Some, None}
+use Rattle.std.proofs.Common.{◌≡◌, ◌≤◌, ◌<◌, ℕ, List, refl, ap, sym, ◌∙◌, subst, slice_set, Option, Some, None}
 use Rattle.std.specs.Prelude.{IsTrue}
 use Rattle.std.specs.Option.{option_map_or}
 use Rattle.arrayvec.specs.ArrayVec.{ArrayVec}
 use Rattle.ckr_base.specs.declared.code.Code.{Code}
 use Rattle.ckr_base.proofs.Options.{some-not-none}
-use Rattle.ckr_base.proofs.Sequences.{length-fitted}
 use Rattle.ckr_events.specs.declared.event.Ending.TheVariants.{Coded}
 use Rattle.ckr_events.specs.declared.event.Event.{Event}
 use Rattle.ckr_events.specs.declared.event.Event.TheVariants.{Ended}
@@ -26,9 +25,9 @@ use Rattle.ckr_points.specs.Rows.{RunRow, TableSet, TablesModel, run_of}
 use Rattle.ckr_desk_refines.proofs.Rewrites.LastRecord.{again-then, record-then}
 use Rattle.ckr_desk_refines.proofs.Rewrites.Requests.{IsAsked, event as event_told, event-is, is-asked, office-is, then, work-is}
 use Rattle.ckr_desk_refines.proofs.Rewrites.Office.{IsThere, IsTheirs, next, next-at, own-table}
-use Rattle.ckr_desk_refines.proofs.Rewrites.OwnStep.{goes-in-place, same-job, stored, updated-shown}
+use Rattle.ckr_desk_refines.proofs.Rewrites.OwnStep.{goes-in-place, same-job, updated-shown}
 use Rattle.ckr_desk_refines.proofs.Rewrites.Desk.{stands-then}
-use Rattle.ckr_desk_refines.proofs.Rewrites.Masters.{by-role}
+use Rattle.ckr_desk_memory.proofs.Masters.{by-role}
 use Rattle.ckr_desk_refines.specs.Rewrite.{AsksToRewrite}
 use Rattle.ckr_points_invariant.proofs.Steps.Commits.{formed_step}
 use Rattle.ckr_points_invariant.specs.Invariant.{step_now}
@@ -52,7 +51,7 @@ use Rattle.ckr_desk_refines.proofs.Units.Desk.{pair, progress-at, unclosed, work
 use Rattle.ckr_desk_refines.proofs.Units.Codes.{coded-behind, coded-but, coded-within}
 use Rattle.ckr_desk_refines.specs.Unit.{IsPutBack, StandsBehindUnit}
 use Rattle.ckr_desk.proofs.Images.Soundness.{again-so}
-use Rattle.ckr_desk.specs.Rewrite.{CannotWrite, CannotWriteIn, DoesNotFit, IsWrittenBy, LacksAtMost}
+use Rattle.ckr_desk.specs.Rewrite.{IsWrittenBy, LacksAtMost}
 
 -- the event of a unit may come; the desk behind it, the jobs in memory that stand for it, and what an image of a stop has
 pub record Ensues (put : JobsView) (after : List ℕ) (desk : DeskModel) (run : ℕ) (event : Event) : Type 0 where
@@ -61,7 +60,6 @@ pub record Ensues (put : JobsView) (after : List ℕ) (desk : DeskModel) (run : 
   pub layout_is : (work_of run desk).desk.layout ≡ desk.layout
   pub office : (work_of run desk).desk.office ≡ office_after (event, None) desk.office
   pub last : HasLast (work_of run desk).desk.office (Some event)
-  pub can : CannotWrite event (after_event event None desk.office.tables) → ⊥
   pub stands : (later : JobsView) → HaveMoved event None put later → (told written : List ℕ) → HasSameRecords desk.layout after told
       → IsWrittenBy desk.layout (after_event event None desk.office.tables) event told written → StandsForDesk desk.layout later written (work_of run desk).desk
   pub same : (stopped : List ℕ) → HasSameRecords desk.layout after stopped → HasCommittedAgain desk.layout (work_of run desk).desk.office (Some event) stopped
@@ -158,7 +156,6 @@ module _ (old : JobsView) (before after : List ℕ) (desk : DeskModel) (turn : T
       layout_is = ap (λ (d : DeskModel). d.layout) desk-then;
       office = ap (λ (d : DeskModel). d.office) desk-then;
       last = last-then;
-      can = λ never. never;
       stands = stands-so;
       same = same-so;
       lacking = λ told stopped same never. absurd never;
@@ -192,15 +189,6 @@ module _ (old : JobsView) (before after : List ℕ) (desk : DeskModel) (turn : T
   first-is : moved.step.files.first ≡ InSet name
   first-is = ap (λ (files : Files). files.first) asked.rewrite.stands.files ∙ asked.rewrite.updates
 
-  place-below : place < shown.set.space
-  place-below =
-      let less : place < shown.set.length = subst (λ n. place < n) (sym shown.shows.length) asked.rewrite.below in
-      let fit : shown.set.length ≤ shown.set.space = ((stored desk is_desk before on asked.step asked.led after moved taken place image asked.rewrite asked.same asked.stood).stands name shown.set shown.is).length_fits in
-      omega (arith, less, fit)
-
-  image-long : length image ≡ shown.set.lrecl
-  image-long = ap length asked.rewrite.fits ∙ length-fitted asked.rewrite.write.image asked.rewrite.rewritten.lrecl ∙ sym shown.shows.lrecl
-
   -- the row behind the event
   abbrev row_then : RunRow
   row_then = next desk before on asked.step asked.led moved.step.writes moved.sets asked.same
@@ -226,15 +214,6 @@ module _ (old : JobsView) (before after : List ℕ) (desk : DeskModel) (turn : T
   table = table-there.0
 
   -- ---- by the tables behind the event
-
-  cannot-not : CannotWrite event_then office_then.tables → ⊥
-  cannot-not cannot =
-      let its : DoesNotFit place image (Some table) =
-      subst (DoesNotFit place image) table-there.1 (subst (CannotWriteIn office_then.tables place image) updates-so (cannot row_then row-at)) in
-      ⊎_elim
-      (λ (outside : table.set.space ≤ place). let same : shown.set.space ≡ table.set.space = table-there.2.lies.space in let less : place < shown.set.space = place-below in absurd (omega (arith, outside, same, less)))
-      (λ (long : length image ≡ table.set.lrecl → ⊥). long (image-long ∙ table-there.2.lies.places.lrecl))
-      its
 
   written-then : (told written : List ℕ) → IsWrittenBy desk.layout office_then.tables event_then told written → IsWritten desk.layout shown.set place image told written
   written-then told written wrote =
@@ -262,7 +241,6 @@ module _ (old : JobsView) (before after : List ℕ) (desk : DeskModel) (turn : T
       layout_is = ap (λ (d : TurnDone). d.desk.layout) (work-is before after desk is_desk run on moved place image taken asked);
       office = ap (λ (d : TurnDone). d.desk.office) (work-is before after desk is_desk run on moved place image taken asked) ∙ ap (λ (e : Event). office_after (e, None) desk.office) event-so;
       last = λ rewrite told. record-then old before after desk turn run on moved place image taken asks event is rewrite told;
-      can = λ cannot. cannot-not (by-event CannotWrite cannot);
       stands = λ later goes told written same wrote.
           stands-then desk.layout old before after desk turn run on moved place image taken asks put later
           (record { tables = back.tables; failed = back.failed; running = back.running }) event is goes told written same name shown.set first-is shown.is

@@ -1,5 +1,5 @@
 -- A turn that works, once its unit was looked at: what is ready for it, and why it wasn't done.
-use Rattle.std.proofs.Common.{◌≡◌, ◌<◌, ℕ, List, find, refl, ap, sym, ◌∙◌, subst, arith, Option, Some, None, Result, Ok, Err, IsErrAnd, IsSome}
+use Rattle.std.proofs.Common.{◌≡◌, ◌<◌, ℕ, List, [], find, refl, ap, sym, ◌∙◌, subst, arith, Option, Some, None, Result, Ok, Err, IsErrAnd, IsSome}
 use Rattle.std.proofs.lemmas.Option.{same_Some}
 use Rattle.ckr_book.specs.Book.{room_of}
 use Rattle.ckr_events.specs.declared.event.Event.{Event}
@@ -145,7 +145,7 @@ told-moved layout tables on moved unit worked plan run step sets same planned ro
     ∙ ap (λ n. told-with n moved.step moved.sets.sets worked) (sym run)
   where
     told-with : ℕ → StepRun → Named Holding → Worked → Plan
-    told-with n s its w = told_by layout row (running_of tables (record { run = n; step = s; sets = record { sets = its; room = 0 } })) w
+    told-with n s its w = told_by layout row (running_of tables (record { run = n; step = s; sets = record { sets = its; room = 0; entry_rooms = [] } })) w
 
 -- the step that was looked at is the one that is found
 pub same-on : {D : Type 0} (told : Type 0) (content : D → List ℕ) (run : ℕ) (desk : DeskView D) (unit : UnitAhead) (of : IsWorkedOut told content run desk unit) (on : RunningStepView) → find (is_of_run run) desk.jobs.running ≡ Some on → of.on ≡ on

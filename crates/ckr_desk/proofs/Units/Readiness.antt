@@ -1,5 +1,5 @@
 -- What is ready for the event of a unit is ready behind the unit too.
-use Rattle.std.proofs.Common.{◌≡◌, ◌≤◌, true, false, ap, sym, ◌∙◌, subst, Option, Some, None}
+use Rattle.std.proofs.Common.{◌≡◌, ◌≤◌, true, false, refl, ap, sym, ◌∙◌, subst, Option, Some, None}
 use Rattle.std.proofs.lemmas.Bool.{false≢true}
 use Rattle.ckr_book.specs.Book.{room_of}
 use Rattle.ckr_events.specs.declared.event.Event.{Event}
@@ -8,11 +8,14 @@ use Rattle.ckr_desk_memory.specs.Model.RewriteCounts.{may_count}
 use Rattle.ckr_desk_memory.specs.declared.preparation.Prepared.{Prepared}
 use Rattle.ckr_desk_memory.specs.Plans.{IsUnitPlan, is_unit_event}
 use Rattle.ckr_desk_memory.specs.Preparation.{IsPrepared}
+use Rattle.ckr_desk_memory.specs.TurnEvents.{FollowsBetween, is_of_step}
+use Rattle.ckr_points.specs.Rows.{TablesModel}
 use Rattle.ckr_points_tables.specs.Invariant.{HasRoom, is_plain_event}
 use Rattle.ckr_points_tables.specs.View.{RoomyTables}
 use Rattle.ckr_desk_refines.specs.Moves.{event_in}
 use Rattle.ckr_desk_turn.specs.declared.plan.Plan.{Plan}
 use Rattle.ckr_desk_turn.specs.declared.plan.Plan.TheVariants.{Rest, Tell, Work}
+use Rattle.ckr_volumes.specs.declared.layout.Layout.{Layout}
 use Rattle.ckr_desk.specs.declared.preparation.Ready.{Ready}
 use Rattle.ckr_desk.specs.Preparation.{IsReady, IsReadyFor}
 use Rattle.ckr_desk.specs.State.{DeskView, need_of}
@@ -20,14 +23,25 @@ use Rattle.ckr_desk.specs.Units.{IsPlainTold}
 
 -- what a unit tells is plain
 plain-event : (event : Event) → is_unit_event event ≡ true → is_plain_event event ≡ true
-plain-event (Rewritten job taken writes lengths place image) its = its
-plain-event (Ended job ending) its = its
+plain-event (Rewritten job taken writes lengths place image) its = refl
+plain-event (Ended job ending) its = refl
 plain-event _ its = absurd (false≢true its)
 
 pub plain-so : (plan : Plan) → IsUnitPlan plan → IsPlainTold plan
 plain-so (Rest reply) shape = tt
 plain-so (Tell reply event) shape = plain-event event shape
 plain-so (Work job) shape = absurd shape
+
+unit-of-step : (event : Event) → is_unit_event event ≡ true → is_of_step event ≡ true
+unit-of-step (Rewritten job taken writes lengths place image) its = refl
+unit-of-step (Ended job ending) its = its
+unit-of-step _ its = absurd (false≢true its)
+
+-- and it isn't between the steps of a run
+pub unit-between : (layout : Layout) (tables : TablesModel) (plan : Plan) → IsUnitPlan plan → FollowsBetween layout tables plan
+unit-between layout tables (Rest reply) shape = tt
+unit-between layout tables (Tell reply event) shape = λ between. absurd (false≢true (sym between ∙ unit-of-step event shape))
+unit-between layout tables (Work job) shape = tt
 
 module _ {D : Type 0} (old mid : DeskView D) (tables : mid.jobs.tables ≡ old.jobs.tables) (book : room_of mid.store.book ≡ room_of old.store.book) where
   still-prepared : (event : Event) → is_unit_event event ≡ true → (prepared : Prepared) → IsPrepared old.jobs event None prepared → IsPrepared mid.jobs event None prepared

@@ -1,5 +1,5 @@
 -- What a turn that works has done, with an event or without one.
-use Rattle.std.proofs.Common.{◌≡◌, ◌++◌, ℕ, List, true, false, find, refl, ap, sym, ◌∙◌, subst, ⊎_elim, Option, Some, None}
+use Rattle.std.proofs.Common.{◌≡◌, ◌++◌, ℕ, List, true, false, find, refl, ap, sym, ◌∙◌, subst, Option, Some, None}
 use Rattle.std.proofs.lemmas.Bool.{false≢true}
 use Rattle.ckr_events.specs.declared.event.Event.{Event}
 use Rattle.ckr_desk_memory.specs.EventChanges.{is_of_run}
@@ -17,15 +17,16 @@ use Rattle.ckr_desk_turn.specs.declared.reply.Turn.{Turn}
 use Rattle.ckr_desk_turn.specs.Plans.{plan_of}
 use Rattle.ckr_volumes.specs.declared.layout.Layout.{Layout}
 use Rattle.ckr_desk.proofs.Turns.Plans.{gone-told}
-use Rattle.ckr_desk.proofs.Units.Turn.{behind-kept, event-so, reply-so, rest-state, rest-trusted, unit-fits, unit-follows, unit-kept, unit-state, unit-trusted, unit-written}
+use Rattle.ckr_desk.proofs.Units.Turn.{behind-kept, event-so, reply-so, rest-state, rest-trusted, unit-fits, unit-follows, unit-kept, unit-state, unit-trusted}
 use Rattle.ckr_desk.specs.Requests.{FailsBy, has_room, spelled}
+use Rattle.ckr_desk.specs.Rewrite.{IsFault}
 use Rattle.ckr_desk.specs.Calls.{IsSettledBehind}
 use Rattle.ckr_desk.specs.declared.error.DeskError.{DeskError}
 use Rattle.ckr_desk.specs.declared.error.DeskError.TheVariants.{NoMemory, DiskFault, BookFull, Stopped, Misread}
 use Rattle.ckr_desk.specs.Soundness.{HasKept, IsTrusted, KeepsWithin, state_of}
 use Rattle.ckr_desk.specs.State.{RoomyDesk, DeskView}
 use Rattle.ckr_desk.specs.Turn.{behind_turn, event_of_turn, reply_of, turn_fits}
-use Rattle.ckr_desk.specs.Units.{HasDoneUnit, HasGoneBehind, IsLeftBehind, IsLeftByUnit, NotBehind, NotUnit, TakesBy}
+use Rattle.ckr_desk.specs.Units.{HasDoneUnit, HasGoneBehind, IsLeftBehind, IsLeftByUnit, NotBehind, TakesBy}
 
 module _ {D : Type 0} (told : Type 0) (content : D → List ℕ) (may_leave : D → List ℕ → Type 0) (moment : D → ℕ) (left_since : D → ℕ → List ℕ → Type 0) (size : D → ℕ)
     (old : DeskView D) (trusted : IsTrusted told content may_leave old) (turn : Turn) (run : ℕ)
@@ -38,14 +39,14 @@ module _ {D : Type 0} (told : Type 0) (content : D → List ℕ) (may_leave : D 
 
   -- ---- why a unit wasn't done
 
-  pub unit-cause : (faulted now room : ℕ) (event : Option Event) (error : DeskError) → NotUnit faulted now error → FailsBy room event error
+  pub unit-cause : (faulted now room : ℕ) (event : Option Event) (error : DeskError) → IsFault faulted now error → FailsBy room event error
   unit-cause faulted now room event NoMemory not = absurd not
   unit-cause faulted now room event DiskFault not = tt
   unit-cause faulted now room event (BookFull need left) not = absurd not
   unit-cause faulted now room event (Stopped fault) not = absurd not
   unit-cause faulted now room event Misread not = absurd not
 
-  pub unit-takes : (faulted now : ℕ) (event : Option Event) (error : DeskError) → NotUnit faulted now error → TakesBy event error
+  pub unit-takes : (faulted now : ℕ) (event : Option Event) (error : DeskError) → IsFault faulted now error → TakesBy event error
   unit-takes faulted now event NoMemory not = absurd not
   unit-takes faulted now event DiskFault not = tt
   unit-takes faulted now event (BookFull need room) not = tt
@@ -128,10 +129,7 @@ module _ {D : Type 0} (told : Type 0) (content : D → List ℕ) (may_leave : D 
     tell-cause reply event is faults new DiskFault not = tt
     tell-cause reply event is faults new (BookFull need room) not = absurd not
     tell-cause reply event is faults new (Stopped fault) not = absurd not
-    tell-cause reply event is faults new Misread not = ⊎_elim
-        (λ unfollowed. false≢true (sym unfollowed ∙ unit-follows told content may_leave moment left_since size old trusted turn run planned mid plan done events shape stems event (ap event_in is)))
-        (λ cannot. unit-written told content may_leave moment left_since size old trusted turn run planned mid plan done events shape stems event (ap event_in is) cannot)
-        not
+    tell-cause reply event is faults new Misread not = false≢true (sym not ∙ unit-follows told content may_leave moment left_since size old trusted turn run planned mid plan done events shape stems event (ap event_in is))
 
     cause-by : (by : Plan) → plan ≡ by → (faults : D → ℕ) (new : DeskView D) (error : DeskError) → NotBehind faults by mid new error → FailsBy state.room (event_of_turn state turn) error
     cause-by (Rest reply) is faults new error not = absurd not

@@ -60,7 +60,7 @@ use Rattle.ckr_desk.proofs.Turns.Events.{small-runs}
 use Rattle.ckr_desk.proofs.Trust.Conditions.{goes-out, shows-in, worked-out}
 use Rattle.ckr_desk.specs.Requests.{has_room, room_behind}
 use Rattle.ckr_desk.specs.Calls.{HasGoneOn, IsLeftBy, IsSettledBehind, may_follow, may_keep}
-use Rattle.ckr_desk.specs.Rewrite.{CannotWrite, IsWrittenBy, LacksAtMost, OpensSame}
+use Rattle.ckr_desk.specs.Rewrite.{IsWrittenBy, LacksAtMost, OpensSame}
 use Rattle.ckr_desk.specs.Turn.{behind_turn, event_of_turn, reply_of, turn_fits}
 use Rattle.ckr_desk.specs.Units.{HasDoneUnit, HasGoneBehind, HasWrittenBehind, IsPlainPlan, IsLeftBehind, IsLeftByUnit, IsLeftRewriting, StemsFromUnit}
 use Rattle.ckr_desk.specs.Opening.{behind_records}
@@ -295,9 +295,6 @@ module _ {D : Type 0} (told : Type 0) (content : D → List ℕ) (may_leave : D 
           ap (λ (l : Layout). follows l mid.jobs.tables.desk event None) layout-same
           ∙ ap (λ (tables : TablesModel). follows layout tables event None) tables-mid
           ∙ and-first (follows layout office.tables event None) _ ensues.comes.may
-
-      pub unit-written : CannotWrite event (after_event event None mid.jobs.tables.desk) → ⊥
-      unit-written cannot = ensues.can (subst (λ (tables : TablesModel). CannotWrite event (after_event event None tables)) tables-mid cannot)
 
       event-is : event_of_turn (state_of content old) turn ≡ Some event
       event-is = sym event-so ∙ is

@@ -126,7 +126,7 @@ pub jobs-behind : (layout : Layout) (old new : JobsView) (event : Event) (deck :
 jobs-behind layout old new event deck begun numbered plain is follow has tables goes are = record {
   laid = subst (λ (t : TablesModel). AreLaidOut layout t.sets) (sym tables) (laid-behind layout old.tables.desk are.laid event deck plain follow);
   rows = subst (λ (t : TablesModel). AllByRecursion IsAcceptedRow t.runs) (sym tables) (accepted-behind old.tables.desk event deck numbered plain is are.rows);
-  placed = subst (λ (t : TablesModel). AllByRecursion IsPlacedRow t.runs) (sym tables) (placed-behind old.tables.desk event deck plain are.placed);
+  placed = subst (λ (t : TablesModel). AllByRecursion IsPlacedRow t.runs) (sym tables) (placed-behind layout old.tables.desk event deck plain follow are.placed);
   running =
       runnable layout old.tables.desk numbered are.rows are.laid event deck begun old old.running new.running refl follow has
       (subst (λ (t : TablesModel). GoesOn event t old.running new.running) tables goes) are.running;

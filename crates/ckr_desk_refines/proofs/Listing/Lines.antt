@@ -18,9 +18,9 @@ use Rattle.ckr_library.specs.Catalog.{Holding}
 use Rattle.ckr_library.specs.NameMaps.{Name, Named, are_named_in_order, entry_at, name_cmp, names_of}
 use Rattle.ckr_library.proofs.OrderedLists.{find-tied}
 use Rattle.ckr_points.specs.Office.{model_records}
-use Rattle.ckr_points.specs.Rows.{TableSet, TablesModel}
+use Rattle.ckr_points.specs.Rows.{TableSet, TablesModel, holding_of}
 use Rattle.ckr_desk_refines.specs.Standing.{StandsForDesk}
-use Rattle.ckr_desk_memory.specs.Model.View.{seen_by, table_of}
+use Rattle.ckr_desk_memory.specs.Model.View.{seen_by}
 use Rattle.ckr_desk_turn.specs.Desk.{DeskModel}
 use Rattle.ckr_volumes.specs.declared.layout.Layout.{Layout}
 use Rattle.ckr_volumes.specs.Records.{records_on}
@@ -42,31 +42,34 @@ at-place (one ∷ sets) rise (suc place) entry there = by (name_cmp entry.0 one.
     by Greater e more = more
 
 -- what stands under a name is seen so
-entry-seen : (sets : Named Holding) (name : Name) → entry_at (seen_by table_of sets) name ≡ option_map table_of (entry_at sets name)
+entry-seen : (tables : Named TableSet) (name : Name) → entry_at (seen_by holding_of tables) name ≡ option_map holding_of (entry_at tables name)
 entry-seen [] name = refl
-entry-seen (one ∷ sets) name = by (is_eq (name_cmp name one.0)) (entry-seen sets name)
+entry-seen (one ∷ tables) name = by (is_eq (name_cmp name one.0)) (entry-seen tables name)
   where
-    by : (same : Bool) → entry_at (seen_by table_of sets) name ≡ option_map table_of (entry_at sets name)
-        → cond same (Some (table_of one.1)) (entry_at (seen_by table_of sets) name) ≡ option_map table_of (cond same (Some one.1) (entry_at sets name))
+    by : (same : Bool) → entry_at (seen_by holding_of tables) name ≡ option_map holding_of (entry_at tables name)
+        → cond same (Some (holding_of one.1)) (entry_at (seen_by holding_of tables) name) ≡ option_map holding_of (cond same (Some one.1) (entry_at tables name))
     by true rest = refl
     by false rest = rest
 
--- the set that was found
-table-there : (sets : Named Holding) (tables : Named TableSet) → seen_by table_of sets ≡ tables → (name : Name) (set : DataSet) → Some set ≡ option_map (λ (h : Holding). h.set) (entry_at sets name)
-    → (table : TableSet) × (entry_at tables name ≡ Some table) × (table.set ≡ set)
-table-there sets tables same name set found = by (entry_at sets name) refl
-  where
-    by : (entry : Option Holding) → entry_at sets name ≡ entry → (table : TableSet) × (entry_at tables name ≡ Some table) × (table.set ≡ set)
-    by None e = absurd (some-not-none set (found ∙ ap (option_map (λ (h : Holding). h.set)) e))
-    by (Some holding) e =
-        (table_of holding, ap (λ t. entry_at t name) (sym same) ∙ entry-seen sets name ∙ ap (option_map table_of) e, sym (same_Some set holding.set (found ∙ ap (option_map (λ (h : Holding). h.set)) e)))
+set-seen : (sets : Named Holding) (tables : Named TableSet) → sets ≡ seen_by holding_of tables → (name : Name) (entry : Option TableSet) → entry_at tables name ≡ entry
+    → option_map (λ (h : Holding). h.set) (entry_at sets name) ≡ option_map (λ (h : Holding). h.set) (option_map holding_of entry)
+set-seen sets tables same name entry is = ap (option_map (λ (h : Holding). h.set)) (ap (λ s. entry_at s name) same ∙ entry-seen tables name ∙ ap (option_map holding_of) is)
 
-pub table-none : (sets : Named Holding) (tables : Named TableSet) → seen_by table_of sets ≡ tables → (name : Name) → None ≡ option_map (λ (h : Holding). h.set) (entry_at sets name) → entry_at tables name ≡ None
-table-none sets tables same name none = ap (λ t. entry_at t name) (sym same) ∙ entry-seen sets name ∙ by (entry_at sets name) none
+-- the set that was found
+table-there : (sets : Named Holding) (tables : Named TableSet) → sets ≡ seen_by holding_of tables → (name : Name) (set : DataSet) → Some set ≡ option_map (λ (h : Holding). h.set) (entry_at sets name)
+    → (table : TableSet) × (entry_at tables name ≡ Some table) × (table.set ≡ set)
+table-there sets tables same name set found = by (entry_at tables name) refl
   where
-    by : (entry : Option Holding) → None ≡ option_map (λ (h : Holding). h.set) entry → option_map table_of entry ≡ None
-    by None e = refl
-    by (Some holding) e = absurd (some-not-none holding.set (sym e))
+    by : (entry : Option TableSet) → entry_at tables name ≡ entry → (table : TableSet) × (entry_at tables name ≡ Some table) × (table.set ≡ set)
+    by None e = absurd (some-not-none set (found ∙ set-seen sets tables same name None e))
+    by (Some table) e = (table, e, sym (same_Some set table.set (found ∙ set-seen sets tables same name (Some table) e)))
+
+pub table-none : (sets : Named Holding) (tables : Named TableSet) → sets ≡ seen_by holding_of tables → (name : Name) → None ≡ option_map (λ (h : Holding). h.set) (entry_at sets name) → entry_at tables name ≡ None
+table-none sets tables same name none = by (entry_at tables name) refl
+  where
+    by : (entry : Option TableSet) → entry_at tables name ≡ entry → entry_at tables name ≡ None
+    by None e = e
+    by (Some table) e = absurd (some-not-none table.set (sym (none ∙ set-seen sets tables same name (Some table) e)))
 
 -- ---- the lines
 
@@ -83,40 +86,45 @@ module _ (layout : Layout) (jobs : JobsView) (image : List ℕ) (desk : DeskMode
   line-so : (name : Name) (table : TableSet) → entry_at desk.office.tables.sets name ≡ Some table → line_seen jobs.running name table.set ≡ line_of desk name table
   line-so name table found = ap (λ n. (name, record table.set { length = n })) (length-so name table found)
 
-  module _ (sets : Named Holding) (same : seen_by table_of sets ≡ jobs.tables.desk.sets) (rise : IsTrue (are_named_in_order sets)) (place : ℕ) where
-    line-at : slice_get (listed desk) place ≡ option_map (λ (entry : Name × Holding). line_of desk entry.0 (table_of entry.1)) (slice_get sets place)
+  abbrev all : Named TableSet
+  all = desk.office.tables.sets
+
+  module _ (sets : Named Holding) (same : sets ≡ seen_by holding_of jobs.tables.desk.sets) (rise : IsTrue (are_named_in_order sets)) (place : ℕ) where
+    same-all : sets ≡ seen_by holding_of all
+    same-all = same ∙ ap (λ (t : TablesModel). seen_by holding_of t.sets) stands.tables
+
+    line-at : slice_get (listed desk) place ≡ option_map (λ (entry : Name × TableSet). line_of desk entry.0 entry.1) (slice_get all place)
     unfolding listed
-    line-at =
-        slice_get-map (λ (entry : Name × TableSet). line_of desk entry.0 entry.1) desk.office.tables.sets place
-        ∙ ap (λ tables. option_map (λ (entry : Name × TableSet). line_of desk entry.0 entry.1) (slice_get tables place)) (sym (same ∙ ap (λ (t : TablesModel). t.sets) stands.tables))
-        ∙ ap (option_map (λ (entry : Name × TableSet). line_of desk entry.0 entry.1)) (slice_get-map (λ (entry : Name × Holding). (entry.0, table_of entry.1)) sets place)
-        ∙ by (slice_get sets place)
+    line-at = slice_get-map (λ (entry : Name × TableSet). line_of desk entry.0 entry.1) all place
+
+    holding-at : slice_get sets place ≡ option_map (λ (entry : Name × TableSet). (entry.0, holding_of entry.1)) (slice_get all place)
+    holding-at = ap (λ some. slice_get some place) same-all ∙ slice_get-map (λ (entry : Name × TableSet). (entry.0, holding_of entry.1)) all place
+
+    name-at : slice_get (names_of sets) place ≡ option_map (λ (entry : Name × TableSet). entry.0) (slice_get all place)
+    name-at = slice_get-map (λ (entry : Name × Holding). entry.0) sets place ∙ ap (option_map (λ (entry : Name × Holding). entry.0)) holding-at ∙ by (slice_get all place)
       where
-        by : (found : Option (Name × Holding)) → option_map (λ (entry : Name × TableSet). line_of desk entry.0 entry.1) (option_map (λ (entry : Name × Holding). (entry.0, table_of entry.1)) found)
-            ≡ option_map (λ (entry : Name × Holding). line_of desk entry.0 (table_of entry.1)) found
+        by : (found : Option (Name × TableSet)) → option_map (λ (entry : Name × Holding). entry.0) (option_map (λ (entry : Name × TableSet). (entry.0, holding_of entry.1)) found) ≡ option_map (λ (entry : Name × TableSet). entry.0) found
         by None = refl
         by (Some entry) = refl
 
-    name-at : slice_get (names_of sets) place ≡ option_map (λ (entry : Name × Holding). entry.0) (slice_get sets place)
-    name-at = slice_get-map (λ (entry : Name × Holding). entry.0) sets place
-
     -- behind the last data set there is none
     pub no-line : None ≡ slice_get (names_of sets) place → None ≡ slice_get (listed desk) place
-    no-line none = by (slice_get sets place) (none ∙ name-at) ∙ sym line-at
+    no-line none = by (slice_get all place) (none ∙ name-at) ∙ sym line-at
       where
-        by : (found : Option (Name × Holding)) → None ≡ option_map (λ (entry : Name × Holding). entry.0) found
-            → None ≡ option_map (λ (entry : Name × Holding). line_of desk entry.0 (table_of entry.1)) found
+        by : (found : Option (Name × TableSet)) → None ≡ option_map (λ (entry : Name × TableSet). entry.0) found
+            → None ≡ option_map (λ (entry : Name × TableSet). line_of desk entry.0 entry.1) found
         by None e = refl
         by (Some entry) e = absurd (some-not-none entry.0 (sym e))
 
-    entry-of : (name : Name) → Some name ≡ slice_get (names_of sets) place → (holding : Holding) × (slice_get sets place ≡ Some (name, holding)) × (entry_at sets name ≡ Some holding)
-    entry-of name named = by (slice_get sets place) refl
+    entry-of : (name : Name) → Some name ≡ slice_get (names_of sets) place → (table : TableSet) × (slice_get all place ≡ Some (name, table)) × (entry_at sets name ≡ Some (holding_of table))
+    entry-of name named = by (slice_get all place) refl
       where
-        by : (found : Option (Name × Holding)) → slice_get sets place ≡ found → (holding : Holding) × (slice_get sets place ≡ Some (name, holding)) × (entry_at sets name ≡ Some holding)
-        by None e = absurd (some-not-none name (named ∙ name-at ∙ ap (option_map (λ (one : Name × Holding). one.0)) e))
+        by : (found : Option (Name × TableSet)) → slice_get all place ≡ found → (table : TableSet) × (slice_get all place ≡ Some (name, table)) × (entry_at sets name ≡ Some (holding_of table))
+        by None e = absurd (some-not-none name (named ∙ name-at ∙ ap (option_map (λ (one : Name × TableSet). one.0)) e))
         by (Some entry) e =
-            let mine : entry.0 ≡ name = sym (same_Some name entry.0 (named ∙ name-at ∙ ap (option_map (λ (one : Name × Holding). one.0)) e)) in
-            (entry.1, e ∙ ap (λ n. Some (n, entry.1)) mine, ap (entry_at sets) (sym mine) ∙ at-place sets (T-from-true _ rise) place entry e)
+            let mine : entry.0 ≡ name = sym (same_Some name entry.0 (named ∙ name-at ∙ ap (option_map (λ (one : Name × TableSet). one.0)) e)) in
+            let here : slice_get sets place ≡ Some (entry.0, holding_of entry.1) = holding-at ∙ ap (option_map (λ (one : Name × TableSet). (one.0, holding_of one.1))) e in
+            (entry.1, e ∙ ap (λ n. Some (n, entry.1)) mine, ap (entry_at sets) (sym mine) ∙ at-place sets (T-from-true _ rise) place (entry.0, holding_of entry.1) here)
 
     -- a name of the library has a data set
     pub no-set : (name : Name) → Some name ≡ slice_get (names_of sets) place → None ≡ option_map (λ (h : Holding). h.set) (entry_at sets name) → ⊥
@@ -127,23 +135,23 @@ module _ (layout : Layout) (jobs : JobsView) (image : List ℕ) (desk : DeskMode
     line-there name set named found =
         let entry = entry-of name named in
         let its : set ≡ entry.0.set = same_Some set entry.0.set (found ∙ ap (option_map (λ (h : Holding). h.set)) entry.2) in
-        let there : entry_at desk.office.tables.sets name ≡ Some (table_of entry.0) =
-        ap (λ t. entry_at t name) (sym (same ∙ ap (λ (t : TablesModel). t.sets) stands.tables)) ∙ entry-seen sets name ∙ ap (option_map table_of) entry.2 in
-        ap (λ s. Some (line_seen jobs.running name s)) its
-        ∙ ap Some (line-so name (table_of entry.0) there)
-        ∙ sym (line-at ∙ ap (option_map (λ (one : Name × Holding). line_of desk one.0 (table_of one.1))) entry.1)
+        let there = table-there sets all same-all name set found in
+        ap (λ s. Some (line_seen jobs.running name s)) (sym there.2)
+        ∙ ap Some (line-so name there.0 there.1)
+        ∙ ap (λ (s : DataSet). let one : Name × DataSet = (name, record s { length = length_by s.content desk name s.length }) in Some one) (there.2 ∙ its)
+        ∙ sym (line-at ∙ ap (option_map (λ (one : Name × TableSet). line_of desk one.0 one.1)) entry.1)
 
 -- ---- the data sets that no run holds
 
 -- by its content
-pub set-there : (sets : Named Holding) (tables : TablesModel) → seen_by table_of sets ≡ tables.sets → (name : Name) (set : DataSet) → Some set ≡ option_map (λ (h : Holding). h.set) (entry_at sets name)
+pub set-there : (sets : Named Holding) (tables : TablesModel) → sets ≡ seen_by holding_of tables.sets → (name : Name) (set : DataSet) → Some set ≡ option_map (λ (h : Holding). h.set) (entry_at sets name)
     → free_set tables name ≡ set_by set.content tables name set
 set-there sets tables same name set found =
     let there = table-there sets tables.sets same name set found in
     ap (λ (o : Option TableSet). option_map_or (λ table. set_by table.set.content tables name table.set) o None) there.1
     ∙ ap (λ (s : DataSet). set_by s.content tables name s) there.2
 
-pub set-none : (sets : Named Holding) (tables : TablesModel) → seen_by table_of sets ≡ tables.sets → (name : Name) → None ≡ option_map (λ (h : Holding). h.set) (entry_at sets name)
+pub set-none : (sets : Named Holding) (tables : TablesModel) → sets ≡ seen_by holding_of tables.sets → (name : Name) → None ≡ option_map (λ (h : Holding). h.set) (entry_at sets name)
     → free_set tables name ≡ None
 set-none sets tables same name none = ap (λ (o : Option TableSet). option_map_or (λ table. set_by table.set.content tables name table.set) o None) (table-none sets tables.sets same name none)
 

@@ -31,7 +31,7 @@ use Rattle.ckr_desk_refines.proofs.Rewrites.Office.{next, next-at}
 use Rattle.ckr_desk_refines.proofs.Rewrites.Commits.{changed-committed, has-record}
 use Rattle.ckr_desk_refines.proofs.Rewrites.OwnStep.{goes-in-place, same-job, updated-shown}
 use Rattle.ckr_desk_refines.proofs.Rewrites.Records.{same-but}
-use Rattle.ckr_desk_refines.proofs.Rewrites.Masters.{by-role}
+use Rattle.ckr_desk_memory.proofs.Masters.{by-role}
 
 abbrev record_so : ℕ → List ℕ → Name → RewriteRecord
 record_so place image name = record { name = name; place = place; image = image }

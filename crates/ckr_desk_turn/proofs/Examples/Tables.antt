@@ -21,26 +21,26 @@ abbrev listed : TablesModel → List (Name × Bool × (ℕ × ℕ) × (ℕ × �
 listed tables = map listed_one tables.sets
 
 -- a data set in one extent
-abbrev in_one : ℕ → ℕ → ℕ → ℕ → Made
+abbrev pub in_one : ℕ → ℕ → ℕ → ℕ → Made
 in_one dd volume start records = record {
   dd = dd;
   volume = volume;
   pieces = record { items = record { start = start; records = records } ∷ [] };
 }
 
-abbrev submitted : ℕ → Option Job → Decked
+abbrev pub submitted : ℕ → Option Job → Decked
 submitted job deck = (Submitted job (0 ∷ []), deck)
 
-abbrev selected : ℕ → Decked
+abbrev pub selected : ℕ → Decked
 selected job = (Selected job 1 0 0 None, None)
 
-abbrev started : ℕ → ℕ → List Made → Decked
+abbrev pub started : ℕ → ℕ → List Made → Decked
 started job step items = (Started job step (record { items = items }), None)
 
-abbrev step_ended : ℕ → ℕ → ℕ → ℕ → List ℕ → Decked
+abbrev pub step_ended : ℕ → ℕ → ℕ → ℕ → List ℕ → Decked
 step_ended job step rc writes lengths = (StepEnded job step rc writes (record { items = lengths }), None)
 
-abbrev ended : ℕ → Decked
+abbrev pub ended : ℕ → Decked
 ended job = (Ended job Completed, None)
 
 -- no card is copied into a new data set

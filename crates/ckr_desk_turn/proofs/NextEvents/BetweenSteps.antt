@@ -16,7 +16,7 @@ use Rattle.ckr_meaning.specs.EffectiveJob.{OwnedStep}
 use Rattle.ckr_volumes.specs.declared.layout.Layout.{Layout}
 use Rattle.ckr_points.specs.declared.run.RunState.{RunState}
 use Rattle.ckr_points.specs.declared.run.RunState.TheVariants.{Queued, On, Held, Released, Ended, Denied, Purged}
-use Rattle.ckr_points.specs.Follows.{ended_follows, is_free, is_in_state, is_within, may_hold, may_restart, own_step, selected_follows, state_number}
+use Rattle.ckr_points.specs.Follows.{ended_follows, follows, is_free, is_in_state, is_within, may_hold, may_restart, own_step, selected_follows, state_number}
 use Rattle.ckr_points.specs.Office.{Office}
 use Rattle.ckr_points.specs.Restart.{place_of}
 use Rattle.ckr_points.specs.Rows.{RunRow, TablesModel, run_of}
@@ -98,22 +98,15 @@ plain_parts row plain =
 pub no_restart : (deck : Job) → is_run deck ≡ true → deck.restart ≡ None
 no_restart deck runs = is_none-true deck.restart (and_parts (is_none deck.restart) _ (and_parts (is_none deck.rd) _ runs).1).0
 
-pub selected_comes : (desk : DeskModel) (i : ℕ) (row : RunRow) → IsDesk desk → 1 ≤ i → i ≤ desk.layout.initiators → run_on_initiator desk.office.tables i ≡ None → next_run desk.office.tables ≡ Some row
-    → may_come desk.layout desk.office (SelectedEvent row.number i 0 0 None, None) ≡ true
-selected_comes desk i row is above below free next =
-    and_from _ _ (ap (λ o. option_map_or (selected_follows desk.layout tables i 0 0 None) o false) (row_of_found desk.layout desk.office selects row is.kept next) ∙ follows_so) refl
+-- a run that comes next to an initiator that no run is on
+pub selected-follows : (layout : Layout) (tables : TablesModel) (i : ℕ) (row : RunRow) → run_of tables row.number ≡ Some row → is_plain_state row.state ≡ true → is_run row.deck ≡ true → 1 ≤ i → i ≤ layout.initiators → run_on_initiator tables i ≡ None → next_run tables ≡ Some row
+    → follows layout tables (SelectedEvent row.number i 0 0 None) None ≡ true
+selected-follows layout tables i row at plain runs above below free next =
+    ap (λ o. option_map_or (selected_follows layout tables i 0 0 None) o false) at
+    ∙ and_from _ _ (and_from _ _ (and_from _ _ queued is_there) waits.1) alone
   where
-    tables : TablesModel
-    tables = desk.office.tables
-
-    selects : RunRow → Bool
-    selects other = may_select tables other.state other
-
-    plain : Plain row
-    plain = plain_parts row (plain_found desk selects row is next)
-
     waits : (row.state ≡ Queued) × (may_hold tables row ≡ true)
-    waits = next_waits tables row (find-passes selects tables.runs row next) plain.state
+    waits = next_waits tables row (find-passes (λ other. may_select tables other.state other) tables.runs row next) plain
 
     queued : is_in_state Queued row ≡ true
     queued = ap (λ s. state_number s == state_number Queued) waits.0
@@ -121,17 +114,21 @@ selected_comes desk i row is above below free next =
     within : nat_le 1 i ≡ true
     within = grind (arith, nat_tests, above)
 
-    below_most : nat_le i desk.layout.initiators ≡ true
+    below_most : nat_le i layout.initiators ≡ true
     below_most = grind (arith, nat_tests, below)
 
-    is_there : is_free desk.layout tables i ≡ true
+    is_there : is_free layout tables i ≡ true
     is_there = and_from _ _ (and_from _ _ within below_most) (free_initiator i tables.runs free)
 
     alone : option_map_or (λ restart. may_restart tables row restart 0 0 None) row.deck.restart true ≡ true
-    alone = ap (λ r. option_map_or (λ restart. may_restart tables row restart 0 0 None) r true) (no_restart row.deck plain.runs)
+    alone = ap (λ r. option_map_or (λ restart. may_restart tables row restart 0 0 None) r true) (no_restart row.deck runs)
 
-    follows_so : selected_follows desk.layout tables i 0 0 None row ≡ true
-    follows_so = and_from _ _ (and_from _ _ (and_from _ _ queued is_there) waits.1) alone
+pub selected_comes : (desk : DeskModel) (i : ℕ) (row : RunRow) → IsDesk desk → 1 ≤ i → i ≤ desk.layout.initiators → run_on_initiator desk.office.tables i ≡ None → next_run desk.office.tables ≡ Some row
+    → may_come desk.layout desk.office (SelectedEvent row.number i 0 0 None, None) ≡ true
+selected_comes desk i row is above below free next =
+    let selects : RunRow → Bool = λ other. may_select desk.office.tables other.state other in
+    let plain : Plain row = plain_parts row (plain_found desk selects row is next) in
+    and_from _ _ (selected-follows desk.layout desk.office.tables i row (row_of_found desk.layout desk.office selects row is.kept next) plain.state plain.runs above below free next) refl
 
 -- ---- a run that is on an initiator
 
@@ -148,49 +145,52 @@ placed_on : (i : ℕ) (o : Option ℕ) (on : Bool) → is_on i o ≡ true → (i
 placed_on i None on is either = absurd (false≢true is)
 placed_on i (Some other) on is either = either
 
+-- a run that has an initiator only where it is on it
+pub lodged-on : (i : ℕ) (row : RunRow) → is_on i row.initiator ≡ true → (is_none row.initiator || is_on_one row.state) ≡ true → row.state ≡ On
+lodged-on i row is lodged = on_it row.state (placed_on i row.initiator (is_on_one row.state) is lodged)
+
 -- the run on an initiator is in that state
 pub state_on : (desk : DeskModel) (i : ℕ) (row : RunRow) → IsDesk desk → run_on_initiator desk.office.tables i ≡ Some row → row.state ≡ On
 state_on desk i row is found =
     let here = λ (other : RunRow). is_on i other.initiator in
     let plain = plain_parts row (plain_found desk here row is found) in
-    on_it row.state (placed_on i row.initiator (is_on_one row.state) (find-passes here desk.office.tables.runs row found) plain.initiator)
+    lodged-on i row (find-passes here desk.office.tables.runs row found) plain.initiator
 
 -- a run ends behind its last step
+pub completed-follows : (layout : Layout) (tables : TablesModel) (row : RunRow) → run_of tables row.number ≡ Some row → row.state ≡ On → is_within (place_of row) ≡ false → own_step row ≡ None → follows layout tables (EndedEvent row.number Completed) None ≡ true
+completed-follows layout tables row at on between none =
+    ap (λ o. option_map_or (λ row. ended_follows tables row Completed) o false) at
+    ∙ and_from _ _ (and_from _ _ (ap (λ s. state_number s == state_number On) on) (ap not between)) (ap is_none none)
+
 pub completed_comes : (desk : DeskModel) (i : ℕ) (row : RunRow) → IsDesk desk → run_on_initiator desk.office.tables i ≡ Some row → is_within (place_of row) ≡ false → own_step row ≡ None
     → may_come desk.layout desk.office (EndedEvent row.number Completed, None) ≡ true
 completed_comes desk i row is found between none =
+    let at : run_of desk.office.tables row.number ≡ Some row = row_of_found desk.layout desk.office (λ other. is_on i other.initiator) row is.kept found in
     and_from _ _
-    (ap (λ o. option_map_or (λ row. ended_follows tables row Completed) o false) at
-    ∙ and_from _ _ (and_from _ _ (ap (λ s. state_number s == state_number On) (state_on desk i row is found)) (ap not between)) (ap is_none none))
+    (completed-follows desk.layout desk.office.tables row at (state_on desk i row is found) between none)
     (ap (λ o. option_map_or (λ row. ending_names_first desk.layout row Completed) o false) at)
-  where
-    tables : TablesModel
-    tables = desk.office.tables
-
-    at : run_of tables row.number ≡ Some row
-    at = row_of_found desk.layout desk.office (λ other. is_on i other.initiator) row is.kept found
 
 -- a run ends since a DD of its next step isn't allocated
-pub refused_comes : (desk : DeskModel) (i : ℕ) (row : RunRow) (owned : OwnedStep) (dd cause first second : ℕ) → IsDesk desk → run_on_initiator desk.office.tables i ≡ Some row → own_step row ≡ Some owned
-    → 1 ≤ dd → dd ≤ length owned.step.dds → may_come desk.layout desk.office (EndedEvent row.number (Allocation dd cause first second), None) ≡ true
-refused_comes desk i row owned dd cause first second is found there above below =
-    and_from _ _
-    (ap (λ o. option_map_or (λ row. ended_follows tables row (Allocation dd cause first second)) o false) at
-    ∙ and_from _ _ (ap (λ s. state_number s == state_number On) (state_on desk i row is found))
-    (ap (λ o. option_map_or (λ owned. nat_le 1 dd && nat_le dd (length owned.step.dds)) o false) there ∙ and_from _ _ one most))
-    (ap (λ o. option_map_or (λ row. ending_names_first desk.layout row (Allocation dd cause first second)) o false) at)
+pub refused-follows : (layout : Layout) (tables : TablesModel) (row : RunRow) (owned : OwnedStep) (dd cause first second : ℕ) → run_of tables row.number ≡ Some row → row.state ≡ On → own_step row ≡ Some owned → 1 ≤ dd → dd ≤ length owned.step.dds
+    → follows layout tables (EndedEvent row.number (Allocation dd cause first second)) None ≡ true
+refused-follows layout tables row owned dd cause first second at on there above below =
+    ap (λ o. option_map_or (λ row. ended_follows tables row (Allocation dd cause first second)) o false) at
+    ∙ and_from _ _ (ap (λ s. state_number s == state_number On) on)
+    (ap (λ o. option_map_or (λ owned. nat_le 1 dd && nat_le dd (length owned.step.dds)) o false) there ∙ and_from _ _ one most)
   where
-    tables : TablesModel
-    tables = desk.office.tables
-
-    at : run_of tables row.number ≡ Some row
-    at = row_of_found desk.layout desk.office (λ other. is_on i other.initiator) row is.kept found
-
     one : nat_le 1 dd ≡ true
     one = grind (arith, nat_tests, above)
 
     most : nat_le dd (length owned.step.dds) ≡ true
     most = grind (arith, nat_tests, below)
+
+pub refused_comes : (desk : DeskModel) (i : ℕ) (row : RunRow) (owned : OwnedStep) (dd cause first second : ℕ) → IsDesk desk → run_on_initiator desk.office.tables i ≡ Some row → own_step row ≡ Some owned
+    → 1 ≤ dd → dd ≤ length owned.step.dds → may_come desk.layout desk.office (EndedEvent row.number (Allocation dd cause first second), None) ≡ true
+refused_comes desk i row owned dd cause first second is found there above below =
+    let at : run_of desk.office.tables row.number ≡ Some row = row_of_found desk.layout desk.office (λ other. is_on i other.initiator) row is.kept found in
+    and_from _ _
+    (refused-follows desk.layout desk.office.tables row owned dd cause first second at (state_on desk i row is found) there above below)
+    (ap (λ o. option_map_or (λ row. ending_names_first desk.layout row (Allocation dd cause first second)) o false) at)
 
 -- ---- the other calls
 

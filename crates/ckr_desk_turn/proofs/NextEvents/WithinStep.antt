@@ -37,7 +37,7 @@ use Rattle.ckr_desk_turn.specs.NextEvents.{Comes, IsWithinStep}
 use Rattle.ckr_desk_turn.specs.Invariant.{IsDesk}
 use Rattle.ckr_desk_turn.proofs.Units.Outputs.{lengths-carried, lengths-follow}
 
-start_at-none : (leg : Leg) (number : ℕ) → step_at leg.job number ≡ None → start_at leg.job leg.start number ≡ None
+pub start_at-none : (leg : Leg) (number : ℕ) → step_at leg.job number ≡ None → start_at leg.job leg.start number ≡ None
 unfolding start_at
 start_at-none leg number none = ap (option_map _) none
 

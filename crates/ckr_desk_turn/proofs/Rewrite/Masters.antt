@@ -78,7 +78,7 @@ written_all-place start (write ∷ writes) library name place has =
 
 -- ---- a DD without a flaw
 
-flawless-dd : (standing : Stock LibrarySet) (root : ℕ) (owned : OwnedStep) (number : ℕ) (test : Dd → Bool) (dds : List Dd) (dd : Dd) (name : Name) → flaws_in (placed_from record_ways standing root owned number dds) ≡ [] → find test dds ≡ Some dd → name_of root owned dd ≡ Some name → flaw_in (allotment_of dd (is_passed standing.passed name) (option_map record_ways.known (entry_at standing.sets name))) ≡ None
+pub flawless-dd : (standing : Stock LibrarySet) (root : ℕ) (owned : OwnedStep) (number : ℕ) (test : Dd → Bool) (dds : List Dd) (dd : Dd) (name : Name) → flaws_in (placed_from record_ways standing root owned number dds) ≡ [] → find test dds ≡ Some dd → name_of root owned dd ≡ Some name → flaw_in (allotment_of dd (is_passed standing.passed name) (option_map record_ways.known (entry_at standing.sets name))) ≡ None
 flawless-dd standing root owned number test [] dd name flawless at has = absurd (some-not-none dd (sym at))
 flawless-dd standing root owned number test (first ∷ rest) dd name flawless at has =
     bool-cases (test first)

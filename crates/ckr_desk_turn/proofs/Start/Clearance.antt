@@ -101,7 +101,7 @@ each-clear layout volume lrecl at records (entry ∷ rest) stand clear =
 
 -- what is allocated is clear of each
 pub allotted-clear : (layout : Layout) (sets : Named Holding) (room volume lrecl space : ℕ) (extents : List Extent) → volume < length layout.volumes.items → 1 ≤ lrecl → 1 ≤ space → EachEntry (λ (h : Holding). StandsIn layout h.set) sets
-    → (is : Allotted layout (record { sets = sets; room = room }) volume lrecl space extents) → list_all (λ (entry : Name × Holding). is_clear_of lrecl (record { volume = volume; start = is.start; records = space }) entry.1.set) sets ≡ true
+    → (is : Allotted layout (record { sets = sets; room = room; entry_rooms = [] }) volume lrecl space extents) → list_all (λ (entry : Name × Holding). is_clear_of lrecl (record { volume = volume; start = is.start; records = space }) entry.1.set) sets ≡ true
 allotted-clear layout sets room volume lrecl space extents there wide some stand is =
     each-clear layout volume lrecl is.start space sets stand
     (filter-all (is_on volume) (is_clear is.start (space * lrecl)) (spans_of_all sets) (and-second (nat_le (is.start + space * lrecl) (bytes_of layout.volumes.items volume)) _ is.free))

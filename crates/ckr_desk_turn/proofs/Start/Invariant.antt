@@ -13,7 +13,8 @@ use Rattle.ckr_points_library.specs.Allocation.{Allocation}
 use Rattle.ckr_points_library.proofs.Meaning.{no_flaw}
 use Rattle.ckr_events.specs.declared.event.Event.TheVariants.{Started as StartedEvent}
 use Rattle.ckr_events.specs.declared.event.Made.{Made}
-use Rattle.ckr_library.specs.NameMaps.{Named}
+use Rattle.ckr_jcl_decks.specs.Deck.{stored_deck}
+use Rattle.ckr_library.specs.NameMaps.{EachEntry, Named}
 use Rattle.ckr_meaning.specs.Allotments.{DdAllotment, opened_all}
 use Rattle.ckr_meaning.specs.EffectiveJob.{Effective, OwnedStep, flaws_in, placed_in, plain_job, stamp_of, step_at}
 use Rattle.ckr_meaning.specs.declared.place.Place.{Place}
@@ -23,14 +24,16 @@ use Rattle.ckr_meaning.specs.Program.{ProgramCase, rest, upto, work}
 use Rattle.ckr_meaning.specs.StepRun.{StepStart, case_at}
 use Rattle.ckr_meaning.proofs.Prefixes.{work_in_parts}
 use Rattle.ckr_meaning.proofs.Units.{write_all, write_the_rest}
+use Rattle.ckr_volumes.specs.declared.layout.Layout.{Layout}
+use Rattle.ckr_volumes.specs.Layouts.{StandsIn}
 use Rattle.ckr_points.specs.declared.run.RunState.{RunState}
 use Rattle.ckr_points.specs.declared.run.RunState.TheVariants.{On}
 use Rattle.ckr_points.specs.Tables.{after_started, made_tables, start_point}
-use Rattle.ckr_points.specs.Follows.{are_items, is_empty, is_in_state, is_running, is_within, may_start, own_step, started_follows, state_number}
+use Rattle.ckr_points.specs.Follows.{are_items, follows, is_empty, is_in_state, is_running, is_within, may_start, own_step, started_follows, state_number}
 use Rattle.ckr_points.specs.Marks.{with_point}
 use Rattle.ckr_points.specs.Office.{Leg, is_holder}
 use Rattle.ckr_points.specs.Restart.{place_of, step_in}
-use Rattle.ckr_points.specs.Rows.{RunRow, TableSet, run_of, standing_of, step_of_run, table_ways}
+use Rattle.ckr_points.specs.Rows.{RunRow, TableSet, TablesModel, run_of, standing_of, step_of_run, table_ways}
 use Rattle.ckr_points_invariant.proofs.Steps.Commits.{its_start}
 use Rattle.ckr_points_invariant.proofs.Holders.Rows.{run-other, run-same}
 use Rattle.ckr_points_invariant.proofs.EventLaws.{started}
@@ -83,6 +86,42 @@ not-failed desk is row at out =
     absurd (false≢true (sym out ∙ ap (λ (r : RunRow). is_within (place_of r)) (sym mine) ∙ ap is_within its.within.place))))
     (λ isnt. isnt)
 
+-- ---- the event follows
+
+module _ (layout : Layout) (tables : TablesModel) (row : RunRow) (cards : List ℕ) (accepted : stored_deck cards ≡ Ok row.deck) (stand : EachEntry (λ (table : TableSet). StandsIn layout table.set) tables.sets)
+    (at : run_of tables row.number ≡ Some row) (on : row.state ≡ On) (out : is_within (place_of row) ≡ false) (owned : OwnedStep) (there : own_step row ≡ Some owned)
+    (found : step_at (plain_job row.number row.deck) (step_in (place_of row)) ≡ Some owned) (items : List Made) (got : allocation_of layout row owned (step_in (place_of row)) tables ≡ Ok items) where
+  abbrev its_step : ℕ
+  its_step = step_in (place_of row)
+
+  abbrev its_placed : List DdAllotment
+  its_placed = placed_in table_ways (standing_of row tables) row.job.root owned
+
+  its-items : are_items layout (stamp_of owned its_step) tables.sets its_placed items ≡ true
+  its-items =
+      items-follow layout (stamp_of owned its_step) 1 its_placed
+      (rises table_ways (standing_of row tables) row.job.root owned 1 1 owned.step.dds (omega arith))
+      (asks table_ways (standing_of row tables) row.job.root owned 1 owned.step.dds (fits-allocation cards row.number row.deck its_step owned row.job.root accepted found))
+      tables.sets items stand got
+
+  its-flawless : flaws_in its_placed ≡ []
+  its-flawless = no_flaw layout (stamp_of owned its_step) its_placed (holdings tables.sets) (done-so _ items got)
+
+  -- what the allocation of its step gives follows
+  pub started-follows : follows layout tables (StartedEvent row.number its_step (record { items = items })) None ≡ true
+  started-follows =
+      ap (λ (o : Option RunRow). option_map_or (started_follows layout tables its_step items) o false) at
+      ∙ and_from (is_in_state On row) _ (ap (λ (state : RunState). state_number state == 2) on)
+      (ap (λ (o : Option OwnedStep). option_map_or (starts row) o false) there
+      ∙ and_from _ _ (and_from _ _ (starts-here (place_of row) out) (ap (λ flaws. is_empty flaws) its-flawless)) its-items)
+    where
+      starts : RunRow → OwnedStep → Bool
+      starts row owned =
+          may_start its_step (place_of row) && is_empty (flaws_in (placed_in table_ways (standing_of row tables) row.job.root owned))
+          && are_items layout (stamp_of owned its_step) tables.sets (placed_in table_ways (standing_of row tables) row.job.root owned) items
+
+-- ---- the desk
+
 module _ (desk : DeskModel) (is : IsDesk desk) (row : RunRow) (at : run_of desk.office.tables row.number ≡ Some row) (on : row.state ≡ On) (out : is_within (place_of row) ≡ false)
     (owned : OwnedStep) (there : own_step row ≡ Some owned) (items : List Made) (got : allocation_of desk.layout row owned (step_in (place_of row)) desk.office.tables ≡ Ok items) where
   abbrev step : ℕ
@@ -103,36 +142,17 @@ module _ (desk : DeskModel) (is : IsDesk desk) (row : RunRow) (at : run_of desk.
   its_deck : IsAdmitted row
   its_deck = row-admitted desk is row.number row at
 
-  items-so : are_items desk.layout (stamp_of owned step) desk.office.tables.sets placed items ≡ true
-  items-so =
-      of-deck (λ leg holder found.
-      items-follow desk.layout (stamp_of owned step) 1 placed
-      (rises table_ways (standing_of row desk.office.tables) row.job.root owned 1 1 owned.step.dds (omega arith))
-      (asks table_ways (standing_of row desk.office.tables) row.job.root owned 1 owned.step.dds (fits-allocation its_deck.cards row.number row.deck step owned row.job.root its_deck.accepted found))
-      desk.office.tables.sets items is.kept.events.extents.stand got)
-
-  flawless : flaws_in placed ≡ []
-  flawless = no_flaw desk.layout (stamp_of owned step) placed (holdings desk.office.tables.sets) (done-so _ items got)
-
   -- the event may come, and carries what the job gives
   pub started-comes : Comes desk (StartedEvent row.number step (record { items = items }))
   started-comes = record {
     may =
         and_from _ true
-        (ap (λ (o : Option RunRow). option_map_or (started_follows desk.layout desk.office.tables step items) o false) at
-        ∙ and_from (is_in_state On row) _ (ap (λ (state : RunState). state_number state == 2) on)
-        (ap (λ (o : Option OwnedStep). option_map_or (starts row) o false) there
-        ∙ and_from _ _ (and_from _ _ (starts-here (place_of row) out) (ap (λ flaws. is_empty flaws) flawless)) items-so)) refl;
+        (of-deck (λ leg holder found. started-follows desk.layout desk.office.tables row its_deck.cards its_deck.accepted is.kept.events.extents.stand at on out owned there found items got)) refl;
     carried =
         ap (λ (o : Option RunRow). option_map_or (λ row. option_map_or (λ owned. not (is_bypassed row.rcs owned)) (step_of_run row step) false) o false) at
         ∙ ap (λ (o : Option OwnedStep). option_map_or (λ owned. not (is_bypassed row.rcs owned)) o false) there
         ∙ of-deck (λ leg holder found. ap not (never-bypassed its_deck.cards row.number row.deck step owned row.rcs its_deck.accepted found));
   }
-    where
-      starts : RunRow → OwnedStep → Bool
-      starts row owned =
-          may_start step (place_of row) && is_empty (flaws_in (placed_in table_ways (standing_of row desk.office.tables) row.job.root owned))
-          && are_items desk.layout (stamp_of owned step) desk.office.tables.sets (placed_in table_ways (standing_of row desk.office.tables) row.job.root owned) items
 
   -- ---- the desk behind it
 

@@ -43,7 +43,7 @@ found-within test xs place found =
 
 module _ (layout : Layout) (sets : Named Holding) (stamp : Stamp) (dd : Dd) (fits : fits_dd dd ≡ true) (some : 1 ≤ space_of dd) (stand : EachEntry (λ (h : Holding). StandsIn layout h.set) sets) where
   abbrev catalog : Catalog
-  catalog = record { sets = sets; room = 0 }
+  catalog = record { sets = sets; room = 0; entry_rooms = [] }
 
   new-in : (volume : ℕ) (part : Part) → volume < length layout.volumes.items → part_in layout sets dd volume ≡ Ok part → IsNewPart layout sets stamp dd part
   new-in volume part there is =

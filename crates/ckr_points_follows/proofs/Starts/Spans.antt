@@ -13,8 +13,8 @@ use Rattle.ckr_library.specs.Catalog.{Holding}
 use Rattle.ckr_library.specs.NameMaps.{EachEntry, Named}
 use Rattle.ckr_library.specs.Spread.{filed, filed_all, is_before, is_on, span_of, spans_of, spans_of_all, spans_of_part, spread_on}
 use Rattle.ckr_points.specs.Follows.{lies_clear}
-use Rattle.ckr_points.specs.Rows.{TableSet}
-use Rattle.ckr_points_tables.specs.View.{seen_by, table_of}
+use Rattle.ckr_points.specs.Rows.{TableSet, holding_of}
+use Rattle.ckr_points_tables.specs.View.{seen_by}
 use Rattle.ckr_volumes.specs.Places.{StretchModel, end_of, stretch_on, stretches_of, stretches_of_part}
 use Rattle.ckr_volumes.specs.Layouts.{are_apart, are_disjoint}
 use Rattle.ckr_points_follows.specs.Clearance.{clears, is_clear_of}
@@ -80,16 +80,16 @@ one-same lrecl wide one some volume extent =
     turned a b = grind (arith, nat_tests)
 
 -- what is clear of the spans on its volume lies apart from each data set
-pub spread-clears : (sets : Named Holding) (lrecl : ℕ) (one : StretchModel) → EachEntry (λ (table : TableSet). 1 ≤ table.set.lrecl) (seen_by table_of sets) → list_all (is_clear_of lrecl one) (spread_on one.volume sets) ≡ clears (seen_by table_of sets) lrecl one
-spread-clears sets lrecl one wide =
+pub spread-clears : (sets : Named Holding) (tables : Named TableSet) → sets ≡ seen_by holding_of tables → (lrecl : ℕ) (one : StretchModel) → EachEntry (λ (table : TableSet). 1 ≤ table.set.lrecl) tables → list_all (is_clear_of lrecl one) (spread_on one.volume sets) ≡ clears tables lrecl one
+spread-clears sets tables is lrecl one wide =
     all-filtered (is_on one.volume) (is_clear_of lrecl one) (spans_of_all sets)
     ∙ all-spans test sets
-    ∙ each sets wide
+    ∙ ap (list_all (λ entry. list_all test (spans_of entry.1.set))) is ∙ each tables wide
   where
     test : Span → Bool
     test span = not (is_on one.volume span) || is_clear_of lrecl one span
 
-    each : (some : Named Holding) → EachEntry (λ (table : TableSet). 1 ≤ table.set.lrecl) (seen_by table_of some) → list_all (λ entry. list_all test (spans_of entry.1.set)) some ≡ clears (seen_by table_of some) lrecl one
+    each : (some : Named TableSet) → EachEntry (λ (table : TableSet). 1 ≤ table.set.lrecl) some → list_all (λ entry. list_all test (spans_of entry.1.set)) (seen_by holding_of some) ≡ clears some lrecl one
     each [] wide = refl
     each (entry ∷ some) wide =
         λ i. set-spans entry.1.set.lrecl test (are_apart lrecl entry.1.set.lrecl one) (one-same lrecl entry.1.set.lrecl one wide.0) entry.1.set.parts.items i && each some wide.1 i

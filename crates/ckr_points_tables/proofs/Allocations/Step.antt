@@ -1,5 +1,5 @@
 -- The allocation of a step of a run, as the tables have it.
-use Rattle.std.proofs.Common.{◌≡◌, ◌+◌, ℕ, zero, suc, Bool, true, refl, ap, sym, ◌∙◌, subst, List, [], ◌∷◌, slice_get, Option, None, Some, Result, arith}
+use Rattle.std.proofs.Common.{◌≡◌, ℕ, zero, suc, Bool, true, ap, sym, ◌∙◌, subst, List, [], ◌∷◌, slice_get, Some, Result, arith}
 use Rattle.std.specs.List.{list_all}
 use Rattle.std.proofs.lemmas.Bool.{and_parts}
 use Rattle.std.proofs.lemmas.Option.{same_Some}
@@ -20,9 +20,9 @@ use Rattle.ckr_volumes.specs.Layouts.{StandsIn}
 use Rattle.ckr_points_tables.specs.declared.run_table.RunTable.{RunTable}
 use Rattle.ckr_points_tables.specs.Allocation.{HasFitting, IsAllocation, MayAllocate, allocation_in}
 use Rattle.ckr_points_tables.specs.Invariant.{AreRuns}
-use Rattle.ckr_points_tables.specs.View.{AreBare, bare, row_of, rows_of, seen_by, table_of}
+use Rattle.ckr_points_tables.specs.View.{Writings, row_of, rows_of, seen_by, seen_under, table_in}
 use Rattle.ckr_points_tables.proofs.RoomGrowth.{distinct_there, found_there, line_there, numbered_there}
-use Rattle.ckr_points_tables.proofs.SetViews.{table_view}
+use Rattle.ckr_points_tables.proofs.SetViews.{held-back, table_view}
 
 -- what holds of each step of a job holds of one
 pub step-all : (all : OwnedStep → Bool) (job : Effective) (number : ℕ) (own : OwnedStep) → list_all all job.steps ≡ true → step_at job number ≡ Some own → all own ≡ true
@@ -34,17 +34,12 @@ step-all all job (suc place) own each found = at job.steps place each found
     at (first ∷ rest) zero each found = subst (λ one. all one ≡ true) (same_Some _ _ found) (and_parts (all first) (list_all all rest) each).0
     at (first ∷ rest) (suc place) each found = at rest place (and_parts (all first) (list_all all rest) each).1 found
 
--- data sets that keep no entry are those of the tables
-pub seen_back : (sets : Named Holding) → seen_by bare sets ≡ seen_by holding_of (seen_by table_of sets)
-seen_back [] = refl
-seen_back (entry ∷ sets) = ap (λ rest. (entry.0, bare entry.1) ∷ rest) (seen_back sets)
-
-stand_seen : (layout : Layout) (sets : Named Holding) → EachEntry (λ (table : TableSet). StandsIn layout table.set) (seen_by table_of sets) → EachEntry (λ (h : Holding). StandsIn layout h.set) sets
-stand_seen layout [] all = tt
-stand_seen layout (entry ∷ sets) all = (all.0, stand_seen layout sets all.1)
+stand_seen : (layout : Layout) (writings : Writings) (sets : Named Holding) → EachEntry (λ (table : TableSet). StandsIn layout table.set) (seen_under (table_in writings) sets) → EachEntry (λ (h : Holding). StandsIn layout h.set) sets
+stand_seen layout writings [] all = tt
+stand_seen layout writings (entry ∷ sets) all = (all.0, stand_seen layout writings sets all.1)
 
 module _ (lines : List Run) (tables : List RunTable) (are : AreRuns 1 lines tables) (place : ℕ) (table : RunTable) (here : slice_get tables place ≡ Some table)
-    (sets : Named Holding) (desk : TablesModel) (seen_sets : seen_by table_of sets ≡ desk.sets) (seen_runs : rows_of lines tables ≡ desk.runs) (job : ℕ) (at : job ≡ suc place) where
+    (writings : Writings) (sets : Named Holding) (desk : TablesModel) (seen_sets : seen_under (table_in writings) sets ≡ desk.sets) (seen_runs : rows_of lines tables ≡ desk.runs) (job : ℕ) (at : job ≡ suc place) where
   row : RunRow
   row = row_of (line_there lines tables are place table table here).0 table
 
@@ -64,7 +59,7 @@ module _ (lines : List Run) (tables : List RunTable) (are : AreRuns 1 lines tabl
 
   -- each data set of the library stands in the layout
   pub stand_in : (layout : Layout) → EachEntry (λ (one : TableSet). StandsIn layout one.set) desk.sets → EachEntry (λ (h : Holding). StandsIn layout h.set) sets
-  stand_in layout all = stand_seen layout sets (subst (EachEntry (λ (one : TableSet). StandsIn layout one.set)) (sym seen_sets) all)
+  stand_in layout all = stand_seen layout writings sets (subst (EachEntry (λ (one : TableSet). StandsIn layout one.set)) (sym seen_sets) all)
 
   -- the DDs of its step are such as a deck gives
   pub fit_in : (number : ℕ) → MayAllocate job number desk → (own : OwnedStep) → step_at (plain_job job table.job) number ≡ Some own → HasFitting job own
@@ -74,19 +69,19 @@ module _ (lines : List Run) (tables : List RunTable) (are : AreRuns 1 lines tabl
       (may row own found (ap (λ n. step_at (plain_job n table.job) number) numbered ∙ step))
 
   -- what its step makes
-  pub allocated_in : (layout : Layout) (number : ℕ) → AreBare sets → (made : Result (ArrayVec Made) Refusal)
+  pub allocated_in : (layout : Layout) (number : ℕ) (made : Result (ArrayVec Made) Refusal)
       → ((own : OwnedStep) → step_at (plain_job job table.job) number ≡ Some own → IsAllocation (allocated_all layout (stamp_of own number) (placed_in holding_ways (standing sets table.passed.items) job own) sets) made)
       → (other : RunRow) (own : OwnedStep) → run_of desk job ≡ Some other → step_of_run other number ≡ Some own → IsAllocation (allocation_in layout other own number desk) made
   unfolding row
-  allocated_in layout number bared made each other own is step =
+  allocated_in layout number made each other own is step =
       let same : row ≡ other = same_Some _ _ (sym found ∙ is) in
       let here = each own (ap (λ n. step_at (plain_job n table.job) number) (sym numbered) ∙ ap (λ (r : RunRow). step_of_run r number) same ∙ step) in
       let Known : RunRow → Type 0 = λ r. IsAllocation (allocation_in layout r own number desk) made in
       let Is : Result Allocation Refusal → Type 0 = λ done. IsAllocation done made in
       subst Known same
       (subst Is
-      (ap (λ placed. allocated_all layout (stamp_of own number) placed sets) (viewed-placed_in table_of holding_ways table_ways table_view.through (standing sets table.passed.items) job own)
+      (ap (λ placed. allocated_all layout (stamp_of own number) placed sets) (viewed-placed_in (table_in writings) holding_ways table_ways (table_view writings).through (standing sets table.passed.items) job own)
       ∙ ap (λ (all : Named TableSet). allocated_all layout (stamp_of own number) (placed_in table_ways (record { sets = all; passed = table.passed.items }) job own) sets) seen_sets
       ∙ ap (λ n. allocated_all layout (stamp_of own number) (placed_in table_ways (record { sets = desk.sets; passed = table.passed.items }) n own) sets) (sym numbered)
-      ∙ ap (allocated_all layout (stamp_of own number) (placed_in table_ways (record { sets = desk.sets; passed = table.passed.items }) row.job.root own)) (sym bared ∙ seen_back sets ∙ ap (seen_by holding_of) seen_sets))
+      ∙ ap (allocated_all layout (stamp_of own number) (placed_in table_ways (record { sets = desk.sets; passed = table.passed.items }) row.job.root own)) (sym (held-back writings sets) ∙ ap (seen_by holding_of) seen_sets))
       here)

@@ -3,7 +3,7 @@ use Rattle.ckr_desk.specs.FirstSync.{FromSync, IsLeft}
 use Rattle.ckr_desk.specs.Model.Layout.{Layout}
 use Rattle.ckr_desk.specs.Model.OpenImages.{event_records}
 use Rattle.ckr_desk.specs.Soundness.{AllSound, HasKept, IsTrusted, state_of}
-use Rattle.ckr_desk.specs.State.{opened_of}
+use Rattle.ckr_desk.specs.State.{disk_of, layout_of, opened_of}
 use Rattle.batch_desk.specs.Stops.{Has, KeepsTo}
 use Rattle.batch_desk.proofs.Calls.Ends.{run_ended, run_not_opened}
 use Rattle.batch_desk.proofs.Calls.OpenStops.{all_sound_after, each_served, has_served, sound_from, sound_left}
@@ -23,13 +23,13 @@ returns-in-Ok g c =
     let each : Layout → List (List ℕ) → Type 0 = λ layout came. FromSync d.content d.may_leave d.moment d.left_since disk end (HasKept layout (d.size disk) (event_records layout (d.content disk)) came) in
     let has : Layout → List (List ℕ) → Type 0 = λ layout kept. event_records layout (d.content end) ≡ event_records layout (d.content disk) ++ kept in
     let served = serving_from (IsTrusted d.told d.content d.may_leave desk) (AllSound d.told d.may_leave d.size disk) (KeepsTo d.content d.moment d.left_since d.size desk end) (Has d.content d.moment d.left_since d.size desk end)
-    (each desk.store.layout) (has desk.store.layout) e.trusted
+    (each (layout_of desk)) (has (layout_of desk)) e.trusted
     (λ all came. each_served d.told d.content d.may_leave d.moment d.left_since d.size disk desk end (e.kept all) (e.records all.tells) e.size came)
     (λ all kept. has_served d.told d.content d.may_leave d.moment d.left_since d.size disk desk end (e.records all.tells) kept)
-    (state_of d.content desk) outcome _ _ _ _ (d.faults disk) (d.faults desk.store.disk) (d.faults end) _ _ _ _ e.never_falls s.served in
+    (state_of d.content desk) outcome _ _ _ _ (d.faults disk) (d.faults (disk_of desk)) (d.faults end) _ _ _ _ e.never_falls s.served in
     let safe = (λ (all : AllSound d.told d.may_leave d.size disk).
-    (let came = some_came (AllSound d.told d.may_leave d.size disk) (each desk.store.layout) (has desk.store.layout) (state_of d.content desk) outcome _ _ _ _ _ served all in
-    sound_from d.told d.content d.may_leave d.moment d.left_since d.size disk end (HasKept desk.store.layout (d.size disk) (event_records desk.store.layout (d.content disk)) came.0) all came.1 (λ image kept. kept.sound))) in
+    (let came = some_came (AllSound d.told d.may_leave d.size disk) (each (layout_of desk)) (has (layout_of desk)) (state_of d.content desk) outcome _ _ _ _ _ served all in
+    sound_from d.told d.content d.may_leave d.moment d.left_since d.size disk end (HasKept (layout_of desk) (d.size disk) (event_records (layout_of desk) (d.content disk)) came.0) all came.1 (λ image kept. kept.sound))) in
     record {
       run = run_ended d.told (AllSound d.told d.may_leave d.size disk) (d.content disk) (d.size disk) (opened_of desk) (state_of d.content desk)
           (λ error. IsLeft d.content d.may_leave d.moment d.left_since d.size d.told (AllSound d.told d.may_leave d.size disk) error disk end) each has

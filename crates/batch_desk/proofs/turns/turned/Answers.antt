@@ -2,7 +2,7 @@ use Rattle.std.proofs.Common.{◌≡◌, ◌-◌, ◌+◌, ◌++◌, [], ℕ, Li
 use Rattle.std.specs.List.{flat_map}
 use Rattle.ckr_desk.specs.Model.OpenImages.{event_records}
 use Rattle.ckr_desk.specs.Soundness.{state_of}
-use Rattle.ckr_desk.specs.State.{DeskView}
+use Rattle.ckr_desk.specs.State.{DeskView, disk_of, layout_of}
 use Rattle.batch_desk.specs.declared.stop.Halt.TheVariants as Halts
 use Rattle.batch_desk.specs.Events.{turns_events}
 use Rattle.ckr_desk.specs.Model.Layout.{Layout}
@@ -15,7 +15,7 @@ use Rattle.batch_desk.proofs.Streams.Feeds.{handed_on}
 use Rattle.batch_desk.proofs.turns.turned.Goals as goal
 
 abbrev events_at : {D : Type 0} → (D → List ℕ) → DeskView D → List (List ℕ)
-events_at content desk = event_records desk.store.layout (content desk.store.disk)
+events_at content desk = event_records (layout_of desk) (content (disk_of desk))
 
 same_count : (n : ℕ) → n ≡ n - 0
 same_count n = omega arith
@@ -25,8 +25,8 @@ loop-init g c =
     let d = g.D.Disk in
     let s = state_of d.content c.args.desk.now in
     record {
-      turns = λ holds. subst (λ (k : ℕ). Turns c.args.desk.now.store.layout c.args.initiator c.args.count k s s None c.args.out.now c.args.out.now (events_at d.content c.args.desk.now) (events_at d.content c.args.desk.now)) (same_count c.args.count)
-          (turns_begun c.args.desk.now.store.layout c.args.initiator c.args.count s c.args.out.now (events_at d.content c.args.desk.now));
+      turns = λ holds. subst (λ (k : ℕ). Turns (layout_of c.args.desk.now) c.args.initiator c.args.count k s s None c.args.out.now c.args.out.now (events_at d.content c.args.desk.now) (events_at d.content c.args.desk.now)) (same_count c.args.count)
+          (turns_begun (layout_of c.args.desk.now) c.args.initiator c.args.count s c.args.out.now (events_at d.content c.args.desk.now));
       told = tt;
       few = omega arith;
       is_open = c.requires.is_open;
@@ -42,7 +42,7 @@ loop-preserved g c =
     let d = g.D.Disk in
     let i = c.loop.invariant in
     let o = c.in-Ok.ensures in
-    let layout = c.args.desk.now.store.layout in
+    let layout = layout_of c.args.desk.now in
     let m = c.args.count - (c.loop.counter + 1) in
     let less : c.args.count - c.loop.counter ≡ suc m = omega arith in
     let busy : is_idle c.in-Ok.reply ≡ false = sym c.is_idle-idle.ensures ∙ c.if-idle.false in
@@ -66,7 +66,7 @@ returns-then-idle-clause-text g c holds =
     let i = c.loop.invariant in
     let o = c.in-Ok.ensures in
     let here = i.trusted holds in
-    let layout = c.args.desk.now.store.layout in
+    let layout = layout_of c.args.desk.now in
     let m = c.args.count - (c.loop.counter + 1) in
     let less : c.args.count - c.loop.counter ≡ suc m = omega arith in
     let rests : is_idle c.in-Ok.reply ≡ true = sym c.is_idle-idle.ensures ∙ c.if-idle.true in
@@ -82,7 +82,7 @@ returns-then-idle-clause-after g c holds =
     let i = c.loop.invariant in
     let o = c.in-Ok.ensures in
     let here = i.trusted holds in
-    let layout = c.args.desk.now.store.layout in
+    let layout = layout_of c.args.desk.now in
     let m = c.args.count - (c.loop.counter + 1) in
     let less : c.args.count - c.loop.counter ≡ suc m = omega arith in
     let rests : is_idle c.in-Ok.reply ≡ true = sym c.is_idle-idle.ensures ∙ c.if-idle.true in
@@ -98,7 +98,7 @@ returns-then-idle-clause-fits g c holds =
     let i = c.loop.invariant in
     let o = c.in-Ok.ensures in
     let here = i.trusted holds in
-    let layout = c.args.desk.now.store.layout in
+    let layout = layout_of c.args.desk.now in
     let m = c.args.count - (c.loop.counter + 1) in
     let less : c.args.count - c.loop.counter ≡ suc m = omega arith in
     let rests : is_idle c.in-Ok.reply ≡ true = sym c.is_idle-idle.ensures ∙ c.if-idle.true in
@@ -114,7 +114,7 @@ returns-then-idle-clause-events g c holds =
     let i = c.loop.invariant in
     let o = c.in-Ok.ensures in
     let here = i.trusted holds in
-    let layout = c.args.desk.now.store.layout in
+    let layout = layout_of c.args.desk.now in
     let m = c.args.count - (c.loop.counter + 1) in
     let less : c.args.count - c.loop.counter ≡ suc m = omega arith in
     let rests : is_idle c.in-Ok.reply ≡ true = sym c.is_idle-idle.ensures ∙ c.if-idle.true in
@@ -122,7 +122,7 @@ returns-then-idle-clause-events g c holds =
     (c.layout.ensures.layout ∙ o.layout ∙ i.layout) c.in_ok-waiting-in-Ok.ensures.adds in
     let last = subst (λ (l : Layout). c.finish.new.out ≡ c.add.new.out ++ flat_map (run_text l c.args.initiator) (with_waiting c.in_ok-waiting-in-Ok.waiting []))
     (c.layout-then-idle.ensures.layout ∙ o.layout ∙ i.layout) c.in_ok-finish-in-Ok.ensures in
-    ap (λ (l : Layout). event_records l (g.D.Disk.content c.one_turn.new.desk.store.disk)) (sym (o.layout ∙ i.layout))
+    ap (λ (l : Layout). event_records l (g.D.Disk.content (disk_of c.one_turn.new.desk))) (sym (o.layout ∙ i.layout))
     ∙ (turn_idle layout c.args.initiator c.args.count (c.args.count - c.loop.counter) m _ _ _ c.in-Ok.reply _ _ _ _ _ _ _ _ _ less (o.fits here) (o.reply here) (o.after here) rests
     (came_there g.D.Disk.content c.loop.desk c.one_turn.new.desk _ o.layout (o.events here)) (i.turns holds) adds last).events
 
@@ -131,13 +131,13 @@ returns-in-Err-clause-halt g c holds =
     let d = g.D.Disk in
     let i = c.loop.invariant in
     let old = c.args.desk.now in
-    let layout = old.store.layout in
+    let layout = layout_of old in
     let m = c.args.count - (c.loop.counter + 1) in
     let less : c.args.count - c.loop.counter ≡ suc m = omega arith in
     let last = subst (λ (l : Layout). c.break_off.new.out ≡ c.loop.out ++ flat_map (run_text l c.args.initiator) (told_runs (with_waiting c.loop.waiting [])))
     (c.layout-in-Err.ensures.layout ∙ c.in-Err.ensures.layout ∙ i.layout) c.in_ok-break_off-in-Err.ensures in
     let turns = i.turns holds in
-    stopped_behind d.content d.moment d.left_since d.size old c.loop.desk c.one_turn.new.desk.store.disk (i.goes holds) (turns_events c.args.initiator (length turns.made) (state_of d.content old))
+    stopped_behind d.content d.moment d.left_since d.size old c.loop.desk (disk_of c.one_turn.new.desk) (i.goes holds) (turns_events c.args.initiator (length turns.made) (state_of d.content old))
     (TurnHalt c.in-Err.halt c.args.initiator (state_of d.content c.loop.desk)) (TurnsHalt layout c.args.initiator c.in-Err.halt c.args.count (state_of d.content old) c.args.out.now c.break_off.new.out) turns.events
     (λ came kept why. turns_halted layout c.args.initiator c.in-Err.halt c.args.count (c.args.count - c.loop.counter) m _ _ _ _ _ _ _ _ came kept less why turns last)
     (c.in-Err.ensures.halt (i.trusted holds))
@@ -149,10 +149,10 @@ returns-in_err-break_off-in-Err-clause-halt g c holds =
     let d = g.D.Disk in
     let i = c.loop.invariant in
     let old = c.args.desk.now in
-    let layout = old.store.layout in
+    let layout = layout_of old in
     let turns = i.turns holds in
     handed_on c.from_residual-in_err-break_off-in-Err.result Halts.Memory _ c.from_residual-in_err-break_off-in-Err.ensures.1
-    (stopped_behind d.content d.moment d.left_since d.size old c.loop.desk c.one_turn.new.desk.store.disk (i.goes holds) (turns_events c.args.initiator (length turns.made) (state_of d.content old))
+    (stopped_behind d.content d.moment d.left_since d.size old c.loop.desk (disk_of c.one_turn.new.desk) (i.goes holds) (turns_events c.args.initiator (length turns.made) (state_of d.content old))
     (TurnHalt c.in-Err.halt c.args.initiator (state_of d.content c.loop.desk)) (TurnsHalt layout c.args.initiator Halts.Memory c.args.count (state_of d.content old) c.args.out.now c.break_off.new.out) turns.events
     (λ came kept why. turns_halted_unsaid layout c.args.initiator c.in-Err.halt c.args.count (c.args.count - c.loop.counter) _ _ _ _ _ c.args.out.now _ _ came kept why turns)
     (c.in-Err.ensures.halt (i.trusted holds)))
@@ -163,7 +163,7 @@ returns-in_err-waiting-in-Ok-clause-halt g c holds =
     let i = c.loop.invariant in
     let o = c.in-Ok.ensures in
     let old = c.args.desk.now in
-    let layout = old.store.layout in
+    let layout = layout_of old in
     let m = c.args.count - (c.loop.counter + 1) in
     let less : c.args.count - c.loop.counter ≡ suc m = omega arith in
     let here = i.trusted holds in
@@ -179,7 +179,7 @@ returns-in_err-finish-in-Ok-clause-halt g c holds =
     let i = c.loop.invariant in
     let o = c.in-Ok.ensures in
     let old = c.args.desk.now in
-    let layout = old.store.layout in
+    let layout = layout_of old in
     let m = c.args.count - (c.loop.counter + 1) in
     let less : c.args.count - c.loop.counter ≡ suc m = omega arith in
     let here = i.trusted holds in
@@ -194,7 +194,7 @@ returns-in_err-finish-clause-halt g c holds =
     let d = g.D.Disk in
     let i = c.loop.invariant in
     let old = c.args.desk.now in
-    let layout = old.store.layout in
+    let layout = layout_of old in
     let turns = i.turns holds in
     handed_on c.from_residual-in_err-finish.result Halts.Memory _ c.from_residual-in_err-finish.ensures.1
     (stopped_here d.content d.moment d.left_since d.size old c.loop.desk (i.goes holds) (turns_events c.args.initiator (length turns.made) (state_of d.content old))
@@ -207,7 +207,7 @@ returns-clause-text g c holds =
     let none : c.args.count - c.loop.counter ≡ 0 = omega arith in
     let last = subst (λ (l : Layout). c.finish-2.new.out ≡ c.loop.out ++ flat_map (run_text l c.args.initiator) (with_waiting c.loop.waiting []))
     (c.layout-2.ensures.layout ∙ i.layout) c.in_ok-finish.ensures in
-    (turns_made c.args.desk.now.store.layout c.args.initiator c.args.count (c.args.count - c.loop.counter) _ _ _ _ _ _ _ _ none (i.turns holds) last).text
+    (turns_made (layout_of c.args.desk.now) c.args.initiator c.args.count (c.args.count - c.loop.counter) _ _ _ _ _ _ _ _ none (i.turns holds) last).text
 
 pub returns-clause-events : goal.returns-clause-events
 returns-clause-events g c holds =
@@ -215,8 +215,8 @@ returns-clause-events g c holds =
     let none : c.args.count - c.loop.counter ≡ 0 = omega arith in
     let last = subst (λ (l : Layout). c.finish-2.new.out ≡ c.loop.out ++ flat_map (run_text l c.args.initiator) (with_waiting c.loop.waiting []))
     (c.layout-2.ensures.layout ∙ i.layout) c.in_ok-finish.ensures in
-    ap (λ (l : Layout). event_records l (g.D.Disk.content c.loop.desk.store.disk)) (sym i.layout)
-    ∙ (turns_made c.args.desk.now.store.layout c.args.initiator c.args.count (c.args.count - c.loop.counter) _ _ _ _ _ _ _ _ none (i.turns holds) last).events
+    ap (λ (l : Layout). event_records l (g.D.Disk.content (disk_of c.loop.desk))) (sym i.layout)
+    ∙ (turns_made (layout_of c.args.desk.now) c.args.initiator c.args.count (c.args.count - c.loop.counter) _ _ _ _ _ _ _ _ none (i.turns holds) last).events
 
 pub returns-then-idle-clause-goes : goal.returns-then-idle-clause-goes
 returns-then-idle-clause-goes g c holds =

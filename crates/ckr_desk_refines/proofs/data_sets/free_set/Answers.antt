@@ -9,7 +9,7 @@ use Rattle.ckr_desk_refines.proofs.data_sets.free_set.Goals as goal
 pub returns-in_err-set-clause-set : goal.returns-in_err-set-clause-set
 returns-in_err-set-clause-set c =
     ap option_copied c.from_residual.ensures
-    ∙ sym (set-none c.library.result.now.sets c.args.jobs.now.tables.desk c.library.ensures.seen c.args.name.now (c.in_err-set.ensures {u = tt}))
+    ∙ sym (set-none c.library.result.now.sets c.args.jobs.now.tables.desk c.library.ensures.sets c.args.name.now (c.in_err-set.ensures {u = tt}))
 
 pub returns-in_err-set-clause-records : goal.returns-in_err-set-clause-records
 returns-in_err-set-clause-records c = λ desk image layout stands.
@@ -18,7 +18,7 @@ returns-in_err-set-clause-records c = λ desk image layout stands.
 pub returns-in-Plain-clause-set : goal.returns-in-Plain-clause-set
 returns-in-Plain-clause-set c =
     sym (
-    set-there c.library.result.now.sets c.args.jobs.now.tables.desk c.library.ensures.seen c.args.name.now c.in_ok-set.set.now c.in_ok-set.ensures
+    set-there c.library.result.now.sets c.args.jobs.now.tables.desk c.library.ensures.sets c.args.name.now c.in_ok-set.set.now c.in_ok-set.ensures
     ∙ ap (λ content. set_by content c.args.jobs.now.tables.desk c.args.name.now c.in_ok-set.set.now) c.in-Plain.is
     ∙ ap (λ (b : Bool). cond b None (Some c.in_ok-set.set.now)) (sym c.is_held.ensures ∙ c.if-is_held.true))
 
@@ -29,7 +29,7 @@ returns-in-Plain-clause-records c = λ desk image layout stands.
 pub returns-in-Plain-2-clause-set : goal.returns-in-Plain-2-clause-set
 returns-in-Plain-2-clause-set c =
     sym (
-    set-there c.library.result.now.sets c.args.jobs.now.tables.desk c.library.ensures.seen c.args.name.now c.in_ok-set.set.now c.in_ok-set.ensures
+    set-there c.library.result.now.sets c.args.jobs.now.tables.desk c.library.ensures.sets c.args.name.now c.in_ok-set.set.now c.in_ok-set.ensures
     ∙ ap (λ content. set_by content c.args.jobs.now.tables.desk c.args.name.now c.in_ok-set.set.now) c.in-Plain-2.is
     ∙ ap (λ (b : Bool). cond b None (Some c.in_ok-set.set.now)) (sym c.is_held.ensures ∙ c.if-is_held.false))
 
@@ -40,7 +40,7 @@ returns-in-Plain-2-clause-records c = λ desk image layout stands.
 pub returns-in-Checkpoints-clause-set : goal.returns-in-Checkpoints-clause-set
 returns-in-Checkpoints-clause-set c =
     sym (
-    set-there c.library.result.now.sets c.args.jobs.now.tables.desk c.library.ensures.seen c.args.name.now c.in_ok-set.set.now c.in_ok-set.ensures
+    set-there c.library.result.now.sets c.args.jobs.now.tables.desk c.library.ensures.sets c.args.name.now c.in_ok-set.set.now c.in_ok-set.ensures
     ∙ ap (λ content. set_by content c.args.jobs.now.tables.desk c.args.name.now c.in_ok-set.set.now) c.in-Checkpoints.is)
 
 pub returns-in-Checkpoints-clause-records : goal.returns-in-Checkpoints-clause-records

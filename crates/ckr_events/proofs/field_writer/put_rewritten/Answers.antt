@@ -7,8 +7,8 @@ use Rattle.ckr_events.proofs.field_writer.put_rewritten.Goals as goal
 joined : (old a b c d e f more : List ℕ) → ((((((old ++ a) ++ b) ++ c) ++ d) ++ e) ++ f) ++ more ≡ old ++ (a ++ (b ++ (c ++ (d ++ (e ++ (f ++ more))))))
 joined old a b c d e f more = simp append_assoc
 
-pub returns : goal.returns
-returns c =
+pub returns-clause-items : goal.returns-clause-items
+returns-clause-items c =
     let four = λ (n : ℕ). to_be_bytes w32 n in
     let image = c.args.image.now in
     let last = to_be_bytes w16 (length image) ++ image in

@@ -1,7 +1,9 @@
-use Rattle.std.proofs.Common.{◌≡◌, ◌<◌, ◌+◌, [], ◌∷◌, drop, get_or, length, ap, sym, ◌∙◌, subst, arith}
-use Rattle.ckr_library.specs.Catalog.{with_length}
+use Rattle.std.proofs.Common.{◌≡◌, ◌<◌, ◌≤◌, ◌+◌, [], ◌∷◌, drop, get_or, length, ap, sym, ◌∙◌, subst, arith}
+use Rattle.std.specs.List.{list_all}
+use Rattle.std.proofs.lemmas.Bool.{and_from}
+use Rattle.ckr_library.specs.Catalog.{entry_room, with_length}
 use Rattle.ckr_library.specs.NameMaps.{with_changed}
-use Rattle.ckr_points_library.specs.Commit.{committed, AreWithinSpace}
+use Rattle.ckr_points_library.specs.Commit.{committed, is_named, AreWithinSpace}
 use Rattle.ckr_points_library.specs.Holdings.{owned}
 use Rattle.ckr_points_library.proofs.DdPlaces.{outputs_in, one_output, no_output, one_committed, next_within, still_within}
 use Rattle.ckr_points_library.proofs.commit.commit_lengths.Goals as goal
@@ -53,6 +55,8 @@ loop-dd-preserved c =
                 (still_within name (get_or lengths place 0) rest (drop (place + 1) lengths) sets
                 (next_within name rest lengths place sets inside (subst (λ names. AreWithinSpace names (drop place lengths) sets) outputs c.loop-dd.invariant.space)).1));
             room = ap (λ library. library.room) w.library-is ∙ w.set_length.ensures.room ∙ c.loop-dd.invariant.room;
+            entries = λ one. subst (λ library. entry_room c.args.library.now one ≤ entry_room library one) (sym w.library-is) (omega (arith, c.loop-dd.invariant.entries one, w.set_length.ensures.entries one));
+            named = λ all. c.loop-dd.invariant.named (ap (list_all is_named) outputs ∙ and_from (is_named name) _ w.has_text.ensures all);
           }
       | in_default w ↦
           let outputs : outputs_in c.args.root own (drop index dds) ≡ rest = no_output c.args.root own dds index c.dd-item.result c.loop-dd-test.true c.dd-item.is (sym (c.output_name.ensures []) ∙ w.in_default.is) in
@@ -68,5 +72,7 @@ loop-dd-preserved c =
                 (subst (λ library. AreWithinSpace rest (drop place lengths) library.sets) (sym w.library-is)
                 (subst (λ names. AreWithinSpace names (drop place lengths) sets) outputs c.loop-dd.invariant.space));
             room = ap (λ library. library.room) w.library-is ∙ c.loop-dd.invariant.room;
+            entries = λ one. subst (λ library. entry_room c.args.library.now one ≤ entry_room library one) (sym w.library-is) (c.loop-dd.invariant.entries one);
+            named = λ all. c.loop-dd.invariant.named (ap (list_all is_named) outputs ∙ all);
           }
     ]

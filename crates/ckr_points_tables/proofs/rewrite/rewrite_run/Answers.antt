@@ -8,5 +8,5 @@ pub restamp_master-requires-clause-master : goal.restamp_master-requires-clause-
 restamp_master-requires-clause-master c =
     let run = c.args.line.now.number in
     let job = c.args.table.now.job in
-    may_still run c.args.lengths.now c.args.library.now.sets c.commit.new.library.sets (step_at (plain_job run job) c.step_now-step.result) c.commit.ensures
+    may_still run c.args.lengths.now c.args.library.now.sets c.commit.new.library.sets (step_at (plain_job run job) c.step_now-step.result) c.commit.ensures.sets
     (subst (λ step. MayRewriteIn run c.args.library.now.sets (step_at (plain_job run job) step)) (sym c.step_now-step.ensures) c.requires.may.master)

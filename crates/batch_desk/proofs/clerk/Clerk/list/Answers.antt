@@ -1,5 +1,6 @@
 use Rattle.std.proofs.Common.{[], ⊎_elim, arith, refl, subst}
 use Rattle.ckr_desk.specs.NoChange.{StaysBy}
+use Rattle.ckr_desk.specs.State.{disk_of}
 use Rattle.batch_desk.specs.declared.stop.Halt.TheVariants as Halts
 use Rattle.batch_desk.specs.Service.{ListHalt}
 use Rattle.batch_desk.proofs.Cards.{on_ok}
@@ -15,8 +16,8 @@ returns-in-Ok-Some-clause-goes g c holds =
     let new = c.records.new.self in
     let e = c.in-Ok-Some.ensures in
     let kept = e.kept c.requires.is_open holds in
-    on_ok c.tell.result _ (goes_done d.content d.moment d.left_since d.size old new [] e.layout e.size kept
-    (has_none d.content d.moment d.left_since d.size d.may_leave old new (laws.reads_an_image new.store.disk holds.tells) (laws.counts_now new.store.disk) kept))
+    on_ok c.tell.result _ (goes_done d.content d.moment d.left_since d.size old new [] e.keeps.same_layout e.keeps.same_size kept
+    (has_none d.content d.moment d.left_since d.size d.may_leave old new (laws.reads_an_image (disk_of new) holds.tells) (laws.counts_now (disk_of new)) kept))
 
 pub returns-in-Ok-None-clause-goes : goal.returns-in-Ok-None-clause-goes
 returns-in-Ok-None-clause-goes g c holds =
@@ -26,8 +27,8 @@ returns-in-Ok-None-clause-goes g c holds =
     let new = c.records.new.self in
     let e = c.in-Ok-None.ensures in
     let kept = e.kept c.requires.is_open holds in
-    goes_on_to d.content d.moment d.left_since d.size c.refuse_line.result old new _ c.refuse_line.ensures.desk (goes_done d.content d.moment d.left_since d.size old new [] e.layout e.size kept
-    (has_none d.content d.moment d.left_since d.size d.may_leave old new (laws.reads_an_image new.store.disk holds.tells) (laws.counts_now new.store.disk) kept))
+    goes_on_to d.content d.moment d.left_since d.size c.refuse_line.result old new _ c.refuse_line.ensures.desk (goes_done d.content d.moment d.left_since d.size old new [] e.keeps.same_layout e.keeps.same_size kept
+    (has_none d.content d.moment d.left_since d.size d.may_leave old new (laws.reads_an_image (disk_of new) holds.tells) (laws.counts_now (disk_of new)) kept))
 
 pub returns-in-Ok-Some-clause-events : goal.returns-in-Ok-Some-clause-events
 returns-in-Ok-Some-clause-events g c holds =
@@ -36,7 +37,7 @@ returns-in-Ok-Some-clause-events g c holds =
     let old = c.args.self.now.desk in
     let new = c.records.new.self in
     on_ok c.tell.result _
-    (has_none d.content d.moment d.left_since d.size d.may_leave old new (laws.reads_an_image new.store.disk holds.tells) (laws.counts_now new.store.disk) (c.in-Ok-Some.ensures.kept c.requires.is_open holds))
+    (has_none d.content d.moment d.left_since d.size d.may_leave old new (laws.reads_an_image (disk_of new) holds.tells) (laws.counts_now (disk_of new)) (c.in-Ok-Some.ensures.kept c.requires.is_open holds))
 
 pub returns-in-Ok-None-clause-events : goal.returns-in-Ok-None-clause-events
 returns-in-Ok-None-clause-events g c holds =
@@ -46,7 +47,7 @@ returns-in-Ok-None-clause-events g c holds =
     let new = c.records.new.self in
     on_ok c.refuse_line.result _
     (rw c.refuse_line.ensures.desk
-    (has_none d.content d.moment d.left_since d.size d.may_leave old new (laws.reads_an_image new.store.disk holds.tells) (laws.counts_now new.store.disk) (c.in-Ok-None.ensures.kept c.requires.is_open holds)))
+    (has_none d.content d.moment d.left_since d.size d.may_leave old new (laws.reads_an_image (disk_of new) holds.tells) (laws.counts_now (disk_of new)) (c.in-Ok-None.ensures.kept c.requires.is_open holds)))
 
 pub returns-in-Ok-Some-clause-halt : goal.returns-in-Ok-Some-clause-halt
 returns-in-Ok-Some-clause-halt g c holds =
@@ -56,9 +57,9 @@ returns-in-Ok-Some-clause-halt g c holds =
     let new = c.records.new.self in
     let e = c.in-Ok-Some.ensures in
     let kept = e.kept c.requires.is_open holds in
-    let none = has_none d.content d.moment d.left_since d.size d.may_leave old new (laws.reads_an_image new.store.disk holds.tells) (laws.counts_now new.store.disk) kept in
+    let none = has_none d.content d.moment d.left_since d.size d.may_leave old new (laws.reads_an_image (disk_of new) holds.tells) (laws.counts_now (disk_of new)) kept in
     memory_here d.content d.moment d.left_since d.size c.tell.result old new new [] (λ halt. ListHalt halt c.args.out.now c.tell.new.out) refl
-    (goes_done d.content d.moment d.left_since d.size old new [] e.layout e.size kept none) (came_there d.content old new [] e.layout none) (refl, refl) c.tell.ensures.halt
+    (goes_done d.content d.moment d.left_since d.size old new [] e.keeps.same_layout e.keeps.same_size kept none) (came_there d.content old new [] e.keeps.same_layout none) (refl, refl) c.tell.ensures.halt
 
 pub returns-in-Ok-None-clause-halt : goal.returns-in-Ok-None-clause-halt
 returns-in-Ok-None-clause-halt g c holds =
@@ -68,9 +69,9 @@ returns-in-Ok-None-clause-halt g c holds =
     let new = c.records.new.self in
     let e = c.in-Ok-None.ensures in
     let kept = e.kept c.requires.is_open holds in
-    let none = has_none d.content d.moment d.left_since d.size d.may_leave old new (laws.reads_an_image new.store.disk holds.tells) (laws.counts_now new.store.disk) kept in
+    let none = has_none d.content d.moment d.left_since d.size d.may_leave old new (laws.reads_an_image (disk_of new) holds.tells) (laws.counts_now (disk_of new)) kept in
     memory_here d.content d.moment d.left_since d.size c.refuse_line.result old new _ [] (λ halt. ListHalt halt c.args.out.now c.refuse_line.new.out) c.refuse_line.ensures.desk
-    (goes_done d.content d.moment d.left_since d.size old new [] e.layout e.size kept none) (came_there d.content old new [] e.layout none) (refl, refl) c.refuse_line.ensures.halt
+    (goes_done d.content d.moment d.left_since d.size old new [] e.keeps.same_layout e.keeps.same_size kept none) (came_there d.content old new [] e.keeps.same_layout none) (refl, refl) c.refuse_line.ensures.halt
 
 pub returns-in-Err-NoMemory-clause-halt : goal.returns-in-Err-NoMemory-clause-halt
 returns-in-Err-NoMemory-clause-halt g c holds =
@@ -79,7 +80,7 @@ returns-in-Err-NoMemory-clause-halt g c holds =
     let new = c.records.new.self in
     let e = c.in-Err-NoMemory.ensures in
     nothing_came d.content d.moment d.left_since d.size old new (ListHalt Halts.Memory c.args.out.now c.args.out.now) (e.kept c.requires.is_open holds)
-    (subst (StaysBy d.content d.may_leave d.faults old new) c.in-Err-NoMemory.field-0-is e.stays).reads (refl, refl)
+    (subst (StaysBy d.content d.may_leave d.faults old new) c.in-Err-NoMemory.field-0-is e.keeps.stays).reads (refl, refl)
 
 pub returns-in-Err-DiskFault-clause-halt : goal.returns-in-Err-DiskFault-clause-halt
 returns-in-Err-DiskFault-clause-halt g c holds =
@@ -89,5 +90,17 @@ returns-in-Err-DiskFault-clause-halt g c holds =
     let new = c.records.new.self in
     let e = c.in-Err-DiskFault.ensures in
     with_failed_disk d.content d.moment d.left_since d.size d.may_leave old new [] (ListHalt Halts.Disk c.args.out.now c.args.out.now)
-    (laws.reads_an_image new.store.disk holds.tells) (laws.counts_now new.store.disk) (omega arith) (e.kept c.requires.is_open holds)
+    (laws.reads_an_image (disk_of new) holds.tells) (laws.counts_now (disk_of new)) (omega arith) (e.kept c.requires.is_open holds)
     (λ kept either. (refl, refl, ⊎_elim (λ none. none) (λ none. none) either))
+
+pub returns-in-Ok-Some-clause-state : goal.returns-in-Ok-Some-clause-state
+returns-in-Ok-Some-clause-state g c holds = on_ok c.tell.result _ ((c.in-Ok-Some.ensures.comes holds).after)
+
+pub returns-in-Ok-Some-clause-trusted : goal.returns-in-Ok-Some-clause-trusted
+returns-in-Ok-Some-clause-trusted g c = on_ok c.tell.result _ (λ holds. (c.in-Ok-Some.ensures.comes holds).trusted)
+
+pub returns-in-Ok-None-clause-state : goal.returns-in-Ok-None-clause-state
+returns-in-Ok-None-clause-state g c holds = on_ok c.refuse_line.result _ (rw c.refuse_line.ensures.desk (c.in-Ok-None.ensures.comes holds).after)
+
+pub returns-in-Ok-None-clause-trusted : goal.returns-in-Ok-None-clause-trusted
+returns-in-Ok-None-clause-trusted g c = on_ok c.refuse_line.result _ (λ holds. rw c.refuse_line.ensures.desk (c.in-Ok-None.ensures.comes holds).trusted)

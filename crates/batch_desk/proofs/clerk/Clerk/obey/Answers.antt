@@ -8,6 +8,7 @@ use Rattle.ckr_desk.specs.Model.Layout.{Layout}
 use Rattle.batch_desk.specs.declared.orders.Order.TheVariants.{Turns, ListOf, Sets, Jobs, Purge, Unknown}
 use Rattle.batch_desk.specs.Orders.{order_of}
 use Rattle.ckr_desk.specs.Model.OpenImages.{event_records}
+use Rattle.ckr_desk.specs.State.{disk_of, layout_of, tables_in_memory}
 use Rattle.ckr_cards.specs.Session.Handed.{Order as Command}
 use Rattle.batch_desk.specs.Calls.{JobsListed, is_refusal, lines_of, purge_answer, tables_of}
 use Rattle.batch_desk.specs.Events.{purge_event}
@@ -88,7 +89,7 @@ returns-in-Purge-clause-serves g c holds =
     (subst (λ (t : TablesModel). OnOk c.purge.result (c.purge.new.self.refused ≡ (old.refused || is_refusal (purge_answer c.args.number job (is_queued t job))))) there e.refused)
     (purge_came c.purge.result (call_fits s (purge_call (tables_of s) job)) (purge_event s job) _ _
     (subst (λ (t : TablesModel). OnOk c.purge.result (call_fits s (purge_call t job) ≡ true)) there (e.fits holds))
-    (subst (λ (t : TablesModel). OnOk c.purge.result (event_records c.purge.new.self.desk.store.layout (d.content c.purge.new.self.desk.store.disk) ≡ event_records old.desk.store.layout (d.content old.desk.store.disk) ++ spelled (event_in (purge_call t job)))) there
+    (subst (λ (t : TablesModel). OnOk c.purge.result (event_records (layout_of c.purge.new.self.desk) (d.content (disk_of c.purge.new.self.desk)) ≡ event_records (layout_of old.desk) (d.content (disk_of old.desk)) ++ spelled (event_in (purge_call t job)))) there
     (events_on d.content d.moment d.left_since d.size c.purge.result old.desk c.purge.new.self.desk _ e.layout (e.events holds))))
     (subst (λ (t : TablesModel). OnOk c.purge.result (c.purge.new.out ≡ c.args.out.now ++ answer_text (purge_answer c.args.number job (is_queued t job)))) there e.text)
 
@@ -113,8 +114,8 @@ returns-in-Turns-clause-halt g c holds =
     let s = state_of d.content old in
     let line = c.args.text.now in
     let reads = c.read_order.ensures.value ∙ ap (λ (l : Layout). order_of l.initiators line) c.layout.ensures.layout in
-    stopped_on d.content d.moment d.left_since d.size c.turned.result old c.turned.new.desk.store.disk
-    (λ halt. TurnsHalt old.store.layout c.in-Turns.initiator halt c.in-Turns.count s c.args.out.now c.turned.new.out) (λ halt. HaltsSo halt s (Command c.args.number line ∷ []) c.args.out.now c.turned.new.out)
+    stopped_on d.content d.moment d.left_since d.size c.turned.result old (disk_of c.turned.new.desk)
+    (λ halt. TurnsHalt (layout_of old) c.in-Turns.initiator halt c.in-Turns.count s c.args.out.now c.turned.new.out) (λ halt. HaltsSo halt s (Command c.args.number line ∷ []) c.args.out.now c.turned.new.out)
     (turns_halted_so s c.args.number line _ reads c.in-Turns.initiator c.in-Turns.count c.args.out.now c.turned.new.out c.in-Turns.is) (c.turned.ensures.halt holds)
 
 pub returns-in-ListOf-clause-halt : goal.returns-in-ListOf-clause-halt
@@ -124,7 +125,7 @@ returns-in-ListOf-clause-halt g c holds =
     let s = state_of d.content old in
     let line = c.args.text.now in
     let reads = c.read_order.ensures.value ∙ ap (λ (l : Layout). order_of l.initiators line) c.layout.ensures.layout in
-    stopped_on d.content d.moment d.left_since d.size c.list.result old c.list.new.self.desk.store.disk
+    stopped_on d.content d.moment d.left_since d.size c.list.result old (disk_of c.list.new.self.desk)
     (λ halt. ListHalt halt c.args.out.now c.list.new.out) (λ halt. HaltsSo halt s (Command c.args.number line ∷ []) c.args.out.now c.list.new.out)
     (list_halted_so s c.args.number line _ reads c.in-ListOf.name c.args.out.now c.list.new.out c.in-ListOf.is) (c.list.ensures.halt holds)
 
@@ -135,11 +136,11 @@ returns-in-Purge-clause-halt g c holds =
     let s = state_of d.content old in
     let line = c.args.text.now in
     let job = c.in-Purge.job in
-    let call = purge_call old.jobs.tables.desk job in
+    let call = purge_call (tables_in_memory old) job in
     let reads = c.read_order.ensures.value ∙ ap (λ (l : Layout). order_of l.initiators line) c.layout.ensures.layout in
-    stopped_on d.content d.moment d.left_since d.size c.purge.result old c.purge.new.self.desk.store.disk
+    stopped_on d.content d.moment d.left_since d.size c.purge.result old (disk_of c.purge.new.self.desk)
     (λ halt. PurgeHalt halt (call_fits s call) (spelled (event_in call)) c.args.out.now c.purge.new.out) (λ halt. HaltsSo halt s (Command c.args.number line ∷ []) c.args.out.now c.purge.new.out)
-    (purge_halted_so s c.args.number line _ reads old.jobs.tables.desk job c.args.out.now c.purge.new.out (tables_in d.told d.content d.may_leave old holds) c.in-Purge.is) (c.purge.ensures.halt holds)
+    (purge_halted_so s c.args.number line _ reads (tables_in_memory old) job c.args.out.now c.purge.new.out (tables_in d.told d.content d.may_leave old holds) c.in-Purge.is) (c.purge.ensures.halt holds)
 
 pub returns-in-Sets-clause-halt : goal.returns-in-Sets-clause-halt
 returns-in-Sets-clause-halt g c holds =

@@ -1,4 +1,5 @@
 use Rattle.ckr_desk.specs.Soundness.{state_of}
+use Rattle.ckr_desk.specs.State.{disk_of}
 use Rattle.batch_desk.specs.Events.{events_told}
 use Rattle.batch_desk.specs.Service.{HaltsSo, seen}
 use Rattle.batch_desk.specs.Flows.{FinishBreaks, end_requests}
@@ -41,7 +42,7 @@ returns-clause-err g c holds =
     let now = g.K.Sink.faults c.write_rest.new.sink in
     let old = g.K.Sink.written c.args.sink.now in
     let new = g.K.Sink.written c.write_rest.new.sink in
-    stopped_so d.content d.moment d.left_since d.size f.session.clerk.desk c.end_requests.new.self.session.clerk.desk.store.disk
+    stopped_so d.content d.moment d.left_since d.size f.session.clerk.desk (disk_of c.end_requests.new.self.session.clerk.desk)
     (HaltsSo halt (state_of d.content f.session.clerk.desk) (end_requests f) c.new-out.result c.end_requests.new.out) (FinishBreaks d.content stop before now f old new)
     (λ came kept so.
     finish_broken d.content before now f old new stop came kept

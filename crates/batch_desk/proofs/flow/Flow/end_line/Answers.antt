@@ -2,6 +2,7 @@ use Rattle.std.proofs.Common.{ap, ◌∙◌}
 use Rattle.std.specs.Str.Lines.{strip_carriage_return}
 use Rattle.ckr_cards.specs.Session.{handed_with}
 use Rattle.ckr_desk.specs.Soundness.{state_of}
+use Rattle.ckr_desk.specs.State.{disk_of}
 use Rattle.batch_desk.specs.Events.{events_told}
 use Rattle.batch_desk.specs.Flows.{line_requests}
 use Rattle.batch_desk.specs.Service.{HaltsSo, StopsWithin, seen}
@@ -34,7 +35,7 @@ returns-clause-err g c holds =
     let f = c.args.self.now in
     let line = c.without_return.result.now in
     let halt = c.in-Err.halt in
-    stopped_so d.content d.moment d.left_since d.size f.session.clerk.desk c.line.new.self.clerk.desk.store.disk
+    stopped_so d.content d.moment d.left_since d.size f.session.clerk.desk (disk_of c.line.new.self.clerk.desk)
     (HaltsSo halt (state_of d.content f.session.clerk.desk) (handed_with (standing_of f.session) line) c.new-out.result c.line.new.out)
     (StopsWithin c.write_rest.result (g.K.Sink.faults c.args.sink.now) (g.K.Sink.faults c.write_rest.new.sink) (state_of d.content f.session.clerk.desk) (line_requests f) (g.K.Sink.written c.args.sink.now) (g.K.Sink.written c.write_rest.new.sink))
     (λ came kept so.

@@ -1,6 +1,7 @@
 use Rattle.std.proofs.Common.{◌≡◌, ◌==◌, List, true, false, length, ap, subst, refl, arith, OnOk, IfErr}
 use Rattle.std.proofs.lemmas.Grind.{common_steps}
 use Rattle.ckr_desk.specs.Soundness.{state_of}
+use Rattle.ckr_desk.specs.State.{disk_of}
 use Rattle.ckr_cards.specs.Session.{Handed, SessionModel as Standing, handed_with, session_behind}
 use Rattle.batch_desk.specs.Service.{Serves, HaltsSo, seen}
 use Rattle.batch_desk.specs.Stops.{Stopped}
@@ -23,7 +24,7 @@ returns-then-is_empty-clause-halt g c holds =
     let d = g.D.Disk in
     let f = c.args.self.now in
     let none : (length f.partial.items == 0) ≡ true = grind (arith, common_steps, c.is_empty.ensures, c.if-is_empty.true) in
-    subst (λ (xs : List Handed). IfErr c.end.result (λ halt. Stopped d.content d.moment d.left_since d.size f.session.clerk.desk c.end.new.self.clerk.desk.store.disk (HaltsSo halt (state_of d.content f.session.clerk.desk) xs c.args.out.now c.end.new.out)))
+    subst (λ (xs : List Handed). IfErr c.end.result (λ halt. Stopped d.content d.moment d.left_since d.size f.session.clerk.desk (disk_of c.end.new.self.clerk.desk) (HaltsSo halt (state_of d.content f.session.clerk.desk) xs c.args.out.now c.end.new.out)))
     (end_requests_without d.content f none) (c.end.ensures.halt holds)
 
 pub returns-in_err-line-clause-halt : goal.returns-in_err-line-clause-halt
@@ -37,8 +38,8 @@ returns-in_err-line-clause-halt g c holds =
     let s = state_of d.content f.session.clerk.desk in
     let xs = handed_with (standing_of f.session) line in
     handed_on c.from_residual.result halt _ c.from_residual.ensures.1
-    (subst (λ (ys : List Handed). Stopped d.content d.moment d.left_since d.size f.session.clerk.desk c.line.new.self.clerk.desk.store.disk (HaltsSo halt s ys c.args.out.now c.line.new.out)) whole
-    (stopped_so d.content d.moment d.left_since d.size f.session.clerk.desk c.line.new.self.clerk.desk.store.disk (HaltsSo halt s xs c.args.out.now c.line.new.out) _
+    (subst (λ (ys : List Handed). Stopped d.content d.moment d.left_since d.size f.session.clerk.desk (disk_of c.line.new.self.clerk.desk) (HaltsSo halt s ys c.args.out.now c.line.new.out)) whole
+    (stopped_so d.content d.moment d.left_since d.size f.session.clerk.desk (disk_of c.line.new.self.clerk.desk) (HaltsSo halt s xs c.args.out.now c.line.new.out) _
     (λ came kept so. halts_before halt s xs _ c.args.out.now c.line.new.out came kept so) (c.in_err-line.ensures.halt holds)))
 
 pub returns-clause-serves : goal.returns-clause-serves
@@ -59,8 +60,8 @@ returns-clause-halt g c holds =
     let o = c.in_ok-line.ensures in
     let some : (length f.partial.items == 0) ≡ false = grind (arith, common_steps, c.is_empty.ensures, c.if-is_empty.false) in
     let whole = end_requests_of d.content f line c.line.new.self.deck.items c.deref.ensures.value some (ap (λ (s : Standing). s.cards) o.standing) in
-    subst (λ (xs : List Handed). IfErr c.end-2.result (λ halt. Stopped d.content d.moment d.left_since d.size f.session.clerk.desk c.end-2.new.self.clerk.desk.store.disk (HaltsSo halt (state_of d.content f.session.clerk.desk) xs c.args.out.now c.end-2.new.out))) whole
-    (halts_on d.content d.moment d.left_since d.size c.end-2.result f.session.clerk c.line.new.self.clerk c.end-2.new.self.clerk.desk.store.disk _ _ c.args.out.now c.line.new.out c.end-2.new.out (o.goes holds) (o.serves holds) (c.end-2.ensures.halt (o.trusted holds)))
+    subst (λ (xs : List Handed). IfErr c.end-2.result (λ halt. Stopped d.content d.moment d.left_since d.size f.session.clerk.desk (disk_of c.end-2.new.self.clerk.desk) (HaltsSo halt (state_of d.content f.session.clerk.desk) xs c.args.out.now c.end-2.new.out))) whole
+    (halts_on d.content d.moment d.left_since d.size c.end-2.result f.session.clerk c.line.new.self.clerk (disk_of c.end-2.new.self.clerk.desk) _ _ c.args.out.now c.line.new.out c.end-2.new.out (o.goes holds) (o.serves holds) (c.end-2.ensures.halt (o.trusted holds)))
 
 pub returns-clause-goes : goal.returns-clause-goes
 returns-clause-goes g c holds =

@@ -1,5 +1,6 @@
 use Rattle.std.proofs.Common.{◌≡◌, ◌+◌, ◌∙◌, ap, sym, subst, List, ℕ, OnOk, IfErr, ◌++◌}
 use Rattle.ckr_desk.specs.Soundness.{state_of}
+use Rattle.ckr_desk.specs.State.{disk_of}
 use Rattle.ckr_cards.specs.declared.cutter.Line.{Line}
 use Rattle.ckr_cards.specs.Session.{handed_before, handed_alone}
 use Rattle.batch_desk.specs.Service.{Serves, HaltsSo, seen}
@@ -25,8 +26,8 @@ returns-clause-halt g c holds =
     let s = standing_of c.args.self.now in
     let old = c.args.self.now.clerk in
     let o = c.in_ok-end_before.ensures in
-    let both = halts_on d.content d.moment d.left_since d.size c.serve_line.result old c.end_before.new.clerk c.serve_line.new.clerk.desk.store.disk _ _ _ _ _ (o.goes holds) (o.serves holds) (c.serve_line.ensures.halt (o.trusted holds)) in
-    subst (λ (k : Line). IfErr c.serve_line.result (λ halt. Stopped d.content d.moment d.left_since d.size old.desk c.serve_line.new.clerk.desk.store.disk
+    let both = halts_on d.content d.moment d.left_since d.size c.serve_line.result old c.end_before.new.clerk (disk_of c.serve_line.new.clerk.desk) _ _ _ _ _ (o.goes holds) (o.serves holds) (c.serve_line.ensures.halt (o.trusted holds)) in
+    subst (λ (k : Line). IfErr c.serve_line.result (λ halt. Stopped d.content d.moment d.left_since d.size old.desk (disk_of c.serve_line.new.clerk.desk)
     (HaltsSo halt (state_of d.content old.desk) (handed_before k s.cards ++ handed_alone k s.number c.args.text.now) c.args.out.now c.serve_line.new.out)))
     c.line-kind.ensures.kind both
 
@@ -46,7 +47,7 @@ returns-in_err-end_before-clause-halt g c holds =
     let d = g.D.Disk in
     let s = standing_of c.args.self.now in
     let old = c.args.self.now.clerk in
-    let disk = c.end_before.new.clerk.desk.store.disk in
+    let disk = disk_of c.end_before.new.clerk.desk in
     subst (λ (k : Line). IfErr c.from_residual.result (λ halt. Stopped d.content d.moment d.left_since d.size old.desk disk
     (HaltsSo halt (state_of d.content old.desk) (handed_before k s.cards ++ handed_alone k s.number c.args.text.now) c.args.out.now c.end_before.new.out)))
     c.line-kind.ensures.kind
@@ -59,7 +60,7 @@ returns-in_err-keep_card-clause-halt g c holds =
     let old = c.args.self.now.clerk in
     let new = c.end_before.new.clerk in
     let o = c.in_ok-end_before.ensures in
-    subst (λ (k : Line). IfErr c.from_residual-in_err-keep_card.result (λ halt. Stopped d.content d.moment d.left_since d.size old.desk new.desk.store.disk
+    subst (λ (k : Line). IfErr c.from_residual-in_err-keep_card.result (λ halt. Stopped d.content d.moment d.left_since d.size old.desk (disk_of new.desk)
     (HaltsSo halt (state_of d.content old.desk) (handed_before k s.cards ++ handed_alone k s.number c.args.text.now) c.args.out.now c.end_before.new.out)))
     c.line-kind.ensures.kind
     (memory_behind d.content d.moment d.left_since d.size c.from_residual-in_err-keep_card.result old new _ _ _ _ _ _ (o.goes holds) (o.serves holds) c.from_residual-in_err-keep_card.ensures.1)

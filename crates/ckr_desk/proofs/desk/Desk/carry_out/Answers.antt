@@ -1,13 +1,18 @@
 use Rattle.std.proofs.Common.{◌≡◌, ◌≤◌, ◌∙◌, arith, ap, subst, sym, None, IfErr, IfOk, OnOk}
 use Rattle.ckr_desk_memory.specs.Plans.{HasUnitDue, IsToldReply}
+use Rattle.ckr_desk_memory.specs.TurnEvents.{FollowsBetween}
+use Rattle.ckr_points.specs.Rows.{TablesModel}
+use Rattle.ckr_volumes.specs.declared.layout.Layout.{Layout}
 use Rattle.ckr_desk_refines.specs.Moves.{event_in}
 use Rattle.ckr_desk_store.specs.State.{IsSound, StoreView}
+use Rattle.ckr_book.specs.Book.{room_of}
+use Rattle.ckr_desk.proofs.Calls.FullBooks.{of-disk-numbers, unready-numbers}
 use Rattle.ckr_desk.proofs.Calls.Requests.{if-err, if-err-both, on-ok, on-ok-both}
 use Rattle.ckr_desk.proofs.Turns.Preparation.{as-before, came-of-disk, planned-before, same-unchanged, turned-before, turned-not}
 use Rattle.ckr_desk.proofs.Turns.Plans.{behind-takes, go-after, go-cause, go-fits, go-kept, go-may-fail, go-of-disk, go-reply, go-told, go-trusted, go-unready, if-ok, of-disk-stays, plain-told, rests-so, unready-stays, unready-takes}
 use Rattle.ckr_desk.proofs.Calls.Stops.{now-left, opens-so, same-left}
 use Rattle.ckr_desk.proofs.Units.Preparation.{err-is}
-use Rattle.ckr_desk.specs.Requests.{MayFail}
+use Rattle.ckr_desk.specs.Requests.{MayFail, TellsNumbers}
 use Rattle.ckr_desk.specs.Rewrite.{OpensSame}
 use Rattle.ckr_desk.specs.Soundness.{state_of}
 use Rattle.ckr_desk.specs.State.{DeskView}
@@ -21,6 +26,11 @@ work-requires-clause-due g c κs within = subst (HasUnitDue c.args.self.now.jobs
 
 pub go_on-requires-clause-plain : goal.go_on-requires-clause-plain
 go_on-requires-clause-plain g c κs within = plain-told c.args.plan c.requires.plain (rests-so c.args.plan c.in_default.not-Work)
+
+pub go_on-requires-clause-follows : goal.go_on-requires-clause-follows
+go_on-requires-clause-follows g c κs within =
+    subst (λ (l : Layout). FollowsBetween l c.ready_for.new.self.jobs.tables.desk c.args.plan) (sym (ap (λ (s : StoreView g.row.D.Denot). s.layout) c.ready_for.ensures.store))
+    (subst (λ (tables : TablesModel). FollowsBetween c.args.self.now.store.layout tables c.args.plan) (sym c.ready_for.ensures.jobs.tables) c.requires.follows)
 
 pub go_on-requires-clause-ready : goal.go_on-requires-clause-ready
 go_on-requires-clause-ready g c κs within = c.in_ok-ready-in_default.ensures.ready
@@ -56,6 +66,7 @@ returns-in_err-ready-in_default g c =
       size = sized;
       faults = subst (λ (s : StoreView g.row.D.Denot). d.faults now.store.disk ≤ d.faults s.disk) (sym store) (omega arith);
       may_fail = subst (λ r. IfErr r (MayFail (d.faults now.store.disk) (d.faults mid.store.disk) now.store.fault)) (sym is) stays.1;
+      full = subst (λ r. IfErr r (TellsNumbers (room_of now.store.book))) (sym is) (unready-numbers now mid (event_in plan) error cause);
       stays = subst (λ r. IfErr r (StaysBy d.content d.may_leave d.faults now mid)) (sym is) stays.0;
     }
 
@@ -99,5 +110,6 @@ returns-in_ok-ready-in_default g c =
       faults = subst (λ (s : StoreView g.row.D.Denot). d.faults s.disk ≤ d.faults new.store.disk) store c.go_on.ensures.faults;
       may_fail = subst (λ (s : StoreView g.row.D.Denot). IfErr c.go_on.result (MayFail (d.faults s.disk) (d.faults new.store.disk) s.fault)) store
           (if-err (go-may-fail d.faults mid new plan) c.go_on.result c.go_on.ensures.cause);
+      full = if-err (λ error not. of-disk-numbers (room_of now.store.book) error (go-of-disk d.faults mid new plan error not)) c.go_on.result c.go_on.ensures.cause;
       stays = if-err-both (λ error not halted. of-disk-stays d.content d.may_leave d.faults now new error (go-of-disk d.faults mid new plan error not) halted) c.go_on.result c.go_on.ensures.cause c.go_on.ensures.halted;
     }

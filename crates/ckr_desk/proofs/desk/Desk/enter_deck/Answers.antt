@@ -1,10 +1,12 @@
-use Rattle.std.proofs.Common.{sym, subst, arith, Some}
+use Rattle.std.proofs.Common.{◌≡◌, sym, subst, true, arith, Some}
 use Rattle.ckr_desk_memory.specs.Invariant.{IsAnyAccepted}
 use Rattle.ckr_events.specs.declared.event.Event.TheVariants.{Submitted}
 use Rattle.ckr_desk_store.specs.State.{IsSound}
 use Rattle.ckr_points_decks.specs.Cards.{kept_of_stored}
 use Rattle.ckr_desk.proofs.Calls.CardCounts.{accepted-row, few-accepted}
+use Rattle.ckr_desk.proofs.Calls.NextEvents.{deck-follows}
 use Rattle.ckr_desk.proofs.Calls.Stops.{nothing-left}
+use Rattle.ckr_desk.specs.Calls.{may_follow}
 use Rattle.ckr_desk.proofs.desk.Desk.enter_deck.Goals as goal
 
 pub tell-requires-clause-small : goal.tell-requires-clause-small
@@ -12,6 +14,11 @@ tell-requires-clause-small g c κs within =
     let few = few-accepted c.args.cards.now c.args.job c.requires.accepted in
     let size = c.in_ok-event.ensures.spelled.size in
     omega (arith, few, size)
+
+pub tell-requires-clause-follows : goal.tell-requires-clause-follows
+tell-requires-clause-follows g c κs within =
+    subst (λ event. may_follow event (Some c.args.job) c.args.self.now ≡ true) (sym c.in_ok-event.ensures.event)
+    (deck-follows c.args.self.now.store.layout c.args.self.now.jobs.tables.desk c.args.cards.now c.args.number c.args.job c.requires.some c.requires.next)
 
 pub tell-requires-clause-accepted : goal.tell-requires-clause-accepted
 tell-requires-clause-accepted g c κs within =

@@ -1,5 +1,10 @@
+use Rattle.std.proofs.Common.{subst}
+use Rattle.ckr_desk_memory.specs.TurnEvents.{FollowsBetween}
 use Rattle.ckr_desk.proofs.Turns.Stops.{rewritten-left, told-left}
 use Rattle.ckr_desk.proofs.desk.Desk.go_on.Goals as goal
+
+pub tell_ready-requires-clause-between : goal.tell_ready-requires-clause-between
+tell_ready-requires-clause-between g c κs within = subst (FollowsBetween c.args.self.now.store.layout c.args.self.now.jobs.tables.desk) c.in-Tell.is c.requires.follows
 
 pub returns-in_err-tell_ready-in-Tell-clause-left : goal.returns-in_err-tell_ready-in-Tell-clause-left
 returns-in_err-tell_ready-in-Tell-clause-left g c =

@@ -4,57 +4,36 @@ use Rattle.ckr_desk.proofs.Calls.Requests.{call-cause, call-fits, call-full, cal
 use Rattle.ckr_desk.specs.Submit.{purge_call}
 use Rattle.ckr_desk.proofs.desk.Desk.purge.Goals as goal
 
-pub returns-clause-fits : goal.returns-clause-fits
-returns-clause-fits g c trusted =
+pub returns-clause-comes : goal.returns-clause-comes
+returns-clause-comes g c trusted =
     let d = g.D.Disk in
     let now = c.args.self.now in
+    let new = c.take_out.new.self in
     let call = purge_call now.jobs.tables.desk c.args.job in
     let its = purge-called d.told d.content d.may_leave d.size now trusted c.args.job c.ranges.job.fits in
-    on-ok (call-fits d.told d.content d.may_leave d.size now trusted c.take_out.new.self c.take_out.ensures.layout call its) c.take_out.result c.take_out.ensures.done
+    record {
+      fits = on-ok (call-fits d.told d.content d.may_leave d.size now trusted new c.take_out.ensures.layout call its) c.take_out.result c.take_out.ensures.done;
+      after = on-ok-all (call-state d.told d.content d.may_leave d.size now trusted new c.take_out.ensures.layout call its) c.take_out.result c.take_out.ensures.done (c.take_out.ensures.told trusted.tells) (c.take_out.ensures.records trusted.tells) c.take_out.ensures.settled;
+      events = on-ok (call-told _ _ call) c.take_out.result (c.take_out.ensures.told trusted.tells);
+      trusted = on-ok-all (call-trusted d.told d.content d.may_leave d.size now trusted new c.take_out.ensures.layout call its) c.take_out.result c.take_out.ensures.done (c.take_out.ensures.told trusted.tells) (c.take_out.ensures.records trusted.tells) c.take_out.ensures.settled;
+      cause = if-err (call-cause d.told d.content d.may_leave d.size now trusted d.faults new call its) c.take_out.result c.take_out.ensures.cause;
+    }
 
-pub returns-clause-after : goal.returns-clause-after
-returns-clause-after g c trusted =
+pub returns-clause-keeps : goal.returns-clause-keeps
+returns-clause-keeps g c =
     let d = g.D.Disk in
     let now = c.args.self.now in
+    let new = c.take_out.new.self in
     let call = purge_call now.jobs.tables.desk c.args.job in
-    let its = purge-called d.told d.content d.may_leave d.size now trusted c.args.job c.ranges.job.fits in
-    on-ok-all (call-state d.told d.content d.may_leave d.size now trusted c.take_out.new.self c.take_out.ensures.layout call its) c.take_out.result c.take_out.ensures.done (c.take_out.ensures.told trusted.tells) (c.take_out.ensures.records trusted.tells) c.take_out.ensures.settled
-
-pub returns-clause-trusted : goal.returns-clause-trusted
-returns-clause-trusted g c trusted =
-    let d = g.D.Disk in
-    let now = c.args.self.now in
-    let call = purge_call now.jobs.tables.desk c.args.job in
-    let its = purge-called d.told d.content d.may_leave d.size now trusted c.args.job c.ranges.job.fits in
-    on-ok-all (call-trusted d.told d.content d.may_leave d.size now trusted c.take_out.new.self c.take_out.ensures.layout call its) c.take_out.result c.take_out.ensures.done (c.take_out.ensures.told trusted.tells) (c.take_out.ensures.records trusted.tells) c.take_out.ensures.settled
-
-pub returns-clause-is_open : goal.returns-clause-is_open
-returns-clause-is_open g c =
-    let d = g.D.Disk in
-    let now = c.args.self.now in
-    let call = purge_call now.jobs.tables.desk c.args.job in
-    on-ok-both (call-open d.faults now c.take_out.new.self call) c.take_out.result c.take_out.ensures.done c.take_out.ensures.is_open
-
-pub returns-clause-may_fail : goal.returns-clause-may_fail
-returns-clause-may_fail g c =
-    let d = g.D.Disk in
-    let now = c.args.self.now in
-    let call = purge_call now.jobs.tables.desk c.args.job in
-    if-err (call-may-fail d.faults now c.take_out.new.self call) c.take_out.result c.take_out.ensures.cause
-
-pub returns-clause-stays : goal.returns-clause-stays
-returns-clause-stays g c =
-    let d = g.D.Disk in
-    let now = c.args.self.now in
-    if-err (call-stays d.faults now c.take_out.new.self d.content d.may_leave (purge_call now.jobs.tables.desk c.args.job)) c.take_out.result c.take_out.ensures.cause
-
-pub returns-clause-cause : goal.returns-clause-cause
-returns-clause-cause g c trusted =
-    let d = g.D.Disk in
-    let now = c.args.self.now in
-    let call = purge_call now.jobs.tables.desk c.args.job in
-    let its = purge-called d.told d.content d.may_leave d.size now trusted c.args.job c.ranges.job.fits in
-    if-err (call-cause d.told d.content d.may_leave d.size now trusted d.faults c.take_out.new.self call its) c.take_out.result c.take_out.ensures.cause
+    record {
+      is_open = on-ok-both (call-open d.faults now new call) c.take_out.result c.take_out.ensures.done c.take_out.ensures.is_open;
+      same_layout = c.take_out.ensures.layout;
+      same_size = c.take_out.ensures.size;
+      never_falls = c.take_out.ensures.faults;
+      stopped = c.take_out.ensures.stopped;
+      may_fail = if-err (call-may-fail d.faults now new call) c.take_out.result c.take_out.ensures.cause;
+      stays = if-err (call-stays d.faults now new d.content d.may_leave call) c.take_out.result c.take_out.ensures.cause;
+    }
 
 pub returns-clause-kept : goal.returns-clause-kept
 returns-clause-kept g c is_open trusted =

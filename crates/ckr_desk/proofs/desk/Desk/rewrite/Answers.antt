@@ -1,31 +1,41 @@
-use Rattle.std.proofs.Common.{length, ap, sym, subst, ◌∙◌, inl, inr}
-use Rattle.ckr_desk.proofs.Images.Rewrite.{cannot-write, differs-so, lacks-most, no-fit, none-there, set-stands, syncing-left, writing-left, written-by}
+use Rattle.std.proofs.Common.{ap, sym, subst, ◌∙◌}
+use Rattle.ckr_desk_memory.specs.Rewrite.{HasRecordPlace}
+use Rattle.ckr_desk.proofs.Images.Rewrite.{differs-so, image-there, lacks-most, place-there, set-some, set-stands, syncing-left, updated-some, writing-left, written-by}
+use Rattle.ckr_desk.specs.State.{DeskView}
 use Rattle.ckr_desk_refines.specs.Moves.{IsWritten}
 use Rattle.ckr_desk.proofs.desk.Desk.rewrite.Goals as goal
-use Rattle.ckr_desk.proofs.desk.Desk.rewrite.Goals.{then-place-set-via-then-place-set, then-place-set-via-else-place-set+then-bytes-from}
 
-pub returns-in_default-get-clause-cause : goal.returns-in_default-get-clause-cause
-returns-in_default-get-clause-cause g c =
+pub unreachable-requires : goal.unreachable-requires
+unreachable-requires g c =
     let w = c.in-Rewritten in
     let tables = c.self.inside.jobs.tables.desk in
-    rw (← c.self.view_is)
-    (cannot-write tables w.job w.taken w.writes w.place w.lengths w.image c.args.event.now c.in-Some.name w.is
-    (λ row at. sym (c.updated.ensures row at) ∙ c.in-Some.is)
-    (none-there c.library.result.now tables.sets c.in-Some.name w.place w.image c.library.ensures.sets (sym c.in_default-get.ensures)))
+    updated-some tables w.job w.taken w.writes w.place w.lengths w.image c.args.event.now w.is
+    (subst (λ (s : DeskView g.row.D.Denot). HasRecordPlace c.args.event.now s.jobs.tables.desk) (sym c.self.view_is) c.requires.place)
+    (λ row at. c.in_default-updated.ensures row at)
 
-pub returns-then-place-set-clause-cause : goal.returns-then-place-set-clause-cause
-returns-then-place-set-clause-cause g c =
+pub unreachable-requires-in_default-get : goal.unreachable-requires-in_default-get
+unreachable-requires-in_default-get g c =
     let w = c.in-Rewritten in
     let tables = c.self.inside.jobs.tables.desk in
-    let set = c.in-Some-get.set.now in
-    rw (← c.self.view_is)
-    (cannot-write tables w.job w.taken w.writes w.place w.lengths w.image c.args.event.now c.in-Some.name w.is
-    (λ row at. sym (c.updated.ensures row at) ∙ c.in-Some.is)
-    (no-fit c.library.result.now tables.sets c.in-Some.name set w.place w.image c.library.ensures.sets (sym c.in-Some-get.ensures)
-    (elim c.then-place-set.branch [
-      | then-place-set-via-then-place-set v ↦ inl v.if-place-set.true
-      | then-place-set-via-else-place-set+then-bytes-from v ↦ inr (λ same. v.if-bytes-from.true (ap length v.bytes.ensures.value ∙ same ∙ sym v.from.ensures))
-    ])))
+    set-some tables w.job w.taken w.writes w.place w.lengths w.image c.args.event.now w.is
+    (subst (λ (s : DeskView g.row.D.Denot). HasRecordPlace c.args.event.now s.jobs.tables.desk) (sym c.self.view_is) c.requires.place)
+    c.in-Some.name (λ row at. sym (c.updated.ensures row at) ∙ c.in-Some.is) c.library.result.now c.library.ensures.sets (sym c.in_default-get.ensures)
+
+pub write_record-requires-clause-place : goal.write_record-requires-clause-place
+write_record-requires-clause-place g c κs within =
+    let w = c.in-Rewritten in
+    let tables = c.self.inside.jobs.tables.desk in
+    place-there c.self.inside.store.layout tables w.job w.taken w.writes w.place w.lengths w.image c.args.event.now w.is c.in-Some.name (λ row at. sym (c.updated.ensures row at) ∙ c.in-Some.is)
+    c.library.result.now c.library.ensures.sets c.in-Some-get.set.now (sym c.in-Some-get.ensures)
+    (subst (λ (s : DeskView g.row.D.Denot). HasRecordPlace c.args.event.now s.jobs.tables.desk) (sym c.self.view_is) c.requires.place)
+
+pub write_record-requires-clause-image : goal.write_record-requires-clause-image
+write_record-requires-clause-image g c κs within =
+    let w = c.in-Rewritten in
+    let tables = c.self.inside.jobs.tables.desk in
+    image-there c.self.inside.store.layout tables w.job w.taken w.writes w.place w.lengths w.image c.args.event.now w.is c.in-Some.name (λ row at. sym (c.updated.ensures row at) ∙ c.in-Some.is)
+    c.library.result.now c.library.ensures.sets c.in-Some-get.set.now (sym c.in-Some-get.ensures)
+    (subst (λ (s : DeskView g.row.D.Denot). HasRecordPlace c.args.event.now s.jobs.tables.desk) (sym c.self.view_is) c.requires.place)
 
 pub write_record-requires-clause-stands : goal.write_record-requires-clause-stands
 write_record-requires-clause-stands g c κs within =
@@ -47,7 +57,8 @@ returns-in_err-write_record-clause-left g c =
     (λ image same.
     lacks-most layout tables w.job w.taken w.writes w.place w.lengths w.image c.args.event.now w.is c.in-Some.name (λ row at. sym (c.updated.ensures row at) ∙ c.in-Some.is)
     c.library.result.now c.library.ensures.sets set (sym c.in-Some-get.ensures) _ image
-    (differs-so layout c.layout-layout.ensures.sound.laid set stands w.place c.if-place-set.false _ image same)))
+    (differs-so layout c.layout-layout.ensures.sound.laid set stands w.place (place-there layout tables w.job w.taken w.writes w.place w.lengths w.image c.args.event.now w.is c.in-Some.name (λ row at. sym (c.updated.ensures row at) ∙ c.in-Some.is) c.library.result.now c.library.ensures.sets set (sym c.in-Some-get.ensures)
+    (subst (λ (s : DeskView g.row.D.Denot). HasRecordPlace c.args.event.now s.jobs.tables.desk) (sym c.self.view_is) c.requires.place)) _ image same)))
 
 pub returns-in_err-sync-clause-left : goal.returns-in_err-sync-clause-left
 returns-in_err-sync-clause-left g c =
@@ -67,7 +78,8 @@ returns-in_err-sync-clause-left g c =
     (λ image same.
     lacks-most layout tables w.job w.taken w.writes w.place w.lengths w.image c.args.event.now w.is c.in-Some.name (λ row at. sym (c.updated.ensures row at) ∙ c.in-Some.is)
     c.library.result.now c.library.ensures.sets set (sym c.in-Some-get.ensures) _ image
-    (differs-so layout c.layout-layout.ensures.sound.laid set stands w.place c.if-place-set.false _ image same)))
+    (differs-so layout c.layout-layout.ensures.sound.laid set stands w.place (place-there layout tables w.job w.taken w.writes w.place w.lengths w.image c.args.event.now w.is c.in-Some.name (λ row at. sym (c.updated.ensures row at) ∙ c.in-Some.is) c.library.result.now c.library.ensures.sets set (sym c.in-Some-get.ensures)
+    (subst (λ (s : DeskView g.row.D.Denot). HasRecordPlace c.args.event.now s.jobs.tables.desk) (sym c.self.view_is) c.requires.place)) _ image same)))
     (laws.counts_now c.write_record.new.self.disk) c.sync.ensures.only_reads.since)
 
 pub returns-clause-written : goal.returns-clause-written
@@ -102,5 +114,6 @@ returns-clause-left g c =
     (λ image same.
     lacks-most layout tables w.job w.taken w.writes w.place w.lengths w.image c.args.event.now w.is c.in-Some.name (λ row at. sym (c.updated.ensures row at) ∙ c.in-Some.is)
     c.library.result.now c.library.ensures.sets set (sym c.in-Some-get.ensures) _ image
-    (differs-so layout c.layout-layout.ensures.sound.laid set stands w.place c.if-place-set.false _ image same)))
+    (differs-so layout c.layout-layout.ensures.sound.laid set stands w.place (place-there layout tables w.job w.taken w.writes w.place w.lengths w.image c.args.event.now w.is c.in-Some.name (λ row at. sym (c.updated.ensures row at) ∙ c.in-Some.is) c.library.result.now c.library.ensures.sets set (sym c.in-Some-get.ensures)
+    (subst (λ (s : DeskView g.row.D.Denot). HasRecordPlace c.args.event.now s.jobs.tables.desk) (sym c.self.view_is) c.requires.place)) _ image same)))
     (laws.counts_now c.write_record.new.self.disk) c.sync.ensures.only_reads.since)

@@ -4,57 +4,36 @@ use Rattle.ckr_desk.proofs.Calls.Requests.{call-cause, call-fits, call-full, cal
 use Rattle.ckr_desk.specs.Submit.{submit_call}
 use Rattle.ckr_desk.proofs.desk.Desk.submit.Goals as goal
 
-pub returns-clause-fits : goal.returns-clause-fits
-returns-clause-fits g c trusted =
+pub returns-clause-comes : goal.returns-clause-comes
+returns-clause-comes g c trusted =
     let d = g.D.Disk in
     let now = c.args.self.now in
+    let new = c.hand_in.new.self in
     let call = submit_call now.jobs.tables.desk c.args.cards.now in
     let its = submit-called d.told d.content d.may_leave d.size now trusted c.args.cards.now c.requires.some in
-    on-ok (call-fits d.told d.content d.may_leave d.size now trusted c.hand_in.new.self c.hand_in.ensures.layout call its) c.hand_in.result c.hand_in.ensures.done
+    record {
+      fits = on-ok (call-fits d.told d.content d.may_leave d.size now trusted new c.hand_in.ensures.layout call its) c.hand_in.result c.hand_in.ensures.done;
+      after = on-ok-all (call-state d.told d.content d.may_leave d.size now trusted new c.hand_in.ensures.layout call its) c.hand_in.result c.hand_in.ensures.done (c.hand_in.ensures.told trusted.tells) (c.hand_in.ensures.records trusted.tells) c.hand_in.ensures.settled;
+      events = on-ok (call-told _ _ call) c.hand_in.result (c.hand_in.ensures.told trusted.tells);
+      trusted = on-ok-all (call-trusted d.told d.content d.may_leave d.size now trusted new c.hand_in.ensures.layout call its) c.hand_in.result c.hand_in.ensures.done (c.hand_in.ensures.told trusted.tells) (c.hand_in.ensures.records trusted.tells) c.hand_in.ensures.settled;
+      cause = if-err (call-cause d.told d.content d.may_leave d.size now trusted d.faults new call its) c.hand_in.result c.hand_in.ensures.cause;
+    }
 
-pub returns-clause-after : goal.returns-clause-after
-returns-clause-after g c trusted =
+pub returns-clause-keeps : goal.returns-clause-keeps
+returns-clause-keeps g c =
     let d = g.D.Disk in
     let now = c.args.self.now in
+    let new = c.hand_in.new.self in
     let call = submit_call now.jobs.tables.desk c.args.cards.now in
-    let its = submit-called d.told d.content d.may_leave d.size now trusted c.args.cards.now c.requires.some in
-    on-ok-all (call-state d.told d.content d.may_leave d.size now trusted c.hand_in.new.self c.hand_in.ensures.layout call its) c.hand_in.result c.hand_in.ensures.done (c.hand_in.ensures.told trusted.tells) (c.hand_in.ensures.records trusted.tells) c.hand_in.ensures.settled
-
-pub returns-clause-trusted : goal.returns-clause-trusted
-returns-clause-trusted g c trusted =
-    let d = g.D.Disk in
-    let now = c.args.self.now in
-    let call = submit_call now.jobs.tables.desk c.args.cards.now in
-    let its = submit-called d.told d.content d.may_leave d.size now trusted c.args.cards.now c.requires.some in
-    on-ok-all (call-trusted d.told d.content d.may_leave d.size now trusted c.hand_in.new.self c.hand_in.ensures.layout call its) c.hand_in.result c.hand_in.ensures.done (c.hand_in.ensures.told trusted.tells) (c.hand_in.ensures.records trusted.tells) c.hand_in.ensures.settled
-
-pub returns-clause-is_open : goal.returns-clause-is_open
-returns-clause-is_open g c =
-    let d = g.D.Disk in
-    let now = c.args.self.now in
-    let call = submit_call now.jobs.tables.desk c.args.cards.now in
-    on-ok-both (call-open d.faults now c.hand_in.new.self call) c.hand_in.result c.hand_in.ensures.done c.hand_in.ensures.is_open
-
-pub returns-clause-may_fail : goal.returns-clause-may_fail
-returns-clause-may_fail g c =
-    let d = g.D.Disk in
-    let now = c.args.self.now in
-    let call = submit_call now.jobs.tables.desk c.args.cards.now in
-    if-err (call-may-fail d.faults now c.hand_in.new.self call) c.hand_in.result c.hand_in.ensures.cause
-
-pub returns-clause-stays : goal.returns-clause-stays
-returns-clause-stays g c =
-    let d = g.D.Disk in
-    let now = c.args.self.now in
-    if-err (call-stays d.faults now c.hand_in.new.self d.content d.may_leave (submit_call now.jobs.tables.desk c.args.cards.now)) c.hand_in.result c.hand_in.ensures.cause
-
-pub returns-clause-cause : goal.returns-clause-cause
-returns-clause-cause g c trusted =
-    let d = g.D.Disk in
-    let now = c.args.self.now in
-    let call = submit_call now.jobs.tables.desk c.args.cards.now in
-    let its = submit-called d.told d.content d.may_leave d.size now trusted c.args.cards.now c.requires.some in
-    if-err (call-cause d.told d.content d.may_leave d.size now trusted d.faults c.hand_in.new.self call its) c.hand_in.result c.hand_in.ensures.cause
+    record {
+      is_open = on-ok-both (call-open d.faults now new call) c.hand_in.result c.hand_in.ensures.done c.hand_in.ensures.is_open;
+      same_layout = c.hand_in.ensures.layout;
+      same_size = c.hand_in.ensures.size;
+      never_falls = c.hand_in.ensures.faults;
+      stopped = c.hand_in.ensures.stopped;
+      may_fail = if-err (call-may-fail d.faults now new call) c.hand_in.result c.hand_in.ensures.cause;
+      stays = if-err (call-stays d.faults now new d.content d.may_leave call) c.hand_in.result c.hand_in.ensures.cause;
+    }
 
 pub returns-clause-kept : goal.returns-clause-kept
 returns-clause-kept g c is_open trusted =

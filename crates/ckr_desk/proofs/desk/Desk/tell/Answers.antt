@@ -1,4 +1,6 @@
-use Rattle.std.proofs.Common.{◌≡◌, ◌++◌, ◌∷◌, [], subst, OnOk}
+use Rattle.std.proofs.Common.{◌≡◌, ◌++◌, ◌∷◌, [], true, sym, subst, OnOk}
+use Rattle.ckr_points.specs.Follows.{follows}
+use Rattle.ckr_points.specs.Rows.{TablesModel}
 use Rattle.ckr_events.specs.Event.{spelling}
 use Rattle.ckr_outside.specs.Disk.{EachSince}
 use Rattle.ckr_desk_refines.specs.Moves.{HasSameRecords}
@@ -33,51 +35,56 @@ returns-in_err-ready-clause-cause g c =
     handed_on c.from_residual.result c.in_err-ready.field-0.0 _ c.from_residual.ensures.1
     (unready-cause c.args.event.now c.args.deck d.faults c.args.self.now c.make_ready.new.self c.in_err-ready.field-0.0 c.in_err-ready.ensures.cause)
 
+pub enter-requires-clause-follows : goal.enter-requires-clause-follows
+enter-requires-clause-follows g c κs within =
+    subst (λ (s : StoreView g.row.D.Denot). follows s.layout c.make_ready.new.self.jobs.tables.desk c.args.event.now c.args.deck ≡ true) (sym c.make_ready.ensures.store)
+    (subst (λ (tables : TablesModel). follows c.args.self.now.store.layout tables c.args.event.now c.args.deck ≡ true) (sym c.make_ready.ensures.jobs.tables) c.requires.follows)
+
 pub returns-clause-ok : goal.returns-clause-ok
 returns-clause-ok g c =
     let now = c.args.self.now in
     let mid = c.make_ready.new.self in
-    let new = c.tell_ready.new.self in
+    let new = c.enter.new.self in
     let same = c.make_ready.ensures.jobs in
     on-ok
     (λ gone.
     prepared-gone c.args.event.now c.args.deck now.store now.jobs mid.jobs same.tables same.running same.failed new
     (subst (λ (s : StoreView g.row.D.Denot). HasGoneOn c.args.event.now c.args.deck (record { store = s; jobs = mid.jobs }) new) c.make_ready.ensures.store gone))
-    c.tell_ready.result c.tell_ready.ensures.ok
+    c.enter.result c.enter.ensures.ok
 
 pub returns-clause-told : goal.returns-clause-told
 returns-clause-told g c told =
     let d = g.D.Disk in
-    let new = c.tell_ready.new.self in
-    subst (λ (s : StoreView g.row.D.Denot). OnOk c.tell_ready.result (event_records s.layout (d.content new.store.disk) ≡ event_records s.layout (d.content s.disk) ++ spelling c.args.event.now ∷ [])) c.make_ready.ensures.store
-    (c.tell_ready.ensures.told told)
+    let new = c.enter.new.self in
+    subst (λ (s : StoreView g.row.D.Denot). OnOk c.enter.result (event_records s.layout (d.content new.store.disk) ≡ event_records s.layout (d.content s.disk) ++ spelling c.args.event.now ∷ [])) c.make_ready.ensures.store
+    (c.enter.ensures.told told)
 
 pub returns-clause-records : goal.returns-clause-records
 returns-clause-records g c told =
     let d = g.D.Disk in
-    let new = c.tell_ready.new.self in
-    subst (λ (s : StoreView g.row.D.Denot). OnOk c.tell_ready.result (HasSameRecords s.layout (d.content s.disk) (d.content new.store.disk))) c.make_ready.ensures.store
-    (c.tell_ready.ensures.records told)
+    let new = c.enter.new.self in
+    subst (λ (s : StoreView g.row.D.Denot). OnOk c.enter.result (HasSameRecords s.layout (d.content s.disk) (d.content new.store.disk))) c.make_ready.ensures.store
+    (c.enter.ensures.records told)
 
 pub returns-clause-left : goal.returns-clause-left
 returns-clause-left g c is_open =
     let d = g.D.Disk in
     let now = c.args.self.now in
     let mid = c.make_ready.new.self in
-    let new = c.tell_ready.new.self in
+    let new = c.enter.new.self in
     prepared-left c.args.event.now c.args.deck now.store now.jobs mid.jobs c.make_ready.ensures.jobs.tables d.content d.may_leave d.moment d.left_since d.size new.store.disk
     (subst (λ (s : StoreView g.row.D.Denot). EachSince d.moment d.left_since s.disk new.store.disk (IsLeftBy d.content d.may_leave d.size c.args.event.now c.args.deck (record { store = s; jobs = mid.jobs }))) c.make_ready.ensures.store
-    c.tell_ready.ensures.left)
+    c.enter.ensures.left)
 
 pub returns-clause-cause : goal.returns-clause-cause
 returns-clause-cause g c =
     let d = g.D.Disk in
     let now = c.args.self.now in
     let mid = c.make_ready.new.self in
-    let new = c.tell_ready.new.self in
+    let new = c.enter.new.self in
     let same = c.make_ready.ensures.jobs in
     if-err
     (λ error not.
     prepared-cause c.args.event.now c.args.deck now.store now.jobs mid.jobs same.tables same.running same.failed d.faults new error
-    (subst (λ (s : StoreView g.row.D.Denot). NotEntered d.faults c.args.event.now c.args.deck (record { store = s; jobs = mid.jobs }) new error) c.make_ready.ensures.store not))
-    c.tell_ready.result c.tell_ready.ensures.cause
+    (subst (λ (s : StoreView g.row.D.Denot). NotEntered d.faults (record { store = s; jobs = mid.jobs }) new error) c.make_ready.ensures.store not))
+    c.enter.result c.enter.ensures.cause

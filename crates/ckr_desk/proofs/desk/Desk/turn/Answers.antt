@@ -1,5 +1,6 @@
 use Rattle.std.proofs.Common.{◌∙◌, IfErr, ap, refl, subst, sym}
 use Rattle.ckr_desk_memory.specs.Plans.{Tells}
+use Rattle.ckr_desk_memory.specs.TurnEvents.{FollowsBetween}
 use Rattle.ckr_desk_memory.specs.View.{jobs_of}
 use Rattle.ckr_desk_turn.specs.Invariant.{IsTurnOf}
 use Rattle.ckr_outside.specs.Moments.{started}
@@ -11,6 +12,7 @@ use Rattle.ckr_desk.proofs.Turns.PlainEvents.{plan-plain}
 use Rattle.ckr_desk.proofs.Turns.Plans.{go-tells}
 use Rattle.ckr_desk.proofs.Units.Preparation.{err-is}
 use Rattle.ckr_desk.proofs.Images.Soundness.{kept-before}
+use Rattle.ckr_desk.proofs.Calls.FullBooks.{turn-has_room}
 use Rattle.ckr_desk.proofs.Calls.Stops.{now-left, opens-so}
 use Rattle.ckr_desk.proofs.Trust.Sameness.{IsAsBefore}
 use Rattle.ckr_desk.specs.Requests.{came_by, spelled}
@@ -51,6 +53,15 @@ returns-in_err-plan-clause-takes g c =
 pub carry_out-requires-clause-plain : goal.carry_out-requires-clause-plain
 carry_out-requires-clause-plain g c κs within = plan-plain _ _ c.args.turn c.in_ok-plan.plan c.in_ok-plan.ensures.plan
 
+pub plan-requires-clause-turn : goal.plan-requires-clause-turn
+plan-requires-clause-turn g c =
+    subst (λ (l : Layout). IsTurnOf l c.args.turn) (sym c.layout.ensures.layout)
+    (subst (λ (s : DeskView g.row.D.Denot). IsTurnOf s.store.layout c.args.turn) (sym c.self.view_is) c.requires.initiator)
+
+pub carry_out-requires-clause-follows : goal.carry_out-requires-clause-follows
+carry_out-requires-clause-follows g c κs within =
+    subst (λ (l : Layout). FollowsBetween l c.plan.new.self.tables.desk c.in_ok-plan.plan) c.layout.ensures.layout c.in_ok-plan.ensures.follows
+
 abbrev desk_before : (g : Over) (c : goal.After-carry_out g) → DeskView g.row.D.Denot
 desk_before g c = record { store = c.self.inside.store; jobs = c.self.inside.jobs }
 
@@ -83,20 +94,11 @@ turned-so g c trusted =
 pub returns-clause-reply : goal.returns-clause-reply
 returns-clause-reply g c = rw (← c.self.view_is) (λ trusted. (turned-so g c trusted).reply)
 
-pub returns-clause-fits : goal.returns-clause-fits
-returns-clause-fits g c = rw (← c.self.view_is) (λ trusted. (turned-so g c trusted).fits)
-
-pub returns-clause-after : goal.returns-clause-after
-returns-clause-after g c = rw (← c.self.view_is) (λ trusted. (turned-so g c trusted).after)
-
-pub returns-clause-told : goal.returns-clause-told
-returns-clause-told g c = rw (← c.self.view_is) (λ trusted. (turned-so g c trusted).events)
-
-pub returns-clause-trusted : goal.returns-clause-trusted
-returns-clause-trusted g c = rw (← c.self.view_is) (λ trusted. (turned-so g c trusted).trusted)
-
-pub returns-clause-cause : goal.returns-clause-cause
-returns-clause-cause g c = rw (← c.self.view_is) (λ trusted. (turned-so g c trusted).cause)
+pub returns-clause-comes : goal.returns-clause-comes
+returns-clause-comes g c = rw (← c.self.view_is)
+    (λ trusted.
+    let so = turned-so g c trusted in
+    record { fits = turn-has_room (state_of g.D.Disk.content (desk_before g c)) c.carry_out.result c.args.turn so.fits; after = so.after; events = so.events; trusted = so.trusted; cause = so.cause })
 
 pub returns-clause-takes : goal.returns-clause-takes
 returns-clause-takes g c = rw (← c.self.view_is) (λ trusted. (turned-so g c trusted).takes)

@@ -1,9 +1,13 @@
-use Rattle.std.proofs.Common.{sym, subst}
+use Rattle.std.proofs.Common.{IfErr, sym, subst}
+use Rattle.ckr_book.specs.Book.{room_of}
 use Rattle.ckr_desk_turn.specs.declared.plan.Plan.TheVariants.{Work}
 use Rattle.ckr_desk.proofs.Turns.Preparation.{planned-before, turned-before, turned-not}
+use Rattle.ckr_desk.proofs.Calls.FullBooks.{of-disk-numbers, unlooked-numbers}
+use Rattle.ckr_desk.proofs.Calls.Requests.{if-err}
 use Rattle.ckr_desk.proofs.Calls.Stops.{reads-left}
 use Rattle.ckr_desk.proofs.Units.Preparation.{err-is, look-cause, look-takes}
 use Rattle.ckr_desk.proofs.Trust.Sameness.{IsAsBefore}
+use Rattle.ckr_desk.specs.Requests.{TellsNumbers}
 use Rattle.ckr_desk.specs.Units.{HasTurned}
 use Rattle.ckr_desk.proofs.desk.Desk.work.Goals as goal
 
@@ -45,3 +49,13 @@ returns-clause-turned g c turn p =
     let since = reads-left d.told d.content d.may_leave d.moment d.left_since d.size now mid.store.disk e.any_moment e.only_reads in
     turned-before d.told d.content d.may_leave d.moment d.left_since d.size now mid is e.size since turn p.trusted c.work_on.new.self c.work_on.result
     (c.work_on.ensures.turned turn (planned-before d.told d.content d.may_leave d.moment d.left_since d.size now mid is e.size since turn (Work c.args.run) p))
+
+pub returns-in_err-ahead-clause-full : goal.returns-in_err-ahead-clause-full
+returns-in_err-ahead-clause-full g c =
+    let d = g.D.Disk in
+    let now = c.args.self.now in
+    subst (λ r. IfErr r (TellsNumbers (room_of now.store.book))) (sym (err-is c.from_residual.result c.in_err-ahead.field-0.0 c.from_residual.ensures.1))
+    (unlooked-numbers now c.look.new.self d.told d.content d.faults c.args.run c.look.ensures.room c.in_err-ahead.field-0.0 c.in_err-ahead.ensures.cause)
+
+pub returns-clause-full : goal.returns-clause-full
+returns-clause-full g c = if-err (of-disk-numbers (room_of c.args.self.now.store.book)) c.work_on.result c.work_on.ensures.of_disk

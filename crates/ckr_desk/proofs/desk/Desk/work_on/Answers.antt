@@ -8,7 +8,7 @@ use Rattle.ckr_desk.proofs.Units.Results.{done-after, done-cause, done-fits, don
 use Rattle.ckr_desk.proofs.Units.Preparation.{err-is}
 use Rattle.ckr_desk.proofs.Turns.Plans.{behind-takes, go-of-disk}
 use Rattle.ckr_desk.proofs.Turns.Preparation.{came-of-disk}
-use Rattle.ckr_desk.proofs.Units.Readiness.{plain-so, ready-behind}
+use Rattle.ckr_desk.proofs.Units.Readiness.{plain-so, ready-behind, unit-between}
 use Rattle.ckr_desk.specs.Requests.{came_by, spelled}
 use Rattle.ckr_desk.specs.Soundness.{KeepsWithin, state_of}
 use Rattle.ckr_desk.specs.State.{DeskView}
@@ -40,6 +40,9 @@ go_on-requires-clause-spelled g c κs within = c.requires.ahead.looked.spelled
 
 pub go_on-requires-clause-plain : goal.go_on-requires-clause-plain
 go_on-requires-clause-plain g c κs within = plain-so c.args.ahead.plan c.requires.ahead.looked.shape
+
+pub go_on-requires-clause-follows : goal.go_on-requires-clause-follows
+go_on-requires-clause-follows g c κs within = unit-between c.done_unit.new.self.store.layout c.done_unit.new.self.jobs.tables.desk c.args.ahead.plan c.requires.ahead.looked.shape
 
 pub go_on-requires-clause-ready : goal.go_on-requires-clause-ready
 go_on-requires-clause-ready g c κs within =

@@ -9,4 +9,4 @@ pub coded-requires-clause-code : goal.coded-requires-clause-code
 coded-requires-clause-code c =
     let known = c.in-Some.ensures.some in
     let placed = row-among IsPlacedRow c.args.self.now.tables.desk c.args.job known.row c.requires.jobs.placed known.found in
-    subst IsAnyCode (ap (λ (f : RunTableView). f.code) known.facts ∙ c.in-Some-code.is) placed.code
+    subst IsAnyCode (sym placed.code ∙ ap (λ (f : RunTableView). f.code) known.facts ∙ c.in-Some-code.is) tt

@@ -1,7 +1,9 @@
 use Rattle.std.proofs.Common.{List, ap, ◌∙◌, map, sym, subst}
 use Rattle.ckr_desk_memory.specs.RunningSteps.{GoesOn, MayRun}
 use Rattle.ckr_desk_memory.specs.Parts.{step_seen}
+use Rattle.ckr_desk_memory.specs.Rewrite.{HasRecordPlace}
 use Rattle.ckr_desk_memory.specs.View.{JobsView, RunningStepView}
+use Rattle.ckr_desk_memory.proofs.Rewrites.{place-behind}
 use Rattle.ckr_desk_memory.proofs.RunningSteps.Events.{jobs-behind, may-run}
 use Rattle.ckr_desk_memory.proofs.jobs.Jobs.keep.Goals as goal
 
@@ -19,6 +21,12 @@ pub returns-clause-running : goal.returns-clause-running
 returns-clause-running c =
     subst (λ (on : List RunningStepView). GoesOn c.args.event.now c.self.inside.tables.desk on (map step_seen c.keep_running.new.running.items))
     (ap (λ (j : JobsView). j.running) c.self.view_is ∙ c.go_on.ensures.running) c.keep_running.ensures
+
+pub returns-clause-place : goal.returns-clause-place
+returns-clause-place c =
+    let are = c.requires.follows.1 in
+    subst (HasRecordPlace c.args.event.now) (sym (ap (λ (j : JobsView). j.tables.desk) c.self.view_is ∙ c.go_on.ensures.tables))
+    (place-behind c.requires.follows.0 c.args.self.now.tables.desk c.go_on.ensures.numbered are.rows are.laid c.args.event.now c.args.deck c.requires.follows.2)
 
 pub returns-clause-jobs : goal.returns-clause-jobs
 returns-clause-jobs c = λ layout are follow.

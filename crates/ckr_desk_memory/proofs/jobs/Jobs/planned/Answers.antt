@@ -10,6 +10,12 @@ use Rattle.ckr_desk_memory.specs.View.{jobs_of}
 use Rattle.ckr_desk_memory.proofs.Plans.{on-none, on-run}
 use Rattle.ckr_desk_memory.proofs.jobs.Jobs.planned.Goals as goal
 
+pub returns-in-Some-clause-numbered : goal.returns-in-Some-clause-numbered
+returns-in-Some-clause-numbered c = subst (λ tables. AreNumbered 1 tables.runs) (ap (λ v. v.tables.desk) c.self.view_is) c.self.invariant.numbered
+
+pub returns-in-None-clause-numbered : goal.returns-in-None-clause-numbered
+returns-in-None-clause-numbered c = subst (λ tables. AreNumbered 1 tables.runs) (ap (λ v. v.tables.desk) c.self.view_is) c.self.invariant.numbered
+
 pub returns-in-Some-clause-plan : goal.returns-in-Some-clause-plan
 unfolding plan_of jobs_of
 returns-in-Some-clause-plan c =

@@ -1,6 +1,8 @@
 use Rattle.std.proofs.Common.{◌==◌, ap, sym, ◌∙◌}
 use Rattle.ckr_base.proofs.Numbers.{equal-true}
 use Rattle.ckr_points.specs.Payload.{writes_in}
+use Rattle.ckr_points.specs.Rows.{holding_of}
+use Rattle.ckr_points_tables.specs.View.{seen_by}
 use Rattle.ckr_desk_memory.specs.Parts.{step_seen}
 use Rattle.ckr_desk_memory.specs.Plans.{reached_seen, HasCounts}
 use Rattle.ckr_desk_memory.specs.View.{RunningStepView}
@@ -20,5 +22,5 @@ returns-in-Some-clause-reached c =
 
 pub returns-in-None-clause-reached : goal.returns-in-None-clause-reached
 returns-in-None-clause-reached c =
-    reached-kept c.args.self.now c.args.run c.args.table.now c.requires.known c.library.result.now.sets (c.library.ensures.seen ∙ ap (λ v. v.tables.desk.sets) c.self.view_is) c.in-None.ensures
+    reached-kept c.args.self.now c.args.run c.args.table.now c.requires.known c.library.result.now.sets (c.library.ensures.sets ∙ ap (λ v. seen_by holding_of v.tables.desk.sets) c.self.view_is) c.in-None.ensures
     (reached_seen (record { writes = c.writes_in.result; lengths = c.lengths_of-in-None.result })) (c.writes_in.ensures ∙ ap writes_in (c.place_of.ensures c.args.run)) c.lengths_of-in-None.ensures.lengths

@@ -1,12 +1,14 @@
 use Rattle.std.proofs.Common.{◌≡◌, ◌-◌, ◌<◌, vec_len, vec_capacity, ap, sym, ◌∙◌, subst, arith, length, map, refl, slice_get, slice_set, Some}
 use Rattle.std.proofs.lemmas.Result.{on_ok_weaker}
 use Rattle.ckr_base.proofs.Sequences.{get-from}
+use Rattle.ckr_base.specs.RoomyLists.{Roomy}
+use Rattle.ckr_points_tables.specs.declared.run_table.WrittenEntry.{WrittenEntry}
 use Rattle.ckr_points_tables.specs.Parts.{tables_seen}
 use Rattle.ckr_points_tables.specs.Invariant.{AreKept, room_at}
 use Rattle.ckr_points_tables.specs.Rooms.{HasNoPlace, IsRoomier}
 use Rattle.ckr_points.specs.Rows.{TablesModel, run_of}
-use Rattle.ckr_points_tables.specs.View.{TablesRoom, room_of, rows_of, seen_by, table_of}
-use Rattle.ckr_points_tables.proofs.RoomGrowth.{limits_there, rows_there, kept_there, start_there, each_by, none_beyond}
+use Rattle.ckr_points_tables.specs.View.{TablesRoom, room_of, rows_of, seen_under, table_in, written_of}
+use Rattle.ckr_points_tables.proofs.RoomGrowth.{limits_there, rows_there, kept_there, start_there, each_by, entries-stay, none_beyond}
 use Rattle.ckr_points_tables.proofs.Runs.{length-rows}
 use Rattle.ckr_points_tables.proofs.tables.Tables.room_to_start.Goals as goal
 
@@ -26,9 +28,9 @@ invariant_of-self c =
     let old = c.index_mut.result.now in
     let inside : place < length tables = omega (arith, (c.in-Some.ensures.some place refl).1, ap length c.as_slice.ensures.value) in
     let here : slice_get tables place ≡ Some old = get-from tables place old inside c.index_mut.ensures.value in
-    subst (λ sets. AreKept sets c.self.inside.lines.items (slice_set tables place c.reserve_start.new.table) c.self.inside.index c.reserve_start.new.spare.marks.items) (sym c.reserve_start.ensures.sets)
-    (subst (AreKept c.self.inside.library.sets c.self.inside.lines.items (slice_set tables place c.reserve_start.new.table) c.self.inside.index) (sym c.reserve_start.ensures.marks)
-    (kept_there c.self.inside.lines.items tables c.self.invariant.runs place old c.reserve_start.new.table here c.reserve_start.ensures.facts c.self.inside.library.sets c.self.inside.index c.self.inside.spare.marks.items c.self.invariant))
+    subst (λ sets. AreKept sets c.self.inside.lines.items (slice_set tables place c.reserve_start.new.table) c.self.inside.index c.reserve_start.new.spare.marks.items c.self.inside.writings.items) (sym c.reserve_start.ensures.sets)
+    (subst (λ marks. AreKept c.self.inside.library.sets c.self.inside.lines.items (slice_set tables place c.reserve_start.new.table) c.self.inside.index marks c.self.inside.writings.items) (sym c.reserve_start.ensures.marks)
+    (kept_there c.self.inside.lines.items tables c.self.invariant.runs place old c.reserve_start.new.table here c.reserve_start.ensures.facts c.self.inside.library.sets c.self.inside.index c.self.inside.spare.marks.items c.self.inside.writings.items c.self.invariant))
 
 pub returns-in-Some-clause-desk : goal.returns-in-Some-clause-desk
 returns-in-Some-clause-desk c =
@@ -37,8 +39,8 @@ returns-in-Some-clause-desk c =
     let old = c.index_mut.result.now in
     let inside : place < length tables = omega (arith, (c.in-Some.ensures.some place refl).1, ap length c.as_slice.ensures.value) in
     let here : slice_get tables place ≡ Some old = get-from tables place old inside c.index_mut.ensures.value in
-    ap (λ runs. let all : TablesModel = record { sets = seen_by table_of c.reserve_start.new.library.sets; runs = runs } in all) (rows_there c.self.inside.lines.items tables c.self.invariant.runs place old c.reserve_start.new.table here c.reserve_start.ensures.facts)
-    ∙ ap (λ sets. let all : TablesModel = record { sets = seen_by table_of sets; runs = rows_of c.self.inside.lines.items tables } in all) c.reserve_start.ensures.sets ∙ ap (λ v. v.desk) c.self.view_is
+    ap (λ runs. let all : TablesModel = record { sets = seen_under (table_in (map written_of c.self.inside.writings.items)) c.reserve_start.new.library.sets; runs = runs } in all) (rows_there c.self.inside.lines.items tables c.self.invariant.runs place old c.reserve_start.new.table here c.reserve_start.ensures.facts)
+    ∙ ap (λ sets. let all : TablesModel = record { sets = seen_under (table_in (map written_of c.self.inside.writings.items)) sets; runs = rows_of c.self.inside.lines.items tables } in all) c.reserve_start.ensures.sets ∙ ap (λ v. v.desk) c.self.view_is
 
 pub returns-in-Some-clause-ok : goal.returns-in-Some-clause-ok
 returns-in-Some-clause-ok c =
@@ -49,14 +51,17 @@ returns-in-Some-clause-ok c =
     let here : slice_get tables place ≡ Some old = get-from tables place old inside c.index_mut.ensures.value in
     let room : TablesRoom = record {
       sets = c.reserve_start.new.library.room;
+      kept = c.reserve_start.new.library.entry_rooms;
       runs = vec_capacity c.self.inside.tables - vec_len c.self.inside.tables;
       lines = vec_capacity c.self.inside.lines - vec_len c.self.inside.lines;
       sorted = c.reserve_start.new.spare.sorted.room;
       marks = c.reserve_start.new.spare.marks.room;
       passed = c.reserve_start.new.spare.passed.room;
       each = map room_of (slice_set tables place c.reserve_start.new.table);
+      writings = vec_capacity c.self.inside.writings - vec_len c.self.inside.writings;
+      entries = map (λ (entries : Roomy WrittenEntry). entries.room) c.self.inside.writings.items;
     } in
-    let desk : TablesModel = record { sets = seen_by table_of c.reserve_start.new.library.sets; runs = rows_of c.self.inside.lines.items (slice_set tables place c.reserve_start.new.table) } in
+    let desk : TablesModel = record { sets = seen_under (table_in (map written_of c.self.inside.writings.items)) c.reserve_start.new.library.sets; runs = rows_of c.self.inside.lines.items (slice_set tables place c.reserve_start.new.table) } in
     let job = (c.in-Some.ensures.some place refl).0 in
     on_ok_weaker c.reserve_start.result
     (λ fits row one found roomed.
@@ -73,23 +78,29 @@ returns-in-Some-clause-room c =
     let here : slice_get tables place ≡ Some old = get-from tables place old inside c.index_mut.ensures.value in
     let room : TablesRoom = record {
       sets = c.reserve_start.new.library.room;
+      kept = c.reserve_start.new.library.entry_rooms;
       runs = vec_capacity c.self.inside.tables - vec_len c.self.inside.tables;
       lines = vec_capacity c.self.inside.lines - vec_len c.self.inside.lines;
       sorted = c.reserve_start.new.spare.sorted.room;
       marks = c.reserve_start.new.spare.marks.room;
       passed = c.reserve_start.new.spare.passed.room;
       each = map room_of (slice_set tables place c.reserve_start.new.table);
+      writings = vec_capacity c.self.inside.writings - vec_len c.self.inside.writings;
+      entries = map (λ (entries : Roomy WrittenEntry). entries.room) c.self.inside.writings.items;
     } in
     let more = c.reserve_start.ensures.run in
     subst (λ v. IsRoomier v.room room) c.self.view_is
     (record {
       sets = c.reserve_start.ensures.more.sets;
+      kept = c.reserve_start.ensures.more.kept;
       runs = omega arith;
       lines = omega arith;
       sorted = c.reserve_start.ensures.more.sorted;
       marks = c.reserve_start.ensures.more.marks;
       passed = c.reserve_start.ensures.more.passed;
       each = λ job one two first second. each_by c.self.inside.lines.items tables c.self.invariant.runs place old c.reserve_start.new.table here more (tables_seen c.self.inside).room room refl refl job one two first second;
+      writings = omega arith;
+      entries = entries-stay (tables_seen c.self.inside).room room refl;
     })
 
 pub returns-in-None-clause-ok : goal.returns-in-None-clause-ok

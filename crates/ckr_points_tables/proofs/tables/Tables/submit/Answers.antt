@@ -15,8 +15,9 @@ use Rattle.ckr_points.specs.Tables.{after_submitted}
 use Rattle.ckr_points_tables.specs.Invariant.{AreRuns, IsIndexOf, IsRun, is_submittable}
 use Rattle.ckr_points_tables.specs.Rewrite.{has_master}
 use Rattle.ckr_points.specs.Rows.{TablesModel}
-use Rattle.ckr_points_tables.specs.View.{RunTableView, is_within_limits, row_with, rows_of, seen_by, table_of}
+use Rattle.ckr_points_tables.specs.View.{RunTableView, is_within_limits, row_with, rows_of, seen_under, table_in, written_of}
 use Rattle.ckr_points_tables.proofs.Runs.{index-more, length-rows, rows-more, runs-more}
+use Rattle.ckr_points_tables.proofs.Checkpoints.{seen-begun}
 use Rattle.ckr_points_tables.proofs.tables.Tables.submit.Goals as goal
 
 -- what is asked of a deck
@@ -51,12 +52,14 @@ invariant_of-self c =
       free = λ queued. refl;
     } in
     record {
-      bare = c.self.invariant.bare;
       wide = c.self.invariant.wide;
       runs = subst (λ all. AreRuns 1 all c.put-2.new.items.items) (sym c.put.ensures) (subst (AreRuns 1 (lines ++ line ∷ [])) (sym c.put-2.ensures) (runs-more 1 lines tables c.self.invariant.runs line table is));
       few = omega (arith, ap length c.put-2.ensures, length-append tables (table ∷ []), next, (parts c.args.number c.args.job c.requires.deck).0);
       indexed = subst (IsIndexOf c.self.inside.index) (sym c.put.ensures) (index-more lines c.self.inside.index c.self.invariant.indexed line refl);
       spare = c.self.invariant.spare;
+      written =
+          ap length c.put-3.ensures ∙ length-append c.self.inside.writings.items (c.new.result ∷ []) ∙ ap (λ n. n + 1) c.self.invariant.written
+          ∙ sym (ap length c.put-2.ensures ∙ length-append tables (table ∷ []));
     }
 
 pub returns : goal.returns
@@ -65,7 +68,9 @@ returns c =
     let table : RunTable = c.fresh_table.result in
     let lines = c.self.inside.lines.items in
     let tables = c.self.inside.tables.items in
-    ap (λ runs. let all : TablesModel = record { sets = seen_by table_of c.self.inside.library.sets; runs = runs } in all)
+    ap (λ sets. let all : TablesModel = record { sets = sets; runs = rows_of c.put.new.items.items c.put-2.new.items.items } in all)
+    (ap (λ all. seen_under (table_in (map written_of all)) c.self.inside.library.sets) c.put-3.ensures ∙ seen-begun c.self.inside.writings.items c.new.result c.new.ensures c.self.inside.library.sets)
+    ∙ ap (λ runs. let all : TablesModel = record { sets = seen_under (table_in (map written_of c.self.inside.writings.items)) c.self.inside.library.sets; runs = runs } in all)
     (
     ap (λ all. rows_of all c.put-2.new.items.items) c.put.ensures
     ∙ ap (rows_of (lines ++ line ∷ [])) c.put-2.ensures

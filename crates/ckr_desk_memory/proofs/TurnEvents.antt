@@ -1,0 +1,182 @@
+-- What a turn tells between the steps of a run follows.
+use Rattle.std.proofs.Common.{◌≡◌, ◌≤◌, ℕ, Bool, true, false, List, refl, ap, sym, ◌∙◌, subst, Option, Some, None, Result, Ok, Err}
+use Rattle.std.specs.List.{AllByRecursion}
+use Rattle.std.specs.Option.{option_map_or}
+use Rattle.std.proofs.lemmas.Bool.{true≢false}
+use Rattle.ckr_base.specs.declared.code.Code.{Code}
+use Rattle.ckr_base.proofs.Options.{option-cases}
+use Rattle.ckr_base.proofs.Sequences.{find-passes}
+use Rattle.ckr_events.specs.declared.event.Event.TheVariants.{Ended as EndedEvent, Selected as SelectedEvent, Started as StartedEvent}
+use Rattle.ckr_events.specs.declared.event.Ending.TheVariants.{Completed as CompletedEnding}
+use Rattle.ckr_events.specs.declared.event.Made.{Made}
+use Rattle.ckr_meaning.specs.EffectiveJob.{Effective, OwnedStep, stamp_of, step_at}
+use Rattle.ckr_meaning.specs.declared.place.Place.{Place}
+use Rattle.ckr_meaning.specs.declared.place.Place.TheVariants.{Before, Opened, Within}
+use Rattle.ckr_volumes.specs.declared.layout.Layout.{Layout}
+use Rattle.ckr_points_library.specs.declared.cause.Refusal.{Refusal}
+use Rattle.ckr_points_library.specs.Allocation.{Allocation}
+use Rattle.ckr_points.specs.declared.run.RunState.TheVariants.{On}
+use Rattle.ckr_points.specs.Follows.{is_within, own_step}
+use Rattle.ckr_points.specs.Restart.{place_of, step_in}
+use Rattle.ckr_points.specs.Rows.{RunRow, TablesModel, run_of, standing_of, table_ways}
+use Rattle.ckr_points.specs.Soundness.{AreLaidOut}
+use Rattle.ckr_desk_turn.specs.declared.plan.Plan.{Plan}
+use Rattle.ckr_desk_turn.specs.declared.plan.Plan.TheVariants.{Rest, Tell}
+use Rattle.ckr_desk_turn.specs.declared.reply.How.TheVariants.{Completed}
+use Rattle.ckr_desk_turn.specs.declared.reply.Reply.TheVariants.{Idle, JobEnded, NothingToFail, Selected, Started}
+use Rattle.ckr_desk_turn.specs.declared.reply.Turn.{Turn}
+use Rattle.ckr_desk_turn.specs.Allocation.{allocation_of, cause_numbers, holdings, items_in}
+use Rattle.ckr_desk_turn.specs.Codes.{CodePlaceModel, code_plan, reached_by}
+use Rattle.ckr_desk_turn.specs.Invariant.{IsTurnOf}
+use Rattle.ckr_desk_turn.specs.Jobs.{TurnJobs, TurnStep, is_failed, running_in}
+use Rattle.ckr_desk_turn.specs.Plans.{allocation_ended, between_plan, chosen_plan, fail_plan, finished_plan, free_plan, is_within as is_planned, placed_plan, plan_of, run_plan, running_plan, start_plan, system_failure}
+use Rattle.ckr_desk_turn.specs.Queue.{AreNumbered}
+use Rattle.ckr_desk_turn.specs.Select.{is_on, may_select, next_run, run_on_initiator}
+use Rattle.ckr_desk_turn.proofs.NextEvents.BetweenSteps.{completed-follows, lodged-on, refused-follows, selected-follows}
+use Rattle.ckr_desk_turn.proofs.RunEnd.{refused-inside}
+use Rattle.ckr_desk_turn.proofs.Start.Invariant.{started-follows}
+use Rattle.ckr_desk_memory.specs.Invariant.{AreJobs, IsAcceptedRow, IsPlacedRow}
+use Rattle.ckr_desk_memory.specs.TurnEvents.{FollowsBetween}
+use Rattle.ckr_desk_memory.specs.View.{JobsView, jobs_of}
+use Rattle.ckr_desk_memory.proofs.FoundRuns.{found-run}
+use Rattle.ckr_desk_memory.proofs.Starts.Steps.{row-among}
+
+refused-all : (all : Result Allocation Refusal) (refusal : Refusal) → items_in all ≡ Err refusal → all ≡ Err refusal
+refused-all (Ok done) refusal e = cc
+refused-all (Err other) refusal e = cc
+
+module _ (layout : Layout) (seen : TurnJobs) (numbered : AreNumbered 1 seen.tables.runs) (rows : AllByRecursion IsAcceptedRow seen.tables.runs) (placed : AllByRecursion IsPlacedRow seen.tables.runs)
+    (laid : AreLaidOut layout seen.tables.sets) where
+  abbrev tables : TablesModel
+  tables = seen.tables
+
+  abbrev Follows : Plan → Type 0
+  Follows plan = FollowsBetween layout tables plan
+
+  coded-follows : (row : RunRow) (code : Code) (reached : CodePlaceModel) → Follows (code_plan layout row code reached)
+  coded-follows row code reached not = absurd (true≢false not)
+
+  -- ---- an initiator that no run is on
+
+  chosen-follows : (i : ℕ) (row : RunRow) → 1 ≤ i → i ≤ layout.initiators → run_on_initiator tables i ≡ None → next_run tables ≡ Some row → Follows (chosen_plan layout seen i row)
+  chosen-follows i row above below free next =
+      let at : run_of tables row.number ≡ Some row = found-run tables (λ other. may_select tables other.state other) row numbered next in
+      let is : IsPlacedRow row = row-among IsPlacedRow tables row.number row placed at in
+      let accepted : IsAcceptedRow row = row-among IsAcceptedRow tables row.number row rows at in
+      subst (λ (o : Option Code). Follows (elim o [
+        | None ↦ Tell (Selected row.number) (SelectedEvent row.number i 0 0 None)
+        | Some code ↦ code_plan layout row code (reached_by seen row)
+      ])) (sym is.code)
+      (λ not. selected-follows layout tables i row at is.state accepted.is_run above below free next)
+
+  free-follows : (i : ℕ) → 1 ≤ i → i ≤ layout.initiators → run_on_initiator tables i ≡ None → (fail : Option Code) → Follows (free_plan layout seen i fail)
+  free-follows i above below free (Some code) = tt
+  free-follows i above below free None =
+      option-cases (next_run tables)
+      (λ none. subst (λ (o : Option RunRow). Follows (option_map_or (chosen_plan layout seen i) o (Rest Idle))) (sym none) tt)
+      (λ row next. subst (λ (o : Option RunRow). Follows (option_map_or (chosen_plan layout seen i) o (Rest Idle))) (sym next) (chosen-follows i row above below free next))
+
+  -- ---- the run on an initiator
+
+  module _ (i : ℕ) (row : RunRow) (found : run_on_initiator tables i ≡ Some row) where
+    at : run_of tables row.number ≡ Some row
+    at = found-run tables (λ other. is_on i other.initiator) row numbered found
+
+    accepted : IsAcceptedRow row
+    accepted = row-among IsAcceptedRow tables row.number row rows at
+
+    on : row.state ≡ On
+    on = lodged-on i row (find-passes (λ (other : RunRow). is_on i other.initiator) tables.runs row found) (row-among IsPlacedRow tables row.number row placed at).lodged
+
+    start-follows : is_within (place_of row) ≡ false → (owned : OwnedStep) → own_step row ≡ Some owned → Follows (start_plan layout seen row owned (step_in (place_of row)))
+    start-follows out owned there = by (allocation_of layout row owned (step_in (place_of row)) tables) refl
+      where
+        plan : Result (List Made) Refusal → Plan
+        plan given =
+            elim given [
+              | Err refusal ↦ allocation_ended row owned refusal.dd refusal.cause
+              | Ok items ↦ Tell (Started row.number owned.step.name) (StartedEvent row.number (step_in (place_of row)) (record { items = items }))
+            ]
+
+        by : (given : Result (List Made) Refusal) → allocation_of layout row owned (step_in (place_of row)) tables ≡ given → Follows (plan (allocation_of layout row owned (step_in (place_of row)) tables))
+        by (Ok items) got =
+            subst (λ (given : Result (List Made) Refusal). Follows (plan given)) (sym got)
+            (λ not.
+            started-follows layout tables row accepted.cards accepted.accepted laid.stand at on out owned there
+            (ap (λ (job : Effective). step_at job (step_in (place_of row))) (sym accepted.plain) ∙ there) items got)
+        by (Err refusal) failed =
+            let numbers = cause_numbers refusal.cause in
+            let inside = refused-inside table_ways (standing_of row tables) layout (stamp_of owned (step_in (place_of row))) row.job.root owned (holdings tables.sets) refusal (refused-all _ refusal failed) in
+            subst (λ (given : Result (List Made) Refusal). Follows (plan given)) (sym failed)
+            (λ not. refused-follows layout tables row owned refusal.dd numbers.0 numbers.1 numbers.2 at on there inside.0 inside.1)
+
+    between-follows : is_within (place_of row) ≡ false → Follows (between_plan layout seen row (step_in (place_of row)))
+    between-follows out =
+        option-cases (own_step row)
+        (λ none. subst (λ (o : Option OwnedStep). Follows (plan o)) (sym none) (λ not. completed-follows layout tables row at on out none))
+        (λ owned there. subst (λ (o : Option OwnedStep). Follows (plan o)) (sym there) (start-follows out owned there))
+      where
+        plan : Option OwnedStep → Plan
+        plan o =
+            elim o [
+              | None ↦ Tell (JobEnded row.number Completed) (EndedEvent row.number CompletedEnding)
+              | Some owned ↦ start_plan layout seen row owned (step_in (place_of row))
+            ]
+
+    finished-follows : (number : ℕ) (step : TurnStep) (finished : Option ℕ) → Follows (finished_plan row number step finished)
+    finished-follows number step None = tt
+    finished-follows number step (Some rc) = λ not. absurd (true≢false not)
+
+    running-follows : (number : ℕ) (step : Option TurnStep) → Follows (option_map_or (running_plan row number) step (Rest Idle))
+    running-follows number None = tt
+    running-follows number (Some step) = finished-follows number step step.finished
+
+    placed-follows : (place : Place) → place_of row ≡ place → Follows (placed_plan layout seen row place)
+    placed-follows (Before number) is = subst (λ (place : Place). Follows (between_plan layout seen row (step_in place))) is (between-follows (ap is_within is))
+    placed-follows (Opened number) is = subst (λ (place : Place). Follows (between_plan layout seen row (step_in place))) is (between-follows (ap is_within is))
+    placed-follows (Within number writes) is = running-follows number (running_in seen row.number)
+
+    fail-follows : (fail : Option Code) → Follows (fail_plan layout seen row fail)
+    fail-follows None = placed-follows (place_of row) refl
+    fail-follows (Some code) = by (is_planned (place_of row))
+      where
+        plan : Bool → Plan
+        plan within =
+            elim within [
+              | true ↦ code_plan layout row code (reached_by seen row)
+              | false ↦ Rest NothingToFail
+            ]
+
+        by : (within : Bool) → Follows (plan within)
+        by true = coded-follows row code (reached_by seen row)
+        by false = tt
+
+    run-follows : (fail : Option Code) → Follows (run_plan layout seen fail row)
+    run-follows fail = by (is_failed seen row.number)
+      where
+        plan : Bool → Plan
+        plan failed =
+            elim failed [
+              | true ↦ code_plan layout row system_failure (reached_by seen row)
+              | false ↦ fail_plan layout seen row fail
+            ]
+
+        by : (failed : Bool) → Follows (plan failed)
+        by true = coded-follows row system_failure (reached_by seen row)
+        by false = fail-follows fail
+
+  plan-seen : (turn : Turn) → 1 ≤ turn.initiator → turn.initiator ≤ layout.initiators → Follows (plan_of layout seen turn)
+  unfolding plan_of
+  plan-seen turn above below =
+      option-cases (run_on_initiator tables turn.initiator)
+      (λ free.
+      subst (λ (o : Option RunRow). Follows (option_map_or (run_plan layout seen turn.fail) o (free_plan layout seen turn.initiator turn.fail))) (sym free)
+      (free-follows turn.initiator above below free turn.fail))
+      (λ row found.
+      subst (λ (o : Option RunRow). Follows (option_map_or (run_plan layout seen turn.fail) o (free_plan layout seen turn.initiator turn.fail))) (sym found)
+      (run-follows turn.initiator row found turn.fail))
+
+-- what a turn comes to by the jobs in memory
+pub plan-follows : (layout : Layout) (jobs : JobsView) (turn : Turn) → AreNumbered 1 jobs.tables.desk.runs → AreJobs layout jobs → IsTurnOf layout turn → FollowsBetween layout jobs.tables.desk (plan_of layout (jobs_of jobs) turn)
+unfolding jobs_of
+plan-follows layout jobs turn numbered are its = plan-seen layout (jobs_of jobs) numbered are.rows are.placed are.laid turn its.above its.below

@@ -1,0 +1,9 @@
+pub mod Due
+pub mod Content
+pub mod Kept
+pub mod Lengths
+pub mod Events
+pub mod Bytes
+pub mod States
+pub mod Ranges
+pub mod Turns

@@ -1,0 +1,21 @@
+use Rattle.std.proofs.Common.{ap, sym, ◌∙◌, false, true, ◌≡◌}
+use Rattle.std.specs.List.{list_all}
+use Rattle.std.specs.Option.{option_map_or}
+use Rattle.ckr_meaning.specs.EffectiveJob.{owned_by}
+use Rattle.ckr_points.specs.Follows.{is_checkpoint}
+use Rattle.ckr_points_library.specs.Commit.{is_named}
+use Rattle.ckr_points_follows.specs.Lengths.{outputs_from}
+use Rattle.ckr_points_follows.specs.Runs.{row_now}
+use Rattle.ckr_points_follows.proofs.Checkpoints.{checkpoint-by}
+use Rattle.ckr_points_follows.proofs.checkpoint.step_checkpoints.Goals as goal
+
+pub returns-in-Some : goal.returns-in-Some
+returns-in-Some c =
+    let run = c.args.run.now in
+    let row = row_now run in
+    let own = owned_by run.line.now.number run.table.now.job c.in-Some.own.now in
+    let desk = c.args.tables.now.desk in
+    c.is_checkpoint.ensures
+    ∙ checkpoint-by desk row own c.args.id.now c.args.lengths.now c.args.place c.args.bytes
+    (ap (λ dds. list_all is_named (outputs_from run.line.now.number own dds)) (sym c.as_slice.ensures) ∙ c.have_names.ensures)
+    ∙ ap (λ there. option_map_or (is_checkpoint desk c.args.id.now c.args.lengths.now c.args.place c.args.bytes row) there false) c.in-Some.ensures
