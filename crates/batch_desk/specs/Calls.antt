@@ -44,37 +44,33 @@ lines_of tables = map line_of tables.runs
 
 -- ---- turns
 
--- a turn of an initiator
-abbrev pub plain_turn : ℕ → Turn
-plain_turn initiator = record { initiator = initiator; fail = None }
-
 abbrev pub is_idle : Reply → Bool
 is_idle Idle = true
 is_idle _ = false
 
--- the replies to at most so many turns of an initiator, up to the first Idle, or to the first turn that the book has no room for
-abbrev pub turns : ℕ → ℕ → RoomyDesk → List Reply
-turns initiator zero state = []
-turns initiator (suc n) state =
-    if turn_fits state (plain_turn initiator) then
-    reply_of state (plain_turn initiator)
-    ∷ (if is_idle (reply_of state (plain_turn initiator)) then [] else turns initiator n (behind_turn state (plain_turn initiator)))
+-- the replies to at most so many such turns of an initiator, up to the first Idle, or to the first turn that the book has no room for
+abbrev pub turns : Turn → ℕ → RoomyDesk → List Reply
+turns turn zero state = []
+turns turn (suc n) state =
+    if turn_fits state turn then
+    reply_of state turn
+    ∷ (if is_idle (reply_of state turn) then [] else turns turn n (behind_turn state turn))
     else []
 
-abbrev pub after_turns : ℕ → ℕ → RoomyDesk → RoomyDesk
-after_turns initiator zero state = state
-after_turns initiator (suc n) state =
-    if turn_fits state (plain_turn initiator) then
-    if is_idle (reply_of state (plain_turn initiator)) then behind_turn state (plain_turn initiator)
-    else after_turns initiator n (behind_turn state (plain_turn initiator))
+abbrev pub after_turns : Turn → ℕ → RoomyDesk → RoomyDesk
+after_turns turn zero state = state
+after_turns turn (suc n) state =
+    if turn_fits state turn then
+    if is_idle (reply_of state turn) then behind_turn state turn
+    else after_turns turn n (behind_turn state turn)
     else state
 
 -- the book has room for all of them
-abbrev pub turns_fit : ℕ → ℕ → RoomyDesk → Bool
-turns_fit initiator zero state = true
-turns_fit initiator (suc n) state =
-    if turn_fits state (plain_turn initiator) then
-    if is_idle (reply_of state (plain_turn initiator)) then true else turns_fit initiator n (behind_turn state (plain_turn initiator))
+abbrev pub turns_fit : Turn → ℕ → RoomyDesk → Bool
+turns_fit turn zero state = true
+turns_fit turn (suc n) state =
+    if turn_fits state turn then
+    if is_idle (reply_of state turn) then true else turns_fit turn n (behind_turn state turn)
     else false
 
 -- ---- decks
@@ -108,7 +104,7 @@ purge_answer number job true = Purged job
 purge_answer number job false = LineRefused number
 
 abbrev pub order_answer : RoomyDesk → ℕ → Order → Answer
-order_answer state number (Turns initiator n) = Turned state.desk.layout initiator (turns initiator n state)
+order_answer state number (Turns turn n) = Turned state.desk.layout turn.initiator (turns turn n state)
 order_answer state number (ListOf name) = list_answer number (records_of state.desk name)
 order_answer state number Sets = SetsListed state.desk.layout (listed state.desk)
 order_answer state number Jobs = JobsListed (lines_of (tables_of state))
@@ -116,7 +112,7 @@ order_answer state number (Purge job) = purge_answer number job (is_queued (tabl
 order_answer state number Unknown = LineRefused number
 
 abbrev pub after_order : RoomyDesk → Order → RoomyDesk
-after_order state (Turns initiator n) = after_turns initiator n state
+after_order state (Turns turn n) = after_turns turn n state
 after_order state (ListOf name) = state
 after_order state Sets = state
 after_order state Jobs = state
@@ -124,7 +120,7 @@ after_order state (Purge job) = behind_call state (purge_call (tables_of state) 
 after_order state Unknown = state
 
 abbrev pub order_fits : RoomyDesk → Order → Bool
-order_fits state (Turns initiator n) = turns_fit initiator n state
+order_fits state (Turns turn n) = turns_fit turn n state
 order_fits state (ListOf name) = true
 order_fits state Sets = true
 order_fits state Jobs = true
@@ -133,12 +129,12 @@ order_fits state Unknown = true
 
 -- the replies to a command, up to the first turn that the book has no room for
 abbrev pub replies_to : RoomyDesk → Order → List Reply
-replies_to state (Turns initiator n) = turns initiator n state
+replies_to state (Turns turn n) = turns turn n state
 replies_to state _ = []
 
 -- the initiator whose replies they are
 abbrev pub initiator_of : Order → ℕ
-initiator_of (Turns initiator n) = initiator
+initiator_of (Turns turn n) = turn.initiator
 initiator_of _ = 0
 
 -- ---- requests

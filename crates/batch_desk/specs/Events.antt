@@ -5,26 +5,27 @@ use Rattle.ckr_cards.specs.Session.Handed.{Deck, Order as Command, Refusal}
 use Rattle.ckr_desk.specs.Requests.{call_fits, event_in, spelled}
 use Rattle.ckr_desk.specs.State.{RoomyDesk}
 use Rattle.ckr_desk.specs.Submit.{submit_call, purge_call}
+use Rattle.ckr_desk.specs.Model.Turn.{Turn}
 use Rattle.ckr_desk.specs.Turn.{behind_turn, event_of_turn}
 use Rattle.batch_desk.specs.declared.orders.Order.{Order}
 use Rattle.batch_desk.specs.declared.orders.Order.TheVariants.{Turns, Purge}
-use Rattle.batch_desk.specs.Calls.{after, deck_fits, fits, order_in, plain_turn, tables_of, turns}
+use Rattle.batch_desk.specs.Calls.{after, deck_fits, fits, order_in, tables_of, turns}
 
 -- ---- turns
 
--- the desk behind the first so many turns of an initiator
-abbrev pub behind_turns : ℕ → ℕ → RoomyDesk → RoomyDesk
-behind_turns initiator zero state = state
-behind_turns initiator (suc n) state = behind_turns initiator n (behind_turn state (plain_turn initiator))
+-- the desk behind the first so many such turns
+abbrev pub behind_turns : Turn → ℕ → RoomyDesk → RoomyDesk
+behind_turns turn zero state = state
+behind_turns turn (suc n) state = behind_turns turn n (behind_turn state turn)
 
 -- the events of these turns
-abbrev pub turns_events : ℕ → ℕ → RoomyDesk → List (List ℕ)
-turns_events initiator zero state = []
-turns_events initiator (suc n) state = spelled (event_of_turn state (plain_turn initiator)) ++ turns_events initiator n (behind_turn state (plain_turn initiator))
+abbrev pub turns_events : Turn → ℕ → RoomyDesk → List (List ℕ)
+turns_events turn zero state = []
+turns_events turn (suc n) state = spelled (event_of_turn state turn) ++ turns_events turn n (behind_turn state turn)
 
 -- the event of the turn behind them
-abbrev pub turn_event : ℕ → ℕ → RoomyDesk → List (List ℕ)
-turn_event initiator n state = spelled (event_of_turn (behind_turns initiator n state) (plain_turn initiator))
+abbrev pub turn_event : Turn → ℕ → RoomyDesk → List (List ℕ)
+turn_event turn n state = spelled (event_of_turn (behind_turns turn n state) turn)
 
 -- ---- requests that are served, up to the call that the book has no room for
 
@@ -35,7 +36,7 @@ abbrev pub purge_event : RoomyDesk → ℕ → List (List ℕ)
 purge_event state job = spelled (event_in (purge_call (tables_of state) job))
 
 abbrev pub order_events : RoomyDesk → Order → List (List ℕ)
-order_events state (Turns initiator n) = turns_events initiator (length (turns initiator n state)) state
+order_events state (Turns turn n) = turns_events turn (length (turns turn n state)) state
 order_events state (Purge job) = if call_fits state (purge_call (tables_of state) job) then purge_event state job else []
 order_events state _ = []
 
@@ -52,7 +53,7 @@ events_told state (request ∷ requests) = request_events state request ++ (if f
 
 -- the events of the calls that gave these replies
 abbrev pub order_events_before : RoomyDesk → Order → ℕ → List (List ℕ)
-order_events_before state (Turns initiator n) given = turns_events initiator given state
+order_events_before state (Turns turn n) given = turns_events turn given state
 order_events_before state _ given = []
 
 abbrev pub events_before : RoomyDesk → Handed → ℕ → List (List ℕ)
@@ -61,7 +62,7 @@ events_before state _ given = []
 
 -- the event of the call that was broken off
 abbrev pub order_event_at : RoomyDesk → Order → ℕ → List (List ℕ)
-order_event_at state (Turns initiator n) given = turn_event initiator given state
+order_event_at state (Turns turn n) given = turn_event turn given state
 order_event_at state (Purge job) given = purge_event state job
 order_event_at state _ given = []
 

@@ -6,10 +6,11 @@ use Rattle.ckr_desk.specs.Requests.{spelled}
 use Rattle.ckr_desk.specs.Turn.{event_of_turn, turn_fits}
 use Rattle.ckr_desk.specs.State.{RoomyDesk}
 use Rattle.ckr_desk.specs.Model.Reply.{Reply}
+use Rattle.ckr_desk.specs.Model.Turn.{Turn}
 use Rattle.ckr_desk.specs.Model.Layout.{Layout}
 use Rattle.batch_desk.specs.declared.stop.Halt.{Halt}
 use Rattle.batch_desk.specs.declared.stop.Halt.TheVariants as Halts
-use Rattle.batch_desk.specs.Calls.{BrokenOff, plain_turn, turns, turns_fit, after_turns}
+use Rattle.batch_desk.specs.Calls.{BrokenOff, turns, turns_fit, after_turns}
 use Rattle.batch_desk.specs.Events.{behind_turns, turn_event, turns_events}
 use Rattle.batch_desk.specs.Service.{ComesTo}
 use Rattle.batch_desk.specs.Texts.{answer_text, run_text, before_runs, runs_of, with_waiting}
@@ -27,41 +28,42 @@ module _ (layout : Layout) (initiator : ℕ) where
     pub joins : (runs : List (Reply × ℕ)) → with_waiting waiting (before_runs reply 1 runs) ≡ ended ++ with_waiting now_waiting runs
     pub waits : now_waiting ≡ None → ⊥
 
+module _ (layout : Layout) (turn : Turn) where
   -- From one state to another, with so many turns left, some were made: the replies to them, the runs that have ended, and their events.
   pub record Turns (n m : ℕ) (first state : RoomyDesk) (waiting : Option (Reply × ℕ)) (before now : List ℕ) (had have : List (List ℕ)) : Type 0 where
     pub made : List Reply
     pub ended : List (Reply × ℕ)
-    pub replies : turns initiator n first ≡ made ++ turns initiator m state
-    pub after : after_turns initiator n first ≡ after_turns initiator m state
-    pub fit : turns_fit initiator n first ≡ turns_fit initiator m state
+    pub replies : turns turn n first ≡ made ++ turns turn m state
+    pub after : after_turns turn n first ≡ after_turns turn m state
+    pub fit : turns_fit turn n first ≡ turns_fit turn m state
     pub joins : (rest : List Reply) → runs_of (made ++ rest) ≡ ended ++ with_waiting waiting (runs_of rest)
-    pub written : now ≡ before ++ flat_map (run_text layout initiator) ended
+    pub written : now ≡ before ++ flat_map (run_text layout turn.initiator) ended
     pub none : waiting ≡ None → ended ≡ []
-    pub behind : state ≡ behind_turns initiator (length made) first
-    pub events : have ≡ had ++ turns_events initiator (length made) first
+    pub behind : state ≡ behind_turns turn (length made) first
+    pub events : have ≡ had ++ turns_events turn (length made) first
 
   -- Of so many turns the first ones were made, and their replies are told. `came` are their events and the one of the next; of these were kept
   -- all, or all but the last.
   pub record FirstTurns (count : ℕ) (state : RoomyDesk) (before now : List ℕ) (came kept : List (List ℕ)) : Type 0 where
     pub replies : List Reply
     pub later : List Reply
-    pub given : turns initiator count state ≡ replies ++ later
-    pub told : now ≡ before ++ answer_text (BrokenOff layout initiator replies)
-    pub came_is : came ≡ turns_events initiator (length replies) state ++ turn_event initiator (length replies) state
-    pub kept_is : (kept ≡ came) ⊎ (kept ≡ turns_events initiator (length replies) state)
+    pub given : turns turn count state ≡ replies ++ later
+    pub told : now ≡ before ++ answer_text (BrokenOff layout turn.initiator replies)
+    pub came_is : came ≡ turns_events turn (length replies) state ++ turn_event turn (length replies) state
+    pub kept_is : (kept ≡ came) ⊎ (kept ≡ turns_events turn (length replies) state)
 
   -- what is told where not all of so many turns were made, and which events came and were kept
   abbrev pub TurnsHalt : Halt → ℕ → RoomyDesk → List ℕ → List ℕ → List (List ℕ) → List (List ℕ) → Type 0
-  TurnsHalt Halts.Memory count state before now came kept = ComesTo (turns_events initiator (length (turns initiator count state)) state) came kept
+  TurnsHalt Halts.Memory count state before now came kept = ComesTo (turns_events turn (length (turns turn count state)) state) came kept
   TurnsHalt Halts.Book count state before now came kept =
-      (turns_fit initiator count state ≡ false) × (now ≡ before ++ answer_text (BrokenOff layout initiator (turns initiator count state)))
-      × (came ≡ turns_events initiator (length (turns initiator count state)) state) × (kept ≡ came)
+      (turns_fit turn count state ≡ false) × (now ≡ before ++ answer_text (BrokenOff layout turn.initiator (turns turn count state)))
+      × (came ≡ turns_events turn (length (turns turn count state)) state) × (kept ≡ came)
   TurnsHalt Halts.Disk count state before now came kept = FirstTurns count state before now came kept
   TurnsHalt Halts.Misread count state before now came kept = ⊥
 
 -- a turn that wasn't made: whether the book has room for its event, and whether that came
-abbrev pub TurnHalt : Halt → ℕ → RoomyDesk → List (List ℕ) → List (List ℕ) → Type 0
-TurnHalt Halts.Memory initiator state came kept = (came ≡ []) × (kept ≡ [])
-TurnHalt Halts.Book initiator state came kept = (turn_fits state (plain_turn initiator) ≡ false) × (came ≡ []) × (kept ≡ [])
-TurnHalt Halts.Disk initiator state came kept = (came ≡ spelled (event_of_turn state (plain_turn initiator))) × ((kept ≡ came) ⊎ (kept ≡ []))
-TurnHalt Halts.Misread initiator state came kept = ⊥
+abbrev pub TurnHalt : Halt → Turn → RoomyDesk → List (List ℕ) → List (List ℕ) → Type 0
+TurnHalt Halts.Memory turn state came kept = (came ≡ []) × (kept ≡ [])
+TurnHalt Halts.Book turn state came kept = (turn_fits state turn ≡ false) × (came ≡ []) × (kept ≡ [])
+TurnHalt Halts.Disk turn state came kept = (came ≡ spelled (event_of_turn state turn)) × ((kept ≡ came) ⊎ (kept ≡ []))
+TurnHalt Halts.Misread turn state came kept = ⊥

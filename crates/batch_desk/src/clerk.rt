@@ -143,7 +143,7 @@ impl<D: Disk> Clerk<D> {
     {
         let _layout = self.desk.layout();
         match read_order(self.desk.layout().initiators, text) {
-            Order::Turns { initiator, count } => turned(&mut self.desk, initiator, count, out),
+            Order::Turns { turn, count } => turned(&mut self.desk, turn, count, out),
             Order::ListOf(name) => self.list(number, &name, out),
             Order::Sets => self.list_sets(out),
             Order::Jobs => self.list_jobs(out),

@@ -1,8 +1,10 @@
 //! The commands.
 ghost use Rattle.std.specs.Prelude.{◌≡◌, ℕ};
-ghost use Rattle.batch_desk.specs.Orders.{HasFewTurns, order_of, order_by_words, order_alone, list_of, purge_of, turns_in, turns_of};
+ghost use Rattle.ckr_desk.specs.Model.Plans.{IsAnyCode};
+ghost use Rattle.batch_desk.specs.Orders.{HasFewTurns, failure_in, failure_of, is_one_of, order_of, order_by_words, order_alone, list_of, purge_of, turns_in, turns_of};
 
-use ckr_base::{DsName, behind_word, first_word, plain_number, trimmed};
+use ckr_base::{Code, DsName, behind_word, first_word, plain_number, trimmed};
+use ckr_desk::Turn;
 
 /// The most turns of one command.
 const MOST_TURNS: u32 = 1_000_000;
@@ -10,8 +12,8 @@ const MOST_TURNS: u32 = 1_000_000;
 /// What a command asks for.
 #[derive(Drop)]
 pub enum Order {
-    /// So many turns of an initiator, at most.
-    Turns { initiator: u8, count: u32 },
+    /// So many such turns of an initiator, at most.
+    Turns { turn: Turn, count: u32 },
     /// The records of a data set.
     ListOf(DsName),
     /// The data sets.
@@ -38,6 +40,7 @@ fn order_by_words(initiators: u8, text: &[u8]) -> Order
 {
     match first_word(text) {
         b"$T" => turns_in(initiators, behind_word(text)),
+        b"$F" => failure_in(initiators, behind_word(text)),
         b"$R" => list_of(behind_word(text)),
         b"$D" => purge_of(plain_number(behind_word(text))),
         _ => order_alone(text),
@@ -70,21 +73,57 @@ fn turns_in(initiators: u8, text: &[u8]) -> Order
     )
 }
 
+/// Whether it is the number of one of so many initiators, from 1.
+fn is_one_of(initiators: u8, initiator: u32) -> bool
+    ensures { result ≡ is_one_of initiators initiator }
+{
+    0 < initiator && initiator <= u32::from(initiators)
+}
+
 fn turns_of(initiators: u8, initiator: Option<u32>, count: Option<u32>) -> Order
     ensures value { result ≡ turns_of initiators initiator count }
     ensures few { HasFewTurns initiators result }
 {
     match (initiator, count) {
         (Some(initiator), Some(count))
-            if 0 < initiator
-                && initiator <= u32::from(initiators)
-                && 0 < count
-                && count <= MOST_TURNS => {
+            if is_one_of(initiators, initiator) && 0 < count && count <= MOST_TURNS => {
             Order::Turns {
-                initiator: initiator as u8,
+                turn: Turn {
+                    initiator: initiator as u8,
+                    fail: None,
+                },
                 count,
             }
         }
+        _ => Order::Unknown,
+    }
+}
+
+/// One turn of an initiator with a code, parted by a blank.
+fn failure_in(initiators: u8, text: &[u8]) -> Order
+    ensures value { result ≡ failure_in initiators text.now }
+    ensures few { HasFewTurns initiators result }
+{
+    failure_of(
+        initiators,
+        plain_number(first_word(text)),
+        Code::read(behind_word(text)),
+    )
+}
+
+fn failure_of(initiators: u8, initiator: Option<u32>, code: Option<Code>) -> Order
+    requires code { IsAnyCode code }
+    ensures value { result ≡ failure_of initiators initiator code }
+    ensures few { HasFewTurns initiators result }
+{
+    match (initiator, code) {
+        (Some(initiator), Some(code)) if is_one_of(initiators, initiator) => Order::Turns {
+            turn: Turn {
+                initiator: initiator as u8,
+                fail: Some(code),
+            },
+            count: 1,
+        },
         _ => Order::Unknown,
     }
 }

@@ -17,9 +17,6 @@ const SMALL_CARDS: &[u8] = b"BOOK 1000\nVOLUME VOL001 2000\n";
 
 const SMALL_SIZE: u64 = 3_512;
 
-const DECK: &[u8] =
-    b"//COPY1 JOB\n//S1 EXEC PGM=COPY\n//SYSUT1 DD *\nALPHA\nBETA\n/*\n//SYSUT2 DD DSN=OUT.A,DISP=(NEW,CATLG),SPACE=(80,10)\n//\n";
-
 const STREAM: &[u8] =
     b"//COPY1 JOB\n//S1 EXEC PGM=COPY\n//SYSUT1 DD *\nALPHA\nBETA\n/*\n//SYSUT2 DD DSN=OUT.A,DISP=(NEW,CATLG),SPACE=(80,10)\n//\n$T 1 9\n$R OUT.A\n";
 
@@ -118,21 +115,30 @@ fn worked_streams_on_one_disk(rt: HostRuntime) -> Result<(), Fail> {
     Ok(())
 }
 
+/// Steps that are running when the stream ends, what is written before, and how their jobs end when the disk is opened again.
+const RUNNING: [(&[u8], &[u8], &[u8]); 2] = [
+    (
+        b"//COPY1 JOB\n//S1 EXEC PGM=COPY\n//SYSUT1 DD *\nALPHA\nBETA\n/*\n//SYSUT2 DD DSN=OUT.A,DISP=(NEW,CATLG),SPACE=(80,10)\n//\n$T 1 4\n",
+        b"J0000001 COPY1 SUBMITTED\nI1 J0000001 SELECTED\nI1 J0000001 S1 STARTED\nI1 J0000001 S1 WORKED 2 TAKEN 2\n",
+        b"I1 J0000001 ENDED S2F3 A2\nI1 IDLE\n",
+    ),
+    (
+        b"//N JOB RD=NC\n//S1 EXEC PGM=COPY,PARM='CHK=1,CANCEL=1'\n//SYSUT1 DD *\nALPHA\nBETA\n/*\n//SYSUT2 DD DSN=OUT.N,DISP=(NEW,CATLG),SPACE=(80,10)\n//CHKDD DD DSN=CHK.N,DISP=(NEW,CATLG),SPACE=(256,1)\n//\n$T 1 5\n",
+        b"J0000001 N SUBMITTED\nI1 J0000001 SELECTED\nI1 J0000001 S1 STARTED\nI1 J0000001 S1 WORKED 1 TAKEN 1\nI1 J0000001 S1 CHKPT 00 SUPPRESSED\nI1 J0000001 S1 CHKPT CANCEL\n",
+        b"I1 J0000001 ENDED S2F3 A1\nI1 IDLE\n",
+    ),
+];
+
 #[test]
 fn a_run_that_was_running_ends_when_the_disk_is_opened_again(rt: HostRuntime) -> Result<(), Fail> {
     let alloc = rt.alloc();
-    let disk = formatted(alloc, CARDS, SIZE, None, None)?;
-    let mut first = DECK.to_vec(alloc)?;
-    first.extend_from_slice(b"$T 1 4\n")?;
-    let ended = call(alloc, "run", &first, disk)?;
-    assert!(rt; ended.status == 0);
-    let text =
-        b"J0000001 COPY1 SUBMITTED\nI1 J0000001 SELECTED\nI1 J0000001 S1 STARTED\nI1 J0000001 S1 WORKED 2 TAKEN 2\n";
-    assert!(rt; ended.text.as_slice() == text.as_slice());
-    let ended = call(alloc, "run", b"$T 1 2\n", ended.disk)?;
-    assert!(rt; ended.status == 0);
-    let text = b"I1 J0000001 ENDED S2F3 A2\nI1 IDLE\n";
-    assert!(rt; ended.text.as_slice() == text.as_slice());
+    for (stream, before, behind) in RUNNING {
+        let disk = formatted(alloc, CARDS, SIZE, None, None)?;
+        let ended = call(alloc, "run", stream, disk)?;
+        assert!(rt; ended.status == 0 && ended.text.as_slice() == before);
+        let ended = call(alloc, "run", b"$T 1 2\n", ended.disk)?;
+        assert!(rt; ended.status == 0 && ended.text.as_slice() == behind);
+    }
     Ok(())
 }
 

@@ -1,13 +1,13 @@
 //! Turns, and the lines for their replies.
 ghost use Rattle.std.specs.Prelude.{◌≡◌, ◌<◌, ◌≤◌, ◌+◌, ◌-◌, ◌^◌, ◌++◌, ◌∷◌, [], OnOk, IfOk, IfErr, Some, None, length, true};
 ghost use Rattle.std.specs.List.{flat_map};
-ghost use Rattle.ckr_desk.specs.Model.Plans.{IsToldReply};
+ghost use Rattle.ckr_desk.specs.Model.Plans.{IsAnyCode, IsToldReply};
 ghost use Rattle.ckr_desk.specs.Requests.{spelled};
 ghost use Rattle.ckr_desk.specs.Turn.{behind_turn, event_of_turn, reply_of, turn_fits};
 ghost use Rattle.ckr_desk.specs.Soundness.{IsTrusted, state_of};
 ghost use Rattle.ckr_desk.specs.State.{IsOpen, disk_of, layout_of};
 ghost use Rattle.batch_desk.specs.Stops.{Goes, Has, Stopped};
-ghost use Rattle.batch_desk.specs.Calls.{Turned, plain_turn, turns, turns_fit, after_turns, is_idle};
+ghost use Rattle.batch_desk.specs.Calls.{Turned, turns, turns_fit, after_turns, is_idle};
 ghost use Rattle.batch_desk.specs.Events.{turns_events};
 ghost use Rattle.batch_desk.specs.Service.{HaltCause};
 ghost use Rattle.batch_desk.specs.Texts.{answer_text, run_text, goes_on, is_same_work, is_work, work_in, before_runs, with_waiting, waiting_count, told_runs};
@@ -117,28 +117,25 @@ fn break_off(
 }
 
 /// One turn of an initiator.
-fn one_turn<D: Disk>(desk: &mut Desk<D>, initiator: u8) -> Result<Reply, Halt>
-    requires above { 1 ≤ initiator }
-    requires below { initiator ≤ (layout_of desk.old).initiators }
+fn one_turn<D: Disk>(desk: &mut Desk<D>, turn: Turn) -> Result<Reply, Halt>
+    requires above { 1 ≤ turn.initiator }
+    requires below { turn.initiator ≤ (layout_of desk.old).initiators }
+    requires code { IsAnyCode turn.fail }
     requires is_open { IsOpen desk.old }
-    ensures reply { IsTrusted D.told D.content D.may_leave desk.old → IfOk result (λ reply. reply ≡ reply_of (state_of D.content desk.old) (plain_turn initiator)) }
+    ensures reply { IsTrusted D.told D.content D.may_leave desk.old → IfOk result (λ reply. reply ≡ reply_of (state_of D.content desk.old) turn) }
     ensures told { IfOk result (λ reply. IsToldReply reply) }
-    ensures fits { IsTrusted D.told D.content D.may_leave desk.old → OnOk result (turn_fits (state_of D.content desk.old) (plain_turn initiator) ≡ true) }
-    ensures after { IsTrusted D.told D.content D.may_leave desk.old → OnOk result (state_of D.content desk.new ≡ behind_turn (state_of D.content desk.old) (plain_turn initiator)) }
+    ensures fits { IsTrusted D.told D.content D.may_leave desk.old → OnOk result (turn_fits (state_of D.content desk.old) turn ≡ true) }
+    ensures after { IsTrusted D.told D.content D.may_leave desk.old → OnOk result (state_of D.content desk.new ≡ behind_turn (state_of D.content desk.old) turn) }
     ensures is_open { OnOk result (IsOpen desk.new) }
     ensures layout { layout_of desk.new ≡ layout_of desk.old }
-    ensures events { IsTrusted D.told D.content D.may_leave desk.old → OnOk result (Has D.content D.moment D.left_since D.size desk.old (disk_of desk.new) (spelled (event_of_turn (state_of D.content desk.old) (plain_turn initiator)))) }
+    ensures events { IsTrusted D.told D.content D.may_leave desk.old → OnOk result (Has D.content D.moment D.left_since D.size desk.old (disk_of desk.new) (spelled (event_of_turn (state_of D.content desk.old) turn))) }
     ensures trusted { OnOk result (IsTrusted D.told D.content D.may_leave desk.old → IsTrusted D.told D.content D.may_leave desk.new) }
     ensures goes { IsTrusted D.told D.content D.may_leave desk.old → OnOk result (Goes D.content D.moment D.left_since D.size desk.old desk.new) }
     ensures later { D.faults (disk_of desk.old) ≤ D.faults (disk_of desk.new) }
     ensures size { D.size (disk_of desk.new) ≡ D.size (disk_of desk.old) }
-    ensures halt { IsTrusted D.told D.content D.may_leave desk.old → IfErr result (λ halt. Stopped D.content D.moment D.left_since D.size desk.old (disk_of desk.new) (TurnHalt halt initiator (state_of D.content desk.old))) }
+    ensures halt { IsTrusted D.told D.content D.may_leave desk.old → IfErr result (λ halt. Stopped D.content D.moment D.left_since D.size desk.old (disk_of desk.new) (TurnHalt halt turn (state_of D.content desk.old))) }
     ensures cause { IfErr result (λ halt. HaltCause (IsTrusted D.told D.content D.may_leave desk.old) halt (D.faults (disk_of desk.old)) (D.faults (disk_of desk.new))) }
 {
-    let turn = Turn {
-        initiator,
-        fail: None,
-    };
     match desk.turn(turn) {
         Ok(reply) => Ok(reply),
         Err(DeskError::NoMemory) => Err(Halt::Memory),
@@ -149,49 +146,50 @@ fn one_turn<D: Disk>(desk: &mut Desk<D>, initiator: u8) -> Result<Reply, Halt>
     }
 }
 
-/// At most so many turns of an initiator, up to the first Idle, and their lines.
+/// At most so many such turns of an initiator, up to the first Idle, and their lines.
 pub fn turned<D: Disk>(
     desk: &mut Desk<D>,
-    initiator: u8,
+    turn: Turn,
     count: u32,
     out: &mut Text,
 ) -> Result<(), Halt>
     requires few { count ≤ 1_000_000 }
-    requires above { 1 ≤ initiator }
-    requires below { initiator ≤ (layout_of desk.old).initiators }
+    requires above { 1 ≤ turn.initiator }
+    requires below { turn.initiator ≤ (layout_of desk.old).initiators }
+    requires code { IsAnyCode turn.fail }
     requires is_open { IsOpen desk.old }
-    ensures fits { IsTrusted D.told D.content D.may_leave desk.old → OnOk result (turns_fit initiator count (state_of D.content desk.old) ≡ true) }
-    ensures text { IsTrusted D.told D.content D.may_leave desk.old → OnOk result (out.new ≡ out.old ++ answer_text (Turned (layout_of desk.old) initiator (turns initiator count (state_of D.content desk.old)))) }
-    ensures after { IsTrusted D.told D.content D.may_leave desk.old → OnOk result (state_of D.content desk.new ≡ after_turns initiator count (state_of D.content desk.old)) }
+    ensures fits { IsTrusted D.told D.content D.may_leave desk.old → OnOk result (turns_fit turn count (state_of D.content desk.old) ≡ true) }
+    ensures text { IsTrusted D.told D.content D.may_leave desk.old → OnOk result (out.new ≡ out.old ++ answer_text (Turned (layout_of desk.old) turn.initiator (turns turn count (state_of D.content desk.old)))) }
+    ensures after { IsTrusted D.told D.content D.may_leave desk.old → OnOk result (state_of D.content desk.new ≡ after_turns turn count (state_of D.content desk.old)) }
     ensures is_open { OnOk result (IsOpen desk.new) }
     ensures layout { OnOk result (layout_of desk.new ≡ layout_of desk.old) }
     ensures events { IsTrusted D.told D.content D.may_leave desk.old → OnOk result (Has D.content D.moment D.left_since D.size desk.old (disk_of desk.new)
-        (turns_events initiator (length (turns initiator count (state_of D.content desk.old))) (state_of D.content desk.old))) }
+        (turns_events turn (length (turns turn count (state_of D.content desk.old))) (state_of D.content desk.old))) }
     ensures trusted { OnOk result (IsTrusted D.told D.content D.may_leave desk.old → IsTrusted D.told D.content D.may_leave desk.new) }
     ensures goes { IsTrusted D.told D.content D.may_leave desk.old → OnOk result (Goes D.content D.moment D.left_since D.size desk.old desk.new) }
     ensures later { D.faults (disk_of desk.old) ≤ D.faults (disk_of desk.new) }
     ensures size { D.size (disk_of desk.new) ≡ D.size (disk_of desk.old) }
-    ensures halt { IsTrusted D.told D.content D.may_leave desk.old → IfErr result (λ halt. Stopped D.content D.moment D.left_since D.size desk.old (disk_of desk.new) (TurnsHalt (layout_of desk.old) initiator halt count (state_of D.content desk.old) out.old out.new)) }
+    ensures halt { IsTrusted D.told D.content D.may_leave desk.old → IfErr result (λ halt. Stopped D.content D.moment D.left_since D.size desk.old (disk_of desk.new) (TurnsHalt (layout_of desk.old) turn halt count (state_of D.content desk.old) out.old out.new)) }
     ensures cause { IfErr result (λ halt. HaltCause (IsTrusted D.told D.content D.may_leave desk.old) halt (D.faults (disk_of desk.old)) (D.faults (disk_of desk.new))) }
 {
     let _layout = desk.layout();
     let mut waiting = None;
     for _ in 0..count {
-        match one_turn(desk, initiator) {
+        match one_turn(desk, turn) {
             Ok(reply) => {
                 let idle = is_idle(&reply);
-                waiting = add(desk.layout(), initiator, waiting, reply, out)?;
+                waiting = add(desk.layout(), turn.initiator, waiting, reply, out)?;
                 if idle {
-                    finish(desk.layout(), initiator, waiting, out)?;
+                    finish(desk.layout(), turn.initiator, waiting, out)?;
                     return Ok(());
                 }
             }
             Err(halt) => {
-                break_off(desk.layout(), initiator, waiting, out)?;
+                break_off(desk.layout(), turn.initiator, waiting, out)?;
                 return Err(halt);
             }
         }
     }
-    finish(desk.layout(), initiator, waiting, out)?;
+    finish(desk.layout(), turn.initiator, waiting, out)?;
     Ok(())
 }

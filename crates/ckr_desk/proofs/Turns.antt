@@ -1,4 +1,5 @@
 pub mod Stops
+pub mod Checkpoints
 pub mod PlainEvents
 pub mod Events
 pub mod Plans

@@ -1,5 +1,5 @@
 -- A unit of a running step, and what goes on behind what a turn comes to, on any disk.
-use Rattle.std.specs.Prelude.{◌≡◌, ◌⊎◌, ◌++◌, ◌∷◌, [], ℕ, Bool, true, false, List, find, IfErr, IfOk, IsSome, OnOk, Option, Some, None, Result}
+use Rattle.std.specs.Prelude.{◌≡◌, ◌⊎◌, ◌++◌, ◌∷◌, [], ℕ, true, false, List, find, IfErr, IfOk, IsSome, OnOk, Option, Some, None, Result}
 use Rattle.ckr_events.specs.declared.event.Event.{Event}
 use Rattle.ckr_events.specs.Event.{spelling}
 use Rattle.ckr_desk_memory.specs.EventChanges.{is_of_run, without_first}
@@ -19,7 +19,7 @@ use Rattle.ckr_desk_store.specs.OpenImages.{event_records, Opens}
 use Rattle.ckr_points_tables.specs.Invariant.{is_plain_event}
 use Rattle.ckr_desk_turn.specs.Invariant.{IsTurnOf}
 use Rattle.ckr_desk_turn.specs.declared.plan.Plan.{Plan}
-use Rattle.ckr_desk_turn.specs.declared.plan.Plan.TheVariants.{Rest, Tell, Work}
+use Rattle.ckr_desk_turn.specs.declared.plan.Plan.TheVariants.{Rest, Tell, Work, Pass}
 use Rattle.ckr_desk_turn.specs.declared.reply.Reply.{Reply}
 use Rattle.ckr_desk_turn.specs.declared.reply.Turn.{Turn}
 use Rattle.ckr_desk_turn.specs.Plans.{plan_of}
@@ -103,12 +103,14 @@ abbrev pub IsPlainPlan : Plan → Type 0
 IsPlainPlan (Rest reply) = Unit {0}
 IsPlainPlan (Tell reply event) = is_plain_event event ≡ true
 IsPlainPlan (Work job) = Unit {0}
+IsPlainPlan (Pass job reply) = Unit {0}
 
 -- a plan that tells a plain event or none
 abbrev pub IsPlainTold : Plan → Type 0
 IsPlainTold (Rest reply) = Unit {0}
 IsPlainTold (Tell reply event) = is_plain_event event ≡ true
 IsPlainTold (Work job) = ⊥
+IsPlainTold (Pass job reply) = ⊥
 
 -- why what a turn comes to wasn't done
 abbrev pub NotTold : {D : Type 0} → (D → ℕ) → Event → DeskView D → DeskView D → DeskError → Type 0
@@ -120,6 +122,7 @@ abbrev pub NotBehind : {D : Type 0} → (D → ℕ) → Plan → DeskView D → 
 NotBehind faults (Rest reply) old new error = ⊥
 NotBehind faults (Tell reply event) old new error = NotTold faults event old new error
 NotBehind faults (Work job) old new error = ⊥
+NotBehind faults (Pass job reply) old new error = ⊥
 
 -- ---- a turn
 

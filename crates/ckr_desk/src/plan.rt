@@ -1,10 +1,11 @@
 //! What goes on behind what a turn comes to.
 ghost use Rattle.std.specs.Prelude.{◌≡◌, ◌≤◌, IfErr, IfOk, OnOk, None};
 ghost use Rattle.ckr_book.specs.Book.{room_of};
-ghost use Rattle.ckr_desk_memory.specs.Plans.{HasUnitDue, IsSpelledPlan, IsToldReply};
+ghost use Rattle.ckr_desk_memory.specs.Plans.{HasDue, IsSpelledPlan, IsToldReply};
 ghost use Rattle.ckr_desk_memory.specs.TurnEvents.{FollowsBetween};
 ghost use Rattle.ckr_outside.specs.Disk.{EachSince};
 ghost use Rattle.ckr_desk_refines.specs.Moves.{event_in, reply_in};
+ghost use Rattle.ckr_desk_refines.specs.Unit.{HasPassed};
 ghost use Rattle.ckr_desk.specs.Calls.{IsSettledBehind};
 ghost use Rattle.ckr_desk.specs.Requests.{MayFail, TellsNumbers};
 ghost use Rattle.ckr_desk.specs.Preparation.{IsReadyFor};
@@ -47,8 +48,17 @@ impl<D: Disk> Desk<D> {
                 self.rewrite(&event)?;
                 Ok(reply)
             }
-            Plan::Work { .. } => unreachable!(),
+            Plan::Work { .. } | Plan::Pass { .. } => unreachable!(),
         }
+    }
+
+    /// The checkpoint that is due of a run's running step is done, and no entry is written: it is suppressed. The disk isn't called, and no
+    /// memory is taken (IBM GC28-6708).
+    fn pass(&mut self, run: u32)
+        ensures passed { HasPassed run self.old.jobs self.new.jobs }
+        ensures store { self.new.store ≡ self.old.store }
+    {
+        self.jobs.pass(run);
     }
 
     /// Carries out what a turn comes to. What it tells is made ready before anything is written.
@@ -57,7 +67,7 @@ impl<D: Disk> Desk<D> {
         requires spelled { IsSpelledPlan plan }
         requires plain { IsPlainPlan plan }
         requires follows { FollowsBetween self.old.store.layout self.old.jobs.tables.desk plan }
-        requires works { HasUnitDue self.old.jobs plan }
+        requires due { HasDue self.old.jobs plan }
         ensures turned { (turn : TurnOf) → IsPlanned D.told D.content D.may_leave self.old turn plan → HasTurned D.told D.content D.may_leave D.moment D.left_since D.size turn self.old self.new result }
         ensures spelled { IfOk result IsToldReply }
         ensures is_open { OnOk result (self.new.store.fault ≡ None) }
@@ -71,6 +81,10 @@ impl<D: Disk> Desk<D> {
         let _layout = self.store.layout();
         match plan {
             Plan::Work { job } => self.work(job),
+            Plan::Pass { job, reply } => {
+                self.pass(job);
+                Ok(reply)
+            }
             plan => {
                 let ready = self.ready_for(&plan)?;
                 self.go_on(plan, ready)

@@ -14,8 +14,8 @@ use ckr_desk_turn::{Plan, Reply, Turn};
 use ckr_outside::Disk;
 
 impl<D: Disk> Desk<D> {
-    /// One turn of an initiator, from 1 to the layout's number of them: one event of the desk, or one unit of a running step (the order of
-    /// what comes first is this project's profile).
+    /// One turn of an initiator, from 1 to the layout's number of them: one event of the desk, one unit of a running step, or one checkpoint
+    /// of it that is suppressed (IBM GC28-6708; the order of what comes first is this project's profile).
     ///
     /// `NoMemory`: on a trusted disk only where the turn tells an event. `BookFull`: exactly where the event of the turn needs more than the
     /// room of the book, and there was memory. Nothing has changed after these two: a unit is looked at before it is done. `DiskFault`: only

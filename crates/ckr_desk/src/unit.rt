@@ -3,7 +3,7 @@ ghost use Rattle.std.specs.Prelude.{◌≡◌, ◌≤◌, ℕ, IfErr, IfOk, OnOk
 ghost use Rattle.ckr_book.specs.Book.{room_of};
 ghost use Rattle.ckr_desk_memory.specs.Invariant.{IsRunnable};
 ghost use Rattle.ckr_desk_memory.specs.Parts.{step_seen};
-ghost use Rattle.ckr_desk_memory.specs.Plans.{HasUnitDue, IsToldReply};
+ghost use Rattle.ckr_desk_memory.specs.Plans.{HasDue, IsToldReply};
 ghost use Rattle.ckr_meaning.specs.StepRun.{StepStart};
 ghost use Rattle.ckr_outside.specs.Disk.{EachSince, OnlyReads};
 ghost use Rattle.ckr_steps.specs.Places.{GoesOn, ShowsWithin, IsStepPlace};
@@ -77,7 +77,7 @@ impl<D: Disk> Desk<D> {
     /// faults rose in this call; then the desk has stopped.
     fn look(&mut self, run: u32) -> Result<Ahead, DeskError>
         requires is_open { self.old.store.fault ≡ None }
-        requires due { HasUnitDue self.old.jobs (Plans.Work run) }
+        requires due { HasDue self.old.jobs (Plans.Work run) }
         ensures ahead { IfOk result (IsAhead D.told D.content run self.new) }
         ensures kept { OnOk result (self.new.store ≡ record self.old.store { disk = self.new.store.disk }) }
         ensures jobs { HasSameJobs self.old self.new }
@@ -154,7 +154,7 @@ impl<D: Disk> Desk<D> {
     /// The next unit of a run's running step, which is due, and what goes on behind it. What it tells is made ready before it is done.
     pub(crate) fn work(&mut self, run: u32) -> Result<Reply, DeskError>
         requires is_open { self.old.store.fault ≡ None }
-        requires due { HasUnitDue self.old.jobs (Plans.Work run) }
+        requires due { HasDue self.old.jobs (Plans.Work run) }
         ensures turned { (turn : TurnOf) → IsPlanned D.told D.content D.may_leave self.old turn (Plans.Work run) → HasTurned D.told D.content D.may_leave D.moment D.left_since D.size turn self.old self.new result }
         ensures spelled { IfOk result IsToldReply }
         ensures is_open { OnOk result (self.new.store.fault ≡ None) }

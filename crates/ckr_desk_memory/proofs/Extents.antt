@@ -1,17 +1,15 @@
 -- The data sets stay laid out behind an event that follows.
-use Rattle.std.proofs.Common.{◌≡◌, ◌≤◌, ◌==◌, ◌&&◌, ℕ, suc, Bool, true, false, List, [], ◌∷◌, map, length, sum_by, nat_lt, refl, ap, sym, ◌∙◌, subst, Option, None, Some}
+use Rattle.std.proofs.Common.{◌≡◌, ◌==◌, ◌&&◌, ℕ, Bool, true, false, List, refl, ap, sym, ◌∙◌, subst, Option, None, Some}
 use Rattle.std.proofs.lemmas.Bool.{false≢true}
-use Rattle.std.specs.List.{list_all}
 use Rattle.std.specs.Option.{option_map_or}
 use Rattle.ckr_base.proofs.Bools.{and-first, and-second}
 use Rattle.ckr_base.proofs.Numbers.{equal-true}
 use Rattle.ckr_events.specs.declared.event.Made.{Made}
 use Rattle.ckr_events.specs.declared.event.Event.{Event}
-use Rattle.ckr_events.specs.declared.event.Event.TheVariants.{Submitted, Selected, Started, Rewritten, StepEnded, Ended, Purged}
+use Rattle.ckr_events.specs.declared.event.Event.TheVariants.{Submitted, Selected, Started, Rewritten, Cancelled, StepEnded, Ended, Purged}
 use Rattle.ckr_events.specs.declared.event.Ending.{Ending}
 use Rattle.ckr_events.specs.declared.event.Ending.TheVariants.{Completed, Coded, Allocation}
 use Rattle.ckr_jcl.specs.declared.deck.Job.{Job}
-use Rattle.ckr_library.specs.NameMaps.{Name, Named}
 use Rattle.ckr_library.specs.declared.sets.Stamp.{Stamp}
 use Rattle.ckr_meaning.specs.Allotments.{DdAllotment}
 use Rattle.ckr_meaning.specs.EffectiveJob.{OwnedStep, flaws_in, placed_in, stamp_of}
@@ -24,11 +22,11 @@ use Rattle.ckr_points_library.specs.Commit.{output_names}
 use Rattle.ckr_points.specs.declared.run.RunState.TheVariants.{On}
 use Rattle.ckr_points.specs.Tables.{after_commit, after_dispositions, after_rewritten, after_started, after_step_ended, name_with_role, is_updates, run_disposals, own_made, earlier_made, table_rewritten}
 use Rattle.ckr_points.specs.Follows.{are_items, are_lengths, are_made_clear, ended_follows, follows, is_empty, is_in_state, is_rewrite, is_running, lengths_follow, may_start, of_run, of_step, started_follows}
-use Rattle.ckr_points.specs.Restart.{after_abnormal, after_coded, after_ended, after_event, place_of, step_in}
+use Rattle.ckr_points.specs.Restart.{after_abnormal, after_ended, after_event, place_of, step_in}
 use Rattle.ckr_points.specs.Rows.{RunRow, TableSet, TablesModel, run_of, standing_of, step_of_run, table_ways}
 use Rattle.ckr_points.specs.Soundness.{AreLaidOut}
 use Rattle.ckr_points_invariant.proofs.Library.Extents.{committed-laid, disposed_all-laid, fit-lengths, laid-changed, made_all-laid, passed_ended-laid}
-use Rattle.ckr_points_tables.specs.Invariant.{is_plain_event, is_submission}
+use Rattle.ckr_points_tables.specs.Invariant.{is_plain_event}
 use Rattle.ckr_desk_memory.proofs.Runs.{by-run, by-step}
 
 -- what an event asks of its run, the run meets
@@ -126,6 +124,7 @@ module _ (layout : Layout) (tables : TablesModel) (laid : AreLaidOut layout tabl
       by-step (Laid layout tables laid) tables (step_of_run row (step_in (place_of row))) _ laid
       (λ owned there.
       rewritten_so layout tables laid row writes lengths.items (and-second (is_running row) (lengths_follow tables row lengths.items) (and-first _ (of_step row (is_rewrite tables place image row)) its)) owned there (step_in (place_of row))))
+  laid-behind (Cancelled job) deck plain follow = by-run (Laid layout tables laid) tables job _ laid (λ row at. laid)
   laid-behind (StepEnded job step rc writes lengths) deck plain follow =
       by-run (Laid layout tables laid) tables job _ laid
       (λ row at.

@@ -1,5 +1,5 @@
 -- What holds of the jobs in memory holds behind an event that follows.
-use Rattle.std.proofs.Common.{◌≡◌, ◌+◌, ◌≤◌, ◌==◌, ◌&&◌, ◌||◌, ℕ, zero, suc, Bool, true, false, not, cond, IsTrue, List, [], ◌∷◌, ◌++◌, map, filter, length, refl, ap, sym, ◌∙◌, slice_set, subst, Option, None, Some, Ok, arith, length-append}
+use Rattle.std.proofs.Common.{◌≡◌, ◌+◌, ◌≤◌, ◌==◌, ◌||◌, ℕ, zero, suc, Bool, true, false, not, cond, List, [], ◌∷◌, ◌++◌, map, filter, length, refl, ap, sym, ◌∙◌, slice_set, subst, Option, None, Some, Ok, arith, length-append}
 use Rattle.std.proofs.lemmas.Bool.{false≢true}
 use Rattle.std.specs.List.{AllByRecursion}
 use Rattle.std.specs.Option.{is_none, is_some}
@@ -8,10 +8,9 @@ use Rattle.ckr_base.proofs.Options.{is_some-from}
 use Rattle.ckr_base.proofs.Numbers.{equal-true, nat_le-true}
 use Rattle.ckr_base.proofs.Sequences.{each-append}
 use Rattle.ckr_events.specs.declared.event.Event.{Event}
-use Rattle.ckr_events.specs.declared.event.Event.TheVariants.{Submitted, Selected, Started, Rewritten, StepEnded, Ended, Purged}
+use Rattle.ckr_events.specs.declared.event.Event.TheVariants.{Submitted, Selected, Started, Rewritten, Cancelled, StepEnded, Ended, Purged}
 use Rattle.ckr_events.specs.declared.event.Ending.{Ending}
 use Rattle.ckr_events.specs.declared.event.Ending.TheVariants.{Completed, Coded, Allocation}
-use Rattle.ckr_jcl_decks.specs.Deck.{stored_deck}
 use Rattle.ckr_jcl.specs.declared.deck.Job.{Job}
 use Rattle.ckr_meaning.specs.EffectiveJob.{OwnedStep, plain_job}
 use Rattle.ckr_meaning.specs.declared.place.Place.{Place}
@@ -28,7 +27,7 @@ use Rattle.ckr_points_decks.specs.Form.{is_run}
 use Rattle.ckr_points_invariant.proofs.Holders.Rows.{queued-is}
 use Rattle.ckr_points_tables.specs.Invariant.{MayFollow, MaySubmit, is_plain_event, is_submission}
 use Rattle.ckr_desk_turn.specs.Invariant.{is_on_one}
-use Rattle.ckr_desk_turn.specs.Queue.{AreNumbered, queue_behind, queue_of}
+use Rattle.ckr_desk_turn.specs.Queue.{AreNumbered, queue_behind}
 use Rattle.ckr_desk_memory.specs.Invariant.{IsAcceptedRow, IsAnyAccepted, IsPlacedRow}
 use Rattle.ckr_desk_memory.specs.Parts.{AreQueued, step_seen}
 use Rattle.ckr_desk_memory.specs.declared.jobs.RunningStep.{RunningStep}
@@ -203,6 +202,11 @@ placed-behind layout tables (Rewritten job taken writes lengths place image) dec
     (λ owned there.
     placed_put tables.runs row.number _
     (record { place = is_some-from (step_of_run row (step_in (place_of row))) owned there; state = is.state; lodged = is.lodged; code = is.code }) placed))
+placed-behind layout tables (Cancelled job) deck plain follow placed =
+    by-run ArePlaced tables job _ placed
+    (λ row at.
+    let is = row-among IsPlacedRow tables job row placed at in
+    placed_put tables.runs row.number _ (record { place = is.place; state = is.state; lodged = is.lodged; code = is.code }) placed)
 placed-behind layout tables (StepEnded job step rc writes lengths) deck plain follow placed =
     by-run ArePlaced tables job _ placed
     (λ row at.

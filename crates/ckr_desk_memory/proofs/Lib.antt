@@ -1,8 +1,7 @@
 pub use Rattle.ckr_points_follows.proofs.RewriteCounts
 pub mod FoundRuns
 pub mod Plans
-pub mod DueUnits
-pub mod WorkPlans
+pub mod DuePlans
 pub mod RuleCases
 pub mod FailedRuns
 pub mod Masters

@@ -1,6 +1,6 @@
 -- A turn's plan, case by case.
 use Rattle.std.proofs.Common.{IfErr, ◌≡◌, ◌==◌, ◌≤◌, ◌<◌, ℕ, zero, suc, Bool, true, false, cond, nat_eq, refl, ap, sym, ◌∙◌, subst, IsSome, List, [], ◌∷◌, find, length, pred, slice_get, Option, None, Some, Result, Ok, Err, arith}
-use Rattle.std.specs.List.{list_any, AllByRecursion}
+use Rattle.std.specs.List.{AllByRecursion}
 use Rattle.std.specs.Option.{is_some, option_eq, option_map, option_map_or}
 use Rattle.std.proofs.lemmas.Bool.{false≢true}
 use Rattle.std.proofs.lemmas.Bool.Decides.{nat_tests}
@@ -10,13 +10,14 @@ use Rattle.ckr_points_library.specs.declared.cause.Cause.{Cause}
 use Rattle.ckr_points_library.specs.declared.cause.Refusal.{Refusal}
 use Rattle.ckr_points_library.specs.Allocation.{Allocation}
 use Rattle.ckr_base.specs.declared.code.Code.{Code}
-use Rattle.ckr_base.proofs.Options.{some-not-none}
+use Rattle.ckr_base.specs.declared.programs.NextDue.{NextDue}
+use Rattle.ckr_base.specs.declared.programs.NextDue.TheVariants.{Finished}
+use Rattle.ckr_base.proofs.Options.{is_some-true, some-not-none}
 use Rattle.ckr_events.specs.declared.event.Event.{Event}
 use Rattle.ckr_events.specs.declared.event.Event.TheVariants.{Started as StartedEvent, Ended as EndedEvent}
 use Rattle.ckr_events.specs.declared.event.Ending.TheVariants.{Completed as CompletedEnding, Allocation as AllocationEnding}
 use Rattle.ckr_events.specs.declared.event.Made.{Made}
 use Rattle.ckr_jcl.specs.declared.deck.Dd.{Dd}
-use Rattle.ckr_jcl.specs.declared.deck.Job.{Job}
 use Rattle.ckr_library.specs.NameMaps.{Name}
 use Rattle.ckr_meaning.specs.EffectiveJob.{Effective, OwnedStep, stamp_of, step_at}
 use Rattle.ckr_meaning.specs.declared.place.Place.{Place}
@@ -25,7 +26,6 @@ use Rattle.ckr_points.specs.Follows.{own_step}
 use Rattle.ckr_points.specs.Restart.{place_of, step_in}
 use Rattle.ckr_points.specs.Rows.{RunRow, TablesModel, holding_of, run_of, standing_of, step_of_run, table_ways}
 use Rattle.ckr_queue.specs.declared.entry.QueueEntry.{QueueEntry}
-use Rattle.ckr_queue.specs.declared.entry.Selection.{Selection}
 use Rattle.ckr_queue.specs.declared.entry.Selection.TheVariants as Selected
 use Rattle.ckr_queue.specs.Queue.{selection_of}
 use Rattle.ckr_steps.specs.Units.{due_of}
@@ -35,23 +35,23 @@ use Rattle.ckr_points_tables.specs.declared.run_table.RunTable.{RunTable}
 use Rattle.ckr_points_tables.specs.Allocation.{IsAllocation, MayAllocate, allocation_in}
 use Rattle.ckr_points_tables.specs.View.{run_on, seen_by}
 use Rattle.ckr_desk_turn.specs.declared.plan.Plan.{Plan}
-use Rattle.ckr_desk_turn.specs.declared.plan.Plan.TheVariants.{Rest, Tell, Work}
+use Rattle.ckr_desk_turn.specs.declared.plan.Plan.TheVariants.{Rest, Tell}
 use Rattle.ckr_desk_turn.specs.declared.reply.How.TheVariants.{Completed, Allocation as AllocationHow}
 use Rattle.ckr_desk_turn.specs.declared.reply.Reply.TheVariants.{Idle, NothingToFail, Started, JobEnded}
 use Rattle.ckr_desk_turn.specs.Allocation.{allocation_of, cause_numbers, items_in}
 use Rattle.ckr_desk_turn.specs.Select.{is_on, next_run, run_on_initiator}
 use Rattle.ckr_desk_turn.specs.Codes.{code_plan, reached_by}
 use Rattle.ckr_desk_turn.specs.Jobs.{TurnJobs, TurnStep, is_failed, running_in}
-use Rattle.ckr_desk_turn.specs.Plans.{allocation_ended, between_plan, chosen_plan, fail_plan, finished_plan, free_plan, is_within, placed_plan, run_plan, running_plan, system_failure}
+use Rattle.ckr_desk_turn.specs.Plans.{allocation_ended, between_plan, chosen_plan, due_plan, fail_plan, finished_plan, free_plan, is_within, placed_plan, run_plan, running_plan, system_failure}
 use Rattle.ckr_desk_turn.specs.Queue.{AreNumbered, queue_of, selection_for}
 use Rattle.ckr_desk_turn.proofs.Queue.Select.{selection_is_next}
 use Rattle.ckr_desk_turn.proofs.RunEnd.{refused-inside}
 use Rattle.ckr_volumes.specs.declared.layout.Layout.{Layout}
 use Rattle.ckr_desk_memory.specs.Invariant.{IsAcceptedRow, IsAnyPlaceOf, IsPlacedRow}
 use Rattle.ckr_desk_memory.specs.Plans.{next_step, row_for, IsKnown, Tells}
-use Rattle.ckr_desk_memory.specs.View.{JobsView, RunningStepView, finished_by, jobs_of, lengths_of_row, running_of}
+use Rattle.ckr_desk_memory.specs.View.{JobsView, RunningStepView, jobs_of, lengths_of_row, running_of}
 use Rattle.ckr_desk_memory.proofs.Starts.Steps.{row-among, step-among}
-use Rattle.ckr_desk_memory.proofs.FoundRuns.{found-run, known-is, known-row, lengths-known, running-found}
+use Rattle.ckr_desk_memory.proofs.FoundRuns.{first-step, found-run, known-is, known-row, lengths-known, running-found}
 
 -- a run's mark, by its number
 pub marked-at : (jobs : JobsView) (job : ℕ) (table : RunTable) (known : IsKnown jobs.tables.desk job table) (row : RunRow) → run_of jobs.tables.desk job ≡ Some row → is_failed (jobs_of jobs) job ≡ is_failed (jobs_of jobs) row.number
@@ -139,12 +139,9 @@ pub known-there : (tables : TablesModel) (run : ℕ) (table : RunTable) (known :
 known-there tables run table known placed none =
     subst IsSome (known-is tables run table known own_step refl) (within-there known.row (row-among IsPlacedRow tables run known.row placed known.found) none)
 
-module _ (row : RunRow) (number : ℕ) (step : TurnStep) where
-  pub running-works : step.finished ≡ None → running_plan row number step ≡ Work row.number
-  running-works none = ap (finished_plan row number step) none
-
-  pub running-ends : (rc : ℕ) → step.finished ≡ Some rc → running_plan row number step ≡ finished_plan row number step (Some rc)
-  running-ends rc some = ap (finished_plan row number step) some
+-- steps are numbered from one
+pub own-above : (row : RunRow) → IsSome (own_step row) → 1 ≤ step_in (place_of row)
+own-above row there = is_some-true (own_step row) there (λ own at. first-step row.job (step_in (place_of row)) own at)
 
 module _ (jobs : JobsView) (run : ℕ) (table : RunTable) (known : IsKnown jobs.tables.desk run table) (number : ℕ) where
   abbrev pub within_plan : Option TurnStep → Plan
@@ -153,17 +150,16 @@ module _ (jobs : JobsView) (run : ℕ) (table : RunTable) (known : IsKnown jobs.
   pub within-none : None ≡ find (λ (on : RunningStepView). on.run == run) jobs.running → Rest Idle ≡ within_plan (running_in (jobs_of jobs) run)
   within-none found = ap within_plan (sym (running-found jobs run None found))
 
-  pub within-works : (on : RunningStepView) → Some on ≡ find (λ (step : RunningStepView). step.run == run) jobs.running → finished_by (due_of on.step.parm on.step.state) ≡ None → Work run ≡ within_plan (running_in (jobs_of jobs) run)
-  within-works on found none =
-      sym (running-works (row_for run table) number (running_of jobs.tables.desk on) none)
-      ∙ ap within_plan (sym (running-found jobs run (Some on) found))
+  -- what is due of its running step
+  pub within-due : (on : RunningStepView) (due : NextDue) → Some on ≡ find (λ (step : RunningStepView). step.run == run) jobs.running → due ≡ due_of on.step.parm on.step.state
+      → due_plan (row_for run table) number (running_of jobs.tables.desk on) due ≡ within_plan (running_in (jobs_of jobs) run)
+  within-due on due found is = ap (due_plan (row_for run table) number (running_of jobs.tables.desk on)) is ∙ ap within_plan (sym (running-found jobs run (Some on) found))
 
-  pub within-ends : (on : RunningStepView) → on.run ≡ run → Some on ≡ find (λ (step : RunningStepView). step.run == run) jobs.running → (rc : ℕ) → finished_by (due_of on.step.parm on.step.state) ≡ Some rc
-      → finished_plan (row_for run table) number (record (running_of jobs.tables.desk on) { lengths = lengths_of_row on.sets.sets (row_for run table) }) (Some rc) ≡ within_plan (running_in (jobs_of jobs) run)
-  within-ends on is found rc some =
-      ap (λ (ls : List ℕ). finished_plan (row_for run table) number (record (running_of jobs.tables.desk on) { lengths = ls }) (Some rc)) (sym (lengths-known jobs.tables.desk run table known on is))
-      ∙ sym (running-ends (row_for run table) number (running_of jobs.tables.desk on) rc some)
-      ∙ ap within_plan (sym (running-found jobs run (Some on) found))
+  pub within-ends : (on : RunningStepView) → on.run ≡ run → Some on ≡ find (λ (step : RunningStepView). step.run == run) jobs.running → (rc : ℕ) → Finished rc ≡ due_of on.step.parm on.step.state
+      → finished_plan (row_for run table) number (record (running_of jobs.tables.desk on) { lengths = lengths_of_row on.sets.sets (row_for run table) }) rc ≡ within_plan (running_in (jobs_of jobs) run)
+  within-ends on is found rc due =
+      ap (λ (ls : List ℕ). finished_plan (row_for run table) number (record (running_of jobs.tables.desk on) { lengths = ls }) rc) (sym (lengths-known jobs.tables.desk run table known on is))
+      ∙ within-due on (Finished rc) found due
 
 -- ---- between steps
 

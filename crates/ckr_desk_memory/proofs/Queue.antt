@@ -1,15 +1,14 @@
 -- The queue of the tables' runs goes on by an event that follows.
-use Rattle.std.proofs.Common.{◌≡◌, ◌+◌, ◌==◌, ◌≤◌, ◌&&◌, ◌||◌, nat_le, ℕ, zero, suc, Bool, true, false, not, cond, IsTrue, List, [], ◌∷◌, ◌++◌, find, length, refl, ap, sym, ◌∙◌, subst, Option, None, Some, arith, slice_get, slice_set}
+use Rattle.std.proofs.Common.{◌≡◌, ◌+◌, ◌==◌, ◌≤◌, ◌&&◌, ◌||◌, nat_le, ℕ, zero, suc, Bool, true, false, cond, IsTrue, List, [], ◌∷◌, find, length, refl, ap, sym, ◌∙◌, subst, Option, None, Some, arith, slice_get}
 use Rattle.std.proofs.lemmas.Option.{same_Some}
 use Rattle.std.proofs.lemmas.Bool.{false≢true}
 use Rattle.std.proofs.lemmas.Bool.Decides.{nat_tests}
-use Rattle.std.specs.List.{filter_map, list_any}
+use Rattle.std.specs.List.{filter_map}
 use Rattle.std.specs.Option.{is_some, option_map, option_map_or}
 use Rattle.ckr_base.proofs.Bools.{and-first, and-second, or-cases}
 use Rattle.ckr_base.proofs.Numbers.{equal-true}
-use Rattle.ckr_uses.specs.Uses.{uses_of}
 use Rattle.ckr_events.specs.declared.event.Event.{Event}
-use Rattle.ckr_events.specs.declared.event.Event.TheVariants.{Submitted, Selected, Denied, Started, Rewritten, StepEnded, Held, Released, Ended, Purged}
+use Rattle.ckr_events.specs.declared.event.Event.TheVariants.{Submitted, Selected, Started, Rewritten, Cancelled, StepEnded, Ended, Purged}
 use Rattle.ckr_events.specs.declared.event.Ending.{Ending}
 use Rattle.ckr_events.specs.declared.event.Ending.TheVariants.{Completed, Coded, Allocation}
 use Rattle.ckr_jcl.specs.declared.deck.Job.{Job}
@@ -18,20 +17,21 @@ use Rattle.ckr_volumes.specs.declared.layout.Layout.{Layout}
 use Rattle.ckr_points_library.specs.Commit.{output_names}
 use Rattle.ckr_points.specs.declared.run.RunState.{RunState}
 use Rattle.ckr_points.specs.declared.run.RunState.TheVariants as Runs
-use Rattle.ckr_points.specs.Follows.{are_lengths, ended_follows, follows, is_free, is_in_state, is_running, is_within, lengths_follow, may_hold, own_step, selected_follows, state_number}
+use Rattle.ckr_points.specs.Follows.{are_lengths, ended_follows, follows, is_free, is_in_state, is_running, may_hold, own_step, selected_follows, state_number}
 use Rattle.ckr_points.specs.Restart.{after_event, place_of, step_in}
-use Rattle.ckr_points.specs.Rows.{RunRow, TablesModel, run_of, step_of_run}
+use Rattle.ckr_points.specs.Rows.{RunRow, TablesModel, run_of, step_of_run, with_row}
 use Rattle.ckr_queue.specs.declared.entry.QueueEntry.{QueueEntry}
 use Rattle.ckr_queue.specs.declared.entry.QueueState.{QueueState}
 use Rattle.ckr_queue.specs.declared.entry.QueueState.TheVariants as InQueue
-use Rattle.ckr_queue.specs.Queue.{has_names, is_in, is_of, is_queued, keeps_out, may_take, passes, starts, state_of}
+use Rattle.ckr_queue.specs.Queue.{has_names, is_in, is_of, is_queued, may_take, passes, starts, state_of}
 use Rattle.ckr_points_invariant.proofs.Holders.Rows.{queued-is}
 use Rattle.ckr_points_tables.specs.Invariant.{is_plain_event}
 use Rattle.ckr_desk_turn.specs.Queue.{AreNumbered, entry_of, entry_with, queue_behind, queue_of, queue_state}
 use Rattle.ckr_desk_turn.proofs.Queue.Events as behind
+use Rattle.ckr_desk_turn.proofs.Queue.Events.{kept_state, queue_in, run_number}
 use Rattle.ckr_desk_turn.proofs.Queue.Changes.{added, first_in, joined, other_number, own_number}
 use Rattle.ckr_desk_turn.proofs.Queue.Select.{let_in}
-use Rattle.ckr_desk_memory.proofs.Extents.{tested}
+use Rattle.ckr_desk_memory.proofs.Runs.{by-run}
 use Rattle.ckr_desk_memory.specs.EventChanges.{MayQueue}
 
 -- ---- a run in the queue
@@ -166,6 +166,14 @@ module _ (layout : Layout) (tables : TablesModel) (numbered : AreNumbered 1 tabl
       let queued = queued-is there.0.state (and-first (is_in_state Runs.Queued there.0) _ (and-first (is_in_state Runs.Queued there.0 && is_free layout tables initiator) _ asked)) in
       subst (λ n. Behind (Selected job initiator n step id) deck) (sym is) (behind.selected tables job initiator step id deck there.0 numbered there.1 queued)
 
+  -- a run keeps its state
+  cancelled_so : (job : ℕ) (deck : Option Job) → Behind (Cancelled job) deck
+  cancelled_so job deck =
+      by-run (λ (other : TablesModel). queue_of other ≡ queue_of tables) tables job _ refl
+      (λ row at.
+      let quiet : RunRow = record row { in_effect = None } in
+      ap (λ n. queue_in (with_row quiet n tables.runs)) (run_number tables job row numbered at) ∙ kept_state tables job row quiet at refl refl refl)
+
   ended_so : (job : ℕ) (ending : Ending) (deck : Option Job) (row : RunRow) → run_of tables job ≡ Some row → ended_follows tables row ending ≡ true → Behind (Ended job ending) deck
   ended_so job Completed deck row at e =
       let entry = ends_with_names tables row Completed e in
@@ -184,6 +192,7 @@ module _ (layout : Layout) (tables : TablesModel) (numbered : AreNumbered 1 tabl
   queue_so (Selected job initiator earlier step id) deck plain e = selected_so job initiator earlier step id deck (equal-true earlier 0 plain) e
   queue_so (Started job step items) deck plain e = behind.started tables job step items deck numbered
   queue_so (Rewritten job t writes lengths place image) deck plain e = behind.rewritten tables job t writes place lengths image deck numbered
+  queue_so (Cancelled job) deck plain e = cancelled_so job deck
   queue_so (StepEnded job step rc writes lengths) deck plain e = behind.step_ended tables job step rc writes lengths deck numbered
   queue_so (Ended job ending) deck plain e =
       let there = run-there tables job (λ row. ended_follows tables row ending) e in

@@ -1,5 +1,5 @@
 -- The records in an accepted deck are few.
-use Rattle.std.proofs.Common.{◌≡◌, ◌≤◌, ◌+◌, ◌/◌, ℕ, zero, suc, Bool, true, false, cond, List, [], ◌∷◌, ◌++◌, map, length, drop, Option, Some, None, Ok, refl, ap, sym, ◌∙◌, subst, nat_le, nat_lt, arith, length-drop}
+use Rattle.std.proofs.Common.{◌≡◌, ◌≤◌, ℕ, zero, suc, Bool, true, false, cond, List, [], ◌∷◌, map, length, drop, Option, Some, None, Ok, refl, sym, subst, nat_le, nat_lt, arith, length-drop}
 use Rattle.std.proofs.lemmas.Bool.Decides.{nat_tests}
 use Rattle.std.proofs.lemmas.List.{length-map}
 use Rattle.std.proofs.lemmas.Option.{none-some}
@@ -11,10 +11,9 @@ use Rattle.ckr_cards.specs.declared.kind.StatementKind.{StatementKind}
 use Rattle.ckr_cards.specs.declared.statement.Statement.{Statement}
 use Rattle.ckr_cards.specs.Card.{cards_in_bytes, columns}
 use Rattle.ckr_cards.specs.Field.{goes_on}
-use Rattle.ckr_cards.specs.Statement.{bare, cards_behind, comes_to_end, continuation, first_field, is_dd, is_exec, is_named, is_record, kind_of, name_in, records_after, records_if, records_in, statement_at, statements_from, statements_of, whole_field, with_field, with_more}
+use Rattle.ckr_cards.specs.Statement.{bare, cards_behind, comes_to_end, continuation, first_field, is_dd, is_exec, is_named, is_record, kind_of, name_in, records_after, records_if, records_in, statement_at, statements_from, statements_of, with_field, with_more}
 use Rattle.ckr_jcl.specs.declared.deck.Dd.{Dd}
 use Rattle.ckr_jcl.specs.declared.deck.Job.{Job}
-use Rattle.ckr_jcl.specs.declared.deck.Kind.{Kind}
 use Rattle.ckr_jcl.specs.declared.deck.Origin.{Origin}
 use Rattle.ckr_jcl.specs.declared.deck.Origin.TheVariants.{InStream, Named, Temporary, Unnamed, Sysout, Dummy}
 use Rattle.ckr_jcl.specs.declared.deck.Step.{Step}

@@ -1,6 +1,5 @@
 -- An event that is read again goes on as it did.
-use Rattle.std.proofs.Common.{◌≡◌, ◌&&◌, ℕ, Bool, true, false, cond, nat_le, IsTrue, List, length, refl, ap, sym, ◌∙◌, subst, Option, None, Some, Result, Ok, Err}
-use Rattle.std.proofs.lemmas.Bool.{false≢true}
+use Rattle.std.proofs.Common.{◌≡◌, ℕ, Bool, true, false, cond, nat_le, List, length, refl, ap, sym, subst, Option, None, Some, Result, Ok, Err}
 use Rattle.std.specs.List.{AllByRecursion}
 use Rattle.std.proofs.lemmas.Option.{same_Some}
 use Rattle.ckr_base.proofs.Bools.{and-first, and-second}
@@ -19,11 +18,11 @@ use Rattle.ckr_points.specs.Rows.{TablesModel}
 use Rattle.ckr_points.specs.Soundness.{AreLaidOut}
 use Rattle.ckr_points_decks.specs.Cards.{job_in, kept_deck, stored_of_kept}
 use Rattle.ckr_points_decks.specs.Form.{is_run}
-use Rattle.ckr_points_tables.specs.Invariant.{MayCount, MayFollow, MaySubmit, is_plain_event, is_submittable}
+use Rattle.ckr_points_tables.specs.Invariant.{MayCount, MaySubmit, is_plain_event, is_submittable}
 use Rattle.ckr_desk_turn.specs.Queue.{AreNumbered}
 use Rattle.ckr_desk_memory.specs.Invariant.{AreJobs, IsAcceptedDeck, IsAcceptedRow, IsAnyAccepted, IsPlacedRow, IsRunnable}
 use Rattle.ckr_desk_memory.specs.Replay.{deck_of, goes_on, is_run_as, is_run_by, replayed}
-use Rattle.ckr_desk_memory.specs.View.{JobsView, RunningStepView}
+use Rattle.ckr_desk_memory.specs.View.{JobsView}
 use Rattle.ckr_desk_memory.proofs.Invariant.{accepted-behind, placed-behind}
 use Rattle.ckr_desk_memory.proofs.Extents.{laid-behind}
 

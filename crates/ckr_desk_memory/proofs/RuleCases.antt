@@ -1,5 +1,5 @@
 -- What a code of a run is judged by, as the tables have it.
-use Rattle.std.proofs.Common.{◌≡◌, ◌==◌, ℕ, Bool, true, false, cond, refl, ap, sym, ◌∙◌, subst, List, map, find, Option, None, Some}
+use Rattle.std.proofs.Common.{◌≡◌, ◌==◌, ℕ, Bool, true, false, cond, refl, ap, ◌∙◌, List, map, find, Option, None, Some}
 use Rattle.std.specs.List.{list_any}
 use Rattle.std.specs.Option.{is_some, option_map, option_map_or}
 use Rattle.ckr_base.specs.CodeText.{same_code}

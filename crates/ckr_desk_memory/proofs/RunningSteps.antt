@@ -1,2 +1,3 @@
 pub mod First
+pub mod Served
 pub mod Events

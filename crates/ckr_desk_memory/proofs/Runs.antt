@@ -1,19 +1,18 @@
 -- The runs of the tables behind an event: each keeps its number, its deck and its job.
-use Rattle.std.proofs.Common.{◌≡◌, ◌+◌, ◌==◌, ◌≤◌, ℕ, zero, suc, true, false, List, [], ◌∷◌, ◌++◌, map, length, refl, ap, sym, ◌∙◌, subst, Option, None, Some, arith, slice_get, slice_set}
+use Rattle.std.proofs.Common.{◌≡◌, ◌+◌, ℕ, zero, suc, true, false, List, [], ◌∷◌, ◌++◌, map, length, refl, ap, sym, ◌∙◌, subst, Option, None, Some, arith, slice_get, slice_set}
 use Rattle.std.proofs.lemmas.Option.{same_Some}
 use Rattle.std.proofs.lemmas.Bool.{false≢true}
-use Rattle.std.specs.List.{AllByRecursion}
 use Rattle.std.specs.Option.{option_map_or}
 use Rattle.ckr_base.proofs.Numbers.{equal-true}
 use Rattle.ckr_events.specs.declared.event.Event.{Event}
-use Rattle.ckr_events.specs.declared.event.Event.TheVariants.{Submitted, Selected, Started, Rewritten, StepEnded, Ended, Purged}
+use Rattle.ckr_events.specs.declared.event.Event.TheVariants.{Submitted, Selected, Started, Rewritten, Cancelled, StepEnded, Ended, Purged}
 use Rattle.ckr_events.specs.declared.event.Ending.{Ending}
 use Rattle.ckr_events.specs.declared.event.Ending.TheVariants.{Completed, Coded, Allocation}
 use Rattle.ckr_jcl.specs.declared.deck.Job.{Job}
 use Rattle.ckr_meaning.specs.EffectiveJob.{Effective, OwnedStep}
 use Rattle.ckr_meaning.specs.declared.place.Place.{Place}
 use Rattle.ckr_meaning.specs.declared.place.Place.TheVariants.{Before, Opened, Within}
-use Rattle.ckr_points.specs.Tables.{after_commit, after_dispositions, queued_run}
+use Rattle.ckr_points.specs.Tables.{after_commit, queued_run}
 use Rattle.ckr_points.specs.Restart.{after_abnormal, after_coded, after_ended, after_event, by_run, place_of, step_in}
 use Rattle.ckr_points.specs.Rows.{RunRow, TablesModel, run_of, step_of_run, with_row}
 use Rattle.ckr_points_tables.specs.Invariant.{is_plain_event, is_submission}
@@ -98,6 +97,7 @@ module _ (tables : TablesModel) (numbered : AreNumbered 1 tables.runs) where
       by-run Stay tables job _ refl (λ row at. by-step Stay tables (step_of_run row step) _ refl (λ owned there. same_row tables numbered job row at _ refl))
   runs-stay (Rewritten job taken writes lengths place image) deck plain other =
       by-run Stay tables job _ refl (λ row at. by-step Stay tables (step_of_run row (step_in (place_of row))) _ refl (λ owned there. same_row tables numbered job row at _ refl))
+  runs-stay (Cancelled job) deck plain other = by-run Stay tables job _ refl (λ row at. same_row tables numbered job row at _ refl)
   runs-stay (StepEnded job step rc writes lengths) deck plain other =
       by-run Stay tables job _ refl (λ row at. by-step Stay tables (step_of_run row (step_in (place_of row))) _ refl (λ owned there. same_twice tables numbered job row at _ _ refl refl))
   runs-stay (Ended job ending) deck plain other = by-run Stay tables job _ refl (λ row at. ended_same job row at ending)

@@ -1,5 +1,5 @@
 -- What a library has of the data sets that were taken over from another one.
-use Rattle.std.proofs.Common.{◌≡◌, ◌||◌, ◌≤◌, ℕ, Bool, true, false, cond, IsTrue, List, [], ◌∷◌, refl, ap, sym, ◌∙◌, subst, Option, None, Some}
+use Rattle.std.proofs.Common.{◌≡◌, ◌||◌, ◌≤◌, Bool, true, false, cond, IsTrue, List, [], ◌∷◌, refl, ap, sym, ◌∙◌, subst, Option, None, Some}
 use Rattle.std.specs.List.{cons_option, filter_map}
 use Rattle.std.specs.Option.{is_some, option_map, option_map_or}
 use Rattle.std.proofs.lemmas.Option.{same_Some}

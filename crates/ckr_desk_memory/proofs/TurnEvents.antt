@@ -1,12 +1,14 @@
--- What a turn tells between the steps of a run follows.
-use Rattle.std.proofs.Common.{◌≡◌, ◌≤◌, ℕ, Bool, true, false, List, refl, ap, sym, ◌∙◌, subst, Option, Some, None, Result, Ok, Err}
+-- What a turn tells between the steps of a run follows, and so does the cancel of restarts.
+use Rattle.std.proofs.Common.{◌≡◌, ◌≤◌, ◌==◌, ℕ, Bool, true, false, List, refl, ap, sym, ◌∙◌, subst, Option, Some, None, Result, Ok, Err}
 use Rattle.std.specs.List.{AllByRecursion}
 use Rattle.std.specs.Option.{option_map_or}
-use Rattle.std.proofs.lemmas.Bool.{true≢false}
+use Rattle.std.proofs.lemmas.Bool.{and_from, true≢false}
 use Rattle.ckr_base.specs.declared.code.Code.{Code}
+use Rattle.ckr_base.specs.declared.programs.NextDue.{NextDue}
+use Rattle.ckr_base.specs.declared.programs.NextDue.TheVariants.{Unit as OneUnit, Checkpoint, Cancel, Finished}
 use Rattle.ckr_base.proofs.Options.{option-cases}
 use Rattle.ckr_base.proofs.Sequences.{find-passes}
-use Rattle.ckr_events.specs.declared.event.Event.TheVariants.{Ended as EndedEvent, Selected as SelectedEvent, Started as StartedEvent}
+use Rattle.ckr_events.specs.declared.event.Event.TheVariants.{Cancelled as CancelledEvent, Ended as EndedEvent, Selected as SelectedEvent, Started as StartedEvent}
 use Rattle.ckr_events.specs.declared.event.Ending.TheVariants.{Completed as CompletedEnding}
 use Rattle.ckr_events.specs.declared.event.Made.{Made}
 use Rattle.ckr_meaning.specs.EffectiveJob.{Effective, OwnedStep, stamp_of, step_at}
@@ -16,7 +18,7 @@ use Rattle.ckr_volumes.specs.declared.layout.Layout.{Layout}
 use Rattle.ckr_points_library.specs.declared.cause.Refusal.{Refusal}
 use Rattle.ckr_points_library.specs.Allocation.{Allocation}
 use Rattle.ckr_points.specs.declared.run.RunState.TheVariants.{On}
-use Rattle.ckr_points.specs.Follows.{is_within, own_step}
+use Rattle.ckr_points.specs.Follows.{follows, is_in_state, is_running, is_within, own_step, state_number}
 use Rattle.ckr_points.specs.Restart.{place_of, step_in}
 use Rattle.ckr_points.specs.Rows.{RunRow, TablesModel, run_of, standing_of, table_ways}
 use Rattle.ckr_points.specs.Soundness.{AreLaidOut}
@@ -29,7 +31,7 @@ use Rattle.ckr_desk_turn.specs.Allocation.{allocation_of, cause_numbers, holding
 use Rattle.ckr_desk_turn.specs.Codes.{CodePlaceModel, code_plan, reached_by}
 use Rattle.ckr_desk_turn.specs.Invariant.{IsTurnOf}
 use Rattle.ckr_desk_turn.specs.Jobs.{TurnJobs, TurnStep, is_failed, running_in}
-use Rattle.ckr_desk_turn.specs.Plans.{allocation_ended, between_plan, chosen_plan, fail_plan, finished_plan, free_plan, is_within as is_planned, placed_plan, plan_of, run_plan, running_plan, start_plan, system_failure}
+use Rattle.ckr_desk_turn.specs.Plans.{allocation_ended, between_plan, chosen_plan, due_plan, fail_plan, free_plan, is_within as is_planned, placed_plan, plan_of, run_plan, running_plan, start_plan, system_failure}
 use Rattle.ckr_desk_turn.specs.Queue.{AreNumbered}
 use Rattle.ckr_desk_turn.specs.Select.{is_on, may_select, next_run, run_on_initiator}
 use Rattle.ckr_desk_turn.proofs.NextEvents.BetweenSteps.{completed-follows, lodged-on, refused-follows, selected-follows}
@@ -123,18 +125,25 @@ module _ (layout : Layout) (seen : TurnJobs) (numbered : AreNumbered 1 seen.tabl
               | Some owned ↦ start_plan layout seen row owned (step_in (place_of row))
             ]
 
-    finished-follows : (number : ℕ) (step : TurnStep) (finished : Option ℕ) → Follows (finished_plan row number step finished)
-    finished-follows number step None = tt
-    finished-follows number step (Some rc) = λ not. absurd (true≢false not)
+    cancelled-follows : is_within (place_of row) ≡ true → follows layout tables (CancelledEvent row.number) None ≡ true
+    cancelled-follows within =
+        ap (λ (o : Option RunRow). option_map_or is_running o false) at
+        ∙ and_from (is_in_state On row) (is_within (place_of row)) (ap (λ state. state_number state == state_number On) on) within
 
-    running-follows : (number : ℕ) (step : Option TurnStep) → Follows (option_map_or (running_plan row number) step (Rest Idle))
-    running-follows number None = tt
-    running-follows number (Some step) = finished-follows number step step.finished
+    due-follows : is_within (place_of row) ≡ true → (number : ℕ) (step : TurnStep) (due : NextDue) → Follows (due_plan row number step due)
+    due-follows within number step OneUnit = tt
+    due-follows within number step Checkpoint = tt
+    due-follows within number step Cancel = λ not. cancelled-follows within
+    due-follows within number step (Finished rc) = λ not. absurd (true≢false not)
+
+    running-follows : is_within (place_of row) ≡ true → (number : ℕ) (step : Option TurnStep) → Follows (option_map_or (running_plan row number) step (Rest Idle))
+    running-follows within number None = tt
+    running-follows within number (Some step) = due-follows within number step step.due
 
     placed-follows : (place : Place) → place_of row ≡ place → Follows (placed_plan layout seen row place)
     placed-follows (Before number) is = subst (λ (place : Place). Follows (between_plan layout seen row (step_in place))) is (between-follows (ap is_within is))
     placed-follows (Opened number) is = subst (λ (place : Place). Follows (between_plan layout seen row (step_in place))) is (between-follows (ap is_within is))
-    placed-follows (Within number writes) is = running-follows number (running_in seen row.number)
+    placed-follows (Within number writes) is = running-follows (ap is_within is) number (running_in seen row.number)
 
     fail-follows : (fail : Option Code) → Follows (fail_plan layout seen row fail)
     fail-follows None = placed-follows (place_of row) refl

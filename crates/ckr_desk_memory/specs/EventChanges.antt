@@ -1,5 +1,6 @@
 -- What becomes of the jobs in memory by an event.
-use Rattle.std.specs.Prelude.{◌≡◌, ◌==◌, ℕ, Bool, not, if◌then◌else◌, IsTrue, List, [], ◌∷◌, filter, map, Option, None, Some}
+use Rattle.std.specs.Prelude.{◌≡◌, ◌==◌, ℕ, Bool, not, false, if◌then◌else◌, IsTrue, List, [], ◌∷◌, filter, find, map, Option, None, Some}
+use Rattle.std.specs.Option.{option_map_or}
 use Rattle.ckr_uses.specs.Uses.{uses_of}
 use Rattle.ckr_library.specs.declared.uses.Use.{Use}
 use Rattle.ckr_events.specs.declared.event.Event.{Event}
@@ -8,6 +9,7 @@ use Rattle.ckr_jcl.specs.declared.deck.Job.{Job}
 use Rattle.ckr_points.specs.Rows.{RunRow, TablesModel}
 use Rattle.ckr_queue.specs.declared.entry.QueueEntry.{QueueEntry}
 use Rattle.ckr_queue.specs.Queue.{has_names, is_in, is_queued, may_take, state_of}
+use Rattle.ckr_steps.specs.Units.{served_of}
 use Rattle.ckr_desk_turn.specs.Desk.{is_running}
 use Rattle.ckr_desk_memory.specs.View.{RunningStepView}
 
@@ -43,6 +45,14 @@ is_of_run run on = on.run == run
 abbrev pub without_first : ℕ → List RunningStepView → List RunningStepView
 without_first run [] = []
 without_first run (on ∷ rest) = if is_of_run run on then rest else on ∷ without_first run rest
+
+-- a running step with what is due done, and no entry written
+abbrev pub served_step : RunningStepView → RunningStepView
+served_step on = record on { step = record on.step { state = served_of on.step.parm false on.step.state } }
+
+-- so is the first one of a run, and it stands before the others
+abbrev pub served_in : ℕ → List RunningStepView → List RunningStepView
+served_in run running = option_map_or (λ on. served_step on ∷ without_first run running) (find (is_of_run run) running) running
 
 -- ---- opened
 

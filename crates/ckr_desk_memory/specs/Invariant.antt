@@ -5,7 +5,6 @@ use Rattle.std.specs.Option.{is_none}
 use Rattle.ckr_events.specs.declared.event.Event.{Event}
 use Rattle.ckr_events.specs.declared.event.Event.TheVariants.{Submitted}
 use Rattle.ckr_jcl.specs.declared.deck.Job.{Job}
-use Rattle.ckr_jcl.specs.declared.deck.Parm.{Parm}
 use Rattle.ckr_jcl_decks.specs.Deck.{stored_deck}
 use Rattle.ckr_meaning.specs.EffectiveJob.{Effective, plain_job, step_at}
 use Rattle.ckr_meaning.specs.declared.place.Place.{Place}
@@ -54,17 +53,11 @@ pub record IsPlacedRow (row : RunRow) : Type 0 where
   pub lodged : (is_none row.initiator || is_on_one row.state) ≡ true
   pub code : row.code ≡ None
 
--- the parm asks for no checkpoint, and cancels none
-pub record AsksNone (parm : Parm) : Type 0 where
-  pub checks : parm.chk ≡ 0
-  pub cancels : parm.cancel ≡ 0
-
--- the data sets of a running step are there, and stand apart in the layout; its numbers are in their ranges, and it takes no checkpoints
+-- the data sets of a running step are there, and stand apart in the layout; its numbers are in their ranges
 pub record IsRunnable (layout : Layout) (on : RunningStepView) : Type 0 where
   pub stored : AreStored layout on.sets
   pub there : AreThere on.step.files on.sets
   pub counted : AreCounted on.step
-  pub asks : AsksNone on.step.parm
 
 pub record AreJobs (layout : Layout) (jobs : JobsView) : Type 0 where
   pub laid : AreLaidOut layout jobs.tables.desk.sets

@@ -2,7 +2,8 @@
 use Rattle.std.specs.Prelude.{◌≡◌, ◌≤◌, ℕ, Bool, true, false, IsSome, [], find, Option, None, Some, pred, slice_get}
 use Rattle.std.specs.List.{AllByRecursion}
 use Rattle.ckr_base.specs.declared.code.Code.{Code}
-use Rattle.ckr_base.specs.declared.programs.NextDue.TheVariants.{Unit as OneUnit}
+use Rattle.ckr_base.specs.declared.programs.NextDue.{NextDue}
+use Rattle.ckr_base.specs.declared.programs.NextDue.TheVariants.{Unit as OneUnit, Checkpoint}
 use Rattle.ckr_events.specs.declared.event.Event.{Event}
 use Rattle.ckr_events.specs.declared.event.Event.TheVariants.{Rewritten as RewrittenEvent, Ended as EndedEvent}
 use Rattle.ckr_meaning.specs.EffectiveJob.{OwnedStep, plain_job}
@@ -21,7 +22,7 @@ use Rattle.ckr_points_tables.specs.declared.run_table.RunTable.{RunTable}
 use Rattle.ckr_points_tables.specs.Invariant.{HasRoom}
 use Rattle.ckr_points_tables.specs.View.{RoomyTables, facts_in, facts_of, row_with}
 use Rattle.ckr_desk_turn.specs.declared.plan.Plan.{Plan}
-use Rattle.ckr_desk_turn.specs.declared.plan.Plan.TheVariants.{Rest, Tell, Work}
+use Rattle.ckr_desk_turn.specs.declared.plan.Plan.TheVariants.{Rest, Tell, Work, Pass}
 use Rattle.ckr_desk_turn.specs.declared.reply.How.{How}
 use Rattle.ckr_desk_turn.specs.declared.reply.How.TheVariants.{Completed, Abended, Allocation}
 use Rattle.ckr_desk_turn.specs.declared.reply.Reply.{Reply}
@@ -93,24 +94,32 @@ abbrev pub IsSpelledPlan : Plan → Type 0
 IsSpelledPlan (Rest reply) = IsToldReply reply
 IsSpelledPlan (Tell reply event) = IsSpelled event × IsToldReply reply
 IsSpelledPlan (Work job) = Unit {0}
+IsSpelledPlan (Pass job reply) = IsToldReply reply
 
 -- there is room for it
 abbrev pub HasPlanRoom : RoomyTables → Plan → Type 0
 HasPlanRoom tables (Rest reply) = Unit {0}
 HasPlanRoom tables (Tell reply event) = HasRoom tables event
 HasPlanRoom tables (Work job) = Unit {0}
+HasPlanRoom tables (Pass job reply) = Unit {0}
 
--- where it is a unit, the running step of its run is there, and a unit of it is due
-abbrev pub HasUnitDue : JobsView → Plan → Type 0
-HasUnitDue jobs (Rest reply) = Unit {0}
-HasUnitDue jobs (Tell reply event) = Unit {0}
-HasUnitDue jobs (Work job) = (on : RunningStepView) × (find (is_of_run job) jobs.running ≡ Some on) × (due_of on.step.parm on.step.state ≡ OneUnit)
+-- the running step of a run is there, and this is due
+abbrev pub IsDue : JobsView → ℕ → NextDue → Type 0
+IsDue jobs job due = (on : RunningStepView) × (find (is_of_run job) jobs.running ≡ Some on) × (due_of on.step.parm on.step.state ≡ due)
+
+-- where it is a unit or a checkpoint, that is due
+abbrev pub HasDue : JobsView → Plan → Type 0
+HasDue jobs (Rest reply) = Unit {0}
+HasDue jobs (Tell reply event) = Unit {0}
+HasDue jobs (Work job) = IsDue jobs job OneUnit
+HasDue jobs (Pass job reply) = IsDue jobs job Checkpoint
 
 -- it tells an event
 abbrev pub Tells : Plan → Type 0
 Tells (Rest reply) = ⊥
 Tells (Tell reply event) = Unit {0}
 Tells (Work job) = ⊥
+Tells (Pass job reply) = ⊥
 
 -- what a unit tells, if it tells an event: a rewrite in place, or the end of its run by a code
 abbrev pub is_unit_event : Event → Bool
@@ -122,6 +131,7 @@ abbrev pub IsUnitPlan : Plan → Type 0
 IsUnitPlan (Rest reply) = Unit {0}
 IsUnitPlan (Tell reply event) = is_unit_event event ≡ true
 IsUnitPlan (Work job) = ⊥
+IsUnitPlan (Pass job reply) = ⊥
 
 -- the code with which a unit ends, if it ends its step, has a spelling
 abbrev pub IsWorkedCode : Worked → Type 0

@@ -2,13 +2,13 @@
 use Rattle.std.specs.Prelude.{◌≡◌, ◌≤◌, ◌<◌, ℕ, List, Option, Some}
 use Rattle.std.specs.List.{AllByRecursion}
 use Rattle.ckr_events.specs.declared.event.Event.{Event}
-use Rattle.ckr_events.specs.declared.event.Event.TheVariants.{Started, StepEnded, Ended}
+use Rattle.ckr_events.specs.declared.event.Event.TheVariants.{Started, Cancelled, StepEnded, Ended}
 use Rattle.ckr_meaning.specs.EffectiveJob.{OwnedStep}
 use Rattle.ckr_points.specs.Rows.{RunRow, TablesModel, holding_of, run_of, step_of_run}
 use Rattle.ckr_points_tables.specs.View.{seen_by}
 use Rattle.ckr_desk_turn.specs.Queue.{AreNumbered}
 use Rattle.ckr_desk_memory.specs.declared.jobs.RunningStep.{RunningStep}
-use Rattle.ckr_desk_memory.specs.EventChanges.{without_run}
+use Rattle.ckr_desk_memory.specs.EventChanges.{served_in, without_run}
 use Rattle.ckr_desk_memory.specs.Invariant.{IsAcceptedRow}
 use Rattle.ckr_desk_memory.specs.Preparation.{HasStep}
 use Rattle.ckr_desk_memory.specs.View.{RunningStepView}
@@ -33,9 +33,11 @@ abbrev pub StepStarts : ℕ → ℕ → TablesModel → List RunningStepView →
 StepStarts job step tables old new =
     (row : RunRow) (owned : OwnedStep) → run_of tables job ≡ Some row → step_of_run row step ≡ Some owned → HasNew job owned tables.sets old new
 
--- The running steps behind an event, by the tables behind it: a step is running from its start to its end, or to that of its run.
+-- The running steps behind an event, by the tables behind it: a step is running from its start to its end, or to that of its run; a cancel
+-- that is due is done.
 abbrev pub GoesOn : Event → TablesModel → List RunningStepView → List RunningStepView → Type 0
 GoesOn (Started job step items) tables old new = StepStarts job step tables old new
+GoesOn (Cancelled job) tables old new = new ≡ served_in job old
 GoesOn (StepEnded job step rc writes lengths) tables old new = new ≡ without_run job old
 GoesOn (Ended job ending) tables old new = new ≡ without_run job old
 GoesOn _ tables old new = new ≡ old

@@ -1,9 +1,9 @@
 -- The data sets of a step that starts.
-use Rattle.std.specs.Prelude.{◌≡◌, ◌≤◌, ℕ, Bool, if◌then◌else◌, List, [], ◌∷◌, Option, None, Some}
+use Rattle.std.specs.Prelude.{◌≡◌, ◌≤◌, ℕ, if◌then◌else◌, List, [], ◌∷◌, Option, None, Some}
 use Rattle.std.specs.Option.{option_map, option_map_or}
 use Rattle.ckr_jcl.specs.declared.deck.Dd.{Dd}
 use Rattle.ckr_library.specs.declared.sets.DataSet.{DataSet}
-use Rattle.ckr_library.specs.Catalog.{Catalog, Holding, fresh_holding, set_of}
+use Rattle.ckr_library.specs.Catalog.{Holding, fresh_holding, set_of}
 use Rattle.ckr_library.specs.NameMaps.{Name, Named, entry_at, has_entry, with_entry}
 use Rattle.ckr_meaning.specs.EffectiveJob.{OwnedStep, is_among, names_of}
 use Rattle.ckr_points.specs.Rows.{TableSet}

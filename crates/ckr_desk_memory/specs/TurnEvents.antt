@@ -1,4 +1,4 @@
--- Which events of a turn follow by the tables alone: those between the steps of a run.
+-- Which events of a turn follow by the tables alone: those between the steps of a run, and the cancel of restarts.
 use Rattle.std.specs.Prelude.{◌≡◌, Bool, true, false, None}
 use Rattle.ckr_events.specs.declared.event.Ending.{Ending}
 use Rattle.ckr_events.specs.declared.event.Ending.TheVariants.{Coded}
@@ -7,7 +7,7 @@ use Rattle.ckr_events.specs.declared.event.Event.TheVariants.{Ended, Rewritten, 
 use Rattle.ckr_points.specs.Follows.{follows}
 use Rattle.ckr_points.specs.Rows.{TablesModel}
 use Rattle.ckr_desk_turn.specs.declared.plan.Plan.{Plan}
-use Rattle.ckr_desk_turn.specs.declared.plan.Plan.TheVariants.{Rest, Tell, Work}
+use Rattle.ckr_desk_turn.specs.declared.plan.Plan.TheVariants.{Rest, Tell, Work, Pass}
 use Rattle.ckr_volumes.specs.declared.layout.Layout.{Layout}
 
 abbrev pub is_coded : Ending → Bool
@@ -26,3 +26,4 @@ abbrev pub FollowsBetween : Layout → TablesModel → Plan → Type 0
 FollowsBetween layout tables (Rest reply) = Unit {0}
 FollowsBetween layout tables (Tell reply event) = is_of_step event ≡ false → follows layout tables event None ≡ true
 FollowsBetween layout tables (Work job) = Unit {0}
+FollowsBetween layout tables (Pass job reply) = Unit {0}

@@ -1,9 +1,7 @@
 -- The jobs of a desk in memory, and what a turn sees of them.
-use Rattle.std.specs.Prelude.{ℕ, List, [], map, Option, None, Some}
+use Rattle.std.specs.Prelude.{ℕ, List, [], map}
 use Rattle.std.specs.Option.{option_map_or}
 use Rattle.ckr_points_library.specs.Commit.{output_names}
-use Rattle.ckr_base.specs.declared.programs.NextDue.{NextDue}
-use Rattle.ckr_base.specs.declared.programs.NextDue.TheVariants.{Unit as OneUnit, Checkpoint, Cancel, Finished}
 use Rattle.ckr_jcl.specs.declared.deck.Step.{Step}
 use Rattle.ckr_library.specs.Catalog.{Catalog, Holding}
 use Rattle.ckr_library.specs.NameMaps.{Name, Named, entry_at}
@@ -37,12 +35,6 @@ pub record JobsView : Type 0 where
 
 -- ---- a running step as a turn sees it
 
-abbrev pub finished_by : NextDue → Option ℕ
-finished_by OneUnit = None
-finished_by Checkpoint = None
-finished_by Cancel = None
-finished_by (Finished rc) = Some rc
-
 abbrev pub length_in : Named Holding → Name → ℕ
 length_in sets name = option_map_or (λ (holding : Holding). holding.set.length) (entry_at sets name) 0
 
@@ -58,7 +50,7 @@ running_of tables on = record {
   run = on.run;
   taken = taken_of on.step.state;
   writes = on.step.writes;
-  finished = finished_by (due_of on.step.parm on.step.state);
+  due = due_of on.step.parm on.step.state;
   lengths = option_map_or (lengths_of_row on.sets.sets) (run_of tables on.run) [];
 }
 

@@ -1,10 +1,12 @@
 //! The jobs go on by an event that was written.
 ghost use Rattle.std.specs.Prelude.{◌≡◌, ◌-◌, ◌<◌, ◌≤◌, ◌==◌, true, false, not, filter, length, map, None, Option, IsTrue, vec_len, vec_capacity};
+ghost use Rattle.std.specs.List.{AllByRecursion};
 ghost use Rattle.ckr_jcl.specs.declared.deck.Job.{Job as JobOfDeck};
 ghost use Rattle.ckr_desk_memory.specs.EventChanges.{HasUses, MayQueue};
 ghost use Rattle.ckr_desk_memory.specs.RunningSteps.{GoesOn, MayRun};
 ghost use Rattle.ckr_desk_memory.specs.Invariant.{AreJobs, IsAnyAccepted, MayGoOn};
 ghost use Rattle.ckr_desk_memory.specs.Parts.{step_seen};
+ghost use Rattle.ckr_desk_memory.specs.Plans.{HasCounts};
 ghost use Rattle.ckr_desk_memory.specs.Preparation.{HasQueueRoom, IsPrepared};
 ghost use Rattle.ckr_desk_memory.specs.Rewrite.{HasRecordPlace};
 ghost use Rattle.ckr_desk_memory.specs.declared.jobs.RunningStep.{RunningStep as StepOnIt};
@@ -16,6 +18,7 @@ ghost use Rattle.ckr_desk_turn.specs.Desk.{failed_behind};
 ghost use Rattle.ckr_desk_turn.specs.Queue.{queue_behind, AreNumbered};
 ghost use Rattle.ckr_volumes.specs.declared.layout.Layout.{Layout as LayoutOfDisk};
 
+use crate::served::serve;
 use crate::start::start_step;
 use crate::{Jobs, Prepared, RunningStep};
 use ckr_events::Event;
@@ -74,18 +77,21 @@ fn unmark(failed: &mut Vec<u32>, run: u32)
     failed.retain(|number| *number != run);
 }
 
-/// The running steps behind a plain event, by the tables behind it. The step that starts is at its beginning, and there is room for it.
+/// The running steps behind a plain event, by the tables behind it. The step that starts is at its beginning, and there is room for it. A
+/// cancel is due of the step that cancels.
 fn keep_running(
     event: &Event,
     begun: Option<RunningStep>,
     tables: &Tables,
     running: &mut Vec<RunningStep>,
 )
-    requires { MayRun event.now tables.now.desk begun (vec_capacity running.old - vec_len running.old) }
+    requires may { MayRun event.now tables.now.desk begun (vec_capacity running.old - vec_len running.old) }
+    requires counted { AllByRecursion HasCounts (map step_seen running.old.items) }
     ensures { GoesOn event.now tables.now.desk (map step_seen running.old.items) (map step_seen running.new.items) }
 {
     match event {
         Event::Started { job, step, .. } => start_step(*job, *step, begun, tables, running),
+        Event::Cancelled { job } => serve(running, *job),
         Event::StepEnded { job, .. } => leave(running, *job),
         Event::Ended { job, .. } => leave(running, *job),
         _ => {}

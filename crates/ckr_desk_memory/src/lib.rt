@@ -10,6 +10,7 @@ mod preparation;
 mod replay;
 mod rewrite;
 mod run_code;
+mod served;
 mod set_copy;
 mod start;
 mod turn_events;

@@ -4,7 +4,7 @@ ghost use Rattle.std.specs.List.{AllByRecursion};
 ghost use Rattle.std.specs.Option.{option_map_or};
 ghost use Rattle.ckr_events.specs.declared.event.Event.TheVariants.{StepEnded as StepEndedEvent};
 ghost use Rattle.ckr_desk_memory.specs.Invariant.{AreJobs, IsAcceptedRow};
-ghost use Rattle.ckr_desk_memory.specs.Plans.{next_step, row_for, HasCounts, HasDd, HasPlanRoom, HasUnitDue, IsAnyCode, IsKnown, IsSpelledPlan, Tells};
+ghost use Rattle.ckr_desk_memory.specs.Plans.{next_step, row_for, HasCounts, HasDd, HasPlanRoom, HasDue, IsAnyCode, IsKnown, IsSpelledPlan, Tells};
 ghost use Rattle.ckr_desk_memory.specs.TurnEvents.{FollowsBetween};
 ghost use Rattle.ckr_desk_memory.specs.View.{jobs_of, lengths_of_row};
 ghost use Rattle.ckr_meaning.specs.EffectiveJob.{OwnedStep};
@@ -16,7 +16,7 @@ ghost use Rattle.ckr_points_decks.specs.DeckLimits.{IsWithinLimits};
 ghost use Rattle.ckr_desk_turn.specs.Codes.{code_plan, reached_by};
 ghost use Rattle.ckr_desk_turn.specs.Invariant.{IsTurnOf};
 ghost use Rattle.ckr_desk_turn.specs.Jobs.{is_failed, running_in, step_name_of};
-ghost use Rattle.ckr_desk_turn.specs.Plans.{allocation_ended, between_plan, chosen_plan, fail_plan, free_plan, plan_of, run_plan, running_plan};
+ghost use Rattle.ckr_desk_turn.specs.Plans.{allocation_ended, between_plan, chosen_plan, fail_plan, free_plan, plan_of, cancelled_plan, run_plan, running_plan, suppressed_plan};
 ghost use Rattle.ckr_desk_turn.specs.Queue.{AreNumbered};
 ghost use Rattle.ckr_desk_turn.specs.Spelling.{IsCode};
 
@@ -24,8 +24,8 @@ use crate::run_code::{Extents, code_plan, lengths_of, place_of};
 use crate::{Jobs, RunningStep};
 use ckr_base::{Code, Name8, NextDue, NoMemory};
 use ckr_desk_turn::{
-    How, Plan, Reply, Turn, allocation_event, completed_event, selected_event, started_event,
-    step_ended_event,
+    Chkpt, How, Plan, Reply, Turn, allocation_event, cancelled_event, completed_event,
+    selected_event, started_event, step_ended_event,
 };
 use ckr_meaning::Place;
 use ckr_points::step_in;
@@ -46,23 +46,62 @@ fn step_ended(on: &RunningStep, run: u32, table: &RunTable, rc: u16) -> Plan
     ensures plan { let row = row_for run table.now in result ≡ Plan.Tell (Reply.StepEnded run (step_name_of row) rc) (StepEndedEvent run (step_in_place (place_of_row row)) rc on.now.step.writes (record { items = lengths_of_row on.now.sets.sets row })) }
     ensures spelled { IsSpelledPlan result }
 {
-    let number = step_in(place_of(table));
-    let Some(own) = step_at(&table.job, number) else {
-        unreachable!()
-    };
     Plan::Tell {
         reply: Reply::StepEnded {
             job: run,
-            step: own.name.copied(),
+            step: name_within(run, table),
             rc,
         },
         event: step_ended_event(
             run,
-            number,
+            step_in(place_of(table)),
             rc,
             on.step.progress().writes,
             lengths_of(&Extents::Now(&on.sets), run, table),
         ),
+    }
+}
+
+/// The name of the step that a run is within.
+fn name_within(run: u32, table: &RunTable) -> Name8
+    requires there { IsSome (own_step (row_for run table.now)) }
+    ensures { result ≡ step_name_of (row_for run table.now) }
+{
+    match step_at(&table.job, step_in(place_of(table))) {
+        Some(own) => own.name.copied(),
+        None => unreachable!(),
+    }
+}
+
+/// A checkpoint is due, and the RD in effect suppresses it.
+fn suppressed(run: u32, table: &RunTable) -> Plan
+    requires there { IsSome (own_step (row_for run table.now)) }
+    ensures plan { result ≡ suppressed_plan (row_for run table.now) }
+    ensures spelled { IsSpelledPlan result }
+{
+    Plan::Pass {
+        job: run,
+        reply: Reply::Checkpointed {
+            job: run,
+            step: name_within(run, table),
+            code: Chkpt::Suppressed,
+            id: None,
+        },
+    }
+}
+
+/// A cancel is due.
+fn cancelled(run: u32, table: &RunTable) -> Plan
+    requires there { IsSome (own_step (row_for run table.now)) }
+    ensures plan { result ≡ cancelled_plan (row_for run table.now) }
+    ensures spelled { IsSpelledPlan result }
+{
+    Plan::Tell {
+        reply: Reply::Cancelled {
+            job: run,
+            step: name_within(run, table),
+        },
+        event: cancelled_event(run),
     }
 }
 
@@ -88,8 +127,8 @@ impl Jobs {
         // What it tells between the steps of a run follows, whatever the disk reads.
         ensures follows { IfOk result (FollowsBetween layout.now self.new.tables.desk) }
 
-        // A unit is due where the turn comes to one.
-        ensures works { IfOk result (HasUnitDue self.new) }
+        // A unit or a checkpoint is due where the turn comes to one.
+        ensures due { IfOk result (HasDue self.new) }
 
         // A turn that tells no event takes no memory.
         ensures tells { IfErr result (λ _. Tells (plan_of layout.now (jobs_of self.old) turn)) }
@@ -109,7 +148,7 @@ impl Jobs {
     {
         match plan {
             Plan::Tell { event, .. } => self.tables.make_room(event),
-            Plan::Rest(_) | Plan::Work { .. } => Ok(()),
+            Plan::Rest(_) | Plan::Work { .. } | Plan::Pass { .. } => Ok(()),
         }
     }
 
@@ -213,7 +252,8 @@ impl Jobs {
         code_plan(layout, job, table, code, self.reached(job, table))
     }
 
-    /// A run that is within a step works on, or the step ends where its closing unit is done.
+    /// A run that is within a step does what is due: the step works on, or a checkpoint is suppressed, or restarts are cancelled, or the step
+    /// ends where its closing unit is done. A deck that takes checkpoints runs only where its RD suppresses them (IBM GC28-6708).
     fn within(&self, job: u32, table: &RunTable) -> Plan
         requires known { IsKnown self.now.tables.desk job table.now }
         requires there { IsSome (own_step (row_for job table.now)) }
@@ -225,8 +265,10 @@ impl Jobs {
             return Plan::Rest(Reply::Idle);
         };
         match on.step.due() {
+            NextDue::Unit => Plan::Work { job },
+            NextDue::Checkpoint => suppressed(job, table),
+            NextDue::Cancel => cancelled(job, table),
             NextDue::Finished(rc) => step_ended(on, job, table, rc),
-            NextDue::Unit | NextDue::Checkpoint | NextDue::Cancel => Plan::Work { job },
         }
     }
 

@@ -18,7 +18,7 @@ fn place_of(running: &[RunningStep], run: u32) -> Option<usize>
 }
 
 /// Takes the first running step of a run out.
-fn take_first(running: &mut Vec<RunningStep>, run: u32) -> Option<RunningStep>
+pub(crate) fn take_first(running: &mut Vec<RunningStep>, run: u32) -> Option<RunningStep>
     ensures step { option_map step_seen result ≡ find (is_of_run run) (map step_seen running.old.items) }
     ensures others { map step_seen running.new.items ≡ without_first run (map step_seen running.old.items) }
     ensures room { IsSome result → 0 < vec_capacity running.new - vec_len running.new }

@@ -4,5 +4,6 @@ pub mod StartNeeds
 pub mod Commits
 pub mod Start
 pub mod Plans
+pub mod Cancel
 pub mod Desk
 pub mod Turns

@@ -4,3 +4,4 @@ pub mod Rewrites
 pub mod Standing
 pub mod Events
 pub mod Units
+pub mod Entries

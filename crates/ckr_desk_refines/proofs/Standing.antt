@@ -3,3 +3,4 @@ pub mod StepViews
 pub mod Lengths
 pub mod Plans
 pub mod DeskView
+pub mod Served

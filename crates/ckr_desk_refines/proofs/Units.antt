@@ -5,6 +5,7 @@ pub mod StepLists
 pub mod OwnStep
 pub mod Plans
 pub mod DueUnits
+pub mod Checkpoints
 pub mod Outcomes
 pub mod CodeOutcomes
 pub mod RunningStep

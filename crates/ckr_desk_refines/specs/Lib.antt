@@ -11,3 +11,5 @@ pub mod Moves
 pub mod RewriteRecord
 pub mod Unit
 pub mod Forecast
+pub mod Entries
+pub mod EntryRefusal

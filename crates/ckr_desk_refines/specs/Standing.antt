@@ -14,7 +14,7 @@ use Rattle.ckr_meaning.specs.StepRun.{StepStart}
 use Rattle.ckr_points.specs.Office.{Office}
 use Rattle.ckr_points.specs.Rows.{RunRow, TableSet, run_of}
 use Rattle.ckr_steps.specs.Places.{ShowsWithin, IsStepPlace}
-use Rattle.ckr_steps.specs.Units.{is_closed, taken_of}
+use Rattle.ckr_steps.specs.Units.{AreServed, is_cancelled, is_checkpointed, is_closed, taken_of}
 use Rattle.ckr_desk_turn.specs.Desk.{DeskModel, DeskStep, start_of}
 use Rattle.ckr_volumes.specs.declared.layout.Layout.{Layout}
 
@@ -26,6 +26,7 @@ pub record StandsForStep (layout : Layout) (office : Office) (image : List ℕ) 
   pub start_at : start_of office row ≡ Some start
   pub run : on.run ≡ step.run
   pub stands : IsStepPlace start step.progress.taken step.progress.closed on.step on.sets
+  pub served : AreServed step.progress.checkpointed step.progress.cancelled on.step.state
   pub writes : on.step.writes ≡ step.progress.writes
   pub sets : HasSets office.tables.sets (names_of start.root start.owned) on.sets
   -- it has no other data sets than those of its names
@@ -85,7 +86,13 @@ pub record StandsBut (run : ℕ) (layout : Layout) (jobs : JobsView) (image : Li
 abbrev pub step_on : RunningStepView → DeskStep
 step_on on = record {
   run = on.run;
-  progress = record { taken = taken_of on.step.state; writes = on.step.writes; closed = is_closed on.step.state };
+  progress = record {
+    taken = taken_of on.step.state;
+    writes = on.step.writes;
+    checkpointed = is_checkpointed on.step.state;
+    cancelled = is_cancelled on.step.state;
+    closed = is_closed on.step.state;
+  };
 }
 
 -- the desk by its jobs in memory, where its events have brought about this office

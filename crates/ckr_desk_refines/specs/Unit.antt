@@ -1,6 +1,6 @@
--- A unit of a running step in memory, and the jobs in memory behind it.
+-- A unit of a running step in memory, or a checkpoint that is suppressed, and the jobs in memory behind it.
 use Rattle.std.specs.Prelude.{◌≡◌, ℕ, false, List, ◌∷◌, find, Some}
-use Rattle.ckr_desk_memory.specs.EventChanges.{is_of_run, without_first}
+use Rattle.ckr_desk_memory.specs.EventChanges.{is_of_run, served_in, without_first}
 use Rattle.ckr_desk_memory.specs.View.{JobsView, RunningStepView}
 use Rattle.ckr_meaning.specs.StepRun.{StepStart}
 use Rattle.ckr_desk_refines.specs.Standing.{StandsForDesk}
@@ -30,3 +30,9 @@ pub record IsPutBack (run : ℕ) (moved : RunningStepView) (old put : JobsView) 
   pub tables : put.tables.desk ≡ old.tables.desk
   pub failed : put.failed ≡ old.failed
   pub running : put.running ≡ moved ∷ without_first run old.running
+
+-- the checkpoint that is due of the running step of a run is done, with no entry
+pub record HasPassed (run : ℕ) (old new : JobsView) : Type 0 where
+  pub tables : new.tables.desk ≡ old.tables.desk
+  pub failed : new.failed ≡ old.failed
+  pub running : new.running ≡ served_in run old.running

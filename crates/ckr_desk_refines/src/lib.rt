@@ -3,6 +3,7 @@
 
 mod data_sets;
 mod durable_laws;
+mod entry_laws;
 mod event_laws;
 mod holders;
 mod lengths;
@@ -15,6 +16,12 @@ pub use data_sets::{Listed, free_set, is_held, set_at};
 pub use durable_laws::{
     events_commit_what_a_step_has_written, events_leave_what_is_committed,
     units_leave_what_is_committed,
+};
+pub use entry_laws::{
+    checkpoints_add_their_entry, checkpoints_leave_others, checkpoints_write_their_entry,
+    entries_stay_in_images, events_leave_checkpoints_in_effect, events_leave_entries,
+    kept_entries_are_not_refused, kept_entries_are_read, no_events_keep_no_entry,
+    sound_events_keep_entries_within,
 };
 pub use event_laws::{
     desks_behind_calls_stand, desks_behind_codes_stand, desks_behind_turns_that_tell_stand,

@@ -3,7 +3,7 @@ ghost use Rattle.std.specs.Prelude.{◌≡◌, ◌≢◌, ℕ, List, Option, Som
 ghost use Rattle.arrayvec.specs.ArrayVec.{ArrayVec};
 ghost use Rattle.ckr_points_library.specs.Commit.{output_names};
 ghost use Rattle.ckr_base.specs.declared.code.Code.{Code};
-ghost use Rattle.ckr_events.specs.declared.event.Event.TheVariants.{Ended, Purged, Rewritten, Selected, Started, StepEnded, Submitted};
+ghost use Rattle.ckr_events.specs.declared.event.Event.TheVariants.{Cancelled, Ended, Purged, Rewritten, Selected, Started, StepEnded, Submitted};
 ghost use Rattle.ckr_events.specs.declared.event.Ending.TheVariants.{Allocation, Coded, Completed};
 ghost use Rattle.ckr_events.specs.declared.event.Made.{Made};
 ghost use Rattle.ckr_jcl.specs.declared.deck.Job.{Job};
@@ -27,6 +27,7 @@ pub fn events_leave_the_data_sets_of_other_steps()
     ensures submitted { (now : Office) (job : ℕ) (cards : List ℕ) (deck : Option Job) → LeavesOthers now job (office_after (Submitted job cards, deck) now) }
     ensures selected { (layout : Layout) (now : Office) (job initiator step : ℕ) (id : Option Name) (deck : Option Job) → IsKept layout now → may_come layout now (Selected job initiator 0 step id, deck) ≡ true → LeavesOthers now job (office_after (Selected job initiator 0 step id, deck) now) }
     ensures started { (layout : Layout) (now : Office) (job step : ℕ) (items : ArrayVec Made) (deck : Option Job) → IsKept layout now → may_come layout now (Started job step items, deck) ≡ true → carries layout now (Started job step items) deck ≡ true → LeavesOthers now job (office_after (Started job step items, deck) now) }
+    ensures cancelled { (now : Office) (job : ℕ) (deck : Option Job) → LeavesOthers now job (office_after (Cancelled job, deck) now) }
     ensures step_ended { (layout : Layout) (now : Office) (job step rc writes : ℕ) (lengths : ArrayVec ℕ) (deck : Option Job) → IsKept layout now → may_come layout now (StepEnded job step rc writes lengths, deck) ≡ true → carries layout now (StepEnded job step rc writes lengths) deck ≡ true → LeavesOthers now job (office_after (StepEnded job step rc writes lengths, deck) now) }
     ensures completed { (layout : Layout) (now : Office) (job : ℕ) (deck : Option Job) → IsKept layout now → may_come layout now (Ended job Completed, deck) ≡ true → LeavesOthers now job (office_after (Ended job Completed, deck) now) }
     ensures ended { (layout : Layout) (now : Office) (job rule writes : ℕ) (code : Code) (lengths : ArrayVec ℕ) (deck : Option Job) → IsKept layout now → may_come layout now (Ended job (Coded code rule writes lengths), deck) ≡ true → carries layout now (Ended job (Coded code rule writes lengths)) deck ≡ true → LeavesOthers now job (office_after (Ended job (Coded code rule writes lengths), deck) now) }

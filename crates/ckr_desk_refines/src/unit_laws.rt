@@ -1,4 +1,4 @@
-//! What a unit of a running step comes to, in memory and at the desk. A law is the contract of a function that does nothing.
+//! What a unit of a running step, or a checkpoint that is suppressed, comes to, in memory and at the desk. A law is the contract of a function that does nothing.
 ghost use Rattle.std.specs.Prelude.{◌≡◌, ℕ, List, find, Some, None};
 ghost use Rattle.ckr_base.specs.declared.code.Code.{Code};
 ghost use Rattle.ckr_base.specs.declared.programs.NextDue.TheVariants.{Unit as OneUnit};
@@ -18,13 +18,15 @@ ghost use Rattle.ckr_steps.specs.Inputs.{AreThere};
 ghost use Rattle.ckr_steps.specs.StepUnit.{HasLooked};
 ghost use Rattle.ckr_steps.specs.Units.{due_of};
 ghost use Rattle.ckr_steps.specs.Writes.{Keeps};
-ghost use Rattle.ckr_desk_turn.specs.Desk.{DeskModel, behind, jobs_of, work_of};
+ghost use Rattle.ckr_desk_turn.specs.Desk.{DeskModel, behind, done_by, jobs_of, work_of};
 ghost use Rattle.ckr_desk_turn.specs.Plans.{plan_of};
-ghost use Rattle.ckr_desk_turn.specs.declared.plan.Plan.TheVariants.{Work};
+ghost use Rattle.ckr_desk_turn.specs.declared.plan.Plan.TheVariants.{Pass, Work};
+ghost use Rattle.ckr_desk_turn.specs.Invariant.{IsTurnOf};
+ghost use Rattle.ckr_desk_turn.specs.declared.reply.Reply.{Reply};
 ghost use Rattle.ckr_desk_turn.specs.declared.reply.Turn.{Turn};
 ghost use Rattle.ckr_volumes.specs.declared.layout.Layout.{Layout};
 ghost use Rattle.ckr_desk_refines.specs.Forecast.{IsTold};
-ghost use Rattle.ckr_desk_refines.specs.Unit.{IsPutBack, StandsBehindUnit};
+ghost use Rattle.ckr_desk_refines.specs.Unit.{HasPassed, IsPutBack, StandsBehindUnit};
 
 /// A turn that works is that of a run within a step of its deck. The step is running in memory, and a unit of it is due.
 pub fn running_steps_have_a_unit_due()
@@ -63,4 +65,12 @@ pub fn desks_behind_units_stand()
         → StandsBut run layout put after desk × HasWithinRun desk.layout desk.office run moved.step.writes after × ((work_of run desk).desk ≡ behind event None desk) }
     ensures images { (layout : Layout) (old : JobsView) (before after : List ℕ) (desk : DeskModel) (turn : Turn) (run : ℕ) (on moved : RunningStepView) (worked : Worked) → StandsBehindUnit layout old before after desk turn run on moved worked
         → (from image : List ℕ) → HasCommitted desk.layout desk.office from → Keeps layout on.sets from image → HasCommitted desk.layout desk.office image }
+{}
+
+/// Where the checkpoint that is due was suppressed and the running step of its run goes on with it done, the jobs in memory stand for the
+/// desk behind it. The disk is as it was (IBM GC28-6708).
+pub fn desks_behind_suppressed_checkpoints_stand()
+    ensures { (layout : Layout) (old new : JobsView) (image : List ℕ) (desk : DeskModel) (turn : Turn) (run : ℕ) (reply : Reply)
+        → StandsForDesk layout old image desk → IsTurnOf desk.layout turn → plan_of desk.layout (jobs_of desk) turn ≡ Pass run reply
+        → HasPassed run old new → StandsForDesk layout new image (done_by (Pass run reply) desk).desk }
 {}

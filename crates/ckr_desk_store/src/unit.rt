@@ -2,9 +2,8 @@
 ghost use Rattle.std.specs.Prelude.{◌≡◌, ◌≤◌, ℕ, Bool, false, IfOk, IfErr, IfSome, OnOk, IsTrue, Err};
 ghost use Rattle.ckr_base.specs.declared.programs.NextDue.TheVariants.{Unit as OneUnit};
 ghost use Rattle.ckr_outside.specs.Disk.{EachSince, OnlyReads};
-ghost use Rattle.ckr_meaning.specs.StepRun.{StepStart};
 ghost use Rattle.ckr_steps.specs.Inputs.{AreStored, AreThere};
-ghost use Rattle.ckr_steps.specs.Places.{GoesOn, ShowsWithin, IsStepPlace};
+ghost use Rattle.ckr_steps.specs.Places.{GoesOnAnywhere};
 ghost use Rattle.ckr_steps.specs.StepUnit.{AreCounted, HasWorked, HasWorkedOut, behind_ahead, heads_on, worked_for};
 ghost use Rattle.ckr_steps.specs.Units.{due_of};
 ghost use Rattle.ckr_steps.specs.Writes.{ChangesKeeping, grown};
@@ -75,9 +74,7 @@ impl<D: Disk> Store<D> {
         ensures lengths { OnOk result (sets.new.sets ≡ grown step.old.files ahead.writes.items sets.old.sets) }
         ensures worked { IfOk result (HasWorked D.told (D.content self.old.disk) (D.content self.new.disk) self.old.layout step.old step.new sets.old sets.new) }
         ensures counted { IfOk result (λ _. AreCounted step.new) }
-        ensures goes_on { D.told → IfOk result (λ worked. (start : StepStart) (taken : ℕ) → IsStepPlace start taken false step.old sets.old
-            → ShowsWithin D.told (D.content self.old.disk) self.old.layout start step.old.writes sets.old
-            → GoesOn D.told (D.content self.new.disk) self.old.layout start taken step.old step.new sets.new worked) }
+        ensures goes_on { D.told → IfOk result (GoesOnAnywhere D.told (D.content self.old.disk) (D.content self.new.disk) self.old.layout step.old step.new sets.old sets.new) }
         ensures stored { AreStored self.old.layout sets.new }
         ensures there { AreThere step.new.files sets.new }
         ensures files { step.new.files ≡ step.old.files }

@@ -7,3 +7,5 @@ pub mod Bytes
 pub mod States
 pub mod Ranges
 pub mod Turns
+pub mod Plans
+pub mod Invariant

@@ -12,6 +12,7 @@ pub mod NextEvents
 pub mod Start
 pub mod Units
 pub mod Turns
+pub mod Cancel
 pub mod Rewrite
 pub mod Queue
 pub mod Checkpoints

@@ -7,6 +7,7 @@ use Rattle.std.proofs.lemmas.Bool.{or_left, or_right}
 use Rattle.std.proofs.lemmas.Option.{same_Some}
 use Rattle.ckr_points_library.specs.Commit.{output_names}
 use Rattle.ckr_base.specs.declared.code.Code.{Code}
+use Rattle.ckr_base.specs.declared.programs.NextDue.TheVariants.{Unit as OneUnit}
 use Rattle.ckr_base.proofs.Bools.{bool-cases}
 use Rattle.ckr_base.proofs.Numbers.{equal-true}
 use Rattle.ckr_base.proofs.Options.{option-cases, some-not-none}
@@ -39,8 +40,8 @@ use Rattle.ckr_desk_turn.proofs.NextEvents.WithinStep.{by-step, code-comes}
 
 -- ---- a running step as the jobs see it
 
-abbrev nothing_seen : ℕ → StepProgress → TurnStep
-nothing_seen run progress = record { run = run; taken = progress.taken; writes = progress.writes; finished = None; lengths = [] }
+abbrev pub nothing_seen : ℕ → StepProgress → TurnStep
+nothing_seen run progress = record { run = run; taken = progress.taken; writes = progress.writes; due = OneUnit; lengths = [] }
 
 pub seen-so : (office : Office) (run : ℕ) (progress : StepProgress) (row : RunRow) (start : StepStart) → run_of office.tables run ≡ Some row → start_of office row ≡ Some start → seen office run progress ≡ seen_from office run progress start
 seen-so office run progress row start row_at start_at =

@@ -2,3 +2,4 @@ pub mod WithinStep
 pub mod Units
 pub mod Initiator
 pub mod Series
+pub mod Due

@@ -6,7 +6,7 @@ use Rattle.ckr_points_library.specs.declared.cause.Refusal.{Refusal}
 use Rattle.ckr_points_library.specs.Allocation.{Allocation, allocated_all}
 use Rattle.ckr_events.specs.declared.event.Made.{Made}
 use Rattle.ckr_library.specs.Catalog.{Holding}
-use Rattle.ckr_library.specs.NameMaps.{Name, Named}
+use Rattle.ckr_library.specs.NameMaps.{Named}
 use Rattle.ckr_meaning.specs.EffectiveJob.{OwnedStep, placed_in, stamp_of}
 use Rattle.ckr_points.specs.Rows.{RunRow, TableSet, TablesModel, holding_of, standing_of, table_ways}
 use Rattle.ckr_volumes.specs.declared.layout.Layout.{Layout}

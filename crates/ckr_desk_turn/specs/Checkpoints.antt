@@ -1,21 +1,18 @@
--- Checkpoints: what is due, the entry that a checkpoint writes, when it fits, and what a turn comes to that serves what is due
--- (IBM GC28-6708).
+-- Checkpoints: the entry that a checkpoint writes, when it fits, and what the turn of a checkpoint comes to (IBM GC28-6708).
 use Rattle.std.specs.Prelude.{◌≡◌, ℕ, suc, ◌+◌, ◌-◌, ◌^◌, Bool, true, false, ◌&&◌, nat_le, nat_lt, if◌then◌else◌, List, [], ◌∷◌, ◌++◌, codes, find, length, map, option_and_then, Option, None, Some}
 use Rattle.std.specs.List.{AllByRecursion}
 use Rattle.std.specs.Option.{is_none, option_map_or}
-use Rattle.ckr_base.specs.declared.programs.NextDue.{NextDue}
-use Rattle.ckr_base.specs.declared.programs.NextDue.TheVariants.{Checkpoint, Cancel}
 use Rattle.ckr_base.specs.Digits.{decimal_text, last_digits}
 use Rattle.ckr_entry.specs.declared.point.State.{State}
 use Rattle.ckr_entry.specs.declared.point.State.TheVariants.{Plain, Matched}
 use Rattle.ckr_entry.specs.Entry.{spelling}
 use Rattle.ckr_entry.specs.Parts.{Entry}
 use Rattle.ckr_events.specs.declared.event.Event.{Event}
-use Rattle.ckr_events.specs.declared.event.Event.TheVariants.{Checkpointed as CheckpointedEvent, Cancelled as CancelledEvent}
+use Rattle.ckr_events.specs.declared.event.Event.TheVariants.{Checkpointed as CheckpointedEvent}
 use Rattle.ckr_library.specs.Catalog.{records_of}
 use Rattle.ckr_library.specs.NameMaps.{Name, Named, entry_at, same_name}
 use Rattle.ckr_meaning.specs.EffectiveJob.{name_of}
-use Rattle.ckr_meaning.specs.StepRun.{StepStart, case_at, within_at, work_at}
+use Rattle.ckr_meaning.specs.StepRun.{StepStart, case_at, within_at}
 use Rattle.ckr_meaning.specs.LibrarySet.{AreWithinSpace}
 use Rattle.ckr_points_library.specs.Commit.{output_names}
 use Rattle.ckr_points.specs.Marks.{point_at}
@@ -26,39 +23,16 @@ use Rattle.ckr_points.specs.RuleCases.{rd_in_effect}
 use Rattle.ckr_points.specs.Rows.{EntryPoint, RunRow, TableSet, TablesModel, run_of}
 use Rattle.ckr_points.specs.Tables.{committed, entry_point, is_checkpoints}
 use Rattle.ckr_points_invariant.specs.Invariant.{IsKept}
-use Rattle.ckr_programs.specs.Due.{due_at}
 use Rattle.ckr_rules.specs.RuleTables.{suppresses}
 use Rattle.ckr_volumes.specs.declared.layout.Layout.{Layout}
 use Rattle.ckr_desk_turn.specs.declared.reply.Chkpt.{Chkpt}
 use Rattle.ckr_desk_turn.specs.declared.reply.Chkpt.TheVariants.{Done, NotWritten, Suppressed}
 use Rattle.ckr_desk_turn.specs.declared.reply.Reply.{Reply}
-use Rattle.ckr_desk_turn.specs.declared.reply.Reply.TheVariants.{Checkpointed, Cancelled}
-use Rattle.ckr_desk_turn.specs.Desk.{DeskStep, rc_by}
+use Rattle.ckr_desk_turn.specs.declared.reply.Reply.TheVariants.{Checkpointed}
+use Rattle.ckr_desk_turn.specs.Desk.{DeskStep, checkpoint_done}
 use Rattle.ckr_desk_turn.specs.EntryStates.{checkpoint_state}
 use Rattle.ckr_desk_turn.specs.Invariant.{IsGoing}
 use Rattle.ckr_desk_turn.specs.Units.{StepProgress}
-
--- ---- what is due
-
--- how far a step has come, and whether the checkpoint and the cancel that are due at its count of records are done
-pub record ServedProgress : Type 0 where
-  pub step : StepProgress
-  pub checkpointed : Bool
-  pub cancelled : Bool
-
--- at a new count of records neither is done
-abbrev pub arrived : StepProgress → ServedProgress
-arrived step = record { step = step; checkpointed = false; cancelled = false }
-
--- what the step is to do next, by its PARM
-abbrev pub next_due : StepStart → ServedProgress → NextDue
-next_due start progress = due_at start.owned.step.parm (record {
-  taken = progress.step.taken;
-  checkpointed = progress.checkpointed;
-  cancelled = progress.cancelled;
-  closed = progress.step.closed;
-  return_code = rc_by (work_at start).finish;
-})
 
 -- ---- the identifier of the next entry
 
@@ -163,52 +137,35 @@ checkpoint_event sets row start step =
     (record { items = lengths_with sets start step.writes (entry_end sets row start step) })
     (entry_place sets start) (entry_bytes sets row start step)
 
-abbrev pub cancel_event : RunRow → Event
-cancel_event row = CancelledEvent row.number
-
--- what a turn comes to that serves what is due: its reply, its event or none, and how far the step has come behind it
+-- what the turn of a checkpoint comes to: its reply, its event or none, and how far the step has come behind it
 pub record ServedTurn : Type 0 where
   pub reply : Reply
   pub event : Option Event
-  pub progress : ServedProgress
+  pub progress : StepProgress
 
-abbrev pub checkpointed_by : Chkpt → Option Name → Option Event → RunRow → StepStart → ServedProgress → ServedTurn
+abbrev pub checkpointed_by : Chkpt → Option Name → Option Event → RunRow → StepStart → StepProgress → ServedTurn
 checkpointed_by code id event row start progress = record {
   reply = Checkpointed row.number start.owned.step.name code id;
   event = event;
-  progress = record progress { checkpointed = true };
+  progress = checkpoint_done progress;
 }
 
 -- code 00 where the entry fits, and 08 where it doesn't: then nothing is written
-abbrev pub checkpoint_try : Bool → TablesModel → RunRow → StepStart → ServedProgress → ServedTurn
+abbrev pub checkpoint_try : Bool → TablesModel → RunRow → StepStart → StepProgress → ServedTurn
 checkpoint_try true tables row start progress =
-    checkpointed_by Done (Some (next_id row start)) (Some (checkpoint_event tables.sets row start progress.step)) row start progress
+    checkpointed_by Done (Some (next_id row start)) (Some (checkpoint_event tables.sets row start progress)) row start progress
 checkpoint_try false tables row start progress = checkpointed_by NotWritten (Some (next_id row start)) None row start progress
 
 -- under RD=RNC and RD=NC a checkpoint is suppressed
-abbrev pub checkpoint_unless : Bool → TablesModel → RunRow → StepStart → ServedProgress → ServedTurn
+abbrev pub checkpoint_unless : Bool → TablesModel → RunRow → StepStart → StepProgress → ServedTurn
 checkpoint_unless true tables row start progress = checkpointed_by Suppressed None None row start progress
 checkpoint_unless false tables row start progress =
-    checkpoint_try (checkpoint_fits tables.sets row start progress.step) tables row start progress
+    checkpoint_try (checkpoint_fits tables.sets row start progress) tables row start progress
 
 -- a checkpoint that is due
-abbrev pub checkpoint_turn : TablesModel → RunRow → StepStart → ServedProgress → ServedTurn
+abbrev pub checkpoint_turn : TablesModel → RunRow → StepStart → StepProgress → ServedTurn
 checkpoint_turn tables row start progress =
     checkpoint_unless (suppresses (rd_in_effect row start.number)) tables row start progress
-
--- a cancel that is due, under any RD
-abbrev pub cancel_turn : RunRow → StepStart → ServedProgress → ServedTurn
-cancel_turn row start progress = record {
-  reply = Cancelled row.number start.owned.step.name;
-  event = Some (cancel_event row);
-  progress = record progress { cancelled = true };
-}
-
--- what is due is served, where it is a checkpoint or a cancel
-abbrev pub turn_served : NextDue → TablesModel → RunRow → StepStart → ServedProgress → Option ServedTurn
-turn_served Checkpoint tables row start progress = Some (checkpoint_turn tables row start progress)
-turn_served Cancel tables row start progress = Some (cancel_turn row start progress)
-turn_served _ tables row start progress = None
 
 -- ---- where a checkpoint may be taken
 

@@ -1,5 +1,5 @@
 -- A code: the rule by which the run isn't restarted, and its end.
-use Rattle.std.specs.Prelude.{ℕ, false, List, [], Option, None, Some}
+use Rattle.std.specs.Prelude.{ℕ, false, List, []}
 use Rattle.std.specs.Option.{option_map_or}
 use Rattle.ckr_base.specs.declared.code.Code.{Code}
 use Rattle.ckr_events.specs.declared.event.Event.TheVariants.{Ended as EndedEvent}

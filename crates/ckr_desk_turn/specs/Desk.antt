@@ -1,26 +1,26 @@
 -- The desk between two turns, with all that its jobs are to do: a turn, and the other calls.
-use Rattle.std.specs.Prelude.{ℕ, suc, ◌==◌, Bool, true, false, ◌&&◌, not, if◌then◌else◌, List, [], ◌∷◌, map, filter, find, length, Option, None, Some}
+use Rattle.std.specs.Prelude.{ℕ, suc, ◌==◌, Bool, true, ◌&&◌, not, List, [], ◌∷◌, map, filter, find, length, Option, None, Some}
 use Rattle.std.specs.Option.{option_map_or, is_some}
-use Rattle.ckr_base.specs.declared.programs.Finish.{Finish}
-use Rattle.ckr_base.specs.declared.programs.Finish.TheVariants.{Returned, Abend}
+use Rattle.ckr_base.specs.declared.programs.NextDue.TheVariants.{Unit as OneUnit}
 use Rattle.ckr_events.specs.declared.event.Event.{Event}
-use Rattle.ckr_events.specs.declared.event.Event.TheVariants.{Submitted, Started, StepEnded, Ended, Purged}
+use Rattle.ckr_events.specs.declared.event.Event.TheVariants.{Submitted, Started, Cancelled, StepEnded, Ended, Purged}
 use Rattle.ckr_jcl.specs.declared.deck.Job.{Job}
 use Rattle.ckr_meaning.specs.JobRun.{start_at}
-use Rattle.ckr_meaning.specs.StepRun.{StepStart, work_at}
+use Rattle.ckr_meaning.specs.StepRun.{StepStart}
 use Rattle.ckr_points.specs.Payload.{lengths_at}
 use Rattle.ckr_points.specs.Office.{Office, office_after, leg_of}
 use Rattle.ckr_points.specs.Restart.{place_of, step_in}
-use Rattle.ckr_points.specs.Rows.{RunRow, TablesModel, run_of}
+use Rattle.ckr_points.specs.Rows.{RunRow, run_of}
 use Rattle.ckr_volumes.specs.declared.layout.Layout.{Layout}
 use Rattle.ckr_desk_turn.specs.declared.plan.Plan.{Plan}
-use Rattle.ckr_desk_turn.specs.declared.plan.Plan.TheVariants.{Rest, Tell, Work}
+use Rattle.ckr_desk_turn.specs.declared.plan.Plan.TheVariants.{Rest, Tell, Work, Pass}
 use Rattle.ckr_desk_turn.specs.declared.reply.Reply.{Reply}
 use Rattle.ckr_desk_turn.specs.declared.reply.Reply.TheVariants.{Idle}
 use Rattle.ckr_desk_turn.specs.declared.reply.Turn.{Turn}
+use Rattle.ckr_desk_turn.specs.Due.{next_due}
 use Rattle.ckr_desk_turn.specs.Jobs.{TurnJobs, TurnStep}
 use Rattle.ckr_desk_turn.specs.Plans.{plan_of, is_within}
-use Rattle.ckr_desk_turn.specs.Units.{StepProgress, UnitOutcome, UnitEnd, unit_end, unit_plan}
+use Rattle.ckr_desk_turn.specs.Units.{StepProgress, UnitEnd, arrived, unit_end, unit_plan}
 
 -- a running step: its run, and how far it has come
 pub record DeskStep : Type 0 where
@@ -49,25 +49,20 @@ start_in_run office run = option_map_or (start_of office) (run_of office.tables 
 
 -- ---- its jobs
 
--- the return code of a program that has returned
-abbrev pub rc_by : Finish → ℕ
-rc_by (Returned rc) = rc
-rc_by (Abend code) = 0
-
 -- a running step as its job has it
 abbrev pub seen_from : Office → ℕ → StepProgress → StepStart → TurnStep
 seen_from office run progress start = record {
   run = run;
   taken = progress.taken;
   writes = progress.writes;
-  finished = if progress.closed then Some (rc_by (work_at start).finish) else None;
+  due = next_due start progress;
   lengths = lengths_at start office.tables.sets progress.writes;
 }
 
 abbrev pub seen : Office → ℕ → StepProgress → TurnStep
 seen office run progress =
     option_map_or (seen_from office run progress) (start_in_run office run)
-    (record { run = run; taken = progress.taken; writes = progress.writes; finished = None; lengths = [] })
+    (record { run = run; taken = progress.taken; writes = progress.writes; due = OneUnit; lengths = [] })
 
 abbrev pub jobs_of : DeskModel → TurnJobs
 jobs_of desk = record {
@@ -82,11 +77,24 @@ abbrev pub without_run : ℕ → List DeskStep → List DeskStep
 without_run run running = filter (λ step. not (step.run == run)) running
 
 abbrev pub at_first : ℕ → DeskStep
-at_first run = record { run = run; progress = record { taken = 0; writes = 0; closed = false } }
+at_first run = record { run = run; progress = arrived 0 0 }
+
+-- the running step of a run with this change, before the others
+abbrev pub with_change : ℕ → (StepProgress → StepProgress) → List DeskStep → List DeskStep
+with_change run change running =
+    option_map_or (λ step. record { run = run; progress = change step.progress } ∷ without_run run running) (find (λ step. step.run == run) running) running
+
+-- the checkpoint is done that is due, or the cancel
+abbrev pub checkpoint_done : StepProgress → StepProgress
+checkpoint_done progress = record progress { checkpointed = true }
+
+abbrev pub cancel_done : StepProgress → StepProgress
+cancel_done progress = record progress { cancelled = true }
 
 -- a step is running from its start to its end, or to that of its run
 abbrev pub running_behind : Event → List DeskStep → List DeskStep
 running_behind (Started job step items) running = at_first job ∷ without_run job running
+running_behind (Cancelled job) running = with_change job cancel_done running
 running_behind (StepEnded job step rc writes lengths) running = without_run job running
 running_behind (Ended job ending) running = without_run job running
 running_behind _ running = running
@@ -111,6 +119,7 @@ abbrev pub done_by : Plan → DeskModel → TurnDone
 done_by (Rest reply) desk = record { reply = reply; event = None; desk = desk }
 done_by (Tell reply event) desk = record { reply = reply; event = Some event; desk = behind event None desk }
 done_by (Work job) desk = record { reply = Idle; event = None; desk = desk }
+done_by (Pass job reply) desk = record { reply = reply; event = None; desk = record desk { running = with_change job checkpoint_done desk.running } }
 
 abbrev pub with_progress : ℕ → StepProgress → DeskModel → DeskModel
 with_progress run progress desk = record desk { running = record { run = run; progress = progress } ∷ without_run run desk.running }
@@ -137,6 +146,7 @@ abbrev pub carried_out : Plan → DeskModel → TurnDone
 carried_out (Rest reply) desk = done_by (Rest reply) desk
 carried_out (Tell reply event) desk = done_by (Tell reply event) desk
 carried_out (Work job) desk = work_of job desk
+carried_out (Pass job reply) desk = done_by (Pass job reply) desk
 
 -- a turn
 unfoldable pub turn_of : DeskModel → Turn → TurnDone

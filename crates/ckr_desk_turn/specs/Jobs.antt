@@ -1,18 +1,18 @@
 -- The jobs of a desk: the tables, the running steps, and the runs that were running when the system failed.
-use Rattle.std.specs.Prelude.{ℕ, ◌==◌, Bool, false, not, List, [], ◌∷◌, filter, find, Option, None, Some}
+use Rattle.std.specs.Prelude.{ℕ, ◌==◌, Bool, List, [], find, Option}
 use Rattle.std.specs.Option.{option_map_or}
 use Rattle.std.specs.List.{list_any}
+use Rattle.ckr_base.specs.declared.programs.NextDue.{NextDue}
 use Rattle.ckr_library.specs.NameMaps.{Name}
 use Rattle.ckr_points.specs.Restart.{place_of, step_in}
 use Rattle.ckr_points.specs.Rows.{RunRow, TablesModel, step_of_run}
 
--- a running step: its run, the records taken, the writes made, the return code where its closing unit is done, and the lengths of its
--- outputs, in the order of their DDs
+-- a running step: its run, the records taken, the writes made, what is due, and the lengths of its outputs, in the order of their DDs
 pub record TurnStep : Type 0 where
   pub run : ℕ
   pub taken : ℕ
   pub writes : ℕ
-  pub finished : Option ℕ
+  pub due : NextDue
   pub lengths : List ℕ
 
 pub record TurnJobs : Type 0 where

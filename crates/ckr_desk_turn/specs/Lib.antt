@@ -9,7 +9,9 @@ pub mod Plans
 pub mod Queue
 pub mod Spelling
 pub mod Units
+pub mod Due
 pub mod RunEvents
 pub mod EntryStates
 pub mod Checkpoints
 pub mod EntryForms
+pub mod Taken

@@ -1,5 +1,5 @@
 -- An event that may come next at a desk, and carries what its job gives; and a run within a step.
-use Rattle.std.specs.Prelude.{◌≡◌, ℕ, true, Option, Some, None}
+use Rattle.std.specs.Prelude.{◌≡◌, ℕ, Option, Some, None}
 use Rattle.ckr_events.specs.declared.event.Event.{Event}
 use Rattle.ckr_meaning.specs.declared.place.Place.TheVariants.{Within}
 use Rattle.ckr_meaning.specs.StepRun.{StepStart}

@@ -1,10 +1,12 @@
 -- What a turn comes to, by the tables and the running steps.
-use Rattle.std.specs.Prelude.{ℕ, pred, Bool, true, false, List, [], slice_get, Option, None, Some, Ok, Err}
+use Rattle.std.specs.Prelude.{ℕ, pred, Bool, true, false, [], slice_get, Option, None, Some, Ok, Err}
 use Rattle.std.specs.Option.{option_map_or}
 use Rattle.ckr_points_library.specs.declared.cause.Cause.{Cause}
 use Rattle.ckr_base.specs.declared.code.Code.{Code}
 use Rattle.ckr_base.specs.declared.code.Code.TheVariants.{System}
-use Rattle.ckr_events.specs.declared.event.Event.TheVariants.{Selected as SelectedEvent, Started as StartedEvent, StepEnded as StepEndedEvent, Ended as EndedEvent}
+use Rattle.ckr_base.specs.declared.programs.NextDue.{NextDue}
+use Rattle.ckr_base.specs.declared.programs.NextDue.TheVariants.{Unit as OneUnit, Checkpoint, Cancel, Finished}
+use Rattle.ckr_events.specs.declared.event.Event.TheVariants.{Selected as SelectedEvent, Started as StartedEvent, Cancelled as CancelledEvent, StepEnded as StepEndedEvent, Ended as EndedEvent}
 use Rattle.ckr_events.specs.declared.event.Ending.TheVariants.{Completed as CompletedEnding, Allocation as AllocationEnding}
 use Rattle.ckr_meaning.specs.EffectiveJob.{OwnedStep}
 use Rattle.ckr_meaning.specs.declared.place.Place.{Place}
@@ -13,9 +15,10 @@ use Rattle.ckr_points.specs.Restart.{place_of}
 use Rattle.ckr_points.specs.Rows.{RunRow, step_of_run}
 use Rattle.ckr_volumes.specs.declared.layout.Layout.{Layout}
 use Rattle.ckr_desk_turn.specs.declared.plan.Plan.{Plan}
-use Rattle.ckr_desk_turn.specs.declared.plan.Plan.TheVariants.{Rest, Tell, Work}
+use Rattle.ckr_desk_turn.specs.declared.plan.Plan.TheVariants.{Rest, Tell, Work, Pass}
+use Rattle.ckr_desk_turn.specs.declared.reply.Chkpt.TheVariants.{Suppressed}
 use Rattle.ckr_desk_turn.specs.declared.reply.How.TheVariants.{Completed, Allocation}
-use Rattle.ckr_desk_turn.specs.declared.reply.Reply.TheVariants.{Idle, NothingToFail, Selected, Started, StepEnded, JobEnded}
+use Rattle.ckr_desk_turn.specs.declared.reply.Reply.TheVariants.{Idle, NothingToFail, Selected, Started, Checkpointed, Cancelled, StepEnded, JobEnded}
 use Rattle.ckr_desk_turn.specs.declared.reply.Turn.{Turn}
 use Rattle.ckr_desk_turn.specs.Allocation.{allocation_of, cause_numbers}
 use Rattle.ckr_desk_turn.specs.Select.{next_run, run_on_initiator}
@@ -50,16 +53,26 @@ between_plan layout jobs row number =
 -- ---- within a step
 
 -- the step ends where its closing unit is done, with its return code
-abbrev pub finished_plan : RunRow → ℕ → TurnStep → Option ℕ → Plan
-finished_plan row number step finished =
-    elim finished [
-      | None ↦ Work row.number
-      | Some rc ↦
-          Tell (StepEnded row.number (step_name_of row) rc) (StepEndedEvent row.number number rc step.writes (record { items = step.lengths }))
-    ]
+abbrev pub finished_plan : RunRow → ℕ → TurnStep → ℕ → Plan
+finished_plan row number step rc =
+    Tell (StepEnded row.number (step_name_of row) rc) (StepEndedEvent row.number number rc step.writes (record { items = step.lengths }))
+
+-- a deck that takes checkpoints runs only where its RD suppresses them
+abbrev pub suppressed_plan : RunRow → Plan
+suppressed_plan row = Pass row.number (Checkpointed row.number (step_name_of row) Suppressed None)
+
+-- a cancel comes under any RD
+abbrev pub cancelled_plan : RunRow → Plan
+cancelled_plan row = Tell (Cancelled row.number (step_name_of row)) (CancelledEvent row.number)
+
+abbrev pub due_plan : RunRow → ℕ → TurnStep → NextDue → Plan
+due_plan row number step OneUnit = Work row.number
+due_plan row number step Checkpoint = suppressed_plan row
+due_plan row number step Cancel = cancelled_plan row
+due_plan row number step (Finished rc) = finished_plan row number step rc
 
 abbrev pub running_plan : RunRow → ℕ → TurnStep → Plan
-running_plan row number step = finished_plan row number step step.finished
+running_plan row number step = due_plan row number step step.due
 
 abbrev pub placed_plan : Layout → TurnJobs → RunRow → Place → Plan
 placed_plan layout jobs row (Before number) = between_plan layout jobs row number

@@ -1,5 +1,5 @@
 -- Which events can be kept: those that have a spelling, which is short.
-use Rattle.std.specs.Prelude.{◌≤◌, length, ℕ, Option, IfSome}
+use Rattle.std.specs.Prelude.{◌≤◌, length}
 use Rattle.ckr_base.specs.CodeText.{number_of}
 use Rattle.ckr_base.specs.declared.code.Code.{Code}
 use Rattle.ckr_events.specs.declared.event.Event.{Event}

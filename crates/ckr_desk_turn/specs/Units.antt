@@ -27,10 +27,13 @@ pub data UnitOutcome : Type 0 where
   went : Option (ℕ × List ℕ) → UnitOutcome
   abended : Code → UnitOutcome
 
--- how far a step has come: the records taken, the writes made, and whether the closing unit is done
+-- how far a step has come: the records taken, the writes made, whether the checkpoint and the cancel that may be due at this count of
+-- records are done, and whether the closing unit is
 pub record StepProgress : Type 0 where
   pub taken : ℕ
   pub writes : ℕ
+  pub checkpointed : Bool
+  pub cancelled : Bool
   pub closed : Bool
 
 -- what a unit comes to, and how far the step has come behind it
@@ -47,11 +50,14 @@ abbrev pub first_rewrite : List Write → Option (ℕ × List ℕ)
 first_rewrite [] = None
 first_rewrite (write ∷ writes) = elim (rewrite_of write.output write.image) [ Some at ↦ Some at | None ↦ first_rewrite writes ]
 
+-- behind so many records, with so many writes: at a new count nothing is served yet
+abbrev pub arrived : ℕ → ℕ → StepProgress
+arrived taken writes = record { taken = taken; writes = writes; checkpointed = false; cancelled = false; closed = false }
+
 abbrev pub finished_by : Option Finish → List Write → StepProgress → ℕ → UnitEnd
-finished_by None writes before count =
-    record { unit = went (first_rewrite writes); progress = record { taken = suc before.taken; writes = count; closed = false } }
+finished_by None writes before count = record { unit = went (first_rewrite writes); progress = arrived (suc before.taken) count }
 finished_by (Some (Returned rc)) writes before count =
-    record { unit = went None; progress = record { taken = before.taken; writes = count; closed = true } }
+    record { unit = went None; progress = record before { writes = count; closed = true } }
 finished_by (Some (Abend code)) writes before count = record { unit = abended code; progress = before }
 
 -- the next unit: its writes are made as far as they fit, and SB37 is the code where one doesn't

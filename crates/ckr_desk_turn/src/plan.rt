@@ -12,4 +12,6 @@ pub enum Plan {
     Tell { reply: Reply, event: Event },
     /// The running step of this job does its next unit; the records decide what it comes to.
     Work { job: u32 },
+    /// The checkpoint that is due in the running step of this job is done without an entry, and this is the reply.
+    Pass { job: u32, reply: Reply },
 }

@@ -1,21 +1,31 @@
 //! What holds of each turn of a run within a step. A law is the contract of a function that does nothing.
-ghost use Rattle.std.specs.Prelude.{◌≡◌, ◌≤◌, ◌<◌, ℕ, length, Option, None, Some};
+ghost use Rattle.std.specs.Prelude.{◌≡◌, ◌≤◌, ◌<◌, ℕ, false, length, Option, None, Some};
 ghost use Rattle.ckr_base.specs.declared.code.Code.{Code};
 ghost use Rattle.ckr_base.specs.declared.programs.Finish.TheVariants.{Abend};
 ghost use Rattle.ckr_meaning.specs.Program.{records_taken, unit_done as program_unit};
 ghost use Rattle.ckr_meaning.specs.StepRun.{StepStart, case_at, work_at};
 ghost use Rattle.ckr_points.specs.Rows.{RunRow, run_of};
-ghost use Rattle.ckr_desk_turn.specs.Desk.{DeskModel, DeskStep, carried_out, jobs_of, progress_of, unit_done, work_of};
-ghost use Rattle.ckr_desk_turn.specs.Plans.{run_plan};
+ghost use Rattle.ckr_desk_turn.specs.Desk.{DeskModel, DeskStep, carried_out, jobs_of, progress_of, seen_from, unit_done, work_of};
+ghost use Rattle.ckr_desk_turn.specs.Due.{next_due};
+ghost use Rattle.ckr_desk_turn.specs.Jobs.{is_failed};
+ghost use Rattle.ckr_desk_turn.specs.Plans.{due_plan, run_plan};
 ghost use Rattle.ckr_desk_turn.specs.Units.{StepProgress, abended, first_rewrite, went};
 ghost use Rattle.ckr_desk_turn.specs.NextEvents.{IsWithinStep};
 ghost use Rattle.ckr_desk_turn.specs.Invariant.{IsDesk, IsGoing, IsOpen, Keeps, next_writes};
 
-/// A turn of an initiator whose run is within a step tells an event that may come and carries what the job gives: the step ends with
-/// its return code, a record is rewritten, or the run ends with a code: one that is given, that of a system failure, that of its
-/// program, or SB37. The desk behind it is as its events have brought it about, also where the turn tells none.
+/// A turn of an initiator whose run is within a step tells an event that may come and carries what the job gives: restarts are cancelled,
+/// the step ends with its return code, a record is rewritten, or the run ends with a code: one that is given, that of a system failure,
+/// that of its program, or SB37. The desk behind it is as its events have brought it about, also where the turn tells none: behind a unit
+/// that rewrites nothing, and behind a checkpoint that is suppressed.
 pub fn turns_within_a_step_keep_the_desk()
     ensures { (desk : DeskModel) (row : RunRow) (number committed : ℕ) (start : StepStart) (fail : Option Code) → IsDesk desk → IsWithinStep desk.office row.number row number committed start → Keeps desk (carried_out (run_plan desk.layout (jobs_of desk) fail row) desk) }
+{}
+
+/// A turn of a running step that has no code does what is due in it by its PARM and by how far it has come: the next unit, a checkpoint, the
+/// cancel of restarts, or the end of the step with its return code.
+pub fn turns_within_a_step_do_what_is_due()
+    ensures { (desk : DeskModel) (row : RunRow) (number committed : ℕ) (start : StepStart) (progress : StepProgress) → IsWithinStep desk.office row.number row number committed start → is_failed (jobs_of desk) row.number ≡ false → progress_of desk row.number ≡ Some progress
+        → run_plan desk.layout (jobs_of desk) None row ≡ due_plan row number (seen_from desk.office row.number progress start) (next_due start progress) }
 {}
 
 /// A unit by which a step goes on without a rewrite, or by which it ends with a code of its program, keeps the desk.

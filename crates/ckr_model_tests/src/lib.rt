@@ -4,6 +4,8 @@
 #[cfg(test)]
 mod allocation;
 #[cfg(test)]
+mod checkpoints;
+#[cfg(test)]
 mod desk;
 #[cfg(test)]
 mod follows;

@@ -20,7 +20,7 @@ const PLAIN: [&[u8]; 6] = [
 const RESTARTED: [&[u8]; 2] = [b"//J JOB RESTART=*", b"//S1 EXEC PGM=IEFBR14"];
 
 /// The cards of these lines, each of at most 80 columns, as a reader stores them.
-fn cards_of(alloc: Global, lines: &[&[u8]]) -> Result<Vec<u8>, Fail> {
+pub(crate) fn cards_of(alloc: Global, lines: &[&[u8]]) -> Result<Vec<u8>, Fail> {
     let mut cards = Vec::new(alloc);
     for line in lines {
         for place in 0..80 {
@@ -49,10 +49,12 @@ fn refused(alloc: Global, lines: &[&[u8]]) -> Result<Option<u8>, Fail> {
 #[test]
 fn decks_that_the_desk_runs(rt: HostRuntime) -> Result<(), Fail> {
     let alloc = rt.alloc();
-    let exec: [(&[u8], Option<u8>); 6] = [
+    let exec: [(&[u8], Option<u8>); 8] = [
         (b"//S1 EXEC PGM=IEFBR14", None),
         (b"//S1 EXEC PGM=IEFBR14,RD=R", Some(0)),
-        (b"//S1 EXEC PGM=IEFBR14,RD=NC", Some(0)),
+        (b"//S1 EXEC PGM=IEFBR14,RD=RNC", Some(0)),
+        (b"//S1 EXEC PGM=IEFBR14,RD=NR", None),
+        (b"//S1 EXEC PGM=IEFBR14,RD=NC", None),
         (b"//S1 EXEC PGM=UNKNOWN", Some(14)),
         (b"//S1 EXEC PGM=COPY", Some(16)),
         (b"//S1 EXEC", Some(14)),

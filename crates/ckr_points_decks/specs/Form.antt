@@ -1,35 +1,31 @@
 -- The form of job that the desk runs, and what becomes of a deck.
-use Rattle.std.specs.Prelude.{ℕ, ◌==◌, Bool, true, false, ◌&&◌, if◌then◌else◌, List, Result, Ok, Err}
-use Rattle.std.specs.Option.{is_none}
+use Rattle.std.specs.Prelude.{ℕ, ◌==◌, Bool, true, false, ◌&&◌, not, if◌then◌else◌, List, Option, None, Some, Result, Ok, Err}
+use Rattle.std.specs.Option.{is_none, option_or}
 use Rattle.std.specs.List.{list_all}
-use Rattle.ckr_jcl.specs.declared.deck.Dd.{Dd}
 use Rattle.ckr_jcl.specs.declared.deck.Job.{Job}
-use Rattle.ckr_jcl.specs.declared.deck.Role.{Role}
-use Rattle.ckr_jcl.specs.declared.deck.Role.TheVariants.{Reads, Writes, Updates, Checkpoints, Unused}
+use Rattle.ckr_jcl.specs.declared.deck.Rd.{Rd}
+use Rattle.ckr_jcl.specs.declared.deck.Rd.TheVariants.{R, Rnc, Nr, Nc}
 use Rattle.ckr_jcl.specs.declared.deck.Step.{Step}
 use Rattle.ckr_jcl_decks.specs.Parts.Fault.{Fault}
 use Rattle.ckr_jcl_decks.specs.Deck.{stored_deck}
 use Rattle.ckr_points_decks.specs.declared.submit.Submission.{Submission}
 use Rattle.ckr_points_decks.specs.declared.submit.Submission.TheVariants.{Accepted, Refused}
 
-abbrev pub is_unchecked_role : Role → Bool
-is_unchecked_role Reads = true
-is_unchecked_role Writes = true
-is_unchecked_role Updates = true
-is_unchecked_role Checkpoints = false
-is_unchecked_role Unused = true
+-- whether a step runs under the RD in effect, where it takes checkpoints or not: no restart may come of it, and its checkpoints are suppressed
+abbrev pub is_run_under : Option Rd → Bool → Bool
+is_run_under None takes = not takes
+is_run_under (Some R) takes = false
+is_run_under (Some Rnc) takes = false
+is_run_under (Some Nr) takes = not takes
+is_run_under (Some Nc) takes = true
 
--- no checkpoints are written to the DD
-abbrev pub is_unchecked : Dd → Bool
-is_unchecked dd = is_unchecked_role dd.role
+-- the RD in effect is that of JOB, else that of EXEC
+abbrev pub is_run_step : Option Rd → Step → Bool
+is_run_step job step = is_run_under (option_or job step.rd) (not (step.parm.chk == 0))
 
--- a step that takes no checkpoint and asks for no restart
-abbrev pub is_plain_step : Step → Bool
-is_plain_step step = is_none step.rd && (step.parm.chk == 0 && list_all is_unchecked step.dds)
-
--- the desk takes no checkpoints and makes no restarts yet
+-- the desk makes no restarts and writes no entries yet
 abbrev pub is_run : Job → Bool
-is_run job = is_none job.rd && (is_none job.restart && (is_none job.syschk && list_all is_plain_step job.steps))
+is_run job = is_none job.restart && (is_none job.syschk && list_all (is_run_step job.rd) job.steps)
 
 -- a deck's own refusal comes first
 abbrev pub submission_by : Result Job Fault → Submission

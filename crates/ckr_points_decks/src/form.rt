@@ -1,43 +1,38 @@
 //! The form of job that the desk runs.
 ghost use Rattle.std.specs.Prelude.{◌≡◌};
 ghost use Rattle.std.specs.List.{list_all};
-ghost use Rattle.ckr_points_decks.specs.Form.{is_unchecked, is_plain_step, is_run};
+ghost use Rattle.ckr_points_decks.specs.Form.{is_run, is_run_step, is_run_under};
 
-use ckr_jcl::{Dd, Job, Role, Step};
+use ckr_jcl::{Job, Rd, Step};
 
-/// Whether no checkpoints are written to a DD.
-fn is_unchecked(dd: &Dd) -> bool
-    ensures { result ≡ is_unchecked dd.now }
+/// Whether a step runs under the RD in effect, where it takes checkpoints or not.
+fn is_run_under(rd: Option<Rd>, takes: bool) -> bool
+    ensures { result ≡ is_run_under rd takes }
 {
-    !matches!(dd.role, Role::Checkpoints)
+    match rd {
+        None | Some(Rd::Nr) => !takes,
+        Some(Rd::R) | Some(Rd::Rnc) => false,
+        Some(Rd::Nc) => true,
+    }
 }
 
-fn are_unchecked(dds: &[Dd]) -> bool
-    ensures { result ≡ list_all is_unchecked dds.now }
+/// The RD in effect is that of JOB, else that of EXEC (IBM GC28-6708).
+fn is_run_step(job: Option<Rd>, step: &Step) -> bool
+    ensures { result ≡ is_run_step job step.now }
 {
-    dds.iter().all(|dd| is_unchecked(dd))
+    is_run_under(job.or(step.rd), step.parm.chk != 0)
 }
 
-/// Whether a step takes no checkpoint and asks for no restart.
-fn is_plain_step(step: &Step) -> bool
-    ensures { result ≡ is_plain_step step.now }
+fn are_run(job: Option<Rd>, steps: &[Step]) -> bool
+    ensures { result ≡ list_all (is_run_step job) steps.now }
 {
-    step.rd.is_none() && step.parm.chk == 0 && are_unchecked(step.dds.as_slice())
+    steps.iter().all(|step| is_run_step(job, step))
 }
 
-fn are_plain(steps: &[Step]) -> bool
-    ensures { result ≡ list_all is_plain_step steps.now }
-{
-    steps.iter().all(|step| is_plain_step(step))
-}
-
-/// Whether the desk runs this job: it takes no checkpoints and makes no restarts yet, so neither RD, RESTART, SYSCHK nor the
-/// PARM item CHK nor the DD CHKDD is there.
+/// Whether the desk runs this job. It makes no restarts and writes no entries yet: so neither RESTART nor SYSCHK is there, the RD in
+/// effect on no step is R or RNC, and PARM's item CHK stands only where it is NC, which suppresses CHKPT.
 pub fn is_run(job: &Job) -> bool
     ensures { result ≡ is_run job.now }
 {
-    job.rd.is_none()
-        && job.restart.is_none()
-        && job.syschk.is_none()
-        && are_plain(job.steps.as_slice())
+    job.restart.is_none() && job.syschk.is_none() && are_run(job.rd, job.steps.as_slice())
 }

@@ -15,4 +15,5 @@ pub mod RunEnd
 pub mod Writes
 pub mod Marks
 pub mod Points
+pub mod Counts
 pub mod Start

@@ -75,7 +75,7 @@ get_front (first ∷ rest) row zero apart = refl
 get_front (first ∷ rest) row (suc place) apart = get_front rest row place (λ e. apart (ap suc e))
 
 -- a number that no run has has no leg
-no_leg : (layout : Layout) (office : Office) (number : ℕ) → IsAgreed layout office → run_of office.tables number ≡ None → leg_of office number ≡ None
+pub no_leg : (layout : Layout) (office : Office) (number : ℕ) → IsAgreed layout office → run_of office.tables number ≡ None → leg_of office number ≡ None
 no_leg layout office number kept none =
     option-cases (leg_of office number) (λ e. e)
     (λ leg found.

@@ -207,15 +207,15 @@ pub record IsShortMark (office : Office) (name : Name) (present : Present) : Typ
 abbrev pub IsMarkedShort : Office → Mark → Type 0
 IsMarkedShort office mark = (present : Present) → mark.present ≡ Some present → IsShortMark office mark.name present
 
--- something holds of the points of each run, and of the entries of each data set
-pub record PointsHold (R : ℕ → List StartPoint → Type 0) (E : List KeptEntry → Type 0) (tables : TablesModel) : Type 0 where
-  pub rows : AllByRecursion (λ (row : RunRow). R row.number row.points) tables.runs
+-- something holds of the number of each run, of the entries that it has counted and of its points, and of the entries of each data set
+pub record PointsHold (R : ℕ → ℕ → List StartPoint → Type 0) (E : List KeptEntry → Type 0) (tables : TablesModel) : Type 0 where
+  pub rows : AllByRecursion (λ (row : RunRow). R row.number row.count row.points) tables.runs
   pub entries : EachEntry (λ (table : TableSet). E table.entries) tables.sets
 
 -- something holds of each mark of the points of the tables
 abbrev pub MarksHold : (Mark → Type 0) → TablesModel → Type 0
 MarksHold P tables =
-    PointsHold (λ run points. AllByRecursion P (flat_map (λ point. point.marks) points)) (λ entries. AllByRecursion P (flat_map (λ entry. entry.point.marks) entries)) tables
+    PointsHold (λ run count points. AllByRecursion P (flat_map (λ point. point.marks) points)) (λ entries. AllByRecursion P (flat_map (λ entry. entry.point.marks) entries)) tables
 
 -- what the ended jobs left, what a selected run has at each place to which its job comes, and the marks of all points
 pub record AreStamped (office : Office) : Type 0 where

@@ -1,3 +1,4 @@
 pub mod Invariant
 pub mod Continuations
 pub mod Points
+pub mod Counts

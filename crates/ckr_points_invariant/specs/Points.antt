@@ -58,4 +58,4 @@ AreEntryPoints legs entries =
 
 -- so it is with each point of the tables of an office
 abbrev pub ArePointed : Office → Type 0
-ArePointed office = PointsHold (AreStepPoints office.legs) (AreEntryPoints office.legs) office.tables
+ArePointed office = PointsHold (λ run count. AreStepPoints office.legs run) (AreEntryPoints office.legs) office.tables

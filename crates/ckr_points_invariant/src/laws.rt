@@ -11,6 +11,7 @@ ghost use Rattle.ckr_library.specs.NameMaps.{Name};
 ghost use Rattle.ckr_volumes.specs.declared.layout.Layout.{Layout};
 ghost use Rattle.ckr_points.specs.Payload.{carries};
 ghost use Rattle.ckr_points_invariant.specs.Continuations.{NoneGoesBack, goes_back};
+ghost use Rattle.ckr_points_invariant.specs.Counts.{AreCounted};
 ghost use Rattle.ckr_points_invariant.specs.Invariant.{IsKept};
 ghost use Rattle.ckr_points_invariant.specs.Points.{ArePointed};
 ghost use Rattle.ckr_points.specs.Events.{AreSound, IsNext};
@@ -39,12 +40,14 @@ pub fn events_go_on()
 {}
 
 /// At every prefix of sound events by which no run goes back the tables agree with what the jobs leave, and the events are kept. And each
-/// point, of the steps of all runs and of the entries of all data sets, says what its run's job has at that place.
+/// point, of the steps of all runs and of the entries of all data sets, says what its run's job has at that place. Each run has counted the
+/// entries that it wrote, the point of each step those that its run had written before it started, and each entry those and itself.
 pub fn sound_events_are_kept()
     ensures prefix { (layout : Layout) (front more : List Decked) → AreSound layout (front ++ more) → NoneGoesBack (front ++ more) → IsSoundOffice layout (office front) }
     ensures kept { (layout : Layout) (front more : List Decked) → AreSound layout (front ++ more) → NoneGoesBack (front ++ more) → IsKept layout (office front) }
     ensures all { (layout : Layout) (events : List Decked) → AreSound layout events → NoneGoesBack events → IsKept layout (office events) }
     ensures points { (layout : Layout) (front more : List Decked) → AreSound layout (front ++ more) → NoneGoesBack (front ++ more) → ArePointed (office front) }
+    ensures counts { (layout : Layout) (front more : List Decked) → AreSound layout (front ++ more) → NoneGoesBack (front ++ more) → AreCounted front (office front) }
 {}
 
 /// The events stay kept where a deck is submitted.

@@ -2,7 +2,7 @@
 use Rattle.std.proofs.Common.{◌≡◌, true, refl}
 use Rattle.std.proofs.lemmas.Bool.{false≢true}
 use Rattle.ckr_events.specs.declared.event.Event.{Event}
-use Rattle.ckr_events.specs.declared.event.Event.TheVariants.{Submitted, Selected, Started, Rewritten, StepEnded, Ended, Purged}
+use Rattle.ckr_events.specs.declared.event.Event.TheVariants.{Submitted, Selected, Started, Rewritten, Cancelled, StepEnded, Ended, Purged}
 use Rattle.ckr_points_tables.specs.Invariant.{is_kept_event, is_plain_event}
 
 -- an event that the desk brings about is one that the tables keep
@@ -11,6 +11,7 @@ kept-plain (Submitted job cards) plain = refl
 kept-plain (Selected job initiator earlier step id) plain = plain
 kept-plain (Started job step items) plain = refl
 kept-plain (Rewritten job taken writes lengths place image) plain = refl
+kept-plain (Cancelled job) plain = refl
 kept-plain (StepEnded job step rc writes lengths) plain = refl
 kept-plain (Ended job ending) plain = refl
 kept-plain (Purged job) plain = refl

@@ -92,12 +92,13 @@ is_kept_event (Ended job ending) = true
 is_kept_event (Purged job) = true
 is_kept_event _ = false
 
--- those that the desk brings about by now: no checkpoints either
+-- those that the desk brings about by now: no entry is written either
 abbrev pub is_plain_event : Event → Bool
 is_plain_event (Submitted job cards) = true
 is_plain_event (Selected job initiator earlier step id) = earlier == 0
 is_plain_event (Started job step made) = true
 is_plain_event (Rewritten job taken writes lengths place image) = true
+is_plain_event (Cancelled job) = true
 is_plain_event (StepEnded job step rc writes lengths) = true
 is_plain_event (Ended job ending) = true
 is_plain_event (Purged job) = true

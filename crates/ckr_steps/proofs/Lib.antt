@@ -7,6 +7,7 @@ pub mod UnitWrites
 pub mod Counts
 pub mod Answers
 pub mod NextUnits
+pub mod Served
 pub mod Writes
 pub mod Inputs
 pub mod NextHeads

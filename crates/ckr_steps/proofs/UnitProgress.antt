@@ -40,7 +40,7 @@ use Rattle.ckr_steps.specs.declared.step_run.Worked.{Worked}
 use Rattle.ckr_steps.specs.declared.step_run.Worked.TheVariants.{Went, Rewrite}
 use Rattle.ckr_steps.specs.Files.{files_of, set_of_source}
 use Rattle.ckr_steps.specs.Inputs.{AreThere}
-use Rattle.ckr_steps.specs.Units.{state_of, taken_of, is_closed}
+use Rattle.ckr_steps.specs.Units.{AreServed, state_of, taken_of, is_cancelled, is_checkpointed, is_closed}
 use Rattle.ckr_steps.specs.Writes.{is_behind, room_of, rewrite_in, rewrite_first, rewrite_of, done_unless, done_of, count_unless, count_of, worked_by, answer_of, grown, Shows, IsShown, put_all}
 use Rattle.ckr_steps.specs.StepUnit.{unit_for, writes_for, worked_for, behind_unit, done_for, HasDone, HasWritten}
 use Rattle.ckr_steps.specs.Places.{files_at, names_at, HasSetFor, IsPlain, first_room, return_of, IsStepPlace, ShowsWithin, AreNext, GoesOn}
@@ -48,6 +48,7 @@ use Rattle.ckr_steps.proofs.NextHeads.{IsNamed, source_named, keeps_input, first
 use Rattle.ckr_steps.proofs.Inputs.{IsKept, first_within}
 use Rattle.ckr_steps.proofs.UnitWrites.{done_all}
 use Rattle.ckr_steps.proofs.NextUnits.{done_is, stands_more, stands_same, taken_is, within_records, closed_is, returns_as}
+use Rattle.ckr_steps.proofs.Served.{unit-closed, unit-fresh}
 use Rattle.ckr_steps.proofs.Writes.{Kinds, go_behind, rewrites, rewrite, unit_kinds, is_main, front_of_all, rest_of_all, work_mains, program_at, parm_at}
 use Rattle.ckr_steps.proofs.LaterWrites.{GoWell, all_put, same_room, room_left, all_fit, room_behind_all, some_fit, ends_for_space, work_fits, within_front, within_more, written_from, room_after-append}
 
@@ -246,6 +247,7 @@ module _ (told : Type 0) (image later : List ℕ) (layout : Layout) (start : Ste
           (ap Went (sym (taken_is new.state (case_at start) (taken + 1) state)) ∙ sym (answer true None (ap is_some fits) (ends_as ∙ one.goes_on)))
           (record {
             closed = false;
+            served = subst (AreServed false false) (sym parts.state) (unit-fresh old.parm old.state heads (ends_as ∙ one.goes_on));
             stands = record {
               may = stands.may;
               parm = parts.parm ∙ stands.parm;
@@ -274,6 +276,7 @@ module _ (told : Type 0) (image later : List ℕ) (layout : Layout) (start : Ste
           (ap Went (sym (taken_is new.state (case_at start) taken state)) ∙ sym (answer true (Some (Finishes.Returned rc)) (ap is_some fits) finish))
           (record {
             closed = true;
+            served = subst (AreServed (is_checkpointed old.state) (is_cancelled old.state)) (sym parts.state) (unit-closed old.parm old.state heads rc finish);
             stands = record {
               may = stands.may;
               parm = parts.parm ∙ stands.parm;
@@ -402,6 +405,7 @@ module _ (told : Type 0) (image later : List ℕ) (layout : Layout) (start : Ste
                 ∙ ap (λ (r : OutputRoom). Some r) (sym same);
             finish = λ e. absurd (false≢true e);
           };
+          served = subst (AreServed false false) (sym rewriting_parts.state) (unit-fresh old.parm old.state heads goes);
           program = sym (program_at start) ∙ is;
           rewritten = kept.set;
           name = updated.0;

@@ -1,5 +1,5 @@
 -- A running step at a place of its job's step: so many records are taken, and the library and the disk have what was written so far.
-use Rattle.std.specs.Prelude.{◌≡◌, ◌<◌, ◌≤◌, ℕ, ◌+◌, Bool, true, false, if◌then◌else◌, List, [], ◌∷◌, ◌++◌, length, slice_get, Option, None, Some}
+use Rattle.std.specs.Prelude.{◌≡◌, ◌<◌, ◌≤◌, ℕ, ◌+◌, Bool, true, false, ◌&&◌, if◌then◌else◌, List, [], ◌∷◌, ◌++◌, length, slice_get, Option, None, Some}
 use Rattle.ckr_base.specs.declared.code.Code.{Code}
 use Rattle.ckr_base.specs.declared.programs.Finish.TheVariants as Finishes
 use Rattle.ckr_base.specs.declared.programs.Heads.{Heads}
@@ -32,7 +32,7 @@ use Rattle.ckr_steps.specs.declared.step_run.StepRun.{StepRun}
 use Rattle.ckr_steps.specs.declared.step_run.Worked.{Worked}
 use Rattle.ckr_steps.specs.declared.step_run.Worked.TheVariants.{Went, Rewrite, Abend}
 use Rattle.ckr_steps.specs.Files.{files_of, set_of_source}
-use Rattle.ckr_steps.specs.Units.{is_closed}
+use Rattle.ckr_steps.specs.Units.{AreServed, is_cancelled, is_checkpointed, is_closed}
 use Rattle.ckr_steps.specs.Writes.{room_of, Shows}
 
 -- the files of a step that starts
@@ -104,15 +104,17 @@ pub record AreNext (case : ProgramCase) (state : State) (heads : Heads) : Type 0
 
 -- ---- a unit from there
 
--- a record more is taken, or the program is closed
-pub record GoesTo (told : Type 0) (image : List ℕ) (layout : Layout) (start : StepStart) (taken : ℕ) (step : StepRun) (library : Catalog) : Type 0 where
+-- a record more is taken, at whose count nothing is served yet, or the program is closed, at the same count
+pub record GoesTo (told : Type 0) (image : List ℕ) (layout : Layout) (start : StepStart) (taken : ℕ) (old step : StepRun) (library : Catalog) : Type 0 where
   pub closed : Bool
   pub stands : IsStepPlace start taken closed step library
+  pub served : AreServed (closed && is_checkpointed old.state) (closed && is_cancelled old.state) step.state
   pub shows : ShowsWithin told image layout start step.writes library
 
 -- the writes for a record more are those for the records before and this rewrite, which isn't on the disk yet
 pub record IsToRewrite (told : Type 0) (image : List ℕ) (layout : Layout) (start : StepStart) (before taken place : ℕ) (bytes : List ℕ) (old new : StepRun) (library : Catalog) : Type 0 where
   pub stands : IsStepPlace start taken false new library
+  pub served : AreServed false false new.state
   pub program : start.owned.step.program ≡ Update
   pub rewritten : LibrarySet
   pub name : Name
@@ -134,9 +136,15 @@ pub record EndsSo (told : Type 0) (image : List ℕ) (layout : Layout) (start : 
 
 -- what an answer says of the step that stood behind so many records taken
 abbrev pub GoesOn : Type 0 → List ℕ → Layout → StepStart → ℕ → StepRun → StepRun → Catalog → Worked → Type 0
-GoesOn told image layout start before old new library (Went taken) = GoesTo told image layout start taken new library
+GoesOn told image layout start before old new library (Went taken) = GoesTo told image layout start taken old new library
 GoesOn told image layout start before old new library (Rewrite place bytes taken) = IsToRewrite told image layout start before taken place bytes old new library
 GoesOn told image layout start before old new library (Abend code) = EndsSo told image layout start code new library
+
+-- wherever the step stood in its job, it goes on from there as its work does
+abbrev pub GoesOnAnywhere : Type 0 → List ℕ → List ℕ → Layout → StepRun → StepRun → Catalog → Catalog → Worked → Type 0
+GoesOnAnywhere told before after layout old new library later worked =
+    (start : StepStart) (taken : ℕ) → IsStepPlace start taken false old library → ShowsWithin told before layout start old.writes library
+    → GoesOn told after layout start taken old new later worked
 
 -- what is due of a step that stands somewhere: it has finished exactly where it is closed, with the return code of its work
 abbrev pub DueAt : StepStart → Bool → NextDue → Type 0

@@ -1,5 +1,5 @@
 -- The state of a step's program, whichever it is: the first one, what is due, and what a unit makes of it.
-use Rattle.std.specs.Prelude.{◌≤◌, ◌<◌, ℕ, ◌+◌, ◌*◌, ◌^◌, Bool, true, false, if◌then◌else◌}
+use Rattle.std.specs.Prelude.{◌≡◌, ◌≤◌, ◌<◌, ℕ, ◌+◌, ◌*◌, ◌^◌, Bool, true, false, if◌then◌else◌}
 use Rattle.ckr_base.specs.declared.programs.Heads.{Heads}
 use Rattle.ckr_base.specs.declared.programs.NextDue.{NextDue}
 use Rattle.ckr_base.specs.declared.programs.UnitDone.{UnitDone}
@@ -59,6 +59,19 @@ sum_of (Matched state) = 0
 abbrev pub is_closed : State → Bool
 is_closed (Plain state) = state.closed
 is_closed (Matched state) = state.closed
+
+abbrev pub is_checkpointed : State → Bool
+is_checkpointed (Plain state) = state.checkpointed
+is_checkpointed (Matched state) = state.checkpointed
+
+abbrev pub is_cancelled : State → Bool
+is_cancelled (Plain state) = state.cancelled
+is_cancelled (Matched state) = state.cancelled
+
+-- whether the checkpoint, and the cancel, that may be due at its count of records are done
+pub record AreServed (checkpointed cancelled : Bool) (state : State) : Type 0 where
+  pub checkpoint : is_checkpointed state ≡ checkpointed
+  pub cancel : is_cancelled state ≡ cancelled
 
 abbrev pub program_of : State → Kind
 program_of (Plain state) = state.kind

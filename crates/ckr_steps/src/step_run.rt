@@ -65,7 +65,7 @@ pub struct StepRun {
 
 impl StepRun {
     ghost use Rattle.ckr_steps.specs.StepUnit.{AreCounted, behind_ahead, heads_on, worked_for, HasWorked, HasWorkedOut};
-    ghost use Rattle.ckr_steps.specs.Places.{files_at, MayStart, IsStepPlace, ShowsWithin, GoesOn, DueAt, HasFewCards, HasMade};
+    ghost use Rattle.ckr_steps.specs.Places.{files_at, MayStart, IsStepPlace, GoesOnAnywhere, DueAt, HasFewCards, HasMade};
 
     /// A step that starts, by the numbers of the run's root and of the run that owns the step, each at most 9,999,999. It keeps
     /// its own copy of the records in the deck and of the PARM, which is one that `read_parm` gives for the program.
@@ -243,9 +243,7 @@ impl StepRun {
 
         // From wherever the step stands in its job, it goes on as its work does: a record more is taken or the program is closed, with
         // the writes for it behind those before, or the step ends as its work ends.
-        ensures goes_on { D.told → IfOk result (λ worked. (start : StepStart) (taken : ℕ) → IsStepPlace start taken false self.old library.old
-            → ShowsWithin D.told (D.content disk.old) layout.now start self.old.writes library.old
-            → GoesOn D.told (D.content disk.new) layout.now start taken self.old self.new library.new worked) }
+        ensures goes_on { D.told → IfOk result (GoesOnAnywhere D.told (D.content disk.old) (D.content disk.new) layout.now self.old self.new library.old library.new) }
         ensures stored { AreStored layout.now library.new }
         ensures there { AreThere self.new.files library.new }
         ensures files { self.new.files ≡ self.old.files }

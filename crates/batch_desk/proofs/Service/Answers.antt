@@ -2,6 +2,7 @@
 use Rattle.std.proofs.Common.{◌≡◌, ◌⊎◌, ℕ, Bool, true, false, cond, ◌||◌, ◌&&◌, List, [], ◌∷◌, ◌++◌, length, Result, Ok, Err, OnOk, ⊎_elim, inl, inr, refl, sym, ap, subst, ◌∙◌, append-nil}
 use Rattle.ckr_base.proofs.Bools.{or-false, or-true}
 use Rattle.ckr_desk.specs.Model.Rows.{TablesModel}
+use Rattle.ckr_desk.specs.Model.Turn.{Turn}
 use Rattle.ckr_cards.specs.Session.{Handed}
 use Rattle.ckr_cards.specs.Session.Handed.{Deck, Order as Command}
 use Rattle.ckr_desk.specs.Requests.{call_fits, event_in, spelled}
@@ -109,20 +110,20 @@ comes_with fits came fit = comes_all (cond fits came []) [] came (ap (λ (f : Bo
 -- ---- a command: the order is what the line asks for
 
 module _ (s : RoomyDesk) (number : ℕ) (line : List ℕ) (order : Order) (reads : order ≡ order_in s line) where
-  turns_not_served : (halt : Halt) (initiator n : ℕ) (t u : List ℕ) → order ≡ Turns initiator n → (came kept : List (List ℕ))
-      → TurnsHalt s.desk.layout initiator halt n s t u came kept → HaltsSo halt s (Command number line ∷ []) t u came kept
-  turns_not_served Halts.Memory initiator n t u is came kept why =
-      let same : Turns initiator n ≡ order_in s line = sym is ∙ reads in
+  turns_not_served : (halt : Halt) (turn : Turn) (n : ℕ) (t u : List ℕ) → order ≡ Turns turn n → (came kept : List (List ℕ))
+      → TurnsHalt s.desk.layout turn halt n s t u came kept → HaltsSo halt s (Command number line ∷ []) t u came kept
+  turns_not_served Halts.Memory turn n t u is came kept why =
+      let same : Turns turn n ≡ order_in s line = sym is ∙ reads in
       comes_one s (Command number line) came kept (subst (λ (events : List (List ℕ)). ComesTo events came kept) (ap (order_events s) same) why)
-  turns_not_served Halts.Misread initiator n t u is came kept why = absurd why
-  turns_not_served Halts.Book initiator n t u is came kept why =
-      let same : Turns initiator n ≡ order_in s line = sym is ∙ reads in
+  turns_not_served Halts.Misread turn n t u is came kept why = absurd why
+  turns_not_served Halts.Book turn n t u is came kept why =
+      let same : Turns turn n ≡ order_in s line = sym is ∙ reads in
       request_full s (Command number line) t u came kept (sym (ap (order_fits s) same) ∙ why.0)
       (why.1 ∙ ap (λ o. t ++ answer_text (BrokenOff s.desk.layout (initiator_of o) (replies_to s o))) same)
       (why.2 ∙ ap (order_events s) same) why.3
-  turns_not_served Halts.Disk initiator n t u is came kept why =
-      let same : Turns initiator n ≡ order_in s line = sym is ∙ reads in (
-        answer_text (BrokenOff s.desk.layout initiator why.replies),
+  turns_not_served Halts.Disk turn n t u is came kept why =
+      let same : Turns turn n ≡ order_in s line = sym is ∙ reads in (
+        answer_text (BrokenOff s.desk.layout turn.initiator why.replies),
         why.told,
         record {
           served = [];
@@ -139,9 +140,9 @@ module _ (s : RoomyDesk) (number : ℕ) (line : List ℕ) (order : Order) (reads
         },
       )
 
-  pub turns_halted_so : (initiator n : ℕ) (t u : List ℕ) → order ≡ Turns initiator n → (halt : Halt) (came kept : List (List ℕ))
-      → TurnsHalt s.desk.layout initiator halt n s t u came kept → HaltsSo halt s (Command number line ∷ []) t u came kept
-  turns_halted_so initiator n t u is halt came kept why = turns_not_served halt initiator n t u is came kept why
+  pub turns_halted_so : (turn : Turn) (n : ℕ) (t u : List ℕ) → order ≡ Turns turn n → (halt : Halt) (came kept : List (List ℕ))
+      → TurnsHalt s.desk.layout turn halt n s t u came kept → HaltsSo halt s (Command number line ∷ []) t u came kept
+  turns_halted_so turn n t u is halt came kept why = turns_not_served halt turn n t u is came kept why
 
   pub list_halted_so : (name : _) (t u : List ℕ) → order ≡ ListOf name → (halt : Halt) (came kept : List (List ℕ)) → ListHalt halt t u came kept → HaltsSo halt s (Command number line ∷ []) t u came kept
   list_halted_so name t u is Halts.Memory came kept why =

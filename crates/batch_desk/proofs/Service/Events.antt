@@ -4,10 +4,11 @@ use Rattle.std.proofs.lemmas.Bool.{false≢true}
 use Rattle.ckr_base.proofs.Bools.{and-first, and-second}
 use Rattle.ckr_cards.specs.Session.{Handed}
 use Rattle.ckr_desk.specs.Model.Reply.{Reply}
+use Rattle.ckr_desk.specs.Model.Turn.{Turn}
 use Rattle.ckr_desk.specs.Requests.{spelled}
 use Rattle.ckr_desk.specs.State.{RoomyDesk}
 use Rattle.ckr_desk.specs.Turn.{behind_turn, event_of_turn}
-use Rattle.batch_desk.specs.Calls.{after, fits, after_all, all_fit, plain_turn, turns}
+use Rattle.batch_desk.specs.Calls.{after, fits, after_all, all_fit, turns}
 use Rattle.batch_desk.specs.Events.{behind_turns, turn_event, turns_events, request_events, events_told}
 use Rattle.batch_desk.specs.Service.{ComesTo}
 
@@ -87,31 +88,31 @@ comes_before s xs ys came kept c =
 
 -- ---- turns
 
-module _ (initiator : ℕ) where
+module _ (turn : Turn) where
   -- one turn more
-  pub behind_turns-more : (n : ℕ) (s : RoomyDesk) → behind_turns initiator (suc n) s ≡ behind_turn (behind_turns initiator n s) (plain_turn initiator)
+  pub behind_turns-more : (n : ℕ) (s : RoomyDesk) → behind_turns turn (suc n) s ≡ behind_turn (behind_turns turn n s) turn
   behind_turns-more zero s = refl
-  behind_turns-more (suc n) s = behind_turns-more n (behind_turn s (plain_turn initiator))
+  behind_turns-more (suc n) s = behind_turns-more n (behind_turn s turn)
 
-  pub turns_events-more : (n : ℕ) (s : RoomyDesk) → turns_events initiator (suc n) s ≡ turns_events initiator n s ++ turn_event initiator n s
-  turns_events-more zero s = append-nil (turn_event initiator zero s)
+  pub turns_events-more : (n : ℕ) (s : RoomyDesk) → turns_events turn (suc n) s ≡ turns_events turn n s ++ turn_event turn n s
+  turns_events-more zero s = append-nil (turn_event turn zero s)
   turns_events-more (suc n) s =
-      let first = spelled (event_of_turn s (plain_turn initiator)) in
-      let behind = behind_turn s (plain_turn initiator) in
-      ap (λ l. first ++ l) (turns_events-more n behind) ∙ sym (append_assoc first (turns_events initiator n behind) (turn_event initiator n behind))
+      let first = spelled (event_of_turn s turn) in
+      let behind = behind_turn s turn in
+      ap (λ l. first ++ l) (turns_events-more n behind) ∙ sym (append_assoc first (turns_events turn n behind) (turn_event turn n behind))
 
-  turns_events-split : (made rest : List Reply) (s : RoomyDesk) → turns_events initiator (length (made ++ rest)) s ≡ turns_events initiator (length made) s ++ turns_events initiator (length rest) (behind_turns initiator (length made) s)
+  turns_events-split : (made rest : List Reply) (s : RoomyDesk) → turns_events turn (length (made ++ rest)) s ≡ turns_events turn (length made) s ++ turns_events turn (length rest) (behind_turns turn (length made) s)
   turns_events-split [] rest s = refl
   turns_events-split (reply ∷ made) rest s =
-      let first = spelled (event_of_turn s (plain_turn initiator)) in
-      let behind = behind_turn s (plain_turn initiator) in
+      let first = spelled (event_of_turn s turn) in
+      let behind = behind_turn s turn in
       ap (λ l. first ++ l) (turns_events-split made rest behind)
-      ∙ sym (append_assoc first (turns_events initiator (length made) behind) (turns_events initiator (length rest) (behind_turns initiator (length made) behind)))
+      ∙ sym (append_assoc first (turns_events turn (length made) behind) (turns_events turn (length rest) (behind_turns turn (length made) behind)))
 
   -- those of the first turns come first
-  pub turns_events-front : (n : ℕ) (s : RoomyDesk) (made rest : List Reply) → turns initiator n s ≡ made ++ rest
-      → turns_events initiator (length (turns initiator n s)) s ≡ turns_events initiator (length made) s ++ turns_events initiator (length rest) (behind_turns initiator (length made) s)
-  turns_events-front n s made rest is = ap (λ (rs : List Reply). turns_events initiator (length rs) s) is ∙ turns_events-split made rest s
+  pub turns_events-front : (n : ℕ) (s : RoomyDesk) (made rest : List Reply) → turns turn n s ≡ made ++ rest
+      → turns_events turn (length (turns turn n s)) s ≡ turns_events turn (length made) s ++ turns_events turn (length rest) (behind_turns turn (length made) s)
+  turns_events-front n s made rest is = ap (λ (rs : List Reply). turns_events turn (length rs) s) is ∙ turns_events-split made rest s
 
   pub length-more : (made : List Reply) (reply : Reply) → length (made ++ reply ∷ []) ≡ suc (length made)
   length-more made reply = length-append made (reply ∷ []) ∙ (let more : length made + 1 ≡ suc (length made) = omega arith in more)

@@ -11,9 +11,10 @@ use Rattle.ckr_desk.specs.Requests.{spelled}
 use Rattle.ckr_desk.specs.Turn.{behind_turn, event_of_turn, reply_of, turn_fits}
 use Rattle.ckr_desk.specs.State.{RoomyDesk}
 use Rattle.ckr_desk.specs.Model.Reply.{Reply}
+use Rattle.ckr_desk.specs.Model.Turn.{Turn}
 use Rattle.ckr_desk.specs.Model.Layout.{Layout}
 use Rattle.batch_desk.specs.Texts.{goes_on, is_same_work, work_in, before_runs, run_text, reply_text, runs_of, with_waiting, told_runs, answer_text}
-use Rattle.batch_desk.specs.Calls.{Turned, BrokenOff, plain_turn, turns, after_turns, turns_fit, is_idle}
+use Rattle.batch_desk.specs.Calls.{Turned, BrokenOff, turns, after_turns, turns_fit, is_idle}
 use Rattle.batch_desk.specs.declared.stop.Halt.{Halt}
 use Rattle.batch_desk.specs.declared.stop.Halt.TheVariants as Halts
 use Rattle.batch_desk.specs.Events.{behind_turns, turns_events}
@@ -71,6 +72,17 @@ before_runs-before_runs : (a : Reply) (b : Reply) (k : ℕ) (runs : List (Reply 
 before_runs-before_runs a b k [] = refl
 before_runs-before_runs a b k (next ∷ runs) = joined (goes_on a b) (goes_on b next.0) a b k next runs refl refl
 
+-- ---- what is told of replies that were broken off
+
+told_runs-last : (runs : List (Reply × ℕ)) (run : Reply × ℕ) → told_runs (runs ++ run ∷ []) ≡ runs ++ told_runs (run ∷ [])
+told_runs-last [] run = refl
+told_runs-last (x ∷ []) run = refl
+told_runs-last (x ∷ y ∷ xs) run = ap (λ l. x ∷ l) (told_runs-last (y ∷ xs) run)
+
+told_behind : (ended : List (Reply × ℕ)) (waiting : Waiting) → (waiting ≡ None → ended ≡ []) → told_runs (ended ++ with_waiting waiting []) ≡ ended ++ told_runs (with_waiting waiting [])
+told_behind ended None none = ap (λ e. told_runs (e ++ [])) (none refl) ∙ ap (λ e. e ++ []) (sym (none refl))
+told_behind ended (Some run) none = told_runs-last ended (run.0, run.1)
+
 module _ (layout : Layout) (initiator : ℕ) where
   -- ---- a reply comes
 
@@ -102,20 +114,10 @@ module _ (layout : Layout) (initiator : ℕ) where
       → Adds layout initiator (Some (last, times)) reply waiting' before now → Adds layout initiator waiting reply waiting' before now
   adds_behind waiting last times reply waiting' before now is adds = subst (λ (w : Waiting). Adds layout initiator w reply waiting' before now) (sym is) adds
 
-  -- ---- what is told of replies that were broken off
-
-  told_runs-last : (runs : List (Reply × ℕ)) (run : Reply × ℕ) → told_runs (runs ++ run ∷ []) ≡ runs ++ told_runs (run ∷ [])
-  told_runs-last [] run = refl
-  told_runs-last (x ∷ []) run = refl
-  told_runs-last (x ∷ y ∷ xs) run = ap (λ l. x ∷ l) (told_runs-last (y ∷ xs) run)
-
-  told_behind : (ended : List (Reply × ℕ)) (waiting : Waiting) → (waiting ≡ None → ended ≡ []) → told_runs (ended ++ with_waiting waiting []) ≡ ended ++ told_runs (with_waiting waiting [])
-  told_behind ended None none = ap (λ e. told_runs (e ++ [])) (none refl) ∙ ap (λ e. e ++ []) (sym (none refl))
-  told_behind ended (Some run) none = told_runs-last ended (run.0, run.1)
-
+module _ (layout : Layout) (turn : Turn) where
   -- ---- turns
 
-  pub turns_begun : (n : ℕ) (s : RoomyDesk) (text : List ℕ) (had : List (List ℕ)) → Turns layout initiator n n s s None text text had had
+  pub turns_begun : (n : ℕ) (s : RoomyDesk) (text : List ℕ) (had : List (List ℕ)) → Turns layout turn n n s s None text text had had
   turns_begun n s text had = record {
     made = [];
     ended = [];
@@ -130,15 +132,15 @@ module _ (layout : Layout) (initiator : ℕ) where
   }
 
   -- the events of one turn more
-  events_more : (made : List Reply) (reply : Reply) (first s : RoomyDesk) (had mid have : List (List ℕ)) → s ≡ behind_turns initiator (length made) first
-      → mid ≡ had ++ turns_events initiator (length made) first → have ≡ mid ++ spelled (event_of_turn s (plain_turn initiator)) → have ≡ had ++ turns_events initiator (length (made ++ reply ∷ [])) first
+  events_more : (made : List Reply) (reply : Reply) (first s : RoomyDesk) (had mid have : List (List ℕ)) → s ≡ behind_turns turn (length made) first
+      → mid ≡ had ++ turns_events turn (length made) first → have ≡ mid ++ spelled (event_of_turn s turn) → have ≡ had ++ turns_events turn (length (made ++ reply ∷ [])) first
   events_more made reply first s had mid have behind before came =
       came
-      ∙ ap (λ e. e ++ spelled (event_of_turn s (plain_turn initiator))) before
-      ∙ append_assoc had (turns_events initiator (length made) first) (spelled (event_of_turn s (plain_turn initiator)))
-      ∙ ap (λ st. had ++ (turns_events initiator (length made) first ++ spelled (event_of_turn st (plain_turn initiator)))) behind
-      ∙ ap (λ e. had ++ e) (sym (turns_events-more initiator (length made) first))
-      ∙ ap (λ n. had ++ turns_events initiator n first) (sym (length-more initiator made reply))
+      ∙ ap (λ e. e ++ spelled (event_of_turn s turn)) before
+      ∙ append_assoc had (turns_events turn (length made) first) (spelled (event_of_turn s turn))
+      ∙ ap (λ st. had ++ (turns_events turn (length made) first ++ spelled (event_of_turn st turn))) behind
+      ∙ ap (λ e. had ++ e) (sym (turns_events-more turn (length made) first))
+      ∙ ap (λ n. had ++ turns_events turn n first) (sym (length-more turn made reply))
 
   one_more : (made rest : List Reply) (reply : Reply) → made ++ (reply ∷ rest) ≡ (made ++ reply ∷ []) ++ rest
   one_more made rest reply = sym (append_assoc made (reply ∷ []) rest)
@@ -153,173 +155,173 @@ module _ (layout : Layout) (initiator : ℕ) where
       ∙ ap (λ l. ended ++ l) (joins' (runs_of rest))
       ∙ sym (append_assoc ended ended' (with_waiting waiting' (runs_of rest)))
 
-  written_behind : (ended ended' : List (Reply × ℕ)) (before mid now : List ℕ) → mid ≡ before ++ flat_map (run_text layout initiator) ended → now ≡ mid ++ flat_map (run_text layout initiator) ended'
-      → now ≡ before ++ flat_map (run_text layout initiator) (ended ++ ended')
+  written_behind : (ended ended' : List (Reply × ℕ)) (before mid now : List ℕ) → mid ≡ before ++ flat_map (run_text layout turn.initiator) ended → now ≡ mid ++ flat_map (run_text layout turn.initiator) ended'
+      → now ≡ before ++ flat_map (run_text layout turn.initiator) (ended ++ ended')
   written_behind ended ended' before mid now written written' =
-      written' ∙ ap (λ t. t ++ flat_map (run_text layout initiator) ended') written
-      ∙ append_assoc before (flat_map (run_text layout initiator) ended) (flat_map (run_text layout initiator) ended')
-      ∙ ap (λ t. before ++ t) (sym (flat_map-append (run_text layout initiator) ended ended'))
+      written' ∙ ap (λ t. t ++ flat_map (run_text layout turn.initiator) ended') written
+      ∙ append_assoc before (flat_map (run_text layout turn.initiator) ended) (flat_map (run_text layout turn.initiator) ended')
+      ∙ ap (λ t. before ++ t) (sym (flat_map-append (run_text layout turn.initiator) ended ended'))
 
   -- what the next of so many turns brings
   module _ (s : RoomyDesk) (m : ℕ) where
-    turns-next : turn_fits s (plain_turn initiator) ≡ true → turns initiator (suc m) s ≡ reply_of s (plain_turn initiator) ∷ cond (is_idle (reply_of s (plain_turn initiator))) [] (turns initiator m (behind_turn s (plain_turn initiator)))
-    turns-next fits = ap (λ b. cond b (reply_of s (plain_turn initiator) ∷ cond (is_idle (reply_of s (plain_turn initiator))) [] (turns initiator m (behind_turn s (plain_turn initiator)))) []) fits
+    turns-next : turn_fits s turn ≡ true → turns turn (suc m) s ≡ reply_of s turn ∷ cond (is_idle (reply_of s turn)) [] (turns turn m (behind_turn s turn))
+    turns-next fits = ap (λ b. cond b (reply_of s turn ∷ cond (is_idle (reply_of s turn)) [] (turns turn m (behind_turn s turn))) []) fits
 
-    after-next : turn_fits s (plain_turn initiator) ≡ true → after_turns initiator (suc m) s ≡ cond (is_idle (reply_of s (plain_turn initiator))) (behind_turn s (plain_turn initiator)) (after_turns initiator m (behind_turn s (plain_turn initiator)))
-    after-next fits = ap (λ b. cond b (cond (is_idle (reply_of s (plain_turn initiator))) (behind_turn s (plain_turn initiator)) (after_turns initiator m (behind_turn s (plain_turn initiator)))) s) fits
+    after-next : turn_fits s turn ≡ true → after_turns turn (suc m) s ≡ cond (is_idle (reply_of s turn)) (behind_turn s turn) (after_turns turn m (behind_turn s turn))
+    after-next fits = ap (λ b. cond b (cond (is_idle (reply_of s turn)) (behind_turn s turn) (after_turns turn m (behind_turn s turn))) s) fits
 
-    fit-next : turn_fits s (plain_turn initiator) ≡ true → turns_fit initiator (suc m) s ≡ cond (is_idle (reply_of s (plain_turn initiator))) true (turns_fit initiator m (behind_turn s (plain_turn initiator)))
-    fit-next fits = ap (λ b. cond b (cond (is_idle (reply_of s (plain_turn initiator))) true (turns_fit initiator m (behind_turn s (plain_turn initiator)))) false) fits
+    fit-next : turn_fits s turn ≡ true → turns_fit turn (suc m) s ≡ cond (is_idle (reply_of s turn)) true (turns_fit turn m (behind_turn s turn))
+    fit-next fits = ap (λ b. cond b (cond (is_idle (reply_of s turn)) true (turns_fit turn m (behind_turn s turn))) false) fits
 
-    turns-none : turn_fits s (plain_turn initiator) ≡ false → turns initiator (suc m) s ≡ []
-    turns-none full = ap (λ b. cond b (reply_of s (plain_turn initiator) ∷ cond (is_idle (reply_of s (plain_turn initiator))) [] (turns initiator m (behind_turn s (plain_turn initiator)))) []) full
+    turns-none : turn_fits s turn ≡ false → turns turn (suc m) s ≡ []
+    turns-none full = ap (λ b. cond b (reply_of s turn ∷ cond (is_idle (reply_of s turn)) [] (turns turn m (behind_turn s turn))) []) full
 
-    fit-none : turn_fits s (plain_turn initiator) ≡ false → turns_fit initiator (suc m) s ≡ false
-    fit-none full = ap (λ b. cond b (cond (is_idle (reply_of s (plain_turn initiator))) true (turns_fit initiator m (behind_turn s (plain_turn initiator)))) false) full
+    fit-none : turn_fits s turn ≡ false → turns_fit turn (suc m) s ≡ false
+    fit-none full = ap (λ b. cond b (cond (is_idle (reply_of s turn)) true (turns_fit turn m (behind_turn s turn))) false) full
 
   -- one turn more, which isn't idle
   pub turn_made : (n k m : ℕ) (first s s' : RoomyDesk) (reply : Reply) (waiting waiting' : Waiting) (before mid now : List ℕ) (had between have : List (List ℕ)) → k ≡ suc m
-      → turn_fits s (plain_turn initiator) ≡ true → reply ≡ reply_of s (plain_turn initiator) → s' ≡ behind_turn s (plain_turn initiator) → is_idle reply ≡ false
-      → have ≡ between ++ spelled (event_of_turn s (plain_turn initiator))
-      → Turns layout initiator n k first s waiting before mid had between → Adds layout initiator waiting reply waiting' mid now → Turns layout initiator n m first s' waiting' before now had have
+      → turn_fits s turn ≡ true → reply ≡ reply_of s turn → s' ≡ behind_turn s turn → is_idle reply ≡ false
+      → have ≡ between ++ spelled (event_of_turn s turn)
+      → Turns layout turn n k first s waiting before mid had between → Adds layout turn.initiator waiting reply waiting' mid now → Turns layout turn n m first s' waiting' before now had have
   turn_made n k m first s s' reply waiting waiting' before mid now had between have less fits is behind busy came h adds =
-      let idle : is_idle (reply_of s (plain_turn initiator)) ≡ false = ap is_idle (sym is) ∙ busy in
+      let idle : is_idle (reply_of s turn) ≡ false = ap is_idle (sym is) ∙ busy in
       record {
         made = h.made ++ reply ∷ [];
         ended = h.ended ++ adds.ended;
         replies = h.replies
-            ∙ ap (λ j. h.made ++ turns initiator j s) less
+            ∙ ap (λ j. h.made ++ turns turn j s) less
             ∙ ap (λ l. h.made ++ l) (turns-next s m fits
-            ∙ ap (λ b. reply_of s (plain_turn initiator) ∷ cond b [] (turns initiator m (behind_turn s (plain_turn initiator)))) idle
-            ∙ ap (λ r. r ∷ turns initiator m (behind_turn s (plain_turn initiator))) (sym is)
-            ∙ ap (λ st. reply ∷ turns initiator m st) (sym behind))
-            ∙ one_more h.made (turns initiator m s') reply;
-        after = h.after ∙ ap (λ j. after_turns initiator j s) less ∙ after-next s m fits
-            ∙ ap (λ b. cond b (behind_turn s (plain_turn initiator)) (after_turns initiator m (behind_turn s (plain_turn initiator)))) idle ∙ ap (after_turns initiator m) (sym behind);
-        fit = h.fit ∙ ap (λ j. turns_fit initiator j s) less ∙ fit-next s m fits
-            ∙ ap (λ b. cond b true (turns_fit initiator m (behind_turn s (plain_turn initiator)))) idle ∙ ap (turns_fit initiator m) (sym behind);
+            ∙ ap (λ b. reply_of s turn ∷ cond b [] (turns turn m (behind_turn s turn))) idle
+            ∙ ap (λ r. r ∷ turns turn m (behind_turn s turn)) (sym is)
+            ∙ ap (λ st. reply ∷ turns turn m st) (sym behind))
+            ∙ one_more h.made (turns turn m s') reply;
+        after = h.after ∙ ap (λ j. after_turns turn j s) less ∙ after-next s m fits
+            ∙ ap (λ b. cond b (behind_turn s turn) (after_turns turn m (behind_turn s turn))) idle ∙ ap (after_turns turn m) (sym behind);
+        fit = h.fit ∙ ap (λ j. turns_fit turn j s) less ∙ fit-next s m fits
+            ∙ ap (λ b. cond b true (turns_fit turn m (behind_turn s turn))) idle ∙ ap (turns_fit turn m) (sym behind);
         joins = joined_behind h.made h.ended adds.ended waiting waiting' reply h.joins adds.joins;
         written = written_behind h.ended adds.ended before mid now h.written adds.written;
         none = λ none. absurd (adds.waits none);
-        behind = behind ∙ ap (λ st. behind_turn st (plain_turn initiator)) h.behind ∙ sym (behind_turns-more initiator (length h.made) first)
-            ∙ ap (λ j. behind_turns initiator j first) (sym (length-more initiator h.made reply));
+        behind = behind ∙ ap (λ st. behind_turn st turn) h.behind ∙ sym (behind_turns-more turn (length h.made) first)
+            ∙ ap (λ j. behind_turns turn j first) (sym (length-more turn h.made reply));
         events = events_more h.made reply first s had between have h.behind h.events came;
       }
 
   -- the events up to one turn more, where its text isn't told
   pub turn_counted : (n k m : ℕ) (first s : RoomyDesk) (reply : Reply) (waiting : Waiting) (before mid : List ℕ) (had between have : List (List ℕ)) → k ≡ suc m
-      → turn_fits s (plain_turn initiator) ≡ true → have ≡ between ++ spelled (event_of_turn s (plain_turn initiator)) → Turns layout initiator n k first s waiting before mid had between
-      → (came : List (List ℕ)) × (have ≡ had ++ came) × ComesTo (turns_events initiator (length (turns initiator n first)) first) came came
+      → turn_fits s turn ≡ true → have ≡ between ++ spelled (event_of_turn s turn) → Turns layout turn n k first s waiting before mid had between
+      → (came : List (List ℕ)) × (have ≡ had ++ came) × ComesTo (turns_events turn (length (turns turn n first)) first) came came
   turn_counted n k m first s reply waiting before mid had between have less fits came h =
-      let next = reply_of s (plain_turn initiator) in
-      let rest = cond (is_idle next) [] (turns initiator m (behind_turn s (plain_turn initiator))) in
-      let replies : turns initiator n first ≡ (h.made ++ next ∷ []) ++ rest =
-      h.replies ∙ ap (λ j. h.made ++ turns initiator j s) less ∙ ap (λ l. h.made ++ l) (turns-next s m fits) ∙ one_more h.made rest next in (
-        turns_events initiator (length (h.made ++ next ∷ [])) first,
+      let next = reply_of s turn in
+      let rest = cond (is_idle next) [] (turns turn m (behind_turn s turn)) in
+      let replies : turns turn n first ≡ (h.made ++ next ∷ []) ++ rest =
+      h.replies ∙ ap (λ j. h.made ++ turns turn j s) less ∙ ap (λ l. h.made ++ l) (turns-next s m fits) ∙ one_more h.made rest next in (
+        turns_events turn (length (h.made ++ next ∷ [])) first,
         events_more h.made next first s had between have h.behind h.events came,
-        comes_all _ _ _ (turns_events-front initiator n first (h.made ++ next ∷ []) rest replies),
+        comes_all _ _ _ (turns_events-front turn n first (h.made ++ next ∷ []) rest replies),
       )
 
   -- the events so far
-  pub turns_counted : (n k : ℕ) (first s : RoomyDesk) (waiting : Waiting) (before mid : List ℕ) (had between : List (List ℕ)) → (h : Turns layout initiator n k first s waiting before mid had between)
-      → ComesTo (turns_events initiator (length (turns initiator n first)) first) (turns_events initiator (length h.made) first) (turns_events initiator (length h.made) first)
-  turns_counted n k first s waiting before mid had between h = comes_all _ _ _ (turns_events-front initiator n first h.made (turns initiator k s) h.replies)
+  pub turns_counted : (n k : ℕ) (first s : RoomyDesk) (waiting : Waiting) (before mid : List ℕ) (had between : List (List ℕ)) → (h : Turns layout turn n k first s waiting before mid had between)
+      → ComesTo (turns_events turn (length (turns turn n first)) first) (turns_events turn (length h.made) first) (turns_events turn (length h.made) first)
+  turns_counted n k first s waiting before mid had between h = comes_all _ _ _ (turns_events-front turn n first h.made (turns turn k s) h.replies)
 
   -- all turns are made whose replies are these
   pub record AllMade (n : ℕ) (first s : RoomyDesk) (before now : List ℕ) (had have : List (List ℕ)) : Type 0 where
-    pub fits : turns_fit initiator n first ≡ true
-    pub text : now ≡ before ++ answer_text (Turned layout initiator (turns initiator n first))
-    pub after : s ≡ after_turns initiator n first
-    pub events : have ≡ had ++ turns_events initiator (length (turns initiator n first)) first
+    pub fits : turns_fit turn n first ≡ true
+    pub text : now ≡ before ++ answer_text (Turned layout turn.initiator (turns turn n first))
+    pub after : s ≡ after_turns turn n first
+    pub events : have ≡ had ++ turns_events turn (length (turns turn n first)) first
 
   text_of_all : (made : List Reply) (ended : List (Reply × ℕ)) (waiting : Waiting) (before now final : List ℕ)
-      → ((rest : List Reply) → runs_of (made ++ rest) ≡ ended ++ with_waiting waiting (runs_of rest)) → now ≡ before ++ flat_map (run_text layout initiator) ended
-      → final ≡ now ++ flat_map (run_text layout initiator) (with_waiting waiting []) → final ≡ before ++ flat_map (run_text layout initiator) (runs_of made)
+      → ((rest : List Reply) → runs_of (made ++ rest) ≡ ended ++ with_waiting waiting (runs_of rest)) → now ≡ before ++ flat_map (run_text layout turn.initiator) ended
+      → final ≡ now ++ flat_map (run_text layout turn.initiator) (with_waiting waiting []) → final ≡ before ++ flat_map (run_text layout turn.initiator) (runs_of made)
   text_of_all made ended waiting before now final joins written last =
       written_behind ended (with_waiting waiting []) before now final written last
-      ∙ ap (λ rs. before ++ flat_map (run_text layout initiator) rs) (sym (joins []) ∙ ap runs_of (append-nil made))
+      ∙ ap (λ rs. before ++ flat_map (run_text layout turn.initiator) rs) (sym (joins []) ∙ ap runs_of (append-nil made))
 
   -- the last one, which is idle
   pub turn_idle : (n k m : ℕ) (first s s' : RoomyDesk) (reply : Reply) (waiting waiting' : Waiting) (before mid now final : List ℕ) (had between have : List (List ℕ)) → k ≡ suc m
-      → turn_fits s (plain_turn initiator) ≡ true → reply ≡ reply_of s (plain_turn initiator) → s' ≡ behind_turn s (plain_turn initiator) → is_idle reply ≡ true
-      → have ≡ between ++ spelled (event_of_turn s (plain_turn initiator))
-      → Turns layout initiator n k first s waiting before mid had between → Adds layout initiator waiting reply waiting' mid now → final ≡ now ++ flat_map (run_text layout initiator) (with_waiting waiting' [])
+      → turn_fits s turn ≡ true → reply ≡ reply_of s turn → s' ≡ behind_turn s turn → is_idle reply ≡ true
+      → have ≡ between ++ spelled (event_of_turn s turn)
+      → Turns layout turn n k first s waiting before mid had between → Adds layout turn.initiator waiting reply waiting' mid now → final ≡ now ++ flat_map (run_text layout turn.initiator) (with_waiting waiting' [])
       → AllMade n first s' before final had have
   turn_idle n k m first s s' reply waiting waiting' before mid now final had between have less fits is behind rests came h adds last =
-      let idle : is_idle (reply_of s (plain_turn initiator)) ≡ true = ap is_idle (sym is) ∙ rests in
-      let replies : turns initiator n first ≡ h.made ++ reply ∷ [] =
+      let idle : is_idle (reply_of s turn) ≡ true = ap is_idle (sym is) ∙ rests in
+      let replies : turns turn n first ≡ h.made ++ reply ∷ [] =
       h.replies
-      ∙ ap (λ j. h.made ++ turns initiator j s) less
+      ∙ ap (λ j. h.made ++ turns turn j s) less
       ∙ ap (λ l. h.made ++ l) (turns-next s m fits
-      ∙ ap (λ b. reply_of s (plain_turn initiator) ∷ cond b [] (turns initiator m (behind_turn s (plain_turn initiator)))) idle
+      ∙ ap (λ b. reply_of s turn ∷ cond b [] (turns turn m (behind_turn s turn))) idle
       ∙ ap (λ r. r ∷ []) (sym is)) in
       record {
-        fits = h.fit ∙ ap (λ j. turns_fit initiator j s) less ∙ fit-next s m fits ∙ ap (λ b. cond b true (turns_fit initiator m (behind_turn s (plain_turn initiator)))) idle;
+        fits = h.fit ∙ ap (λ j. turns_fit turn j s) less ∙ fit-next s m fits ∙ ap (λ b. cond b true (turns_fit turn m (behind_turn s turn))) idle;
         text = text_of_all (h.made ++ reply ∷ []) (h.ended ++ adds.ended) waiting' before now final
             (joined_behind h.made h.ended adds.ended waiting waiting' reply h.joins adds.joins) (written_behind h.ended adds.ended before mid now h.written adds.written) last
-            ∙ ap (λ rs. before ++ flat_map (run_text layout initiator) (runs_of rs)) (sym replies);
-        after = behind ∙ sym (h.after ∙ ap (λ j. after_turns initiator j s) less ∙ after-next s m fits ∙ ap (λ b. cond b (behind_turn s (plain_turn initiator)) (after_turns initiator m (behind_turn s (plain_turn initiator)))) idle);
-        events = events_more h.made reply first s had between have h.behind h.events came ∙ ap (λ (rs : List Reply). had ++ turns_events initiator (length rs) first) (sym replies);
+            ∙ ap (λ rs. before ++ flat_map (run_text layout turn.initiator) (runs_of rs)) (sym replies);
+        after = behind ∙ sym (h.after ∙ ap (λ j. after_turns turn j s) less ∙ after-next s m fits ∙ ap (λ b. cond b (behind_turn s turn) (after_turns turn m (behind_turn s turn))) idle);
+        events = events_more h.made reply first s had between have h.behind h.events came ∙ ap (λ (rs : List Reply). had ++ turns_events turn (length rs) first) (sym replies);
       }
 
   -- as many as were asked for
   pub turns_made : (n k : ℕ) (first s : RoomyDesk) (waiting : Waiting) (before now final : List ℕ) (had have : List (List ℕ)) → k ≡ zero
-      → Turns layout initiator n k first s waiting before now had have → final ≡ now ++ flat_map (run_text layout initiator) (with_waiting waiting []) → AllMade n first s before final had have
+      → Turns layout turn n k first s waiting before now had have → final ≡ now ++ flat_map (run_text layout turn.initiator) (with_waiting waiting []) → AllMade n first s before final had have
   turns_made n k first s waiting before now final had have none h last =
-      let replies : turns initiator n first ≡ h.made = h.replies ∙ ap (λ j. h.made ++ turns initiator j s) none ∙ append-nil h.made in
+      let replies : turns turn n first ≡ h.made = h.replies ∙ ap (λ j. h.made ++ turns turn j s) none ∙ append-nil h.made in
       record {
-        fits = h.fit ∙ ap (λ j. turns_fit initiator j s) none;
-        text = text_of_all h.made h.ended waiting before now final h.joins h.written last ∙ ap (λ rs. before ++ flat_map (run_text layout initiator) (runs_of rs)) (sym replies);
-        after = sym (h.after ∙ ap (λ j. after_turns initiator j s) none);
-        events = h.events ∙ ap (λ (rs : List Reply). had ++ turns_events initiator (length rs) first) (sym replies);
+        fits = h.fit ∙ ap (λ j. turns_fit turn j s) none;
+        text = text_of_all h.made h.ended waiting before now final h.joins h.written last ∙ ap (λ rs. before ++ flat_map (run_text layout turn.initiator) (runs_of rs)) (sym replies);
+        after = sym (h.after ∙ ap (λ j. after_turns turn j s) none);
+        events = h.events ∙ ap (λ (rs : List Reply). had ++ turns_events turn (length rs) first) (sym replies);
       }
 
   broken_text : (made : List Reply) (ended : List (Reply × ℕ)) (waiting : Waiting) (before now final : List ℕ)
-      → ((rest : List Reply) → runs_of (made ++ rest) ≡ ended ++ with_waiting waiting (runs_of rest)) → (waiting ≡ None → ended ≡ []) → now ≡ before ++ flat_map (run_text layout initiator) ended
-      → final ≡ now ++ flat_map (run_text layout initiator) (told_runs (with_waiting waiting [])) → final ≡ before ++ answer_text (BrokenOff layout initiator made)
+      → ((rest : List Reply) → runs_of (made ++ rest) ≡ ended ++ with_waiting waiting (runs_of rest)) → (waiting ≡ None → ended ≡ []) → now ≡ before ++ flat_map (run_text layout turn.initiator) ended
+      → final ≡ now ++ flat_map (run_text layout turn.initiator) (told_runs (with_waiting waiting [])) → final ≡ before ++ answer_text (BrokenOff layout turn.initiator made)
   broken_text made ended waiting before now final joins none written last =
       written_behind ended (told_runs (with_waiting waiting [])) before now final written last
-      ∙ ap (λ rs. before ++ flat_map (run_text layout initiator) rs) (sym (told_behind ended waiting none) ∙ ap told_runs (sym (joins []) ∙ ap runs_of (append-nil made)))
+      ∙ ap (λ rs. before ++ flat_map (run_text layout turn.initiator) rs) (sym (told_behind ended waiting none) ∙ ap told_runs (sym (joins []) ∙ ap runs_of (append-nil made)))
 
   -- the book has no room for the next one
-  turns_full : (n k m : ℕ) (first s : RoomyDesk) (waiting : Waiting) (before now final : List ℕ) (had have came kept : List (List ℕ)) → k ≡ suc m → turn_fits s (plain_turn initiator) ≡ false
-      → came ≡ [] → kept ≡ [] → (h : Turns layout initiator n k first s waiting before now had have) → final ≡ now ++ flat_map (run_text layout initiator) (told_runs (with_waiting waiting []))
-      → TurnsHalt layout initiator Halts.Book n first before final (turns_events initiator (length h.made) first ++ came) (turns_events initiator (length h.made) first ++ kept)
+  turns_full : (n k m : ℕ) (first s : RoomyDesk) (waiting : Waiting) (before now final : List ℕ) (had have came kept : List (List ℕ)) → k ≡ suc m → turn_fits s turn ≡ false
+      → came ≡ [] → kept ≡ [] → (h : Turns layout turn n k first s waiting before now had have) → final ≡ now ++ flat_map (run_text layout turn.initiator) (told_runs (with_waiting waiting []))
+      → TurnsHalt layout turn Halts.Book n first before final (turns_events turn (length h.made) first ++ came) (turns_events turn (length h.made) first ++ kept)
   turns_full n k m first s waiting before now final had have came kept less full came_none kept_none h last =
-      let replies : turns initiator n first ≡ h.made = h.replies ∙ ap (λ j. h.made ++ turns initiator j s) less ∙ ap (λ l. h.made ++ l) (turns-none s m full) ∙ append-nil h.made in
-      let events = turns_events initiator (length h.made) first in (
-        h.fit ∙ ap (λ j. turns_fit initiator j s) less ∙ fit-none s m full,
-        broken_text h.made h.ended waiting before now final h.joins h.none h.written last ∙ ap (λ rs. before ++ answer_text (BrokenOff layout initiator rs)) (sym replies),
-        ap (λ c. events ++ c) came_none ∙ append-nil events ∙ ap (λ (rs : List Reply). turns_events initiator (length rs) first) (sym replies),
+      let replies : turns turn n first ≡ h.made = h.replies ∙ ap (λ j. h.made ++ turns turn j s) less ∙ ap (λ l. h.made ++ l) (turns-none s m full) ∙ append-nil h.made in
+      let events = turns_events turn (length h.made) first in (
+        h.fit ∙ ap (λ j. turns_fit turn j s) less ∙ fit-none s m full,
+        broken_text h.made h.ended waiting before now final h.joins h.none h.written last ∙ ap (λ rs. before ++ answer_text (BrokenOff layout turn.initiator rs)) (sym replies),
+        ap (λ c. events ++ c) came_none ∙ append-nil events ∙ ap (λ (rs : List Reply). turns_events turn (length rs) first) (sym replies),
         ap (λ c. events ++ c) (kept_none ∙ sym came_none),
       )
 
   -- the disk failed
   turns_broken : (n k : ℕ) (first s : RoomyDesk) (waiting : Waiting) (before now final : List ℕ) (had have came kept : List (List ℕ))
-      → came ≡ spelled (event_of_turn s (plain_turn initiator)) → (kept ≡ came) ⊎ (kept ≡ [])
-      → (h : Turns layout initiator n k first s waiting before now had have) → final ≡ now ++ flat_map (run_text layout initiator) (told_runs (with_waiting waiting []))
-      → FirstTurns layout initiator n first before final (turns_events initiator (length h.made) first ++ came) (turns_events initiator (length h.made) first ++ kept)
+      → came ≡ spelled (event_of_turn s turn) → (kept ≡ came) ⊎ (kept ≡ [])
+      → (h : Turns layout turn n k first s waiting before now had have) → final ≡ now ++ flat_map (run_text layout turn.initiator) (told_runs (with_waiting waiting []))
+      → FirstTurns layout turn n first before final (turns_events turn (length h.made) first ++ came) (turns_events turn (length h.made) first ++ kept)
   turns_broken n k first s waiting before now final had have came kept came_is kept_is h last =
-      let events = turns_events initiator (length h.made) first in
+      let events = turns_events turn (length h.made) first in
       record {
         replies = h.made;
-        later = turns initiator k s;
+        later = turns turn k s;
         given = h.replies;
         told = broken_text h.made h.ended waiting before now final h.joins h.none h.written last;
-        came_is = ap (λ c. events ++ c) came_is ∙ ap (λ st. events ++ spelled (event_of_turn st (plain_turn initiator))) h.behind;
+        came_is = ap (λ c. events ++ c) came_is ∙ ap (λ st. events ++ spelled (event_of_turn st turn)) h.behind;
         kept_is = ⊎_elim (λ same. inl (ap (λ c. events ++ c) same)) (λ none. inr (ap (λ c. events ++ c) none ∙ append-nil events)) kept_is;
       }
 
   -- memory ran out, perhaps behind another halt
   turns_unsaid : (n k : ℕ) (first s : RoomyDesk) (waiting : Waiting) (before now : List ℕ) (had have came kept : List (List ℕ)) → length came ≤ 1 → (kept ≡ came) ⊎ (kept ≡ [])
-      → (h : Turns layout initiator n k first s waiting before now had have)
-      → ComesTo (turns_events initiator (length (turns initiator n first)) first) (turns_events initiator (length h.made) first ++ came) (turns_events initiator (length h.made) first ++ kept)
+      → (h : Turns layout turn n k first s waiting before now had have)
+      → ComesTo (turns_events turn (length (turns turn n first)) first) (turns_events turn (length h.made) first ++ came) (turns_events turn (length h.made) first ++ kept)
   turns_unsaid n k first s waiting before now had have came kept few kept_is h =
-      let events = turns_events initiator (length h.made) first in
+      let events = turns_events turn (length h.made) first in
       record {
         done = events;
-        more = turns_events initiator (length (turns initiator k s)) (behind_turns initiator (length h.made) first);
-        front = turns_events-front initiator n first h.made (turns initiator k s) h.replies;
+        more = turns_events turn (length (turns turn k s)) (behind_turns turn (length h.made) first);
+        front = turns_events-front turn n first h.made (turns turn k s) h.replies;
         next = came;
         few = few;
         came_is = refl;
@@ -331,8 +333,8 @@ module _ (layout : Layout) (initiator : ℕ) where
 
   -- why not all turns were made
   pub turns_halted : (halt : Halt) (n k m : ℕ) (first s : RoomyDesk) (waiting : Waiting) (before now final : List ℕ) (had have came kept : List (List ℕ)) → k ≡ suc m
-      → TurnHalt halt initiator s came kept → (h : Turns layout initiator n k first s waiting before now had have) → final ≡ now ++ flat_map (run_text layout initiator) (told_runs (with_waiting waiting []))
-      → TurnsHalt layout initiator halt n first before final (turns_events initiator (length h.made) first ++ came) (turns_events initiator (length h.made) first ++ kept)
+      → TurnHalt halt turn s came kept → (h : Turns layout turn n k first s waiting before now had have) → final ≡ now ++ flat_map (run_text layout turn.initiator) (told_runs (with_waiting waiting []))
+      → TurnsHalt layout turn halt n first before final (turns_events turn (length h.made) first ++ came) (turns_events turn (length h.made) first ++ kept)
   turns_halted Halts.Memory n k m first s waiting before now final had have came kept less why h last =
       turns_unsaid n k first s waiting before now had have came kept (none-few came why.0) (inr why.1) h
   turns_halted Halts.Book n k m first s waiting before now final had have came kept less why h last = turns_full n k m first s waiting before now final had have came kept less why.0 why.1 why.2 h last
@@ -341,10 +343,10 @@ module _ (layout : Layout) (initiator : ℕ) where
 
   -- the same where memory ran out for the text
   pub turns_halted_unsaid : (halt : Halt) (n k : ℕ) (first s : RoomyDesk) (waiting : Waiting) (before now final : List ℕ) (had have came kept : List (List ℕ))
-      → TurnHalt halt initiator s came kept → (h : Turns layout initiator n k first s waiting before now had have)
-      → TurnsHalt layout initiator Halts.Memory n first before final (turns_events initiator (length h.made) first ++ came) (turns_events initiator (length h.made) first ++ kept)
+      → TurnHalt halt turn s came kept → (h : Turns layout turn n k first s waiting before now had have)
+      → TurnsHalt layout turn Halts.Memory n first before final (turns_events turn (length h.made) first ++ came) (turns_events turn (length h.made) first ++ kept)
   turns_halted_unsaid Halts.Memory n k first s waiting before now final had have came kept why h = turns_unsaid n k first s waiting before now had have came kept (none-few came why.0) (inr why.1) h
   turns_halted_unsaid Halts.Book n k first s waiting before now final had have came kept why h = turns_unsaid n k first s waiting before now had have came kept (none-few came why.1) (inr why.2) h
   turns_halted_unsaid Halts.Disk n k first s waiting before now final had have came kept why h =
-      turns_unsaid n k first s waiting before now had have came kept (subst (λ (c : List (List ℕ)). length c ≤ 1) (sym why.0) (turn-few s (plain_turn initiator))) why.1 h
+      turns_unsaid n k first s waiting before now had have came kept (subst (λ (c : List (List ℕ)). length c ≤ 1) (sym why.0) (turn-few s turn)) why.1 h
   turns_halted_unsaid Halts.Misread n k first s waiting before now final had have came kept why h = absurd why

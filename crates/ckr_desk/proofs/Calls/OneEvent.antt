@@ -1,5 +1,5 @@
 -- A call has one event at most.
-use Rattle.std.proofs.Common.{◌≤◌, List, length, Option, Some, None, arith}
+use Rattle.std.proofs.Common.{◌≤◌, length, Option, Some, None, arith}
 use Rattle.ckr_events.specs.declared.event.Event.{Event}
 use Rattle.ckr_desk_turn.specs.declared.reply.Turn.{Turn}
 use Rattle.ckr_points.specs.Restart.{Decked}

@@ -1,10 +1,10 @@
 -- A call that is one event with its deck, or none, on a trusted disk.
-use Rattle.std.proofs.Common.{◌≡◌, ◌≤◌, ◌++◌, ◌*◌, ◌/◌, ℕ, suc, List, [], ◌∷◌, Bool, true, false, cond, length, refl, ap, sym, ◌∙◌, subst, arith, append-nil, Option, Some, None, Result, Ok, Err, IfErr, OnOk, nat_le}
-use Rattle.std.proofs.lemmas.Bool.{false≢true, le-leb}
+use Rattle.std.proofs.Common.{◌≡◌, ◌≤◌, ◌++◌, ◌/◌, ℕ, suc, List, [], Bool, true, false, cond, length, refl, ap, sym, ◌∙◌, subst, arith, append-nil, Option, Some, None, Result, Ok, Err, IfErr, OnOk, nat_le}
+use Rattle.std.proofs.lemmas.Bool.{le-leb}
 use Rattle.std.proofs.lemmas.Bool.Decides.{nat_tests}
 use Rattle.ckr_base.proofs.Bools.{and-first}
 use Rattle.ckr_book.specs.Book.{room_of}
-use Rattle.ckr_events.specs.declared.event.Event.TheVariants.{Submitted, Purged}
+use Rattle.ckr_events.specs.declared.event.Event.TheVariants.{Purged}
 use Rattle.ckr_events.specs.Event.{IsEvent}
 use Rattle.ckr_jcl.specs.declared.deck.Job.{Job}
 use Rattle.ckr_desk_memory.proofs.Queue.{run-there}

@@ -1,5 +1,5 @@
 -- What a stop leaves within a call that keeps an event.
-use Rattle.std.proofs.Common.{◌≡◌, ◌&&◌, ℕ, List, IsTrue, Option, None, true, false, ⊎_elim, inl, inr, ap, subst, sym, ◌∙◌}
+use Rattle.std.proofs.Common.{◌≡◌, ◌&&◌, ℕ, List, IsTrue, Option, None, true, ⊎_elim, inl, inr, ap, subst, sym, ◌∙◌}
 use Rattle.ckr_book.specs.Book.{IsBeforeOrAfter}
 use Rattle.ckr_events.specs.declared.event.Event.{Event}
 use Rattle.ckr_events.specs.Event.{spelling}

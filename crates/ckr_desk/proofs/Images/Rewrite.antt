@@ -1,5 +1,5 @@
 -- A record that is written in place, and an image of a stop meanwhile.
-use Rattle.std.proofs.Common.{◌≡◌, ◌≢◌, ◌≤◌, ◌<◌, ◌+◌, ◌⊎◌, ℕ, List, length, IsTrue, inr, sym, ap, subst, ◌∙◌, ⊎_elim, arith, refl, Option, Some, None}
+use Rattle.std.proofs.Common.{◌≡◌, ◌≢◌, ◌≤◌, ◌<◌, ◌+◌, ℕ, List, length, IsTrue, inr, sym, ap, subst, ◌∙◌, ⊎_elim, arith, refl, Option, Some, None}
 use Rattle.std.specs.Option.{option_map}
 use Rattle.std.proofs.lemmas.Option.{same_Some}
 use Rattle.ckr_base.proofs.Options.{some-not-none}

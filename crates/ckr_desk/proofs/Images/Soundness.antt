@@ -25,7 +25,7 @@ use Rattle.ckr_desk.proofs.Trust.Events.{IsComing, last-grown}
 use Rattle.ckr_desk.specs.declared.error.OpenError.{OpenError}
 use Rattle.ckr_desk.specs.declared.error.OpenError.TheVariants.{BadBook}
 use Rattle.ckr_desk.specs.Opening.{behind_records, by_end, opened_at}
-use Rattle.ckr_desk.specs.Soundness.{HasKept, IsTrusted, Sound, events_in, last_on, office_on, state_of}
+use Rattle.ckr_desk.specs.Soundness.{HasKept, IsTrusted, Sound, events_in, last_on, office_on}
 use Rattle.ckr_desk.specs.State.{Opened, DeskView}
 use Rattle.ckr_desk.specs.Rewrite.{OpensSame}
 

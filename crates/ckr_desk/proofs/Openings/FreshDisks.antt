@@ -1,5 +1,5 @@
 -- A disk that was formatted is sound: it opens without events.
-use Rattle.std.proofs.Common.{◌≡◌, ◌-◌, ℕ, Bool, false, List, [], take, drop, cond, Option, None, Result, Ok, Err, refl, sym, ap, subst, ◌∙◌, arith}
+use Rattle.std.proofs.Common.{◌≡◌, ◌-◌, ℕ, Bool, false, List, [], take, drop, cond, Option, None, Result, Ok, Err, sym, ap, subst, ◌∙◌, arith}
 use Rattle.std.proofs.lemmas.Option.{none-some}
 use Rattle.ckr_book.specs.Next.{NoneAt}
 use Rattle.ckr_book.specs.Records.{starts_open}

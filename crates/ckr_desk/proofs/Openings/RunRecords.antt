@@ -4,11 +4,10 @@ use Rattle.std.proofs.lemmas.Bool.{false≢true}
 use Rattle.ckr_base.proofs.Bools.{and-first, and-second}
 use Rattle.ckr_base.proofs.Options.{option-cases}
 use Rattle.ckr_events.specs.declared.event.Event.{Event}
-use Rattle.ckr_events.specs.declared.event.Event.TheVariants.{Ended, Purged, Rewritten, Selected, Started, StepEnded, Submitted}
+use Rattle.ckr_events.specs.declared.event.Event.TheVariants.{Cancelled, Ended, Purged, Rewritten, Selected, Started, StepEnded, Submitted}
 use Rattle.ckr_events.specs.Event.{event_of}
 use Rattle.ckr_desk_memory.specs.Replay.{deck_of, goes_on, is_run_as, is_run_by, replayed}
 use Rattle.ckr_desk_turn.specs.RunEvents.{AreRunEvents, IsRunDeck, IsRunEvent}
-use Rattle.ckr_jcl.specs.declared.deck.Job.{Job}
 use Rattle.ckr_points.specs.Restart.{after_event}
 use Rattle.ckr_points.specs.Rows.{TablesModel}
 use Rattle.ckr_points_decks.specs.Cards.{kept_deck}
@@ -30,6 +29,7 @@ run-event (Submitted job cards) plain runs = run-deck job cards runs
 run-event (Selected job initiator earlier step id) plain runs = plain
 run-event (Started job step items) plain runs = tt
 run-event (Rewritten job taken writes lengths place image) plain runs = tt
+run-event (Cancelled job) plain runs = tt
 run-event (StepEnded job step rc writes lengths) plain runs = tt
 run-event (Ended job ending) plain runs = tt
 run-event (Purged job) plain runs = tt

@@ -1,5 +1,5 @@
 -- A desk that was opened on sound images is trusted, and a stop meanwhile leaves a sound image.
-use Rattle.std.proofs.Common.{◌≡◌, ◌++◌, ◌-◌, ◌⊎◌, ℕ, Bool, true, false, cond, List, [], take, drop, map, Option, Some, None, Result, Ok, Err, ⊎_elim, refl, sym, ap, ◌∙◌, subst, append-nil}
+use Rattle.std.proofs.Common.{◌≡◌, ◌-◌, ◌⊎◌, ℕ, Bool, true, false, cond, List, [], take, drop, map, Option, Some, None, Result, Ok, Err, ⊎_elim, refl, sym, ap, ◌∙◌, subst, append-nil}
 use Rattle.std.proofs.lemmas.Option.{same_Some}
 use Rattle.ckr_base.proofs.Bools.{bool-cases}
 use Rattle.ckr_base.proofs.Options.{some-not-none}

@@ -24,9 +24,10 @@ module _ (told : Type 0) (tells : told) (image : List ℕ) (layout : Layout) whe
       record { set = its.set; is = its.is; shows = record { lrecl = its.shows.lrecl; space = its.shows.space; length = its.shows.length; records = λ is. its.shows.records tells } }
 
   pub goes-out : (start : StepStart) (before : ℕ) (old new : StepRun) (catalog : Catalog) (worked : Worked) → GoesOn told image layout start before old new catalog worked → GoesOn (Unit {0}) image layout start before old new catalog worked
-  goes-out start before old new catalog (Went taken) goes = record { closed = goes.closed; stands = goes.stands; shows = shows-out _ _ catalog goes.shows }
+  goes-out start before old new catalog (Went taken) goes = record { closed = goes.closed; stands = goes.stands; served = goes.served; shows = shows-out _ _ catalog goes.shows }
   goes-out start before old new catalog (Rewrite place bytes taken) goes = record {
     stands = goes.stands;
+    served = goes.served;
     program = goes.program;
     rewritten = goes.rewritten;
     name = goes.name;

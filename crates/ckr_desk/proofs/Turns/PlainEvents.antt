@@ -3,6 +3,8 @@ use Rattle.std.proofs.Common.{◌≡◌, ℕ, Bool, true, false, List, refl, sub
 use Rattle.std.specs.Option.{option_map_or}
 use Rattle.ckr_points_library.specs.declared.cause.Refusal.{Refusal}
 use Rattle.ckr_base.specs.declared.code.Code.{Code}
+use Rattle.ckr_base.specs.declared.programs.NextDue.{NextDue}
+use Rattle.ckr_base.specs.declared.programs.NextDue.TheVariants.{Unit as OneUnit, Checkpoint, Cancel, Finished}
 use Rattle.ckr_events.specs.declared.event.Event.{Event}
 use Rattle.ckr_events.specs.declared.event.Event.TheVariants.{Submitted, Rewritten}
 use Rattle.ckr_events.specs.declared.event.Made.{Made}
@@ -16,12 +18,12 @@ use Rattle.ckr_steps.specs.declared.step_run.Worked.{Worked}
 use Rattle.ckr_steps.specs.declared.step_run.Worked.TheVariants.{Went, Rewrite, Abend}
 use Rattle.ckr_points_tables.specs.Invariant.{is_plain_event}
 use Rattle.ckr_desk_turn.specs.declared.plan.Plan.{Plan}
-use Rattle.ckr_desk_turn.specs.declared.plan.Plan.TheVariants.{Rest, Tell, Work}
+use Rattle.ckr_desk_turn.specs.declared.plan.Plan.TheVariants.{Rest, Tell, Work, Pass}
 use Rattle.ckr_desk_turn.specs.declared.reply.Turn.{Turn}
 use Rattle.ckr_desk_turn.specs.Allocation.{allocation_of}
 use Rattle.ckr_desk_turn.specs.Select.{next_run, run_on_initiator}
 use Rattle.ckr_desk_turn.specs.Jobs.{TurnJobs, TurnStep, is_failed, running_in}
-use Rattle.ckr_desk_turn.specs.Plans.{between_plan, chosen_plan, fail_plan, free_plan, is_within, placed_plan, plan_of, run_plan, running_plan, start_plan}
+use Rattle.ckr_desk_turn.specs.Plans.{between_plan, chosen_plan, due_plan, fail_plan, free_plan, is_within, placed_plan, plan_of, run_plan, running_plan, start_plan}
 use Rattle.ckr_volumes.specs.declared.layout.Layout.{Layout}
 use Rattle.ckr_desk.specs.Units.{IsPlainPlan}
 
@@ -35,6 +37,7 @@ abbrev pub IsQuietPlan : Plan → Type 0
 IsQuietPlan (Rest reply) = Unit {0}
 IsQuietPlan (Tell reply event) = is_quiet event ≡ true
 IsQuietPlan (Work job) = Unit {0}
+IsQuietPlan (Pass job reply) = Unit {0}
 
 either-quiet : (r : Result (List Made) Refusal) (f : Refusal → Plan) (g : List Made → Plan) → ((x : Refusal) → IsQuietPlan (f x)) → ((x : List Made) → IsQuietPlan (g x))
     → IsQuietPlan (elim r as (λ _. Plan) [ Err refusal ↦ f refusal | Ok items ↦ g items ])
@@ -60,8 +63,14 @@ module _ (layout : Layout) (jobs : TurnJobs) where
   between-quiet : (row : RunRow) (number : ℕ) → IsQuietPlan (between_plan layout jobs row number)
   between-quiet row number = some-quiet (step_of_run row number) _ _ refl (λ owned. start-quiet row owned number)
 
+  due-quiet : (row : RunRow) (number : ℕ) (step : TurnStep) (due : NextDue) → IsQuietPlan (due_plan row number step due)
+  due-quiet row number step OneUnit = tt
+  due-quiet row number step Checkpoint = tt
+  due-quiet row number step Cancel = refl
+  due-quiet row number step (Finished rc) = refl
+
   running-quiet : (row : RunRow) (number : ℕ) (step : TurnStep) → IsQuietPlan (running_plan row number step)
-  running-quiet row number step = some-quiet step.finished _ _ tt (λ rc. refl)
+  running-quiet row number step = due-quiet row number step step.due
 
   placed-quiet : (row : RunRow) (place : Place) → IsQuietPlan (placed_plan layout jobs row place)
   placed-quiet row (Before number) = between-quiet row number
@@ -96,6 +105,7 @@ plain-by : (plan : Plan) → IsQuietPlan plan → IsPlainPlan plan
 plain-by (Rest reply) quiet = tt
 plain-by (Tell reply event) quiet = quiet-plain event quiet
 plain-by (Work job) quiet = tt
+plain-by (Pass job reply) quiet = tt
 
 pub plan-plain : (layout : Layout) (jobs : TurnJobs) (turn : Turn) (plan : Plan) → plan ≡ plan_of layout jobs turn → IsPlainPlan plan
 plan-plain layout jobs turn plan is = plain-by plan (subst IsQuietPlan (sym is) (plan-quiet layout jobs turn))

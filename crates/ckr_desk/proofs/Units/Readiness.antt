@@ -1,5 +1,5 @@
 -- What is ready for the event of a unit is ready behind the unit too.
-use Rattle.std.proofs.Common.{◌≡◌, ◌≤◌, true, false, refl, ap, sym, ◌∙◌, subst, Option, Some, None}
+use Rattle.std.proofs.Common.{◌≡◌, ◌≤◌, true, refl, ap, sym, ◌∙◌, subst, Option, Some, None}
 use Rattle.std.proofs.lemmas.Bool.{false≢true}
 use Rattle.ckr_book.specs.Book.{room_of}
 use Rattle.ckr_events.specs.declared.event.Event.{Event}
@@ -14,7 +14,7 @@ use Rattle.ckr_points_tables.specs.Invariant.{HasRoom, is_plain_event}
 use Rattle.ckr_points_tables.specs.View.{RoomyTables}
 use Rattle.ckr_desk_refines.specs.Moves.{event_in}
 use Rattle.ckr_desk_turn.specs.declared.plan.Plan.{Plan}
-use Rattle.ckr_desk_turn.specs.declared.plan.Plan.TheVariants.{Rest, Tell, Work}
+use Rattle.ckr_desk_turn.specs.declared.plan.Plan.TheVariants.{Rest, Tell, Work, Pass}
 use Rattle.ckr_volumes.specs.declared.layout.Layout.{Layout}
 use Rattle.ckr_desk.specs.declared.preparation.Ready.{Ready}
 use Rattle.ckr_desk.specs.Preparation.{IsReady, IsReadyFor}
@@ -31,6 +31,7 @@ pub plain-so : (plan : Plan) → IsUnitPlan plan → IsPlainTold plan
 plain-so (Rest reply) shape = tt
 plain-so (Tell reply event) shape = plain-event event shape
 plain-so (Work job) shape = absurd shape
+plain-so (Pass job reply) shape = absurd shape
 
 unit-of-step : (event : Event) → is_unit_event event ≡ true → is_of_step event ≡ true
 unit-of-step (Rewritten job taken writes lengths place image) its = refl
@@ -42,6 +43,7 @@ pub unit-between : (layout : Layout) (tables : TablesModel) (plan : Plan) → Is
 unit-between layout tables (Rest reply) shape = tt
 unit-between layout tables (Tell reply event) shape = λ between. absurd (false≢true (sym between ∙ unit-of-step event shape))
 unit-between layout tables (Work job) shape = tt
+unit-between layout tables (Pass job reply) shape = tt
 
 module _ {D : Type 0} (old mid : DeskView D) (tables : mid.jobs.tables ≡ old.jobs.tables) (book : room_of mid.store.book ≡ room_of old.store.book) where
   still-prepared : (event : Event) → is_unit_event event ≡ true → (prepared : Prepared) → IsPrepared old.jobs event None prepared → IsPrepared mid.jobs event None prepared
@@ -73,3 +75,4 @@ module _ {D : Type 0} (old mid : DeskView D) (tables : mid.jobs.tables ≡ old.j
   ready-behind (Tell reply event) shape None is = absurd is
   ready-behind (Tell reply event) shape (Some ready) is = still-ready event shape ready is
   ready-behind (Work job) shape ready is = absurd shape
+  ready-behind (Pass job reply) shape ready is = absurd shape

@@ -1,17 +1,16 @@
 -- What a turn that works has done, with an event or without one.
-use Rattle.std.proofs.Common.{◌≡◌, ◌++◌, ℕ, List, true, false, find, refl, ap, sym, ◌∙◌, subst, Option, Some, None}
+use Rattle.std.proofs.Common.{◌≡◌, ◌++◌, ℕ, List, true, refl, ap, sym, ◌∙◌, subst, Option, Some, None}
 use Rattle.std.proofs.lemmas.Bool.{false≢true}
 use Rattle.ckr_events.specs.declared.event.Event.{Event}
-use Rattle.ckr_desk_memory.specs.EventChanges.{is_of_run}
 use Rattle.ckr_desk_memory.specs.Plans.{IsSpelledPlan}
-use Rattle.ckr_desk_memory.specs.View.{RunningStepView, jobs_of}
+use Rattle.ckr_desk_memory.specs.View.{jobs_of}
 use Rattle.ckr_outside.specs.Disk.{EachSince}
 use Rattle.ckr_outside.specs.Moments.{and_then, in_other_words}
 use Rattle.ckr_desk_refines.specs.Moves.{event_in, reply_in}
 use Rattle.ckr_desk_store.specs.OpenImages.{event_records}
 use Rattle.ckr_desk_store.specs.State.{StoreView}
 use Rattle.ckr_desk_turn.specs.declared.plan.Plan.{Plan}
-use Rattle.ckr_desk_turn.specs.declared.plan.Plan.TheVariants.{Rest, Tell, Work}
+use Rattle.ckr_desk_turn.specs.declared.plan.Plan.TheVariants.{Rest, Tell, Work, Pass}
 use Rattle.ckr_desk_turn.specs.declared.reply.Reply.{Reply}
 use Rattle.ckr_desk_turn.specs.declared.reply.Turn.{Turn}
 use Rattle.ckr_desk_turn.specs.Plans.{plan_of}
@@ -135,6 +134,7 @@ module _ {D : Type 0} (told : Type 0) (content : D → List ℕ) (may_leave : D 
     cause-by (Rest reply) is faults new error not = absurd not
     cause-by (Tell reply event) is faults new error not = tell-cause reply event is faults new error not
     cause-by (Work job) is faults new error not = absurd not
+    cause-by (Pass job reply) is faults new error not = absurd not
 
     pub done-cause : (faults : D → ℕ) (new : DeskView D) (error : DeskError) → NotBehind faults plan mid new error → FailsBy state.room (event_of_turn state turn) error
     done-cause faults new error not = cause-by plan refl faults new error not

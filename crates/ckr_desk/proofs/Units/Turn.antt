@@ -1,5 +1,5 @@
 -- A turn that works: the unit of its running step, the desk behind it, and what a stop leaves.
-use Rattle.std.proofs.Common.{◌≡◌, ◌≤◌, ◌+◌, ◌-◌, ◌++◌, ◌&&◌, ℕ, List, [], ◌∷◌, true, find, length, take, refl, ap, sym, ◌∙◌, subst, ⊎_elim, arith, Option, Some, None, Ok}
+use Rattle.std.proofs.Common.{◌≡◌, ◌≤◌, ◌+◌, ◌-◌, ◌++◌, ◌&&◌, ℕ, List, [], ◌∷◌, true, length, take, refl, ap, sym, ◌∙◌, subst, ⊎_elim, arith, Option, Some, None, Ok}
 use Rattle.std.proofs.lemmas.Bool.{and_from, le-leb}
 use Rattle.std.proofs.lemmas.Option.{same_Some}
 use Rattle.ckr_base.proofs.Bools.{and-first}
@@ -12,7 +12,6 @@ use Rattle.ckr_events.specs.declared.event.Event.TheVariants.{Ended}
 use Rattle.ckr_events.specs.Event.{spelling}
 use Rattle.ckr_desk_memory.specs.Model.RewriteCounts.{may_count}
 use Rattle.ckr_jcl.specs.declared.deck.Job.{Job}
-use Rattle.ckr_desk_memory.specs.EventChanges.{is_of_run}
 use Rattle.ckr_desk_memory.specs.Plans.{IsSpelledPlan, told_by}
 use Rattle.ckr_desk_memory.specs.Replay.{deck_of, goes_on, is_run_by}
 use Rattle.ckr_desk_memory.specs.View.{RunningStepView, jobs_of, running_of}
@@ -39,7 +38,7 @@ use Rattle.ckr_points_tables.specs.Invariant.{is_plain_event}
 use Rattle.ckr_desk_refines.proofs.Events.Commits.{committed-moves}
 use Rattle.ckr_desk_turn.specs.Codes.{rule_for}
 use Rattle.ckr_desk_turn.specs.declared.plan.Plan.{Plan}
-use Rattle.ckr_desk_turn.specs.declared.plan.Plan.TheVariants.{Rest, Tell, Work}
+use Rattle.ckr_desk_turn.specs.declared.plan.Plan.TheVariants.{Rest, Tell, Work, Pass}
 use Rattle.ckr_desk_turn.specs.declared.reply.Turn.{Turn}
 use Rattle.ckr_desk_turn.specs.Desk.{DeskModel, TurnDone, carried_out, turn_of, work_of, jobs_of as jobs_of_desk}
 use Rattle.ckr_desk_turn.specs.Plans.{plan_of}
@@ -72,11 +71,13 @@ plain-in : (plan : Plan) → IsPlainPlan plan → (event : Event) → event_in p
 plain-in (Rest reply) plain event is = absurd (some-not-none event (sym is))
 plain-in (Tell reply told) plain event is = ap is_plain_event (sym (same_Some told event is)) ∙ plain
 plain-in (Work job) plain event is = absurd (some-not-none event (sym is))
+plain-in (Pass job reply) plain event is = absurd (some-not-none event (sym is))
 
 spelled-in : (plan : Plan) → IsSpelledPlan plan → (event : Event) → event_in plan ≡ Some event → IsSpelled event
 spelled-in (Rest reply) shape event is = absurd (some-not-none event (sym is))
 spelled-in (Tell reply told) shape event is = subst IsSpelled (same_Some told event is) shape.0
 spelled-in (Work job) shape event is = absurd (some-not-none event (sym is))
+spelled-in (Pass job reply) shape event is = absurd (some-not-none event (sym is))
 
 module _ {D : Type 0} (told : Type 0) (content : D → List ℕ) (may_leave : D → List ℕ → Type 0) (moment : D → ℕ) (left_since : D → ℕ → List ℕ → Type 0) (size : D → ℕ)
     (old : DeskView D) (trusted : IsTrusted told content may_leave old) (turn : Turn) (run : ℕ)

@@ -1,5 +1,5 @@
 -- The running steps go on by an event.
-use Rattle.std.proofs.Common.{◌≡◌, ◌≤◌, ◌<◌, ◌&&◌, ℕ, zero, suc, Bool, true, false, List, [], map, length, refl, ap, sym, ◌∙◌, subst, Option, None, Some, arith, slice_get}
+use Rattle.std.proofs.Common.{◌≡◌, ◌≤◌, ◌<◌, ◌&&◌, ℕ, zero, suc, true, List, map, length, refl, ap, sym, ◌∙◌, subst, Option, None, Some, arith, slice_get}
 use Rattle.std.proofs.lemmas.Option.{same_Some, slice_get-map, slice_get_within}
 use Rattle.std.specs.List.{AllByRecursion}
 use Rattle.std.specs.Option.{option_map}
@@ -7,7 +7,7 @@ use Rattle.ckr_base.proofs.Bools.{and-second}
 use Rattle.ckr_base.proofs.Options.{some-not-none}
 use Rattle.arrayvec.specs.ArrayVec.{ArrayVec}
 use Rattle.ckr_events.specs.declared.event.Event.{Event}
-use Rattle.ckr_events.specs.declared.event.Event.TheVariants.{Started, StepEnded, Ended}
+use Rattle.ckr_events.specs.declared.event.Event.TheVariants.{Started, Cancelled, StepEnded, Ended}
 use Rattle.ckr_events.specs.declared.event.Made.{Made}
 use Rattle.ckr_jcl.specs.declared.deck.Job.{Job}
 use Rattle.ckr_meaning.specs.EffectiveJob.{OwnedStep, flaws_in, placed_in, stamp_of, step_at}
@@ -29,6 +29,7 @@ use Rattle.ckr_desk_memory.specs.View.{JobsView, RunningStepView}
 use Rattle.ckr_desk_memory.proofs.Invariant.{accepted-behind, all-filtered, numbered-behind, placed-behind}
 use Rattle.ckr_desk_memory.proofs.Extents.{laid-behind}
 use Rattle.ckr_desk_memory.proofs.Queue.{run-there, step-there}
+use Rattle.ckr_desk_memory.proofs.RunningSteps.Served.{served-runnable}
 use Rattle.ckr_desk_memory.proofs.Runs.{Kind, kind_of, runs-stay}
 use Rattle.ckr_desk_memory.proofs.Starts.Sets.{is-runnable}
 use Rattle.ckr_desk_memory.proofs.SetCopies.{all-fit}
@@ -114,6 +115,7 @@ module _ (layout : Layout) (old : TablesModel) (numbered : AreNumbered 1 old.run
   runnable : (event : Event) (deck : Option Job) (begun : Option RunningStep) (jobs : JobsView) (before now : List RunningStepView) → jobs.tables.desk ≡ old → follows layout old event deck ≡ true → HasStarted event jobs begun
       → GoesOn event (after_event event deck old) before now → AllByRecursion (IsRunnable layout) before → AllByRecursion (IsRunnable layout) now
   runnable (Started job step items) deck begun jobs before now is follow has goes all = started_runnable job step items deck begun before now follow (subst (λ t. HasStep t job step begun) is has.step) goes all
+  runnable (Cancelled job) deck begun jobs before now is follow has goes all = subst (AllByRecursion (IsRunnable layout)) (sym goes) (served-runnable layout job before all)
   runnable (StepEnded job step rc writes lengths) deck begun jobs before now is follow has goes all = subst (AllByRecursion (IsRunnable layout)) (sym goes) (all-filtered (IsRunnable layout) _ before all)
   runnable (Ended job ending) deck begun jobs before now is follow has goes all = subst (AllByRecursion (IsRunnable layout)) (sym goes) (all-filtered (IsRunnable layout) _ before all)
   runnable _ deck begun jobs before now is follow has goes all = subst (AllByRecursion (IsRunnable layout)) (sym goes) all

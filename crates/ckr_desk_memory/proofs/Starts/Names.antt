@@ -6,7 +6,6 @@ use Rattle.std.specs.Option.{is_some, option_map}
 use Rattle.ckr_base.proofs.Bools.{bool-cases}
 use Rattle.ckr_events.specs.declared.event.Made.{Made}
 use Rattle.ckr_jcl.specs.declared.deck.Dd.{Dd}
-use Rattle.ckr_jcl.specs.declared.deck.Role.{Role}
 use Rattle.ckr_jcl.specs.declared.deck.Status.{Status}
 use Rattle.ckr_jcl.specs.declared.deck.Status.TheVariants.{Mod}
 use Rattle.ckr_library.specs.declared.sets.Stamp.{Stamp}

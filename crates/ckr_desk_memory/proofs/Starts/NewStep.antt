@@ -1,5 +1,5 @@
 -- A step has started: it is running before the others.
-use Rattle.std.proofs.Common.{◌≡◌, ◌==◌, ℕ, not, filter, List, [], ◌∷◌, map, refl, ap, sym, ◌∙◌, subst, Option, None, Some}
+use Rattle.std.proofs.Common.{◌≡◌, ◌==◌, ℕ, not, filter, List, [], ◌∷◌, map, ap, sym, ◌∙◌, subst, None, Some}
 use Rattle.std.specs.List.{AllByRecursion}
 use Rattle.std.specs.Option.{option_map}
 use Rattle.ckr_base.proofs.Options.{some-not-none}
@@ -15,7 +15,7 @@ use Rattle.ckr_desk_turn.specs.Queue.{AreNumbered}
 use Rattle.ckr_desk_memory.specs.declared.jobs.RunningStep.{RunningStep}
 use Rattle.ckr_desk_memory.specs.Invariant.{IsAcceptedRow}
 use Rattle.ckr_desk_memory.specs.Parts.{step_seen}
-use Rattle.ckr_desk_memory.specs.Preparation.{HasStep, IsBegun}
+use Rattle.ckr_desk_memory.specs.Preparation.{HasStep}
 use Rattle.ckr_desk_memory.specs.View.{RunningStepView}
 use Rattle.ckr_desk_memory.specs.Start.{HasNew, with_all_taken}
 use Rattle.ckr_desk_memory.proofs.Starts.Steps.{IsStepAt, begun-of, no-step, owned-is}

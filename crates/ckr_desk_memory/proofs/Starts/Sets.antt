@@ -1,5 +1,5 @@
 -- A step that has started can go on: its data sets are there, and stand apart.
-use Rattle.std.proofs.Common.{◌≡◌, ◌≤◌, ◌&&◌, ℕ, zero, suc, Bool, true, false, cond, List, [], ◌∷◌, find, map, length, refl, ap, sym, ◌∙◌, subst, Option, None, Some, arith, slice_get}
+use Rattle.std.proofs.Common.{◌≡◌, ◌&&◌, ℕ, zero, suc, Bool, true, cond, List, [], ◌∷◌, map, refl, ap, sym, ◌∙◌, subst, Option, None, Some, arith, slice_get}
 use Rattle.std.specs.Prelude.{option_and_then}
 use Rattle.std.proofs.lemmas.Bool.{false≢true}
 use Rattle.std.specs.List.{AllByRecursion}
@@ -19,7 +19,7 @@ use Rattle.ckr_jcl.specs.declared.deck.Origin.{Origin}
 use Rattle.ckr_jcl.specs.declared.deck.Origin.TheVariants.{InStream}
 use Rattle.ckr_jcl.specs.declared.deck.Step.{Step}
 use Rattle.ckr_library.specs.declared.sets.DataSet.{DataSet}
-use Rattle.ckr_library.specs.Catalog.{Catalog, set_of}
+use Rattle.ckr_library.specs.Catalog.{set_of}
 use Rattle.ckr_library.specs.NameMaps.{Name, Named, entry_at, same_name}
 use Rattle.ckr_meaning.specs.Allotments.{DdAllotment}
 use Rattle.ckr_meaning.specs.EffectiveJob.{Effective, OwnedStep, flaws_in, is_among, names_of, owned_by, placed_in, plain_job, stamp_of, step_at}
@@ -31,7 +31,6 @@ use Rattle.ckr_points.specs.declared.run.RunState.TheVariants.{On}
 use Rattle.ckr_points.specs.Restart.{after_event, place_of}
 use Rattle.ckr_points.specs.Rows.{RunRow, TableSet, TablesModel, run_of, standing_of, step_of_run, table_ways}
 use Rattle.ckr_points.specs.Soundness.{AreLaidOut}
-use Rattle.ckr_steps.specs.declared.files.RecordSource.{RecordSource}
 use Rattle.ckr_steps.specs.declared.step_run.StepRun.{StepRun}
 use Rattle.ckr_steps.specs.Files.{dd_in, files_of, input_dd, source_by, source_in}
 use Rattle.ckr_steps.specs.Inputs.{AreThere}
@@ -41,13 +40,12 @@ use Rattle.ckr_points_decks.specs.DeckLimits.{HasNamesOnce}
 use Rattle.ckr_points_decks.proofs.JobForm.{steps_once}
 use Rattle.ckr_desk_turn.specs.Queue.{AreNumbered}
 use Rattle.ckr_desk_turn.proofs.Queue.Events.{run_number}
-use Rattle.ckr_desk_memory.specs.Invariant.{AsksNone, IsAcceptedRow, IsRunnable}
+use Rattle.ckr_desk_memory.specs.Invariant.{IsAcceptedRow, IsRunnable}
 use Rattle.ckr_desk_memory.specs.View.{RunningStepView, begun}
-use Rattle.ckr_desk_memory.specs.Start.{HasNew, set_in_tables}
+use Rattle.ckr_desk_memory.specs.Start.{set_in_tables}
 use Rattle.ckr_desk_memory.proofs.Starts.Steps.{row-among, step-among}
 use Rattle.ckr_desk_memory.proofs.RecordCounts.{HasFew, IsStepFew, steps-few}
 use Rattle.ckr_desk_memory.proofs.Extents.{tested-step}
-use Rattle.ckr_desk_memory.proofs.Starts.Cancels.{asks-none}
 use Rattle.ckr_desk_memory.proofs.Starts.Names.{names-there}
 use Rattle.ckr_desk_memory.proofs.SetCopies.{are-stored}
 use Rattle.ckr_desk_memory.proofs.Starts.ProgramSets.{are-there}
@@ -78,7 +76,6 @@ record IsOwn (job : ℕ) (row : RunRow) (owned : OwnedStep) : Type 0 where
   owner : owned.owner ≡ job
   few : IsStepFew 100000 owned.step
   distinct : are_distinct (names_of job owned) ≡ true
-  asks : AsksNone owned.step.parm
 
 owner_is : (run : ℕ) (deck : Job) (step : ℕ) (owned : OwnedStep) → step_at (plain_job run deck) step ≡ Some owned → owned.owner ≡ run
 owner_is run deck zero owned at = absurd (some-not-none owned (sym at))
@@ -101,7 +98,6 @@ is_own tables job step row owned numbered rows at there =
       few = step-among (IsStepFew 100000) row.number row.deck step owned (steps-few accepted.cards row.deck accepted.accepted) found;
       distinct =
           step-among HasNamesOnce row.number row.deck step owned (steps_once accepted.cards row.deck accepted.accepted) found job owned.owner owned.tests;
-      asks = asks-none accepted.cards row.number row.deck step owned accepted.accepted accepted.is_run found;
     }
 
 -- ---- behind the start
@@ -160,5 +156,4 @@ is-runnable layout tables job step items deck row owned on numbered rows at ther
           (ap (λ n. files_of job n owned.step) own.owner ∙ sym (ap (λ (s : StepRun). s.files) is))
           (are-there start on.sets names own.distinct first second);
       counted = counted;
-      asks = subst (λ (s : StepRun). AsksNone s.parm) (sym is) own.asks;
     }

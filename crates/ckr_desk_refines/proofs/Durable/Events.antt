@@ -3,7 +3,7 @@ use Rattle.std.proofs.Common.{◌≡◌, ℕ, Bool, true, false, List, refl, ap,
 use Rattle.std.specs.Option.{option_map_or}
 use Rattle.arrayvec.specs.ArrayVec.{ArrayVec}
 use Rattle.ckr_base.specs.declared.code.Code.{Code}
-use Rattle.ckr_events.specs.declared.event.Event.TheVariants.{Submitted, StepEnded, Ended, Purged}
+use Rattle.ckr_events.specs.declared.event.Event.TheVariants.{Submitted, Cancelled, StepEnded, Ended, Purged}
 use Rattle.ckr_events.specs.declared.event.Ending.{Ending}
 use Rattle.ckr_events.specs.declared.event.Ending.TheVariants.{Completed, Coded, Allocation}
 use Rattle.ckr_jcl.specs.declared.deck.Job.{Job}
@@ -57,6 +57,11 @@ submitted-stays layout office image job cards deck kept next had =
 pub purged-stays : (layout : Layout) (office : Office) (image : List ℕ) (job : ℕ) (deck : Option Job) → IsKept layout office → IsKept layout (office_after (Purged job, deck) office) → HasCommitted layout office image → HasCommitted layout (office_after (Purged job, deck) office) image
 purged-stays layout office image job deck kept next had =
     same-sets layout office (office_after (Purged job, deck) office) image kept next (λ run led. refl) had
+    (by-run-sets _ (run_of office.tables job) office.tables (λ row. refl))
+
+pub cancelled-stays : (layout : Layout) (office : Office) (image : List ℕ) (job : ℕ) (deck : Option Job) → IsKept layout office → IsKept layout (office_after (Cancelled job, deck) office) → HasCommitted layout office image → HasCommitted layout (office_after (Cancelled job, deck) office) image
+cancelled-stays layout office image job deck kept next had =
+    same-sets layout office (office_after (Cancelled job, deck) office) image kept next (λ run led. refl) had
     (by-run-sets _ (run_of office.tables job) office.tables (λ row. refl))
 
 -- ---- a step ends

@@ -6,7 +6,7 @@ use Rattle.ckr_base.specs.declared.code.Code.{Code}
 use Rattle.ckr_events.specs.declared.event.Ending.{Ending}
 use Rattle.ckr_events.specs.declared.event.Ending.TheVariants.{Allocation, Coded, Completed}
 use Rattle.ckr_events.specs.declared.event.Event.{Event}
-use Rattle.ckr_events.specs.declared.event.Event.TheVariants.{Ended, Selected, Started}
+use Rattle.ckr_events.specs.declared.event.Event.TheVariants.{Cancelled, Ended, Selected, Started}
 use Rattle.ckr_events.specs.declared.event.Made.{Made}
 use Rattle.ckr_jcl.specs.declared.deck.Job.{Job}
 use Rattle.ckr_desk_memory.specs.EventChanges.{without_run}
@@ -17,7 +17,7 @@ use Rattle.ckr_desk_turn.specs.Invariant.{IsDesk, IsGoing}
 use Rattle.ckr_desk_turn.proofs.RunningSteps.{going-within}
 use Rattle.ckr_desk_refines.specs.Commits.{HasCommitted, HasWithinRun}
 use Rattle.ckr_desk_refines.specs.SharedSets.{LeavesOthers}
-use Rattle.ckr_desk_refines.proofs.Durable.Events.{coded-stays, completed-stays, refused-stays, step-ended-stays}
+use Rattle.ckr_desk_refines.proofs.Durable.Events.{cancelled-stays, coded-stays, completed-stays, refused-stays, step-ended-stays}
 use Rattle.ckr_desk_refines.proofs.Durable.Fellows.{others-coded, others-completed, others-refused, others-started, others-step-ended}
 use Rattle.ckr_desk_refines.proofs.Durable.Start.{selected-stays, started-stays}
 use Rattle.ckr_meaning.specs.EffectiveJob.{OwnedStep}
@@ -28,6 +28,7 @@ use Rattle.ckr_desk_refines.specs.Moves.{HasSameRecords, HaveMoved}
 use Rattle.ckr_desk_refines.specs.Standing.{AllStand, StandsForDesk, differ, seen_without, steps_without}
 use Rattle.ckr_desk_turn.specs.Desk.{DeskModel, at_first, behind, failed_behind, running_behind}
 use Rattle.ckr_volumes.specs.declared.layout.Layout.{Layout}
+use Rattle.ckr_desk_refines.proofs.Events.Cancel.{cancelled-differ, cancelled-running}
 use Rattle.ckr_desk_refines.proofs.Events.OtherSteps.{all-stand, left-differ, left-none, left-stand, rest-stand}
 use Rattle.ckr_desk_refines.proofs.Events.Plans.{OfEach}
 use Rattle.ckr_desk_refines.proofs.Events.OtherRows.{Enters, LeavesRuns, ended-leaves, selected-enters, started-leaves, step_ended-leaves}
@@ -47,6 +48,7 @@ pub each-committed : (desk : DeskModel) → IsDesk desk → (image : List ℕ) �
 each-committed desk is image had = record {
   selected = λ job initiator comes later. selected-stays desk.layout desk.office image job initiator 0 None None is.kept comes.may later.kept had;
   started = λ job step items comes later. started-stays desk.layout desk.office image job step items None is.kept comes.may comes.carried later.kept had;
+  cancelled = λ job step some is_due comes later. cancelled-stays desk.layout desk.office image job None is.kept later.kept had;
   step_ended = λ job step rc writes lengths has comes later. step-ended-stays desk.layout desk.office image job step rc writes lengths None is.kept comes.may comes.carried later.kept had has;
   completed = λ job comes later. completed-stays desk.layout desk.office image job None is.kept later.kept had;
   refused = λ job dd cause first second comes later. refused-stays desk.layout desk.office image job dd cause first second None is.kept later.kept had;
@@ -142,6 +144,11 @@ module _ (layout : Layout) (old new : JobsView) (before after : List ℕ) (desk 
         entered-stands layout old new before after desk (Selected job initiator 0 0 None) None stands moved records refl later
         (selected-enters desk.layout desk.office job initiator 0 stands.is_desk.kept.events comes.may) moved.running refl committed;
     started = step-started;
+    cancelled = λ job step some is_due comes later moved committed.
+        behind-stands layout old new after desk (Cancelled job) None stands.layout_is stands.tables stands.failed moved refl later
+        (subst (λ seen. AllStand desk.layout (office_after (Cancelled job, None) desk.office) after seen (running_behind (Cancelled job) desk.running)) (sym moved.running)
+        (cancelled-running desk stands.is_desk before after records old.running stands.running stands.differ_so job step some is_due))
+        (cancelled-differ desk stands.is_desk before after records old.running stands.running stands.differ_so job step some is_due) committed;
     step_ended = λ job step rc writes lengths has comes later moved committed.
         ended-stands layout old new before after desk _ job stands.layout_is stands.is_desk stands.tables stands.failed stands.differ_so (rest job) moved records refl later
         (step_ended-leaves desk.layout desk.office job step rc writes lengths stands.is_desk.kept.events)

@@ -8,7 +8,7 @@ use Rattle.ckr_base.proofs.Options.{option-cases, some-not-none}
 use Rattle.arrayvec.specs.ArrayVec.{ArrayVec}
 use Rattle.ckr_events.specs.declared.event.Ending.{Ending}
 use Rattle.ckr_events.specs.declared.event.Ending.TheVariants.{Allocation, Coded, Completed}
-use Rattle.ckr_events.specs.declared.event.Event.TheVariants.{Ended, Purged, Selected, Started, StepEnded, Submitted}
+use Rattle.ckr_events.specs.declared.event.Event.TheVariants.{Cancelled, Ended, Purged, Selected, Started, StepEnded, Submitted}
 use Rattle.ckr_events.specs.declared.event.Made.{Made}
 use Rattle.ckr_jcl.specs.declared.deck.Job.{Job}
 use Rattle.ckr_points_library.specs.Commit.{output_names}
@@ -131,6 +131,14 @@ step_ended-leaves layout now job step rc writes lengths kept = record {
 pub ended-leaves : (layout : Layout) (now : Office) (job : ℕ) (ending : Ending) → IsAgreed layout now → LeavesRuns now (office_after (Ended job ending, None) now) job
 ended-leaves layout now job ending kept = record {
   rows = run-stays job now.tables _ (λ row at. ending-stays job now.tables row ending (kept.numbered job row at));
+  legs = λ other apart. refl;
+}
+
+pub cancelled-leaves : (layout : Layout) (now : Office) (job : ℕ) → IsAgreed layout now → LeavesRuns now (office_after (Cancelled job, None) now) job
+cancelled-leaves layout now job kept = record {
+  rows =
+      run-stays job now.tables _
+      (λ row at. put-stays job now.tables now.tables (record row { in_effect = None }) (kept.numbered job row at) (λ other apart. refl));
   legs = λ other apart. refl;
 }
 

@@ -14,7 +14,7 @@ use Rattle.ckr_desk_turn.proofs.Units.Outputs.{distinct-job, distinct-step}
 use Rattle.ckr_desk_turn.proofs.RunningSteps.{going-within}
 use Rattle.ckr_desk_turn.proofs.NextEvents.WithinStep.{by-step}
 use Rattle.ckr_desk_refines.specs.SharedSets.{LeavesOthers}
-use Rattle.ckr_desk_refines.specs.StepSets.{HasSets, LiesThere}
+use Rattle.ckr_desk_refines.specs.StepSets.{LiesThere}
 use Rattle.ckr_desk_refines.proofs.Durable.Fellows.{others-of-step}
 use Rattle.ckr_library.specs.declared.sets.DataSet.{DataSet}
 use Rattle.ckr_library.specs.Catalog.{set_of}
@@ -124,31 +124,84 @@ within-spaced layout office number row leg owned step from to kept running space
     (subst (λ (standing : Stock LibrarySet). AreWithinSpace standing.sets) (at-before leg.job leg.start step)
     (at-within leg.job leg.start (Before step) (distinct-job leg.job (place_so layout office number row leg owned step from kept running).formed) spaced))
 
+-- ---- a running step whose data sets and records stay
+
+module _ (desk : DeskModel) (is : IsDesk desk) (later : Office) (before after : List ℕ) (same : HasSameRecords desk.layout before after)
+    (on : RunningStepView) (step : DeskStep) (going : IsGoing desk.office step) (stands : StandsForStep desk.layout desk.office before on step) where
+  mine : going.row ≡ stands.row
+  mine = same_Some going.row stands.row (sym going.row_at ∙ stands.row_at)
+
+  its : going.start ≡ stands.start
+  its = same_Some going.start stands.start (sym going.start_at ∙ ap (start_of desk.office) mine ∙ stands.start_at)
+
+  spaced_now : AreWithinSpace (within_at stands.start step.progress.writes)
+  spaced_now =
+      by-step desk is step.run going.row going.number going.committed going.start (going-within desk.office step going)
+      (λ leg owned running starts spaced.
+      subst (λ (s : StepStart). AreWithinSpace (within_at s step.progress.writes)) (sym starts ∙ its)
+      (within-spaced desk.layout desk.office step.run going.row leg owned going.number going.committed step.progress.writes is.kept.events running spaced))
+
+  -- its records stay on the disk
+  records_there : (name : Name) (set : DataSet) (n : ℕ) → set_of on.sets name ≡ Some set → n ≤ set.space → records_on after desk.layout set n ≡ records_on before desk.layout set n
+  records_there name set n own fits =
+      let from = stands.sets.from name set own in
+      let lies : LiesThere from.0 set = from.2 in
+      let space : set.space ≡ from.0.set.space = lies.space in
+      same_places after desk.layout from.0.set set lies.places n
+      ∙ same from.0.set n (each-at (λ (table : TableSet). StandsIn desk.layout table.set) desk.office.tables.sets is.kept.events.extents.stand name from.0 from.1) (omega (arith, space, fits))
+      ∙ sym (same_places before desk.layout from.0.set set lies.places n)
+
+  shows_there : ShowsWithin (Unit {0}) after desk.layout stands.start step.progress.writes on.sets
+  shows_there name model among e plain =
+      let shown : IsShown (Unit {0}) before desk.layout model on.sets name = stands.shows name model among e plain in
+      let few : length model.records ≤ model.space = each-at IsWithinSpace (within_at stands.start step.progress.writes) spaced_now name model e in
+      let long : shown.set.length ≡ length model.records = shown.shows.length in
+      let space : shown.set.space ≡ model.space = shown.shows.space in
+      record {
+        set = shown.set;
+        is = shown.is;
+        shows = record {
+          lrecl = shown.shows.lrecl;
+          space = shown.shows.space;
+          length = shown.shows.length;
+          records = λ told. records_there name shown.set shown.set.length shown.is (omega (arith, few, long, space)) ∙ shown.shows.records told;
+        };
+      }
+
+  -- it stands by a later row of its run, of the same start
+  pub still-stands : (row : RunRow) → run_of later.tables step.run ≡ Some row → start_of later row ≡ Some stands.start
+      → ((name : Name) → is_among (names_of stands.start.root stands.start.owned) name ≡ true → entry_at later.tables.sets name ≡ entry_at desk.office.tables.sets name)
+      → StandsForStep desk.layout later after on step
+  still-stands row row_there start_there entries = record {
+    row = row;
+    row_at = row_there;
+    start = stands.start;
+    start_at = start_there;
+    run = stands.run;
+    stands = stands.stands;
+    served = stands.served;
+    writes = stands.writes;
+    sets = record {
+      from = λ name set own. let from = stands.sets.from name set own in (from.0, entries name (stands.named name set own) ∙ from.1, from.2);
+      each = λ name table among e. stands.sets.each name table among (sym (entries name among) ∙ e);
+    };
+    named = stands.named;
+    shows = shows_there;
+    checked = λ name table set e own content. stands.checked name table set (sym (entries name (stands.named name set own)) ∙ e) own content;
+  }
+
 -- ---- the running step of another run
 
 module _ (desk : DeskModel) (is : IsDesk desk) (later : Office) (run : ℕ) (leaves : LeavesRuns desk.office later run) (others : LeavesOthers desk.office run later)
     (before after : List ℕ) (same : HasSameRecords desk.layout before after) where
   module _ (on : RunningStepView) (step : DeskStep) (going : IsGoing desk.office step) (apart : step.run ≢ run) (stands : StandsForStep desk.layout desk.office before on step) where
-    mine : going.row ≡ stands.row
-    mine = same_Some going.row stands.row (sym going.row_at ∙ stands.row_at)
-
-    its : going.start ≡ stands.start
-    its = same_Some going.start stands.start (sym going.start_at ∙ ap (start_of desk.office) mine ∙ stands.start_at)
-
     -- its data sets stay in the tables
     entries : (name : Name) → is_among (names_of stands.start.root stands.start.owned) name ≡ true → entry_at later.tables.sets name ≡ entry_at desk.office.tables.sets name
     entries name among =
         by-step desk is step.run going.row going.number going.committed going.start (going-within desk.office step going)
         (λ leg owned running starts spaced.
         others-of-step desk.layout desk.office later run step.run going.row leg owned going.number going.committed name is.kept.events others running apart
-        (ap (λ (s : StepStart). is_among (names_of s.root s.owned) name) (sym starts ∙ its) ∙ among))
-
-    spaced_now : AreWithinSpace (within_at stands.start step.progress.writes)
-    spaced_now =
-        by-step desk is step.run going.row going.number going.committed going.start (going-within desk.office step going)
-        (λ leg owned running starts spaced.
-        subst (λ (s : StepStart). AreWithinSpace (within_at s step.progress.writes)) (sym starts ∙ its)
-        (within-spaced desk.layout desk.office step.run going.row leg owned going.number going.committed step.progress.writes is.kept.events running spaced))
+        (ap (λ (s : StepStart). is_among (names_of s.root s.owned) name) (sym starts ∙ its desk is later before after same on step going stands) ∙ among))
 
     start_there : start_of later stands.row ≡ Some stands.start
     start_there =
@@ -156,53 +209,9 @@ module _ (desk : DeskModel) (is : IsDesk desk) (later : Office) (run : ℕ) (lea
         (leaves.legs stands.row.number (λ e. apart (sym (is.kept.events.numbered step.run stands.row stands.row_at) ∙ e)))
         ∙ stands.start_at
 
-    has_sets : HasSets later.tables.sets (names_of stands.start.root stands.start.owned) on.sets
-    has_sets = record {
-      from = λ name set own. let from = stands.sets.from name set own in (from.0, entries name (stands.named name set own) ∙ from.1, from.2);
-      each = λ name table among e. stands.sets.each name table among (sym (entries name among) ∙ e);
-    }
-
-    -- its records stay on the disk
-    records_there : (name : Name) (set : DataSet) (n : ℕ) → set_of on.sets name ≡ Some set → n ≤ set.space → records_on after desk.layout set n ≡ records_on before desk.layout set n
-    records_there name set n own fits =
-        let from = stands.sets.from name set own in
-        let lies : LiesThere from.0 set = from.2 in
-        let space : set.space ≡ from.0.set.space = lies.space in
-        same_places after desk.layout from.0.set set lies.places n
-        ∙ same from.0.set n (each-at (λ (table : TableSet). StandsIn desk.layout table.set) desk.office.tables.sets is.kept.events.extents.stand name from.0 from.1) (omega (arith, space, fits))
-        ∙ sym (same_places before desk.layout from.0.set set lies.places n)
-
-    shows_there : ShowsWithin (Unit {0}) after desk.layout stands.start step.progress.writes on.sets
-    shows_there name model among e plain =
-        let shown : IsShown (Unit {0}) before desk.layout model on.sets name = stands.shows name model among e plain in
-        let few : length model.records ≤ model.space = each-at IsWithinSpace (within_at stands.start step.progress.writes) spaced_now name model e in
-        let long : shown.set.length ≡ length model.records = shown.shows.length in
-        let space : shown.set.space ≡ model.space = shown.shows.space in
-        record {
-          set = shown.set;
-          is = shown.is;
-          shows = record {
-            lrecl = shown.shows.lrecl;
-            space = shown.shows.space;
-            length = shown.shows.length;
-            records = λ told. records_there name shown.set shown.set.length shown.is (omega (arith, few, long, space)) ∙ shown.shows.records told;
-          };
-        }
-
     pub step-stands : StandsForStep desk.layout later after on step
-    step-stands = record {
-      row = stands.row;
-      row_at = leaves.rows step.run apart ∙ stands.row_at;
-      start = stands.start;
-      start_at = start_there;
-      run = stands.run;
-      stands = stands.stands;
-      writes = stands.writes;
-      sets = has_sets;
-      named = stands.named;
-      shows = shows_there;
-      checked = λ name table set e own content. stands.checked name table set (sym (entries name (stands.named name set own)) ∙ e) own content;
-    }
+    step-stands =
+        still-stands desk is later before after same on step going stands stands.row (leaves.rows step.run apart ∙ stands.row_at) start_there entries
 
   -- ---- all of them
 

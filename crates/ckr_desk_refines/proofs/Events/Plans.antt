@@ -1,17 +1,19 @@
 -- What a turn tells of a desk that stands: each event with what the image has of its run.
-use Rattle.std.proofs.Common.{◌≡◌, ℕ, Bool, true, false, List, ap, sym, ◌∙◌, subst, Option, Some, None, Result, Ok, Err}
+use Rattle.std.proofs.Common.{◌≡◌, ℕ, Bool, true, false, List, refl, ap, sym, ◌∙◌, subst, Option, Some, None, Result, Ok, Err}
 use Rattle.std.specs.Prelude.{◌==◌}
 use Rattle.std.specs.Option.{option_map_or}
 use Rattle.std.proofs.lemmas.Bool.{and_from, false≢true}
 use Rattle.arrayvec.specs.ArrayVec.{ArrayVec}
 use Rattle.ckr_points_library.specs.declared.cause.Refusal.{Refusal}
 use Rattle.ckr_base.specs.declared.code.Code.{Code}
+use Rattle.ckr_base.specs.declared.programs.NextDue.{NextDue}
+use Rattle.ckr_base.specs.declared.programs.NextDue.TheVariants.{Unit as OneUnit, Checkpoint, Cancel, Finished}
 use Rattle.ckr_base.proofs.Bools.{bool-cases}
 use Rattle.ckr_base.proofs.Options.{is_none-true, option-cases}
 use Rattle.ckr_base.proofs.Sequences.{find-all}
 use Rattle.ckr_events.specs.declared.event.Ending.TheVariants.{Allocation, Coded, Completed}
 use Rattle.ckr_events.specs.declared.event.Event.{Event}
-use Rattle.ckr_events.specs.declared.event.Event.TheVariants.{Ended, Selected, Started, StepEnded}
+use Rattle.ckr_events.specs.declared.event.Event.TheVariants.{Cancelled, Ended, Selected, Started, StepEnded}
 use Rattle.ckr_events.specs.declared.event.Made.{Made}
 use Rattle.ckr_desk_memory.specs.View.{RunningStepView}
 use Rattle.ckr_desk_turn.specs.NextEvents.{IsWithinStep}
@@ -32,7 +34,7 @@ use Rattle.ckr_points.specs.Rows.{RunRow, run_of, step_of_run}
 use Rattle.ckr_rules.specs.RuleTables.{rule_number}
 use Rattle.ckr_desk_refines.specs.Standing.{AllStand}
 use Rattle.ckr_desk_turn.specs.declared.plan.Plan.{Plan}
-use Rattle.ckr_desk_turn.specs.declared.plan.Plan.TheVariants.{Rest, Tell, Work}
+use Rattle.ckr_desk_turn.specs.declared.plan.Plan.TheVariants.{Rest, Tell, Work, Pass}
 use Rattle.ckr_desk_turn.specs.declared.reply.How.TheVariants.{Completed as CompletedJob}
 use Rattle.ckr_desk_turn.specs.declared.reply.Reply.TheVariants.{Idle, JobEnded, NothingToFail, Selected as SelectedReply, Started as StartedReply}
 use Rattle.ckr_desk_turn.specs.declared.reply.Turn.{Turn}
@@ -41,13 +43,14 @@ use Rattle.ckr_desk_turn.specs.Select.{is_on, may_select, next_run, run_on_initi
 use Rattle.ckr_desk_turn.specs.Codes.{code_plan, reached_by, rule_for}
 use Rattle.ckr_desk_turn.specs.Desk.{DeskModel, jobs_of}
 use Rattle.ckr_desk_turn.specs.Jobs.{TurnStep, is_failed, running_in}
-use Rattle.ckr_desk_turn.specs.Plans.{allocation_ended, between_plan, chosen_plan, fail_plan, finished_plan, free_plan, is_within as is_planned, placed_plan, plan_of, run_plan, running_plan, start_plan, system_failure}
+use Rattle.ckr_desk_turn.specs.Plans.{allocation_ended, between_plan, chosen_plan, due_plan, fail_plan, free_plan, is_within as is_planned, placed_plan, plan_of, run_plan, running_plan, start_plan, system_failure}
 use Rattle.ckr_desk_refines.proofs.Events.Commits.{reached-written, running-written}
 
 -- what is shown of each event that a turn may tell
 pub record OfEach (desk : DeskModel) (image : List ℕ) (Q : Event → Type 0) : Type 0 where
   pub selected : (job initiator : ℕ) → Q (Selected job initiator 0 0 None)
   pub started : (job step : ℕ) (items : ArrayVec Made) → Q (Started job step items)
+  pub cancelled : (job : ℕ) (step : TurnStep) → running_in (jobs_of desk) job ≡ Some step → step.due ≡ Cancel → Q (Cancelled job)
   pub step_ended : (job step rc writes : ℕ) (lengths : ArrayVec ℕ) → HasWithinRun desk.layout desk.office job writes image → Q (StepEnded job step rc writes lengths)
   pub completed : (job : ℕ) → Q (Ended job Completed)
   pub refused : (job dd cause first second : ℕ) → Q (Ended job (Allocation dd cause first second))
@@ -58,6 +61,7 @@ abbrev pub OfPlan : (Event → Type 0) → Plan → Type 0
 OfPlan Q (Rest reply) = Unit {0}
 OfPlan Q (Tell reply event) = Q event
 OfPlan Q (Work job) = Unit {0}
+OfPlan Q (Pass job reply) = Unit {0}
 
 module _ (desk : DeskModel) (is : IsDesk desk) (image : List ℕ) (seen : List RunningStepView) (all : AllStand desk.layout desk.office image seen desk.running) (had : HasCommitted desk.layout desk.office image)
     (Q : Event → Type 0) (each : OfEach desk image Q) where
@@ -69,9 +73,11 @@ module _ (desk : DeskModel) (is : IsDesk desk) (image : List ℕ) (seen : List R
         each.coded row.number (rule_number (rule_for desk.layout row code)) (reached_by (jobs_of desk) row).writes code (record { items = (reached_by (jobs_of desk) row).lengths })
         (reached-written desk is image seen all had row.number row number committed start within)
 
-    ends-tell : (step : TurnStep) (finished : Option ℕ) → running_in (jobs_of desk) row.number ≡ Some step → OfPlan Q (finished_plan row number step finished)
-    ends-tell step None some = tt
-    ends-tell step (Some rc) some =
+    due-tells : (step : TurnStep) (due : NextDue) → step.due ≡ due → running_in (jobs_of desk) row.number ≡ Some step → OfPlan Q (due_plan row number step due)
+    due-tells step OneUnit is_due some = tt
+    due-tells step Checkpoint is_due some = tt
+    due-tells step Cancel is_due some = each.cancelled row.number step some is_due
+    due-tells step (Finished rc) is_due some =
         each.step_ended row.number number rc step.writes (record { items = step.lengths }) (running-written desk is image seen all row.number step some)
 
     placed-tells : OfPlan Q (placed_plan desk.layout (jobs_of desk) row (place_of row))
@@ -79,7 +85,7 @@ module _ (desk : DeskModel) (is : IsDesk desk) (image : List ℕ) (seen : List R
         subst (λ place. OfPlan Q (placed_plan desk.layout (jobs_of desk) row place)) (sym within.place)
         (option-cases (running_in (jobs_of desk) row.number)
         (λ none. subst (λ (o : Option TurnStep). OfPlan Q (option_map_or (running_plan row number) o (Rest Idle))) (sym none) tt)
-        (λ step some. subst (λ (o : Option TurnStep). OfPlan Q (option_map_or (running_plan row number) o (Rest Idle))) (sym some) (ends-tell step step.finished some)))
+        (λ step some. subst (λ (o : Option TurnStep). OfPlan Q (option_map_or (running_plan row number) o (Rest Idle))) (sym some) (due-tells step step.due refl some)))
 
     fail-tells : (fail : Option Code) → OfPlan Q (fail_plan desk.layout (jobs_of desk) row fail)
     fail-tells None = placed-tells

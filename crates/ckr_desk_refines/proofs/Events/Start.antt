@@ -44,7 +44,8 @@ use Rattle.ckr_steps.specs.declared.files.Files.{Files}
 use Rattle.ckr_steps.specs.declared.step_run.StepRun.{StepRun}
 use Rattle.ckr_steps.specs.Files.{files_of}
 use Rattle.ckr_steps.specs.Places.{HasMade, ShowsWithin, IsStepPlace, files_at, names_at}
-use Rattle.ckr_steps.specs.Units.{first_state}
+use Rattle.ckr_steps.specs.Units.{AreServed, first_state}
+use Rattle.ckr_steps.proofs.Served.{first-fresh}
 use Rattle.ckr_steps.specs.Writes.{Shows}
 use Rattle.ckr_steps.proofs.Start.{begins, shows_made}
 use Rattle.ckr_desk_turn.specs.Desk.{DeskModel, DeskStep, at_first}
@@ -196,6 +197,7 @@ module _ (desk : DeskModel) (is : IsDesk desk) (run : ℕ) (going : IsGoing desk
       start_at = going.start_at ∙ ap Some same;
       run = has.run;
       stands = stands_so;
+      served = subst (λ (s : StepRun). AreServed false false s.state) (sym has.step) (first-fresh owned.step.program);
       writes = ap (λ (s : StepRun). s.writes) has.step;
       sets = has_sets;
       named = λ name set own. sym (named_so name) ∙ (table_of name set own).named;

@@ -1,5 +1,5 @@
 -- The jobs in memory stand for the desk behind a rewrite and its record.
-use Rattle.std.proofs.Common.{◌≡◌, ◌≢◌, ◌<◌, ℕ, false, List, ◌∷◌, length, refl, ap, sym, ◌∙◌, subst, None, Some}
+use Rattle.std.proofs.Common.{◌≡◌, ◌≢◌, ◌<◌, ℕ, List, ◌∷◌, length, refl, ap, sym, ◌∙◌, subst, None, Some}
 use Rattle.ckr_base.proofs.Sequences.{length-fitted}
 use Rattle.ckr_events.specs.declared.event.Event.{Event}
 use Rattle.ckr_desk_memory.specs.EventChanges.{without_first}
@@ -18,6 +18,7 @@ use Rattle.ckr_steps.specs.declared.files.Files.{Files}
 use Rattle.ckr_steps.specs.declared.files.RecordSource.TheVariants.{InSet}
 use Rattle.ckr_desk_turn.specs.Desk.{DeskModel, DeskStep, TurnDone, without_run, work_of}
 use Rattle.ckr_desk_turn.specs.declared.reply.Turn.{Turn}
+use Rattle.ckr_desk_turn.specs.Units.{arrived}
 use Rattle.ckr_volumes.specs.declared.layout.Layout.{Layout}
 use Rattle.ckr_volumes.specs.Layouts.{StandsIn}
 use Rattle.ckr_desk_refines.proofs.Rewrites.Requests.{IsAsked, desk-then, done, event, event-is, is-asked, kept-then, leaves, name-is, number-is, office-is, still, then, work-is}
@@ -49,7 +50,7 @@ module _ (old : JobsView) (before after : List ℕ) (desk : DeskModel) (turn : T
 
   module _ (told written : List ℕ) (as_told : HasSameRecords desk.layout after told) (set : DataSet) (found : set_of moved.sets asked.rewrite.name ≡ Some set) (wrote : IsWritten desk.layout set place image told written) where
     abbrev moved_on : DeskStep
-    moved_on = record { run = asked.led.row.number; progress = record { taken = taken; writes = moved.step.writes; closed = false } }
+    moved_on = record { run = asked.led.row.number; progress = arrived taken moved.step.writes }
 
     abbrev office_then : Office
     office_then = then before after desk is run on moved place image taken asked

@@ -37,6 +37,7 @@ use Rattle.ckr_points_invariant.proofs.Writes.Likeness.{bare, written_all-bare}
 use Rattle.ckr_desk_refines.specs.Standing.{StandsForStep}
 use Rattle.ckr_steps.specs.Inputs.{AreStored}
 use Rattle.ckr_steps.specs.Places.{ShowsWithin, IsStepPlace}
+use Rattle.ckr_steps.specs.Units.{AreServed}
 use Rattle.ckr_steps.specs.Writes.{IsShown}
 use Rattle.ckr_desk_turn.specs.Desk.{DeskModel, DeskStep, start_of}
 use Rattle.ckr_volumes.specs.declared.layout.Layout.{Layout}
@@ -58,6 +59,7 @@ pub record IsLedStep (desk : DeskModel) (image : List ℕ) (on : RunningStepView
   pub plain : rewrites_nothing (its_start leg owned (step_now row)) (writes_in (place_of row)) step.progress.writes ≡ true
   pub run : on.run ≡ step.run
   pub stands : IsStepPlace (its_start leg owned (step_now row)) step.progress.taken step.progress.closed on.step on.sets
+  pub served : AreServed step.progress.checkpointed step.progress.cancelled on.step.state
   pub writes : on.step.writes ≡ step.progress.writes
   pub sets : HasSets desk.office.tables.sets (names_of leg.job.root owned) on.sets
   pub named : (name : Name) (set : DataSet) → set_of on.sets name ≡ Some set → is_among (names_of leg.job.root owned) name ≡ true
@@ -92,6 +94,7 @@ led-step desk is image on step going stands =
       plain = ap (λ n. rewrites_nothing (its_start leg owned (step_now going.row)) n step.progress.writes) from ∙ subst (λ (s : StepStart). rewrites_nothing s going.committed step.progress.writes ≡ true) mine going.plain;
       run = stands.run;
       stands = subst (λ (s : StepStart). IsStepPlace s step.progress.taken step.progress.closed on.step on.sets) its stands.stands;
+      served = stands.served;
       writes = stands.writes;
       sets = subst (λ (s : StepStart). HasSets desk.office.tables.sets (names_of s.root s.owned) on.sets) its stands.sets;
       named = λ name set e. ap (λ (s : StepStart). is_among (names_of s.root s.owned) name) (sym its) ∙ stands.named name set e;

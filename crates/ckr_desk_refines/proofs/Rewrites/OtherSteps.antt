@@ -129,6 +129,7 @@ module _ (desk : DeskModel) (is : IsDesk desk) (before : List ℕ) (on : Running
           start_at = theirs.starts;
           run = theirs.run;
           stands = theirs.stands;
+          served = theirs.served;
           writes = theirs.writes;
           sets = record {
             from = λ name set e. let its = theirs.sets.from name set e in (its.0, stays name (theirs.named name set e) ∙ its.1, its.2);

@@ -42,7 +42,7 @@ use Rattle.ckr_steps.proofs.NextHeads.{first_main, first_rejects, keeps_input, s
 use Rattle.ckr_steps.proofs.Inputs.{IsKept}
 use Rattle.ckr_steps.proofs.Rewrites.{rewritten_shows}
 use Rattle.ckr_desk_turn.specs.Desk.{DeskModel, DeskStep, jobs_of}
-use Rattle.ckr_desk_turn.specs.Units.{updated_lrecl}
+use Rattle.ckr_desk_turn.specs.Units.{arrived, updated_lrecl}
 use Rattle.ckr_volumes.specs.declared.layout.Layout.{Layout}
 use Rattle.ckr_volumes.specs.Records.{records_on}
 use Rattle.ckr_desk_refines.proofs.Rewrites.Office.{behind, next-at, own-sets, own-table}
@@ -174,6 +174,7 @@ module _ (desk : DeskModel) (is : IsDesk desk) (before : List ℕ) (on : Running
   abbrev pub told-so : (told : List ℕ) → HasSameRecords desk.layout after told → IsToRewrite (Unit {0}) told desk.layout start step.progress.taken taken place bytes on.step moved.step moved.sets
   told-so told keeps = record {
     stands = rewrite.stands;
+    served = rewrite.served;
     program = rewrite.program;
     rewritten = rewrite.rewritten;
     name = rewrite.name;
@@ -198,7 +199,7 @@ module _ (desk : DeskModel) (is : IsDesk desk) (before : List ℕ) (on : Running
       (λ is_told n le. wrote.written n le) (λ is_told other stands apart n le. wrote.others other stands apart n le)
 
   abbrev moved_on : DeskStep
-  moved_on = record { run = led.row.number; progress = record { taken = taken; writes = moved.step.writes; closed = false } }
+  moved_on = record { run = led.row.number; progress = arrived taken moved.step.writes }
 
   -- the step stands
   pub own-stands : LieStill desk.office.tables.sets (behind desk before on step led moved.step.writes moved.sets same).tables.sets → (told written : List ℕ) → HasSameRecords desk.layout after told → (set : DataSet) → set_of moved.sets rewrite.name ≡ Some set
@@ -210,6 +211,7 @@ module _ (desk : DeskModel) (is : IsDesk desk) (before : List ℕ) (on : Running
     start_at = led.starts;
     run = run ∙ led.run ∙ sym led.numbered;
     stands = rewrite.stands;
+    served = rewrite.served;
     writes = refl;
     sets = own-sets desk before on step led moved.step.writes moved.sets same still;
     named = λ name set e. led.named name set (sym (same name) ∙ e);

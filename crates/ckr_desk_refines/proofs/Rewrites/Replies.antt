@@ -17,7 +17,7 @@ use Rattle.ckr_desk_turn.specs.declared.plan.Plan.TheVariants.{Rest, Tell}
 use Rattle.ckr_desk_turn.specs.declared.reply.Reply.TheVariants.{Idle, Worked}
 use Rattle.ckr_desk_turn.specs.Desk.{DeskModel, DeskStep, TurnDone, done_by, jobs_of, progress_of, seen_from, start_of, unit_done, with_progress, work_of}
 use Rattle.ckr_desk_turn.specs.Jobs.{TurnStep, step_name_of}
-use Rattle.ckr_desk_turn.specs.Units.{StepProgress, UnitEnd, abended, finished_by, no_more_space, unit_end, updated_lrecl, went}
+use Rattle.ckr_desk_turn.specs.Units.{StepProgress, UnitEnd, abended, arrived, finished_by, no_more_space, unit_end, updated_lrecl, went}
 use Rattle.ckr_desk_turn.specs.Invariant.{next_writes}
 use Rattle.ckr_desk_turn.proofs.RunningSteps.{seen-so}
 use Rattle.ckr_volumes.specs.declared.layout.Layout.{Layout}
@@ -37,7 +37,7 @@ rewritten_event run taken writes lengths place bytes = RewrittenEvent run taken 
 abbrev pub told_so : RunRow → ℕ → ℕ → List ℕ → ℕ → List ℕ → DeskModel → TurnDone
 told_so row taken writes lengths place bytes desk =
     done_by (Tell (Worked row.number (step_name_of row) taken) (rewritten_event row.number taken writes lengths place bytes))
-    (with_progress row.number (record { taken = taken; writes = writes; closed = false }) desk)
+    (with_progress row.number (arrived taken writes) desk)
 
 module _ (desk : DeskModel) (on : DeskStep) (row : RunRow) (start : StepStart) (row_at : run_of desk.office.tables on.run ≡ Some row) (numbered : run_of desk.office.tables row.number ≡ Some row) (start_at : start_of desk.office row ≡ Some start)
     (found : progress_of desk on.run ≡ Some on.progress)
@@ -56,7 +56,7 @@ module _ (desk : DeskModel) (on : DeskStep) (row : RunRow) (start : StepStart) (
       omega (arith, one, counts, rewrite.counted)
 
   abbrev end_with : ℕ → ℕ → Option (ℕ × List ℕ) → UnitEnd
-  end_with records writes at = record { unit = went at; progress = record { taken = records; writes = writes; closed = false } }
+  end_with records writes at = record { unit = went at; progress = arrived records writes }
 
   end_is : unit_end start on.progress ≡ end_with taken new.writes (Some (place, rewrite.write.image))
   end_is =
@@ -69,7 +69,7 @@ module _ (desk : DeskModel) (on : DeskStep) (row : RunRow) (start : StepStart) (
       ∙ ap (λ n. end_with n new.writes (Some (place, rewrite.write.image))) (sym next)
 
   abbrev further : StepProgress
-  further = record { taken = taken; writes = new.writes; closed = false }
+  further = arrived taken new.writes
 
   abbrev told_by_step : TurnStep → List ℕ → TurnDone
   told_by_step step bytes =

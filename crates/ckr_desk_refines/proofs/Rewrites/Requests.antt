@@ -1,17 +1,16 @@
 -- A unit that asks for a rewrite in place, as the desk has it.
-use Rattle.std.proofs.Common.{◌≡◌, ℕ, suc, Bool, true, false, cond, List, [], refl, ap, sym, ◌∙◌, subst, Option, None, Some}
+use Rattle.std.proofs.Common.{◌≡◌, ℕ, suc, false, List, [], ap, sym, ◌∙◌, subst, Option, None, Some}
 use Rattle.std.specs.Prelude.{◌==◌, find}
 use Rattle.std.specs.Option.{option_map_or}
 use Rattle.std.proofs.lemmas.Option.{same_Some}
+use Rattle.ckr_base.specs.declared.programs.NextDue.TheVariants.{Unit as OneUnit}
 use Rattle.ckr_base.proofs.Numbers.{equal-true}
-use Rattle.ckr_base.proofs.Options.{some-not-none}
 use Rattle.ckr_base.proofs.Sequences.{find-holds, find-passes}
 use Rattle.ckr_events.specs.declared.event.Event.{Event}
 use Rattle.ckr_desk_memory.specs.Plans.{told_by}
 use Rattle.ckr_desk_memory.specs.View.{JobsView, RunningStepView, lengths_in, lengths_of_row, running_of}
 use Rattle.ckr_desk_turn.specs.NextEvents.{Comes}
 use Rattle.ckr_desk_turn.specs.Invariant.{IsDesk, IsGoing, Keeps as KeepsDesk}
-use Rattle.ckr_desk_turn.proofs.RunningSteps.{FoundStep, found-step}
 use Rattle.ckr_desk_turn.proofs.Units.AnyUnit.{work-keeps}
 use Rattle.ckr_desk_refines.specs.SharedSets.{LeavesOthers, LieStill}
 use Rattle.ckr_desk_refines.proofs.Durable.Fellows.{others-rewritten}
@@ -19,7 +18,7 @@ use Rattle.ckr_desk_refines.proofs.Durable.Extents.{rewritten-lie}
 use Rattle.ckr_library.specs.Catalog.{set_of}
 use Rattle.ckr_library.specs.NameMaps.{Name}
 use Rattle.ckr_meaning.specs.EffectiveJob.{OwnedStep}
-use Rattle.ckr_meaning.specs.StepRun.{StepStart, case_at, work_at}
+use Rattle.ckr_meaning.specs.StepRun.{StepStart, case_at}
 use Rattle.ckr_points.specs.Office.{Office, office_after}
 use Rattle.ckr_points.specs.Rows.{RunRow, run_of}
 use Rattle.ckr_desk_refines.specs.Rewrite.{AsksToRewrite}
@@ -33,16 +32,16 @@ use Rattle.ckr_steps.specs.Files.{set_of_source}
 use Rattle.ckr_steps.specs.Places.{IsToRewrite, ShowsWithin, IsStepPlace}
 use Rattle.ckr_steps.specs.Units.{taken_of}
 use Rattle.ckr_steps.proofs.NextUnits.{taken_is}
-use Rattle.ckr_desk_turn.specs.Desk.{DeskModel, DeskStep, TurnDone, jobs_of, progress_of, rc_by, seen_from, work_of}
-use Rattle.ckr_desk_turn.specs.Jobs.{TurnStep}
+use Rattle.ckr_desk_turn.specs.Desk.{DeskModel, DeskStep, TurnDone, progress_of, work_of}
 use Rattle.ckr_desk_turn.specs.declared.reply.Turn.{Turn}
 use Rattle.ckr_desk_refines.proofs.Rewrites.Office.{behind, behind-is, lengths_now}
 use Rattle.ckr_desk_refines.proofs.Rewrites.Legs.{IsLedStep, led-step}
 use Rattle.ckr_desk_refines.proofs.Rewrites.StepLists.{StandsFound, stands-found}
 use Rattle.ckr_desk_refines.proofs.Rewrites.OwnStep.{lengths-are, lrecl-so}
-use Rattle.ckr_desk_refines.proofs.Rewrites.InputRecords.{IsOpenYet, work-opens}
 use Rattle.ckr_desk_refines.proofs.Rewrites.Replies.{rewritten_event, told_so, work-told}
 use Rattle.ckr_desk_refines.proofs.Rewrites.Unit.{same-set, sets-same, takes-one-more}
+use Rattle.ckr_desk_refines.proofs.Units.DueUnits.{IsDue, due-unclosed, is-due}
+use Rattle.ckr_desk_refines.proofs.Units.Plans.{asked_in}
 
 -- the unit, as the desk has it
 pub record IsAsked (before after : List ℕ) (desk : DeskModel) (run : ℕ) (on moved : RunningStepView) (place : ℕ) (image : List ℕ) (taken : ℕ) : Type 0 where
@@ -56,24 +55,15 @@ pub record IsAsked (before after : List ℕ) (desk : DeskModel) (run : ℕ) (on 
   pub same : (name : Name) → set_of moved.sets name ≡ set_of on.sets name
   pub next : taken ≡ suc step.progress.taken
 
-finished_not : (office : Office) (run : ℕ) (on : DeskStep) (start : StepStart) → (seen_from office run on.progress start).finished ≡ None → on.progress.closed ≡ false
-finished_not office run on start none = by on.progress.closed none
-  where
-    by : (closed : Bool) → cond closed (Some (rc_by (work_at start).finish)) None ≡ None → closed ≡ false
-    by true none = absurd (some-not-none (rc_by (work_at start).finish) none)
-    by false none = refl
-
 pub is-asked : (old : JobsView) (before after : List ℕ) (desk : DeskModel) (turn : Turn) (run : ℕ) (on moved : RunningStepView) (place : ℕ) (image : List ℕ) (taken : ℕ) → AsksToRewrite desk.layout old before after desk turn run on moved place image taken
     → IsAsked before after desk run on moved place image taken
 is-asked old before after desk turn run on moved place image taken asks =
     let is : IsDesk desk = asks.stands.is_desk in
     let both : StandsFound desk.layout desk.office before run desk.running on = stands-found desk.layout desk.office before run old.running desk.running on asks.stands.running asks.found in
     let going : IsGoing desk.office both.step = find-holds (IsGoing desk.office) (λ (step : DeskStep). step.run == run) desk.running both.step is.going both.at in
-    let opened : IsOpenYet (jobs_of desk) run = work-opens desk.layout (jobs_of desk) run turn asks.planned in
-    let seen : FoundStep desk.office desk.running run opened.step = found-step desk.office run desk.running opened.step is.going opened.at in
+    let due : IsDue desk run OneUnit = is-due desk turn run OneUnit is (ap asked_in asks.planned) in
     let unclosed : both.step.progress.closed ≡ false =
-    ap (λ (step : DeskStep). step.progress.closed) (same_Some both.step seen.on (sym both.at ∙ seen.at))
-    ∙ finished_not desk.office seen.on.run seen.on seen.going.start (sym (ap (λ (s : TurnStep). s.finished) seen.is) ∙ opened.unfinished) in
+    ap (λ (step : DeskStep). step.progress.closed) (same_Some both.step due.step (sym both.at ∙ due.at)) ∙ due-unclosed desk run due in
     let led : IsLedStep desk before on both.step = led-step desk is before on both.step going both.stands in
     let start : StepStart = its_start led.leg led.owned (step_now led.row) in
     let stood : IsStepPlace start both.step.progress.taken false on.step on.sets = subst (λ b. IsStepPlace start both.step.progress.taken b on.step on.sets) unclosed led.stands in

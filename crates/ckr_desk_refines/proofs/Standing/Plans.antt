@@ -3,6 +3,7 @@ use Rattle.std.proofs.Common.{◌≡◌, ◌≤◌, ℕ, Bool, true, false, cond
 use Rattle.std.specs.Prelude.{◌==◌}
 use Rattle.std.specs.Option.{option_map, option_map_or}
 use Rattle.std.proofs.lemmas.Option.{same_Some}
+use Rattle.ckr_base.specs.declared.programs.NextDue.TheVariants.{Unit as OneUnit}
 use Rattle.ckr_base.proofs.Sequences.{find-holds}
 use Rattle.ckr_desk_memory.specs.View.{JobsView, RunningStepView, jobs_of, lengths_of_row, running_of}
 use Rattle.ckr_desk_turn.specs.Invariant.{IsDesk, IsGoing}
@@ -40,11 +41,11 @@ find-seen view number same run (x ∷ xs) =
 seen-run : (office : Office) (step : DeskStep) → (seen office step.run step.progress).run ≡ step.run
 seen-run office step = by (run_of office.tables step.run)
   where
-    of_start : (o : Option StepStart) → (option_map_or (seen_from office step.run step.progress) o (record { run = step.run; taken = step.progress.taken; writes = step.progress.writes; finished = None; lengths = [] })).run ≡ step.run
+    of_start : (o : Option StepStart) → (option_map_or (seen_from office step.run step.progress) o (record { run = step.run; taken = step.progress.taken; writes = step.progress.writes; due = OneUnit; lengths = [] })).run ≡ step.run
     of_start None = refl
     of_start (Some start) = refl
 
-    by : (o : Option RunRow) → (option_map_or (seen_from office step.run step.progress) (option_map_or (start_of office) o None) (record { run = step.run; taken = step.progress.taken; writes = step.progress.writes; finished = None; lengths = [] })).run ≡ step.run
+    by : (o : Option RunRow) → (option_map_or (seen_from office step.run step.progress) (option_map_or (start_of office) o None) (record { run = step.run; taken = step.progress.taken; writes = step.progress.writes; due = OneUnit; lengths = [] })).run ≡ step.run
     by None = refl
     by (Some row) = of_start (start_of office row)
 

@@ -11,6 +11,7 @@ use Rattle.ckr_base.specs.declared.programs.Heads.{Heads}
 use Rattle.ckr_desk_turn.proofs.Units.LastUnit.{IsDone, all-done}
 use Rattle.ckr_desk_turn.proofs.Rewrite.UnitWrites.{IsPart, unit-part}
 use Rattle.ckr_desk_turn.specs.Invariant.{IsOpen, next_writes}
+use Rattle.ckr_entry.specs.declared.point.State.{State}
 use Rattle.ckr_library.specs.Catalog.{Catalog}
 use Rattle.ckr_match.specs.Work as matched
 use Rattle.ckr_meaning.proofs.FittingWrites.{fitting-some}
@@ -97,18 +98,18 @@ some-room None e = absurd (false≢true e)
 some-room (Some left) e = (left, refl)
 
 -- a step that ends with a code, behind so many writes
-abbrev pub end_coded : Code → ℕ → ℕ → UnitEnd
-end_coded code taken count = record { unit = abended code; progress = open_at taken count }
+abbrev pub end_coded : State → Code → ℕ → ℕ → UnitEnd
+end_coded state code taken count = record { unit = abended code; progress = open_at state taken count }
 
 -- what the event of such an end needs: the unit had no space, or its program gave up
 pub data Ended (start : StepStart) (taken before now : ℕ) : Type 0 where
-  spilled : length (work_at start).writes < next_writes start (open_at taken before) → Ended start taken before now
+  spilled : length (work_at start).writes < before + length (program_unit (case_at start) taken).writes.items → Ended start taken before now
   gave_up : now ≡ before → Ended start taken before now
 
 -- the space for the writes of a unit, by the space for those of the step
 module _ (start : StepStart) (taken : ℕ) (old : StepRun) (library : Catalog) (heads : Heads) (stands : IsStepPlace start taken false old library)
     (their_writes : writes_for old heads ≡ (program_unit (case_at start) taken).writes.items) where
-  pub opened-so : IsOpen start (open_at taken old.writes)
+  pub opened-so : IsOpen start (open_at old.state taken old.writes)
   opened-so = record { taken = within_records old.state (case_at start) taken stands.state; writes = stands.writes }
 
   part : IsPart (case_at start) taken
@@ -121,7 +122,7 @@ module _ (start : StepStart) (taken : ℕ) (old : StepRun) (library : Catalog) (
   count = length (program_unit (case_at start) taken).writes.items
 
   -- a write has no space
-  pub full-so : room_after (writes_for old heads) (room_of library old.files) ≡ None → length (work_at start).writes < next_writes start (open_at taken old.writes)
+  pub full-so : room_after (writes_for old heads) (room_of library old.files) ≡ None → length (work_at start).writes < next_writes start (open_at old.state taken old.writes)
   full-so none =
       let all : length (work_at start).writes ≡ length (upto (case_at start) taken) + length (fitting (writes_for old heads) (room_of library old.files)) =
       ap length (some_fit start (upto (case_at start) taken) (writes_for old heads) part.more (room_of library old.files) all-so stands.room none)
@@ -132,7 +133,7 @@ module _ (start : StepStart) (taken : ℕ) (old : StepRun) (library : Catalog) (
       omega (arith, all, fewer, same, made)
 
   -- all writes have space
-  pub fit-so : (left : OutputRoom) → room_after (writes_for old heads) (room_of library old.files) ≡ Some left → next_writes start (open_at taken old.writes) ≤ length (work_at start).writes
+  pub fit-so : (left : OutputRoom) → room_after (writes_for old heads) (room_of library old.files) ≡ Some left → next_writes start (open_at old.state taken old.writes) ≤ length (work_at start).writes
   fit-so left fits =
       let all : length (work_at start).writes ≡ (length (upto (case_at start) taken) + length (writes_for old heads)) + length (fitting part.more left) =
       ap length (all_fit start (upto (case_at start) taken) (writes_for old heads) part.more (room_of library old.files) all-so stands.room left fits)
@@ -149,39 +150,39 @@ module _ (before after : List ℕ) (layout : Layout) (start : StepStart) (taken 
   their_writes : writes_for old did.heads ≡ (program_unit (case_at start) taken).writes.items
   their_writes = writes-are before after layout start taken old new library library' worked stands shows did
 
-  opened : IsOpen start (open_at taken old.writes)
+  opened : IsOpen start (open_at old.state taken old.writes)
   opened = opened-so start taken old library did.heads stands their_writes
 
   abbrev count_so : ℕ
   count_so = length (program_unit (case_at start) taken).writes.items
 
   by-space : is_some (room_after (writes_for old did.heads) (room_of library old.files)) ≡ false → System 2871 ≡ code
-      → (unit_end start (open_at taken old.writes) ≡ end_coded code taken new.writes) × Ended start taken old.writes new.writes
+      → (unit_end start (open_at old.state taken old.writes) ≡ end_coded old.state code taken new.writes) × Ended start taken old.writes new.writes
   by-space none same =
-      let full : length (work_at start).writes < next_writes start (open_at taken old.writes) = full-so start taken old library did.heads stands their_writes (no-room (room_after (writes_for old did.heads) (room_of library old.files)) none) in (
-        end-spills start (open_at taken old.writes) full
-            ∙ ap (λ n. end_coded no_more_space taken n) (sym ends.writes)
-            ∙ ap (λ c. end_coded c taken new.writes) same,
+      let full : length (work_at start).writes < next_writes start (open_at old.state taken old.writes) = full-so start taken old library did.heads stands their_writes (no-room (room_after (writes_for old did.heads) (room_of library old.files)) none) in (
+        end-spills start (open_at old.state taken old.writes) full
+            ∙ ap (λ n. end_coded old.state no_more_space taken n) (sym ends.writes)
+            ∙ ap (λ c. end_coded old.state c taken new.writes) same,
         spilled full,
       )
 
   by-finish : is_some (room_after (writes_for old did.heads) (room_of library old.files)) ≡ true → (unit_for old did.heads).finish ≡ Some (Finishes.Abend code)
-      → (unit_end start (open_at taken old.writes) ≡ end_coded code taken new.writes) × Ended start taken old.writes new.writes
+      → (unit_end start (open_at old.state taken old.writes) ≡ end_coded old.state code taken new.writes) × Ended start taken old.writes new.writes
   by-finish some finish =
       let left = some-room (room_after (writes_for old did.heads) (room_of library old.files)) some in
-      let fit : next_writes start (open_at taken old.writes) ≤ length (work_at start).writes = fit-so start taken old library did.heads stands their_writes left.0 left.1 in
+      let fit : next_writes start (open_at old.state taken old.writes) ≤ length (work_at start).writes = fit-so start taken old library did.heads stands their_writes left.0 left.1 in
       let ended : (program_unit (case_at start) taken).finish ≡ Some (Finishes.Abend code) = finish-is before after layout start taken old new library library' worked stands shows did ∙ finish in
-      let done : IsDone start (open_at taken old.writes) (Finishes.Abend code) = all-done start (open_at taken old.writes) (Finishes.Abend code) opened fit ended in
+      let done : IsDone start (open_at old.state taken old.writes) (Finishes.Abend code) = all-done start (open_at old.state taken old.writes) (Finishes.Abend code) opened fit ended in
       let front : length (work (case_at start)).writes ≡ length (upto (case_at start) taken) =
       ap length (gives-up (case_at start) code (its_finish done.last ended)) ∙ ap (λ n. length (upto (case_at start) n)) (sym done.last) in
       let whole : length (work (case_at start)).writes ≡ length (upto (case_at start) taken) + count_so = ap length done.all ∙ length-append (upto (case_at start) taken) (program_unit (case_at start) taken).writes.items in
       let made : old.writes ≡ length (upto (case_at start) taken) = stands.writes in
-      let most : next_writes start (open_at taken old.writes) ≡ length (work_at start).writes = done.most in
+      let most : next_writes start (open_at old.state taken old.writes) ≡ length (work_at start).writes = done.most in
       let now : new.writes ≡ length (work_at start).writes = ends.writes in
       let same : new.writes ≡ old.writes = omega (arith, front, whole, made, most, now) in (
-        end-fits start (open_at taken old.writes) fit
-            ∙ ap (λ f. finished_by f (program_unit (case_at start) taken).writes.items (open_at taken old.writes) (next_writes start (open_at taken old.writes))) ended
-            ∙ ap (λ n. end_coded code taken n) (sym same),
+        end-fits start (open_at old.state taken old.writes) fit
+            ∙ ap (λ f. finished_by f (program_unit (case_at start) taken).writes.items (open_at old.state taken old.writes) (next_writes start (open_at old.state taken old.writes))) ended
+            ∙ ap (λ n. end_coded old.state code taken n) (sym same),
         gave_up same,
       )
     where
@@ -189,7 +190,7 @@ module _ (before after : List ℕ) (layout : Layout) (start : StepStart) (taken 
       its_finish last ended = same_Some _ _ (sym (ends_work (case_at start) taken last).ends ∙ ended)
 
   -- the desk ends it behind the same writes, with the same code
-  pub end-coded : (unit_end start (open_at taken old.writes) ≡ end_coded code taken new.writes) × Ended start taken old.writes new.writes
+  pub end-coded : (unit_end start (open_at old.state taken old.writes) ≡ end_coded old.state code taken new.writes) × Ended start taken old.writes new.writes
   end-coded =
       by-abend (taken_of (state_of old.parm old.state did.heads)) (rewrite_of library old.files (writes_for old did.heads)) (is_some (room_after (writes_for old did.heads) (room_of library old.files))) (unit_for old did.heads).finish code
       (answer-is before after layout start taken old new library library' worked stands shows did ∙ is) by-space by-finish

@@ -55,17 +55,17 @@ module _ (layout : Layout) (old : JobsView) (before after : List ℕ) (desk : De
   ends : EndsSo (Unit {0}) after desk.layout p.stands.start code moved.step moved.sets
   ends = goes-so layout old before after desk turn run on moved (Abend code) unit
 
-  its_end : (unit_end p.stands.start (open_at p.step.progress.taken on.step.writes) ≡ end_coded code p.step.progress.taken moved.step.writes) × Ended p.stands.start p.step.progress.taken on.step.writes moved.step.writes
+  its_end : (unit_end p.stands.start (open_at on.step.state p.step.progress.taken on.step.writes) ≡ end_coded on.step.state code p.step.progress.taken moved.step.writes) × Ended p.stands.start p.step.progress.taken on.step.writes moved.step.writes
   its_end =
       end-coded before after desk.layout p.stands.start p.step.progress.taken on.step moved.step on.sets moved.sets (Abend code)
       (stands-at layout old before after desk turn run on moved (Abend code) unit) (shows-at layout old before after desk turn run on moved (Abend code) unit) (did-so layout old before after desk turn run on moved (Abend code) unit)
       code refl ends
 
   abbrev its_progress : StepProgress
-  its_progress = open_at p.step.progress.taken moved.step.writes
+  its_progress = open_at on.step.state p.step.progress.taken moved.step.writes
 
-  coded-done : work_of run desk ≡ unit_done p.stands.row (end_coded code p.step.progress.taken moved.step.writes) desk
-  coded-done = work-is layout old before after desk turn run on moved (Abend code) unit (end_coded code p.step.progress.taken moved.step.writes) its_end.0
+  coded-done : work_of run desk ≡ unit_done p.stands.row (end_coded on.step.state code p.step.progress.taken moved.step.writes) desk
+  coded-done = work-is layout old before after desk turn run on moved (Abend code) unit (end_coded on.step.state code p.step.progress.taken moved.step.writes) its_end.0
 
   same : p.going.start ≡ p.stands.start
   same = same-start desk.layout desk.office before on p.step p.going p.stands
@@ -88,7 +88,7 @@ module _ (layout : Layout) (old : JobsView) (before after : List ℕ) (desk : De
       subst (λ n. rewrites_nothing p.going.start p.going.committed n ≡ true) (sym most)
       (full-plain desk.office p.step p.going opened
       (subst (λ (s : StepStart). length (work_at s).writes < next_writes s p.step.progress) (sym same)
-      (subst (λ (n : ℕ). length (work_at p.stands.start).writes < next_writes p.stands.start (record { taken = p.step.progress.taken; writes = n; closed = p.step.progress.closed })) p.stands.writes full)))
+      (subst (λ (n : ℕ). length (work_at p.stands.start).writes < next_writes p.stands.start (record p.step.progress { writes = n })) p.stands.writes full)))
   plain-so (gave_up none) = subst (λ n. rewrites_nothing p.going.start p.going.committed n ≡ true) (sym (none ∙ p.stands.writes)) p.going.plain
 
   reached-so : running_reached (running_of desk.office.tables moved) ≡ running_reached (seen desk.office p.stands.row.number its_progress)
@@ -101,7 +101,7 @@ module _ (layout : Layout) (old : JobsView) (before after : List ℕ) (desk : De
   pub told-coded : (row : RunRow) → run_of desk.office.tables run ≡ Some row
       → (reply_in (told_by layout row (running_of desk.office.tables moved) (Abend code)) ≡ (work_of run desk).reply) × (event_in (told_by layout row (running_of desk.office.tables moved) (Abend code)) ≡ (work_of run desk).event)
   told-coded =
-      told-so layout old before after desk turn run on moved (Abend code) unit (end_coded code p.step.progress.taken moved.step.writes) coded-done
+      told-so layout old before after desk turn run on moved (Abend code) unit (end_coded on.step.state code p.step.progress.taken moved.step.writes) coded-done
       (ap (λ (l : Layout). code_plan l p.stands.row code (running_reached (running_of desk.office.tables moved))) (sym unit.stands.layout_is)
       ∙ ap (code_plan desk.layout p.stands.row code) reached-so)
 

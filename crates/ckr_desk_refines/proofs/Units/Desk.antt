@@ -20,7 +20,7 @@ use Rattle.ckr_desk_turn.specs.declared.reply.Turn.{Turn}
 use Rattle.ckr_desk_turn.specs.Units.{StepProgress, UnitEnd, unit_end, went}
 use Rattle.ckr_volumes.specs.declared.layout.Layout.{Layout}
 use Rattle.ckr_desk_refines.specs.Unit.{IsPutBack, StandsBehindUnit}
-use Rattle.ckr_desk_refines.proofs.Units.Outcomes.{end-went, open_at}
+use Rattle.ckr_desk_refines.proofs.Units.Outcomes.{end-went, further_at, open_at}
 use Rattle.ckr_desk_refines.proofs.Units.RunningStep.{number-found, pair-found, progress-found, row-found, shows-found, stands-found, unclosed-found, work-found}
 use Rattle.ckr_desk_refines.proofs.Units.StepLists.{IsPair, differ-put, others-stay}
 use Rattle.ckr_desk_refines.proofs.Units.OtherSteps.{other-stays}
@@ -74,7 +74,7 @@ module _ (layout : Layout) (old : JobsView) (before after : List ℕ) (desk : De
   pub progress-at : progress_of desk run ≡ Some pair.step.progress
   progress-at = progress-found layout old before desk turn run on unit.stands unit.planned unit.found
 
-  pub work-is : (end : UnitEnd) → unit_end start (open_at taken_before on.step.writes) ≡ end → work_of run desk ≡ unit_done pair.stands.row end desk
+  pub work-is : (end : UnitEnd) → unit_end start (open_at on.step.state taken_before on.step.writes) ≡ end → work_of run desk ≡ unit_done pair.stands.row end desk
   work-is = work-found layout old before desk turn run on unit.stands unit.planned unit.found
 
   pub work-kept : IsDesk (work_of run desk).desk
@@ -100,11 +100,11 @@ module _ (layout : Layout) (old : JobsView) (before after : List ℕ) (desk : De
   abbrev p : IsPair desk.layout desk.office before run on desk.running
   p = pair layout old before after desk turn run on moved (Went taken) unit
 
-  pub goes-to : GoesTo (Unit {0}) after desk.layout p.stands.start taken moved.step moved.sets
+  pub goes-to : GoesTo (Unit {0}) after desk.layout p.stands.start taken on.step moved.step moved.sets
   goes-to = goes-so layout old before after desk turn run on moved (Went taken) unit
 
   abbrev pub progress : StepProgress
-  progress = record { taken = taken; writes = moved.step.writes; closed = goes-to.closed }
+  progress = further_at on.step.state taken moved.step.writes goes-to.closed
 
   pub went-done : work_of run desk ≡ unit_done p.stands.row (record { unit = went None; progress = progress }) desk
   went-done =

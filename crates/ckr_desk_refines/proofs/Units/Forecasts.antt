@@ -6,7 +6,6 @@ use Rattle.std.specs.Option.{is_some, option_map_or}
 use Rattle.std.proofs.lemmas.Option.{same_Some}
 use Rattle.ckr_base.specs.declared.code.Code.{Code}
 use Rattle.ckr_base.specs.declared.code.Code.TheVariants.{System, User}
-use Rattle.ckr_base.specs.declared.programs.Finish.TheVariants as Finishes
 use Rattle.ckr_base.specs.declared.programs.Heads.{Heads}
 use Rattle.ckr_base.specs.declared.programs.UnitDone.{UnitDone as UnitOfProgram}
 use Rattle.ckr_base.proofs.Numbers.{equal-itself}
@@ -229,19 +228,19 @@ module _ (layout : Layout) (jobs : JobsView) (image : List ℕ) (desk : DeskMode
     code-so = sym looked.answer
 
     -- the desk ends the step with this code, behind some of its writes
-    ends-so : (count : ℕ) × (unit_end start (open_at taken on.step.writes) ≡ end_coded code taken count)
+    ends-so : (count : ℕ) × (unit_end start (open_at on.step.state taken on.step.writes) ≡ end_coded on.step.state code taken count)
     ends-so =
         by-abend _ _ _ (unit_for on.step looked.heads).finish code code-so
         (λ none same. (
           length (work_at start).writes,
-          end-spills start (open_at taken on.step.writes) (full-so start taken on.step on.sets looked.heads stands-at writes-are (no-room _ none))
-              ∙ ap (λ c. end_coded c taken (length (work_at start).writes)) same,
+          end-spills start (open_at on.step.state taken on.step.writes) (full-so start taken on.step on.sets looked.heads stands-at writes-are (no-room _ none))
+              ∙ ap (λ c. end_coded on.step.state c taken (length (work_at start).writes)) same,
         ))
         (λ some finish.
         let left = some-room _ some in (
           on.step.writes,
-          end-fits start (open_at taken on.step.writes) (fit-so start taken on.step on.sets looked.heads stands-at writes-are left.0 left.1)
-              ∙ ap (λ f. finished_by f (program_unit (case_at start) taken).writes.items (open_at taken on.step.writes) (next_writes start (open_at taken on.step.writes)))
+          end-fits start (open_at on.step.state taken on.step.writes) (fit-so start taken on.step on.sets looked.heads stands-at writes-are left.0 left.1)
+              ∙ ap (λ f. finished_by f (program_unit (case_at start) taken).writes.items (open_at on.step.state taken on.step.writes) (next_writes start (open_at on.step.state taken on.step.writes)))
               (sym (ap (λ (u : UnitOfProgram). u.finish) unit-is) ∙ finish),
         ))
 
@@ -251,8 +250,8 @@ module _ (layout : Layout) (jobs : JobsView) (image : List ℕ) (desk : DeskMode
         subst (λ (r : RunRow). BothTell (event_in (told_by layout r (running_of desk.office.tables on) (Abend code))) (work_of run desk).event) mine
         (subst (λ (l : Layout). BothTell (event_in (told_by l p.stands.row (running_of desk.office.tables on) (Abend code))) (work_of run desk).event) stands.layout_is
         (subst (λ (done : TurnDone). BothTell (event_in (told_by desk.layout p.stands.row (running_of desk.office.tables on) (Abend code))) done.event)
-        (sym (work-found layout jobs image desk turn run on stands planned found (end_coded code taken ends-so.0) ends-so.1))
-        (both-tell desk.layout p.stands.row (running_of desk.office.tables on) (seen desk.office p.stands.row.number (open_at taken ends-so.0)) (Abend code) (as-many-seen (open_at taken ends-so.0)))))
+        (sym (work-found layout jobs image desk turn run on stands planned found (end_coded on.step.state code taken ends-so.0) ends-so.1))
+        (both-tell desk.layout p.stands.row (running_of desk.office.tables on) (seen desk.office p.stands.row.number (open_at on.step.state taken ends-so.0)) (Abend code) (as-many-seen (open_at on.step.state taken ends-so.0)))))
 
   -- ---- whatever the answer
 

@@ -120,6 +120,7 @@ module _ (desk : DeskModel) (is : IsDesk desk) (image : List ℕ) (on other : Ru
     start_at = keeps_on.start_at;
     run = keeps_on.run;
     stands = keeps_on.stands;
+    served = keeps_on.served;
     writes = keeps_on.writes;
     sets = keeps_on.sets;
     named = keeps_on.named;

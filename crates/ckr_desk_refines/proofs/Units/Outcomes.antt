@@ -13,6 +13,7 @@ use Rattle.ckr_base.proofs.Numbers.{nat_le-beyond, nat_le-from}
 use Rattle.ckr_base.proofs.Options.{some-not-none}
 use Rattle.ckr_desk_turn.proofs.Units.LastUnit.{at-end, not-at-end}
 use Rattle.ckr_desk_turn.specs.Invariant.{next_writes}
+use Rattle.ckr_entry.specs.declared.point.State.{State}
 use Rattle.ckr_library.specs.Catalog.{Catalog}
 use Rattle.ckr_meaning.proofs.Prefixes.{ends_work, takes_one, work_in_parts}
 use Rattle.ckr_meaning.specs.Program.{fitting, records_taken, rest, room_after, unit_done as program_unit, upto, work}
@@ -30,7 +31,7 @@ use Rattle.ckr_steps.specs.declared.step_run.Worked.{Worked}
 use Rattle.ckr_steps.specs.declared.step_run.Worked.TheVariants.{Went, Rewrite, Abend}
 use Rattle.ckr_steps.specs.Places.{AreNext, GoesTo, ShowsWithin, IsStepPlace}
 use Rattle.ckr_steps.specs.StepUnit.{HasWorked, behind_unit, unit_for, worked_for, writes_for}
-use Rattle.ckr_steps.specs.Units.{is_closed, state_of, taken_of}
+use Rattle.ckr_steps.specs.Units.{is_cancelled, is_checkpointed, is_closed, state_of, taken_of}
 use Rattle.ckr_steps.specs.Writes.{answer_of, count_of, count_unless, is_behind, rewrite_of, room_of, worked_by}
 use Rattle.ckr_desk_turn.specs.Units.{StepProgress, UnitEnd, abended, finished_by, first_rewrite, no_more_space, unit_end, went}
 use Rattle.ckr_volumes.specs.declared.layout.Layout.{Layout}
@@ -97,11 +98,22 @@ pub end-spills : (start : StepStart) (before : StepProgress) → length (work_at
 end-spills start before full =
     ap (end_by start before) (nat_le-beyond (next_writes start before) (length (work_at start).writes) full)
 
-abbrev end_so : Option (ℕ × List ℕ) → ℕ → ℕ → Bool → UnitEnd
-end_so first number count closed = record { unit = went first; progress = record { taken = number; writes = count; closed = closed } }
+-- how far a step has come before a unit, with what is served by the state of its program
+abbrev pub open_at : State → ℕ → ℕ → StepProgress
+open_at state taken writes = record { taken = taken; writes = writes; checkpointed = is_checkpointed state; cancelled = is_cancelled state; closed = false }
 
-abbrev pub open_at : ℕ → ℕ → StepProgress
-open_at taken writes = record { taken = taken; writes = writes; closed = false }
+-- and behind it, where it goes on
+abbrev pub further_at : State → ℕ → ℕ → Bool → StepProgress
+further_at state taken writes closed = record {
+  taken = taken;
+  writes = writes;
+  checkpointed = closed && is_checkpointed state;
+  cancelled = closed && is_cancelled state;
+  closed = closed;
+}
+
+abbrev end_so : State → Option (ℕ × List ℕ) → ℕ → ℕ → Bool → UnitEnd
+end_so state first number count closed = record { unit = went first; progress = further_at state number count closed }
 
 module _ (before after : List ℕ) (layout : Layout) (start : StepStart) (taken : ℕ) (old new : StepRun) (library library' : Catalog) (worked : Worked)
     (stands : IsStepPlace start taken false old library) (shows : ShowsWithin (Unit {0}) before layout start old.writes library)
@@ -155,14 +167,14 @@ module _ (before after : List ℕ) (layout : Layout) (start : StepStart) (taken 
   kinds = unit_kinds old.parm old.state did.heads (case_at start) taken stands.state
 
   -- the writes behind one record more
-  pub more-long : taken < records_taken (case_at start) → length (upto (case_at start) (taken + 1)) ≡ next_writes start (open_at taken old.writes)
+  pub more-long : taken < records_taken (case_at start) → length (upto (case_at start) (taken + 1)) ≡ next_writes start (open_at old.state taken old.writes)
   more-long less =
       ap length (takes_one (case_at start) taken less).more
       ∙ length-append (upto (case_at start) taken) (program_unit (case_at start) taken).writes.items
       ∙ ap (λ n. n + length (program_unit (case_at start) taken).writes.items) (sym stands.writes)
 
   -- and behind the closing unit
-  pub all-long : taken ≡ records_taken (case_at start) → length (work (case_at start)).writes ≡ next_writes start (open_at taken old.writes)
+  pub all-long : taken ≡ records_taken (case_at start) → length (work (case_at start)).writes ≡ next_writes start (open_at old.state taken old.writes)
   all-long last =
       ap length (ends_work (case_at start) taken last).all
       ∙ length-append (upto (case_at start) taken) (program_unit (case_at start) taken).writes.items
@@ -179,26 +191,26 @@ module _ (before after : List ℕ) (layout : Layout) (start : StepStart) (taken 
       omega (arith, count, made)
 
   abbrev end_at_went : ℕ → Bool → UnitEnd
-  end_at_went now closed = record { unit = went None; progress = record { taken = now; writes = new.writes; closed = closed } }
+  end_at_went now closed = end_so old.state None now new.writes closed
 
   -- the step went on
-  module _ (now : ℕ) (is : worked ≡ Went now) (goes : GoesTo (Unit {0}) after layout start now new library') where
+  module _ (now : ℕ) (is : worked ≡ Went now) (goes : GoesTo (Unit {0}) after layout start now old new library') where
     -- by a record
-    by-record : rewrite_of library old.files (writes_for old did.heads) ≡ None → taken_of (state_of old.parm old.state did.heads) ≡ now → (unit_for old did.heads).finish ≡ None → unit_end start (open_at taken old.writes) ≡ end_at_went now goes.closed
+    by-record : rewrite_of library old.files (writes_for old did.heads) ≡ None → taken_of (state_of old.parm old.state did.heads) ≡ now → (unit_for old did.heads).finish ≡ None → unit_end start (open_at old.state taken old.writes) ≡ end_at_went now goes.closed
     by-record none same ends =
         let closed : goes.closed ≡ false = sym goes.stands.open_or_closed ∙ closed-as ∙ ap is_returned ends in
         let one_more : taken + 1 ≡ now = sym (taken-more ends) ∙ same in
         let open_now : IsStepPlace start (taken + 1) false new library' = subst (λ n. IsStepPlace start n false new library') (sym one_more) (subst (λ b. IsStepPlace start now b new library') closed goes.stands) in
-        let made : new.writes ≡ next_writes start (open_at taken old.writes) = open_now.writes ∙ more-long (less-so ends) in
-        let fit : next_writes start (open_at taken old.writes) ≤ length (work_at start).writes = subst (λ n. n ≤ length (work_at start).writes) made (made-fit start (taken + 1) false new library' open_now) in
-        end-fits start (open_at taken old.writes) fit
-        ∙ ap (λ f. finished_by f (program_unit (case_at start) taken).writes.items (open_at taken old.writes) (next_writes start (open_at taken old.writes))) (finish-is ∙ ends)
-        ∙ ap (λ o. end_so o (suc taken) (next_writes start (open_at taken old.writes)) false) (ap first_rewrite (sym writes-are) ∙ no-rewrite none made kinds)
-        ∙ ap (λ n. end_so None n (next_writes start (open_at taken old.writes)) false) (let e : suc taken ≡ now = omega (arith, one_more) in e)
-        ∙ ap (λ n. end_so None now n false) (sym made)
-        ∙ ap (λ b. end_so None now new.writes b) (sym closed)
+        let made : new.writes ≡ next_writes start (open_at old.state taken old.writes) = open_now.writes ∙ more-long (less-so ends) in
+        let fit : next_writes start (open_at old.state taken old.writes) ≤ length (work_at start).writes = subst (λ n. n ≤ length (work_at start).writes) made (made-fit start (taken + 1) false new library' open_now) in
+        end-fits start (open_at old.state taken old.writes) fit
+        ∙ ap (λ f. finished_by f (program_unit (case_at start) taken).writes.items (open_at old.state taken old.writes) (next_writes start (open_at old.state taken old.writes))) (finish-is ∙ ends)
+        ∙ ap (λ o. end_so old.state o (suc taken) (next_writes start (open_at old.state taken old.writes)) false) (ap first_rewrite (sym writes-are) ∙ no-rewrite none made kinds)
+        ∙ ap (λ n. end_so old.state None n (next_writes start (open_at old.state taken old.writes)) false) (let e : suc taken ≡ now = omega (arith, one_more) in e)
+        ∙ ap (λ n. end_so old.state None now n false) (sym made)
+        ∙ ap (λ b. end_so old.state None now new.writes b) (sym closed)
       where
-        no-rewrite : rewrite_of library old.files (writes_for old did.heads) ≡ None → new.writes ≡ next_writes start (open_at taken old.writes) → {first : ℕ} → Kinds (case_at start).program (unit_for old did.heads).finish first (writes_for old did.heads) → first_rewrite (writes_for old did.heads) ≡ None
+        no-rewrite : rewrite_of library old.files (writes_for old did.heads) ≡ None → new.writes ≡ next_writes start (open_at old.state taken old.writes) → {first : ℕ} → Kinds (case_at start).program (unit_for old did.heads).finish first (writes_for old did.heads) → first_rewrite (writes_for old did.heads) ≡ None
         no-rewrite none made (go_behind behind) = no-first (writes_for old did.heads) behind
         no-rewrite none made (rewrites place bytes program goes_on below are) =
             let nothing : new.writes ≡ old.writes = untold place bytes none are in
@@ -206,21 +218,21 @@ module _ (before after : List ℕ) (layout : Layout) (start : StepStart) (taken 
             absurd (omega (arith, nothing, one, made))
 
     -- by its closing unit
-    by-return : taken_of (state_of old.parm old.state did.heads) ≡ now → (rc : ℕ) → (unit_for old did.heads).finish ≡ Some (Finishes.Returned rc) → unit_end start (open_at taken old.writes) ≡ end_at_went now goes.closed
+    by-return : taken_of (state_of old.parm old.state did.heads) ≡ now → (rc : ℕ) → (unit_for old did.heads).finish ≡ Some (Finishes.Returned rc) → unit_end start (open_at old.state taken old.writes) ≡ end_at_went now goes.closed
     by-return same rc ends =
         let closed : goes.closed ≡ true = sym goes.stands.open_or_closed ∙ closed-as ∙ ap is_returned ends in
         let last : taken ≡ records_taken (case_at start) = at-end (case_at start) taken within (λ none. some-not-none (Finishes.Returned rc) (sym (finish-is ∙ ends) ∙ none)) in
         let number : taken ≡ now = sym (taken-same last) ∙ same in
         let closed_now : IsStepPlace start now true new library' = subst (λ b. IsStepPlace start now b new library') closed goes.stands in
-        let made : new.writes ≡ next_writes start (open_at taken old.writes) = closed_now.writes ∙ all-long last in
-        let fit : next_writes start (open_at taken old.writes) ≤ length (work_at start).writes = subst (λ n. n ≤ length (work_at start).writes) made (made-fit start now true new library' closed_now) in
-        end-fits start (open_at taken old.writes) fit
-        ∙ ap (λ f. finished_by f (program_unit (case_at start) taken).writes.items (open_at taken old.writes) (next_writes start (open_at taken old.writes))) (finish-is ∙ ends)
-        ∙ ap (λ n. end_so None n (next_writes start (open_at taken old.writes)) true) number
-        ∙ ap (λ n. end_so None now n true) (sym made)
-        ∙ ap (λ b. end_so None now new.writes b) (sym closed)
+        let made : new.writes ≡ next_writes start (open_at old.state taken old.writes) = closed_now.writes ∙ all-long last in
+        let fit : next_writes start (open_at old.state taken old.writes) ≤ length (work_at start).writes = subst (λ n. n ≤ length (work_at start).writes) made (made-fit start now true new library' closed_now) in
+        end-fits start (open_at old.state taken old.writes) fit
+        ∙ ap (λ f. finished_by f (program_unit (case_at start) taken).writes.items (open_at old.state taken old.writes) (next_writes start (open_at old.state taken old.writes))) (finish-is ∙ ends)
+        ∙ ap (λ n. end_so old.state None n (next_writes start (open_at old.state taken old.writes)) true) number
+        ∙ ap (λ n. end_so old.state None now n true) (sym made)
+        ∙ ap (λ b. end_so old.state None now new.writes b) (sym closed)
 
-    pub end-went : unit_end start (open_at taken old.writes) ≡ end_at_went now goes.closed
+    pub end-went : unit_end start (open_at old.state taken old.writes) ≡ end_at_went now goes.closed
     end-went =
         by-went (taken_of (state_of old.parm old.state did.heads)) now (rewrite_of library old.files (writes_for old did.heads)) (is_some (room_after (writes_for old did.heads) (room_of library old.files))) (unit_for old did.heads).finish
         (answer-is ∙ is) by-record (λ none. by-return)

@@ -24,6 +24,7 @@ use Rattle.ckr_desk_turn.specs.Desk.{DeskModel, DeskStep}
 use Rattle.ckr_desk_refines.proofs.Units.Contents.{content_at, made-content}
 use Rattle.ckr_desk_refines.proofs.Units.Lengths.{IsLengthened, lengthened-from, lengthened-to}
 use Rattle.ckr_desk_refines.proofs.Units.OtherSteps.{named-so, same-start}
+use Rattle.ckr_desk_refines.proofs.Units.Outcomes.{further_at}
 
 abbrev is_plain : Content → Bool
 is_plain Plain = true
@@ -78,8 +79,8 @@ module _ (desk : DeskModel) (is : IsDesk desk) (before after : List ℕ) (on mov
       ∙ stands.checked name table was.0 at was.1 checks
 
   -- where it goes on, it stands for the step of the desk that has come so far
-  pub own-stands : moved.run ≡ on.run → (taken : ℕ) (goes : GoesTo (Unit {0}) after desk.layout stands.start taken moved.step moved.sets)
-      → StandsForStep desk.layout desk.office after moved (record { run = step.run; progress = record { taken = taken; writes = moved.step.writes; closed = goes.closed } })
+  pub own-stands : moved.run ≡ on.run → (taken : ℕ) (goes : GoesTo (Unit {0}) after desk.layout stands.start taken on.step moved.step moved.sets)
+      → StandsForStep desk.layout desk.office after moved (record { run = step.run; progress = further_at on.step.state taken moved.step.writes goes.closed })
   own-stands run taken goes = record {
     row = stands.row;
     row_at = stands.row_at;
@@ -87,6 +88,7 @@ module _ (desk : DeskModel) (is : IsDesk desk) (before after : List ℕ) (on mov
     start_at = stands.start_at;
     run = run ∙ stands.run;
     stands = goes.stands;
+    served = goes.served;
     writes = refl;
     sets = own-sets;
     named = own-named;

@@ -20,7 +20,7 @@ use Rattle.ckr_steps.specs.declared.step_run.Worked.TheVariants.{Went}
 use Rattle.ckr_steps.specs.Places.{GoesTo, ShowsWithin}
 use Rattle.ckr_desk_turn.specs.Desk.{DeskModel, TurnDone, done_by, jobs_of, seen, seen_from, unit_done, with_progress, work_of}
 use Rattle.ckr_desk_turn.specs.declared.plan.Plan.{Plan}
-use Rattle.ckr_desk_turn.specs.declared.plan.Plan.TheVariants.{Rest, Tell, Work}
+use Rattle.ckr_desk_turn.specs.declared.plan.Plan.TheVariants.{Rest, Tell, Work, Pass}
 use Rattle.ckr_desk_turn.specs.declared.reply.Reply.TheVariants.{Worked as WorkedReply}
 use Rattle.ckr_desk_turn.specs.declared.reply.Turn.{Turn}
 use Rattle.ckr_desk_turn.specs.Jobs.{TurnStep, step_name_of}
@@ -28,6 +28,7 @@ use Rattle.ckr_desk_turn.specs.Units.{StepProgress, UnitEnd, unit_plan, went}
 use Rattle.ckr_volumes.specs.declared.layout.Layout.{Layout}
 use Rattle.ckr_desk_refines.specs.Unit.{StandsBehindUnit}
 use Rattle.ckr_desk_refines.proofs.Units.Desk.{did-so, goes-to, its-desk, numbered, pair, row-at, run-moved, went-done}
+use Rattle.ckr_desk_refines.proofs.Units.Outcomes.{further_at}
 use Rattle.ckr_desk_refines.proofs.Units.StepLists.{IsPair}
 use Rattle.ckr_desk_refines.proofs.Units.OtherSteps.{same-start}
 use Rattle.ckr_desk_refines.proofs.Units.OwnStep.{own-checked, own-sets}
@@ -36,11 +37,13 @@ reply-done : (plan : Plan) (desk : DeskModel) → reply_in plan ≡ (done_by pla
 reply-done (Rest reply) desk = refl
 reply-done (Tell reply event) desk = refl
 reply-done (Work job) desk = refl
+reply-done (Pass job reply) desk = refl
 
 event-done : (plan : Plan) (desk : DeskModel) → event_in plan ≡ (done_by plan desk).event
 event-done (Rest reply) desk = refl
 event-done (Tell reply event) desk = refl
 event-done (Work job) desk = refl
+event-done (Pass job reply) desk = refl
 
 module _ (layout : Layout) (old : JobsView) (before after : List ℕ) (desk : DeskModel) (turn : Turn) (run : ℕ) (on moved : RunningStepView) (worked : Worked) (unit : StandsBehindUnit layout old before after desk turn run on moved worked) where
   abbrev p : IsPair desk.layout desk.office before run on desk.running
@@ -97,15 +100,15 @@ module _ (layout : Layout) (old : JobsView) (before after : List ℕ) (desk : De
   abbrev q : IsPair desk.layout desk.office before run on desk.running
   q = pair layout old before after desk turn run on moved (Went taken) unit
 
-  abbrev to : GoesTo (Unit {0}) after desk.layout q.stands.start taken moved.step moved.sets
+  abbrev to : GoesTo (Unit {0}) after desk.layout q.stands.start taken on.step moved.step moved.sets
   to = goes-to layout old before after desk turn run on moved taken unit
 
   pub told-went : (row : RunRow) → run_of desk.office.tables run ≡ Some row
       → (reply_in (told_by layout row (running_of desk.office.tables moved) (Went taken)) ≡ (work_of run desk).reply) × (event_in (told_by layout row (running_of desk.office.tables moved) (Went taken)) ≡ (work_of run desk).event)
   told-went =
       told-so layout old before after desk turn run on moved (Went taken) unit
-      (record { unit = went None; progress = record { taken = taken; writes = moved.step.writes; closed = to.closed } })
+      (record { unit = went None; progress = further_at on.step.state taken moved.step.writes to.closed })
       (went-done layout old before after desk turn run on moved taken unit)
       (ap (λ n. Rest (WorkedReply q.stands.row.number (step_name_of q.stands.row) n))
       (taken_is moved.step.state (case_at q.stands.start) taken to.stands.state
-      ∙ sym (ap (λ (s : TurnStep). s.taken) (seen-behind layout old before after desk turn run on moved (Went taken) unit (record { taken = taken; writes = moved.step.writes; closed = to.closed })))))
+      ∙ sym (ap (λ (s : TurnStep). s.taken) (seen-behind layout old before after desk turn run on moved (Went taken) unit (further_at on.step.state taken moved.step.writes to.closed)))))

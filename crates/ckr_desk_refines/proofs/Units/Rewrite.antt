@@ -60,7 +60,7 @@ use Rattle.ckr_desk_turn.specs.declared.plan.Plan.TheVariants.{Tell}
 use Rattle.ckr_desk_turn.specs.declared.reply.Reply.TheVariants.{Worked as WorkedReply}
 use Rattle.ckr_desk_turn.specs.declared.reply.Turn.{Turn}
 use Rattle.ckr_desk_turn.specs.Jobs.{TurnStep, step_name_of}
-use Rattle.ckr_desk_turn.specs.Units.{UnitEnd, finished_by, first_rewrite, unit_end, updated_lrecl, went}
+use Rattle.ckr_desk_turn.specs.Units.{UnitEnd, arrived, finished_by, first_rewrite, unit_end, updated_lrecl, went}
 use Rattle.ckr_volumes.specs.declared.layout.Layout.{Layout}
 use Rattle.ckr_desk_refines.specs.Unit.{StandsBehindUnit}
 use Rattle.ckr_desk_refines.proofs.Units.Desk.{did-so, goes-so, pair, shows-at, stands-at, work-is}
@@ -117,10 +117,10 @@ module _ (before after : List ℕ) (layout : Layout) (start : StepStart) (taken 
   items = (program_unit (case_at start) taken).writes.items
 
   abbrev pub end_rewriting : UnitEnd
-  end_rewriting = record { unit = went (Some (place, to.write.image)); progress = record { taken = now; writes = new.writes; closed = false } }
+  end_rewriting = record { unit = went (Some (place, to.write.image)); progress = arrived now new.writes }
 
   abbrev end_so : Option (ℕ × List ℕ) → ℕ → ℕ → UnitEnd
-  end_so first number count = record { unit = went first; progress = record { taken = number; writes = count; closed = false } }
+  end_so first number count = record { unit = went first; progress = arrived number count }
 
   none-behind : rewrite_of library old.files (writes_for old did.heads) ≡ None → (at : ℕ × List ℕ) → rewrite_of library old.files (writes_for old did.heads) ≡ Some at → ⊥
   none-behind none at some = some-not-none at (sym some ∙ none)
@@ -133,7 +133,7 @@ module _ (before after : List ℕ) (layout : Layout) (start : StepStart) (taken 
   goes-on at some (go_behind behind) = absurd (none-behind (behind-none behind) at some)
   goes-on at some (rewrites q image program none below are) = none
 
-  by-end : (at : ℕ × List ℕ) → rewrite_of library old.files (writes_for old did.heads) ≡ Some at → taken_of (state_of old.parm old.state did.heads) ≡ now → unit_end start (open_at taken old.writes) ≡ end_rewriting
+  by-end : (at : ℕ × List ℕ) → rewrite_of library old.files (writes_for old did.heads) ≡ Some at → taken_of (state_of old.parm old.state did.heads) ≡ now → unit_end start (open_at old.state taken old.writes) ≡ end_rewriting
   by-end at some same =
       let none : (unit_for old did.heads).finish ≡ None = goes-on at some (kinds before after layout start taken old new library library' (Rewrite place bytes now) stands shows did) in
       let less = less-so before after layout start taken old new library library' (Rewrite place bytes now) stands shows did none in
@@ -145,13 +145,13 @@ module _ (before after : List ℕ) (layout : Layout) (start : StepStart) (taken 
       let counted : new.writes ≡ old.writes + 1 = to.counted in
       let made : new.writes ≡ old.writes + length items = omega (arith, once, counted) in
       let fit : new.writes ≤ length (work_at start).writes = made-fit start now false new library' to.stands in
-      end-fits start (open_at taken old.writes) (subst (λ n. n ≤ length (work_at start).writes) made fit)
-      ∙ ap (λ f. finished_by f items (open_at taken old.writes) (old.writes + length items)) (finish-is before after layout start taken old new library library' (Rewrite place bytes now) stands shows did ∙ none)
+      end-fits start (open_at old.state taken old.writes) (subst (λ n. n ≤ length (work_at start).writes) made fit)
+      ∙ ap (λ f. finished_by f items (open_at old.state taken old.writes) (old.writes + length items)) (finish-is before after layout start taken old new library library' (Rewrite place bytes now) stands shows did ∙ none)
       ∙ ap (λ o. end_so o (suc taken) (old.writes + length items)) (ap first_rewrite are ∙ first-one to.write place to.goes)
       ∙ ap (λ n. end_so (Some (place, to.write.image)) n (old.writes + length items)) (let e : suc taken ≡ now = omega (arith, one_more) in e)
       ∙ ap (λ n. end_so (Some (place, to.write.image)) now n) (sym made)
 
-  pub end-rewriting : unit_end start (open_at taken old.writes) ≡ end_rewriting
+  pub end-rewriting : unit_end start (open_at old.state taken old.writes) ≡ end_rewriting
   end-rewriting =
       by-rewrite (taken_of (state_of old.parm old.state did.heads)) now place bytes (rewrite_of library old.files (writes_for old did.heads)) (is_some (room_after (writes_for old did.heads) (room_of library old.files))) (unit_for old did.heads).finish
       (answer-is before after layout start taken old new library library' (Rewrite place bytes now) stands shows did) by-end
@@ -221,7 +221,7 @@ module _ (layout : Layout) (old : JobsView) (before after : List ℕ) (desk : De
   shows = shows-at layout old before after desk turn run on moved (Rewrite place bytes now) unit
 
   abbrev its_end : UnitEnd
-  its_end = record { unit = went (Some (place, to.write.image)); progress = record { taken = now; writes = moved.step.writes; closed = false } }
+  its_end = record { unit = went (Some (place, to.write.image)); progress = arrived now moved.step.writes }
 
   rewriting-done : work_of run desk ≡ unit_done p.stands.row its_end desk
   rewriting-done =

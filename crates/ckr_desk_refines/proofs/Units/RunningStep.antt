@@ -2,12 +2,14 @@
 use Rattle.std.proofs.Common.{◌≡◌, ℕ, Bool, false, List, find, ap, sym, ◌∙◌, subst, Option, Some, None}
 use Rattle.std.specs.Option.{option_map_or}
 use Rattle.std.proofs.lemmas.Option.{same_Some}
+use Rattle.ckr_base.specs.declared.programs.NextDue.TheVariants.{Unit as OneUnit}
 use Rattle.ckr_desk_memory.specs.EventChanges.{is_of_run}
 use Rattle.ckr_desk_memory.specs.View.{JobsView, RunningStepView}
 use Rattle.ckr_meaning.specs.StepRun.{StepStart}
 use Rattle.ckr_points.specs.Rows.{RunRow, run_of}
 use Rattle.ckr_desk_refines.specs.Standing.{StandsForDesk}
 use Rattle.ckr_steps.specs.Places.{ShowsWithin, IsStepPlace}
+use Rattle.ckr_steps.specs.Units.{is_cancelled, is_checkpointed}
 use Rattle.ckr_desk_turn.specs.Desk.{DeskModel, DeskStep, done_by, jobs_of, progress_of, start_of, unit_done, work_of}
 use Rattle.ckr_desk_turn.specs.declared.plan.Plan.TheVariants.{Rest, Work}
 use Rattle.ckr_desk_turn.specs.declared.reply.Reply.TheVariants.{Idle}
@@ -15,9 +17,14 @@ use Rattle.ckr_desk_turn.specs.declared.reply.Turn.{Turn}
 use Rattle.ckr_desk_turn.specs.Plans.{plan_of}
 use Rattle.ckr_desk_turn.specs.Units.{StepProgress, UnitEnd, unit_end}
 use Rattle.ckr_volumes.specs.declared.layout.Layout.{Layout}
-use Rattle.ckr_desk_refines.proofs.Units.DueUnits.{IsDue, is-due}
+use Rattle.ckr_desk_refines.proofs.Units.DueUnits.{IsDue, due-unclosed, is-due}
 use Rattle.ckr_desk_refines.proofs.Units.Outcomes.{open_at}
+use Rattle.ckr_desk_refines.proofs.Units.Plans.{asked_in}
 use Rattle.ckr_desk_refines.proofs.Units.StepLists.{IsPair, pair-of}
+
+abbrev progress_so : ℕ → ℕ → Bool → Bool → Bool → StepProgress
+progress_so taken writes checkpointed cancelled closed =
+    record { taken = taken; writes = writes; checkpointed = checkpointed; cancelled = cancelled; closed = closed }
 
 module _ (layout : Layout) (jobs : JobsView) (image : List ℕ) (desk : DeskModel) (turn : Turn) (run : ℕ) (on : RunningStepView)
     (stands : StandsForDesk layout jobs image desk) (planned : plan_of desk.layout (jobs_of desk) turn ≡ Work run) (found : find (is_of_run run) jobs.running ≡ Some on) where
@@ -25,11 +32,13 @@ module _ (layout : Layout) (jobs : JobsView) (image : List ℕ) (desk : DeskMode
   pub pair-found : IsPair desk.layout desk.office image run on desk.running
   pair-found = pair-of desk.layout desk.office image run on jobs.running desk.running stands.running stands.is_desk.going found
 
-  due : IsDue desk run
-  due = is-due desk turn run stands.is_desk planned
+  due : IsDue desk run OneUnit
+  due = is-due desk turn run OneUnit stands.is_desk (ap asked_in planned)
 
   pub unclosed-found : pair-found.step.progress.closed ≡ false
-  unclosed-found = ap (λ (step : DeskStep). step.progress.closed) (same_Some pair-found.step due.step (sym pair-found.at ∙ due.at)) ∙ due.unclosed
+  unclosed-found =
+      ap (λ (step : DeskStep). step.progress.closed) (same_Some pair-found.step due.step (sym pair-found.at ∙ due.at))
+      ∙ due-unclosed desk run due
 
   abbrev start : StepStart
   start = pair-found.stands.start
@@ -54,12 +63,15 @@ module _ (layout : Layout) (jobs : JobsView) (image : List ℕ) (desk : DeskMode
   pub progress-found : progress_of desk run ≡ Some pair-found.step.progress
   progress-found = ap (λ (o : Option DeskStep). option_map_or (λ (step : DeskStep). Some step.progress) o None) pair-found.at
 
-  progress-is : pair-found.step.progress ≡ open_at taken on.step.writes
+  progress-is : pair-found.step.progress ≡ open_at on.step.state taken on.step.writes
   progress-is =
-      ap (λ (n : ℕ). let progress : StepProgress = record { taken = pair-found.step.progress.taken; writes = n; closed = pair-found.step.progress.closed } in progress) (sym pair-found.stands.writes)
-      ∙ ap (λ (b : Bool). let progress : StepProgress = record { taken = pair-found.step.progress.taken; writes = on.step.writes; closed = b } in progress) unclosed-found
+      let p : StepProgress = pair-found.step.progress in
+      ap (λ writes. progress_so p.taken writes p.checkpointed p.cancelled p.closed) (sym pair-found.stands.writes)
+      ∙ ap (λ b. progress_so p.taken on.step.writes b p.cancelled p.closed) (sym pair-found.stands.served.checkpoint)
+      ∙ ap (λ b. progress_so p.taken on.step.writes (is_checkpointed on.step.state) b p.closed) (sym pair-found.stands.served.cancel)
+      ∙ ap (progress_so p.taken on.step.writes (is_checkpointed on.step.state) (is_cancelled on.step.state)) unclosed-found
 
-  pub work-found : (end : UnitEnd) → unit_end start (open_at taken on.step.writes) ≡ end → work_of run desk ≡ unit_done pair-found.stands.row end desk
+  pub work-found : (end : UnitEnd) → unit_end start (open_at on.step.state taken on.step.writes) ≡ end → work_of run desk ≡ unit_done pair-found.stands.row end desk
   work-found end is =
       ap (λ (o : Option RunRow). option_map_or (λ row. option_map_or (λ start. option_map_or (λ progress. unit_done row (unit_end start progress) desk) (progress_of desk run) (done_by (Rest Idle) desk)) (start_of desk.office row) (done_by (Rest Idle) desk)) o (done_by (Rest Idle) desk)) row-found
       ∙ ap (λ (o : Option StepStart). option_map_or (λ start. option_map_or (λ progress. unit_done pair-found.stands.row (unit_end start progress) desk) (progress_of desk run) (done_by (Rest Idle) desk)) o (done_by (Rest Idle) desk)) pair-found.stands.start_at

@@ -8,8 +8,10 @@ use Rattle.ckr_points.specs.Rows.{RunRow, TablesModel}
 use Rattle.ckr_points.specs.RuleCases.{rd_in_effect}
 use Rattle.ckr_programs.specs.Due.{is_cancel_count, is_checkpoint_count}
 use Rattle.ckr_rules.specs.RuleTables.{suppresses}
-use Rattle.ckr_desk_turn.specs.Checkpoints.{ServedProgress, cancel_turn, checkpoint_fits, checkpoint_try, checkpoint_turn, checkpoint_unless, next_due}
-use Rattle.ckr_desk_turn.specs.Desk.{rc_by}
+use Rattle.ckr_desk_turn.specs.Checkpoints.{checkpoint_fits, checkpoint_try, checkpoint_turn, checkpoint_unless}
+use Rattle.ckr_desk_turn.specs.Desk.{cancel_done, checkpoint_done}
+use Rattle.ckr_desk_turn.specs.Due.{next_due, rc_by}
+use Rattle.ckr_desk_turn.specs.Units.{StepProgress}
 
 -- what is due where the step is closed or not, by whether a checkpoint comes at the count and is done, and a cancel
 abbrev due_by : Bool → Bool → Bool → Bool → Bool → ℕ → NextDue
@@ -63,58 +65,84 @@ from-cancel false false done true true rc unclosed behind count undone = cc
 from-cancel false false done true false rc unclosed behind count undone = refl
 from-cancel false false done false cancelled rc unclosed behind count undone = cc
 
+-- the next unit comes where the step isn't closed
+is-open : (closed comes done ends cancelled : Bool) (rc : ℕ) → due_by closed comes done ends cancelled rc ≡ OneUnit → closed ≡ false
+is-open true comes done ends cancelled rc e = cc
+is-open false comes done ends cancelled rc e = refl
+
+-- and its end with a return code where it is
+pub record IsFinished (closed : Bool) (rc finished : ℕ) : Type 0 where
+  pub closed_so : closed ≡ true
+  pub code : rc ≡ finished
+
+is-finished : (closed comes done ends cancelled : Bool) (rc finished : ℕ) → due_by closed comes done ends cancelled rc ≡ Finished finished → IsFinished closed rc finished
+is-finished true comes done ends cancelled rc finished e = record { closed_so = refl; code = cc }
+is-finished false true false ends cancelled rc finished e = cc
+is-finished false true true true true rc finished e = cc
+is-finished false true true true false rc finished e = cc
+is-finished false true true false cancelled rc finished e = cc
+is-finished false false done true true rc finished e = cc
+is-finished false false done true false rc finished e = cc
+is-finished false false done false cancelled rc finished e = cc
+
 done-none : (comes : Bool) → (comes && not true) ≡ false
 done-none true = refl
 done-none false = refl
 
 module _ (start : StepStart) where
-  abbrev comes_at : ServedProgress → Bool
-  comes_at progress = is_checkpoint_count start.owned.step.parm progress.step.taken
+  abbrev comes_at : StepProgress → Bool
+  comes_at progress = is_checkpoint_count start.owned.step.parm progress.taken
 
-  abbrev ends_at : ServedProgress → Bool
-  ends_at progress = is_cancel_count start.owned.step.parm progress.step.taken
+  abbrev ends_at : StepProgress → Bool
+  ends_at progress = is_cancel_count start.owned.step.parm progress.taken
 
   abbrev rc : ℕ
   rc = rc_by (work_at start).finish
 
-  pub checkpoint-due : (progress : ServedProgress) → progress.step.closed ≡ false → progress.checkpointed ≡ false → comes_at progress ≡ true → next_due start progress ≡ Checkpoint
-  checkpoint-due progress unclosed undone count = from-checkpoint progress.step.closed (comes_at progress) progress.checkpointed (ends_at progress) progress.cancelled rc unclosed count undone
+  pub checkpoint-due : (progress : StepProgress) → progress.closed ≡ false → progress.checkpointed ≡ false → comes_at progress ≡ true → next_due start progress ≡ Checkpoint
+  checkpoint-due progress unclosed undone count = from-checkpoint progress.closed (comes_at progress) progress.checkpointed (ends_at progress) progress.cancelled rc unclosed count undone
 
-  pub checkpoint-only : (progress : ServedProgress) → next_due start progress ≡ Checkpoint → IsCheckpoint progress.step.closed (comes_at progress) progress.checkpointed
-  checkpoint-only progress e = is-checkpoint progress.step.closed (comes_at progress) progress.checkpointed (ends_at progress) progress.cancelled rc e
+  pub checkpoint-only : (progress : StepProgress) → next_due start progress ≡ Checkpoint → IsCheckpoint progress.closed (comes_at progress) progress.checkpointed
+  checkpoint-only progress e = is-checkpoint progress.closed (comes_at progress) progress.checkpointed (ends_at progress) progress.cancelled rc e
 
-  pub cancel-due : (progress : ServedProgress) → progress.step.closed ≡ false → progress.cancelled ≡ false → ends_at progress ≡ true → (comes_at progress && not progress.checkpointed) ≡ false → next_due start progress ≡ Cancel
-  cancel-due progress unclosed undone count behind = from-cancel progress.step.closed (comes_at progress) progress.checkpointed (ends_at progress) progress.cancelled rc unclosed behind count undone
+  pub cancel-due : (progress : StepProgress) → progress.closed ≡ false → progress.cancelled ≡ false → ends_at progress ≡ true → (comes_at progress && not progress.checkpointed) ≡ false → next_due start progress ≡ Cancel
+  cancel-due progress unclosed undone count behind = from-cancel progress.closed (comes_at progress) progress.checkpointed (ends_at progress) progress.cancelled rc unclosed behind count undone
 
-  pub cancel-only : (progress : ServedProgress) → next_due start progress ≡ Cancel → IsCancel progress.step.closed (comes_at progress) progress.checkpointed (ends_at progress) progress.cancelled
-  cancel-only progress e = is-cancel progress.step.closed (comes_at progress) progress.checkpointed (ends_at progress) progress.cancelled rc e
+  pub cancel-only : (progress : StepProgress) → next_due start progress ≡ Cancel → IsCancel progress.closed (comes_at progress) progress.checkpointed (ends_at progress) progress.cancelled
+  cancel-only progress e = is-cancel progress.closed (comes_at progress) progress.checkpointed (ends_at progress) progress.cancelled rc e
+
+  pub unit-only : (progress : StepProgress) → next_due start progress ≡ OneUnit → progress.closed ≡ false
+  unit-only progress e = is-open progress.closed (comes_at progress) progress.checkpointed (ends_at progress) progress.cancelled rc e
+
+  pub finished-only : (progress : StepProgress) (finished : ℕ) → next_due start progress ≡ Finished finished → IsFinished progress.closed rc finished
+  finished-only progress finished e = is-finished progress.closed (comes_at progress) progress.checkpointed (ends_at progress) progress.cancelled rc finished e
 
   -- whatever a checkpoint comes to, it is done then
-  checkpoint-behind : (tables : TablesModel) (row : RunRow) (progress : ServedProgress) → (checkpoint_turn tables row start progress).progress ≡ record progress { checkpointed = true }
+  pub checkpoint-behind : (tables : TablesModel) (row : RunRow) (progress : StepProgress) → (checkpoint_turn tables row start progress).progress ≡ checkpoint_done progress
   checkpoint-behind tables row progress =
-      elim (suppresses (rd_in_effect row start.number)) as (λ b. (checkpoint_unless b tables row start progress).progress ≡ record progress { checkpointed = true }) [
+      elim (suppresses (rd_in_effect row start.number)) as (λ b. (checkpoint_unless b tables row start progress).progress ≡ checkpoint_done progress) [
         | true ↦ refl
         | false ↦
-            elim (checkpoint_fits tables.sets row start progress.step) as (λ b. (checkpoint_try b tables row start progress).progress ≡ record progress { checkpointed = true }) [
+            elim (checkpoint_fits tables.sets row start progress) as (λ b. (checkpoint_try b tables row start progress).progress ≡ checkpoint_done progress) [
               | true ↦ refl
               | false ↦ refl
             ]
       ]
 
-  pub checkpoint-once : (tables : TablesModel) (row : RunRow) (progress : ServedProgress) → next_due start (checkpoint_turn tables row start progress).progress ≡ Checkpoint → ⊥
+  pub checkpoint-once : (tables : TablesModel) (row : RunRow) (progress : StepProgress) → next_due start (checkpoint_turn tables row start progress).progress ≡ Checkpoint → ⊥
   checkpoint-once tables row progress e =
-      let done : (checkpoint_turn tables row start progress).progress.checkpointed ≡ true = ap (λ (p : ServedProgress). p.checkpointed) (checkpoint-behind tables row progress) in
+      let done : (checkpoint_turn tables row start progress).progress.checkpointed ≡ true = ap (λ (p : StepProgress). p.checkpointed) (checkpoint-behind tables row progress) in
       let its = checkpoint-only (checkpoint_turn tables row start progress).progress e in
       let undone : (checkpoint_turn tables row start progress).progress.checkpointed ≡ false = its.undone in
       true≢false (sym done ∙ undone)
 
-  pub cancel-behind : (tables : TablesModel) (row : RunRow) (progress : ServedProgress) → next_due start progress ≡ Checkpoint → ends_at progress ≡ true → progress.cancelled ≡ false → next_due start (checkpoint_turn tables row start progress).progress ≡ Cancel
+  pub cancel-behind : (tables : TablesModel) (row : RunRow) (progress : StepProgress) → next_due start progress ≡ Checkpoint → ends_at progress ≡ true → progress.cancelled ≡ false → next_due start (checkpoint_turn tables row start progress).progress ≡ Cancel
   cancel-behind tables row progress e count undone =
       ap (next_due start) (checkpoint-behind tables row progress)
-      ∙ cancel-due (record progress { checkpointed = true }) (checkpoint-only progress e).unclosed undone count (done-none (comes_at progress))
+      ∙ cancel-due (checkpoint_done progress) (checkpoint-only progress e).unclosed undone count (done-none (comes_at progress))
 
-  pub cancel-once : (row : RunRow) (progress : ServedProgress) → next_due start (cancel_turn row start progress).progress ≡ Cancel → ⊥
-  cancel-once row progress e =
-      let its = cancel-only (cancel_turn row start progress).progress e in
+  pub cancel-once : (progress : StepProgress) → next_due start (cancel_done progress) ≡ Cancel → ⊥
+  cancel-once progress e =
+      let its = cancel-only (cancel_done progress) e in
       let undone : true ≡ false = its.undone in
       true≢false undone

@@ -47,7 +47,7 @@ use Rattle.ckr_points_invariant.proofs.Library.Entries.{among-filter_map, is_nam
 use Rattle.ckr_points_invariant.proofs.Steps.Commits.{IsRunning, alike_within, formed_step, in_reach, its_start, place_so, under_way}
 use Rattle.ckr_points_invariant.proofs.Steps.Events.{led-by}
 use Rattle.ckr_points_invariant.proofs.Steps.Walks.{start_at-of}
-use Rattle.ckr_desk_turn.specs.Checkpoints.{HasRow, MayCheckpoint, cancel_event, check_set, checkpoint_event, checkpoint_fits, entry_bytes, entry_end, written_entry, entry_place, entry_with, written_event, fits_in, is_check_set, is_in_range, lengths_with, next_entry, next_id, office_behind}
+use Rattle.ckr_desk_turn.specs.Checkpoints.{HasRow, MayCheckpoint, check_set, checkpoint_event, checkpoint_fits, entry_bytes, entry_end, written_entry, entry_place, entry_with, written_event, fits_in, is_check_set, is_in_range, lengths_with, next_entry, next_id, office_behind}
 use Rattle.ckr_desk_turn.specs.Desk.{DeskStep, start_of}
 use Rattle.ckr_desk_turn.specs.Invariant.{HasCome, IsOpen}
 use Rattle.ckr_desk_turn.specs.NextEvents.{IsWithinStep}
@@ -331,7 +331,7 @@ module _ (layout : Layout) (office : Office) (step : DeskStep) (may : MayCheckpo
   abbrev told_lengths : List ℕ
   told_lengths = lengths_with office.tables.sets may.going.start step.progress.writes (entry_end office.tables.sets may.going.row may.going.start step.progress)
 
-  abbrev kept_now : Kept
+  abbrev pub kept_now : Kept
   kept_now = record {
     id = next_id may.going.row may.going.start;
     run = may.going.row.number;
@@ -339,22 +339,22 @@ module _ (layout : Layout) (office : Office) (step : DeskStep) (may : MayCheckpo
     bytes = entry_bytes office.tables.sets may.going.row may.going.start step.progress;
   }
 
-  -- its row lengths_so
-  abbrev next_row : OwnedStep → RunRow
+  -- its row then
+  abbrev pub next_row : OwnedStep → RunRow
   next_row owned = record may.going.row {
     count = suc may.going.row.count;
     in_effect = Some (fresh_effect (name_with_role may.going.row.job.root owned is_checkpoints) kept_now);
     place = Some (Within (step_in (place_of may.going.row)) step.progress.writes);
   }
 
-  abbrev committed_now : OwnedStep → TablesModel
+  abbrev pub committed_now : OwnedStep → TablesModel
   committed_now owned = record office.tables { sets = committed (output_names may.going.row.job.root owned) told_lengths office.tables.sets }
 
   -- the tables behind the event, for the step that the run is in
   abbrev tables_now : OwnedStep → TablesModel
   tables_now owned = after_checkpointed may.going.row owned (step_in (place_of may.going.row)) kept_now step.progress.taken step.progress.writes told_lengths office.tables
 
-  behind-by : (Q : TablesModel → Type 0) → ((leg : Leg) (owned : OwnedStep) → may.going.start ≡ its_start leg owned may.going.number → leg.job ≡ may.going.row.job → Q (tables_now owned)) → Q (office_behind layout office step may).tables
+  pub behind-by : (Q : TablesModel → Type 0) → ((leg : Leg) (owned : OwnedStep) → may.going.start ≡ its_start leg owned may.going.number → leg.job ≡ may.going.row.job → Q (tables_now owned)) → Q (office_behind layout office step may).tables
   behind-by Q holds =
       by-leg layout office step.run may.going.row may.going.number may.going.committed may.going.start within_so may.kept may.spaced
       (λ leg owned running same spaced.
@@ -363,12 +363,18 @@ module _ (layout : Layout) (office : Office) (step : DeskStep) (may : MayCheckpo
       (ap (run_of office.tables) its_number ∙ may.going.row_at) (ap (λ place. step_of_run may.going.row (step_in place)) running.stands ∙ running.found)
       (holds leg owned same (place_so layout office step.run may.going.row leg owned may.going.number may.going.committed may.kept.events running).job))
 
-  row-now : (owned : OwnedStep) → run_of (tables_now owned) step.run ≡ Some (next_row owned)
+  pub row-now : (owned : OwnedStep) → run_of (tables_now owned) step.run ≡ Some (next_row owned)
   row-now owned = run-same (committed_now owned) (next_row owned) may.going.row step.run may.going.row_at its_number
 
   -- the run has written an entry more
   pub counts-one : HasRow (office_behind layout office step may) step.run (λ (row : RunRow). row.count ≡ suc may.going.row.count)
   counts-one = behind-by (λ tables. (row : RunRow) × (run_of tables step.run ≡ Some row) × (row.count ≡ suc may.going.row.count)) (λ leg owned same job. (next_row owned, row-now owned, refl))
+
+  -- what the step has written is committed
+  pub committed-so : HasRow (office_behind layout office step may) step.run (λ (row : RunRow). place_of row ≡ Within may.going.number step.progress.writes)
+  committed-so =
+      behind-by (λ tables. (row : RunRow) × (run_of tables step.run ≡ Some row) × (place_of row ≡ Within may.going.number step.progress.writes))
+      (λ leg owned same job. (next_row owned, row-now owned, ap (λ (place : Place). Within (step_in place) step.progress.writes) within_so.place))
 
   -- its entry is in effect
   pub effect-so : HasRow (office_behind layout office step may) step.run (λ (row : RunRow). option_map (λ (effect : EffectPoint). effect.kept.id) row.in_effect ≡ Some (next_id may.going.row may.going.start))
@@ -435,7 +441,21 @@ module _ (layout : Layout) (office : Office) (step : DeskStep) (may : MayCheckpo
         kept-under
 
 -- behind a cancel it has written as many as before
-pub cancel-count : (office : Office) (row : RunRow) → run_of office.tables row.number ≡ Some row → HasRow (office_after (cancel_event row, None) office) row.number (λ (next : RunRow). next.count ≡ row.count)
+pub cancel-count : (office : Office) (row : RunRow) → run_of office.tables row.number ≡ Some row → HasRow (office_after (CancelledEvent row.number, None) office) row.number (λ (next : RunRow). next.count ≡ row.count)
 cancel-count office row at =
     subst (λ (o : Option RunRow). (next : RunRow) × (run_of (option_map_or (λ (found : RunRow). after_cancelled found office.tables) o office.tables) row.number ≡ Some next) × (next.count ≡ row.count)) (sym at)
     (record row { in_effect = None }, run-same office.tables (record row { in_effect = None }) row row.number at refl, refl)
+
+-- and none is in effect
+pub cancel-withdraws : (office : Office) (row : RunRow) → run_of office.tables row.number ≡ Some row → HasRow (office_after (CancelledEvent row.number, None) office) row.number (λ (next : RunRow). next.in_effect ≡ None)
+cancel-withdraws office row at =
+    subst (λ (o : Option RunRow). (next : RunRow) × (run_of (option_map_or (λ (found : RunRow). after_cancelled found office.tables) o office.tables) row.number ≡ Some next) × (next.in_effect ≡ None)) (sym at)
+    (record row { in_effect = None }, run-same office.tables (record row { in_effect = None }) row row.number at refl, refl)
+
+-- what is kept stays
+pub cancel-entries : (office : Office) (job : ℕ) → (office_after (CancelledEvent job, None) office).tables.sets ≡ office.tables.sets
+cancel-entries office job = by (run_of office.tables job)
+  where
+    by : (row : Option RunRow) → (option_map_or (λ (found : RunRow). after_cancelled found office.tables) row office.tables).sets ≡ office.tables.sets
+    by None = refl
+    by (Some row) = refl

@@ -23,14 +23,15 @@ use Rattle.ckr_points.specs.Rows.{RunRow, StartPoint, TableSet, run_of}
 use Rattle.ckr_desk_turn.proofs.Definitions.{turns_open}
 use Rattle.ckr_desk_turn.proofs.Examples.Decks.{checkpointed, copy, deck, sixty}
 use Rattle.ckr_desk_turn.proofs.Examples.Tables.{ended, in_one, selected, started, step_ended, submitted}
-use Rattle.ckr_desk_turn.specs.Checkpoints.{ServedProgress, ServedTurn, arrived, checkpoint_event, checkpoint_fits, checkpoint_turn, entry_bytes, id_by, next_due, next_entry}
+use Rattle.ckr_desk_turn.specs.Checkpoints.{ServedTurn, checkpoint_event, checkpoint_fits, checkpoint_turn, entry_bytes, id_by, next_entry}
 use Rattle.ckr_desk_turn.specs.declared.reply.Chkpt.{Chkpt}
 use Rattle.ckr_desk_turn.specs.declared.reply.Chkpt.TheVariants.{Done, NotWritten, Suppressed}
 use Rattle.ckr_desk_turn.specs.declared.reply.Reply.{Reply}
 use Rattle.ckr_desk_turn.specs.declared.reply.Reply.TheVariants.{Checkpointed as CheckpointedReply}
 use Rattle.ckr_desk_turn.specs.Desk.{start_of}
+use Rattle.ckr_desk_turn.specs.Due.{next_due}
 use Rattle.ckr_desk_turn.specs.EntryStates.{checkpoint_state}
-use Rattle.ckr_desk_turn.specs.Units.{StepProgress}
+use Rattle.ckr_desk_turn.specs.Units.{StepProgress, arrived}
 
 -- ---- identifiers
 
@@ -61,10 +62,10 @@ abbrev started_copy : Option StepStart
 started_copy = option_map_or (λ job. start_at (plain_job 1 job) [] 1) (deck (copy (codes "A" ∷ []) (codes "(80,10)"))) None
 
 -- behind so many records taken, with the checkpoint and the cancel due there done or not
-abbrev at_count : ℕ → Bool → Bool → ServedProgress
-at_count taken checked ended = record { step = record { taken = taken; writes = taken; closed = false }; checkpointed = checked; cancelled = ended }
+abbrev at_count : ℕ → Bool → Bool → StepProgress
+at_count taken checked ended = record (arrived taken taken) { checkpointed = checked; cancelled = ended }
 
-abbrev dues : ℕ → ℕ → List ServedProgress → List NextDue
+abbrev dues : ℕ → ℕ → List StepProgress → List NextDue
 dues chk cancel progresses = option_map_or (λ start. map (next_due (with_parm chk cancel start)) progresses) started_copy []
 
 -- CHK=1: a checkpoint behind each record; CANCEL=2 behind the one that is due there, and past it checkpoints go on
@@ -93,7 +94,7 @@ abbrev of_run : {A : Type 0} → Office → (Named TableSet → RunRow → StepS
 of_run now view = option_map_or (λ row. option_map (view now.tables.sets row) (start_of now row)) (run_of now.tables 2) None
 
 abbrev at_twenty : StepProgress
-at_twenty = record { taken = 20; writes = 20; closed = false }
+at_twenty = arrived 20 20
 
 abbrev marked : Name → ℕ → ℕ → ℕ → Bool → ℕ → Mark
 marked named size room used on maker = record {
@@ -151,7 +152,7 @@ worked_event = refl
 abbrev turn_with : (Named TableSet → Named TableSet) → (RunRow → RunRow) → Option ServedTurn
 turn_with sets_then row_then =
     let tables = record behind_start.tables { sets = sets_then behind_start.tables.sets } in
-    of_run behind_start (λ sets row start. checkpoint_turn tables (row_then row) start (arrived at_twenty))
+    of_run behind_start (λ sets row start. checkpoint_turn tables (row_then row) start at_twenty)
 
 abbrev reply_with : (Named TableSet → Named TableSet) → (RunRow → RunRow) → Option Reply
 reply_with sets_then row_then = option_map (λ turn. turn.reply) (turn_with sets_then row_then)

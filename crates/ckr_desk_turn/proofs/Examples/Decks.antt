@@ -192,6 +192,21 @@ passing =
     codes "//B DD DSN=X.B,DISP=OLD" ∷
     []
 
+-- COPY of four cards under RD=NC, with these counts for checkpoints and their cancel
+abbrev pub suppressing : List ℕ → List (List ℕ)
+suppressing counts =
+    codes "//N JOB" ∷
+    (codes "//S1 EXEC PGM=COPY,RD=NC,PARM='" ++ (counts ++ codes "'")) ∷
+    codes "//SYSUT1 DD *" ∷
+    codes "A" ∷
+    codes "B" ∷
+    codes "C" ∷
+    codes "D" ∷
+    codes "/*" ∷
+    codes "//SYSUT2 DD DSN=OUT.A,DISP=(NEW,CATLG),SPACE=(80,10)" ∷
+    codes "//CHKDD DD DSN=CHK.A,DISP=(NEW,CATLG),SPACE=(256,4)" ∷
+    []
+
 -- COPY of a card behind the records of IN.A
 abbrev pub extending : List (List ℕ)
 extending =

@@ -1,14 +1,12 @@
 -- A desk with two volumes and two initiators, decks and turns on it, and its listing.
-use Rattle.std.specs.Prelude.{◌≡◌, ℕ, suc, Bool, true, ◌&&◌, List, [], ◌∷◌, map, replicate, length, codes, Option, None, Some}
+use Rattle.std.specs.Prelude.{ℕ, Bool, true, ◌&&◌, List, [], ◌∷◌, map, replicate, length, codes, Option, None, Some}
 use Rattle.std.specs.Option.{option_map_or}
 use Rattle.ckr_base.specs.declared.code.Code.{Code}
 use Rattle.ckr_base.specs.declared.code.Code.TheVariants.{System}
 use Rattle.ckr_jcl.specs.declared.deck.Job.{Job}
 use Rattle.ckr_library.specs.declared.sets.Part.{Part}
 use Rattle.ckr_library.specs.NameMaps.{Name}
-use Rattle.ckr_events.specs.declared.event.Event.{Event}
 use Rattle.ckr_volumes.specs.declared.layout.Layout.{Layout}
-use Rattle.ckr_points.specs.Follows.{follows}
 use Rattle.ckr_points.specs.Payload.{carries}
 use Rattle.ckr_points.specs.Office.{no_office}
 use Rattle.ckr_points.specs.Rows.{TableSet}

@@ -96,7 +96,7 @@ plain_parts row plain =
     record { state = one.0; initiator = two.0; code = three.0; runs = three.1 }
 
 pub no_restart : (deck : Job) → is_run deck ≡ true → deck.restart ≡ None
-no_restart deck runs = is_none-true deck.restart (and_parts (is_none deck.restart) _ (and_parts (is_none deck.rd) _ runs).1).0
+no_restart deck runs = is_none-true deck.restart (and_parts (is_none deck.restart) _ runs).0
 
 -- a run that comes next to an initiator that no run is on
 pub selected-follows : (layout : Layout) (tables : TablesModel) (i : ℕ) (row : RunRow) → run_of tables row.number ≡ Some row → is_plain_state row.state ≡ true → is_run row.deck ≡ true → 1 ≤ i → i ≤ layout.initiators → run_on_initiator tables i ≡ None → next_run tables ≡ Some row

@@ -1,15 +1,14 @@
 -- What becomes of the queue of the tables' runs where one of them changes its state, or one more comes.
-use Rattle.std.proofs.Common.{◌≡◌, ◌<◌, ◌≤◌, ◌+◌, ℕ, zero, suc, Bool, true, false, List, [], ◌∷◌, ◌++◌, refl, ap, ap₂, sym, ◌∙◌, subst, cond, Option, None, Some, arith, ◌==◌, nat_lt, slice_get, slice_set, length}
+use Rattle.std.proofs.Common.{◌≡◌, ◌+◌, ℕ, zero, suc, true, false, List, [], ◌∷◌, ◌++◌, refl, ap, ap₂, sym, ◌∙◌, subst, cond, Option, None, Some, arith, ◌==◌, nat_lt, slice_get, slice_set, length}
 use Rattle.std.specs.List.{filter_map, cons_option}
 use Rattle.std.specs.Option.{option_map}
 use Rattle.std.proofs.lemmas.Bool.Decides.{nat_tests}
 use Rattle.std.proofs.lemmas.Option.{same_Some}
 use Rattle.ckr_jcl.specs.declared.deck.Job.{Job}
-use Rattle.ckr_library.specs.declared.uses.Use.{Use}
 use Rattle.ckr_uses.specs.Uses.{uses_of}
 use Rattle.ckr_queue.specs.declared.entry.QueueEntry.{QueueEntry}
 use Rattle.ckr_queue.specs.declared.entry.QueueState.{QueueState}
-use Rattle.ckr_queue.specs.Queue.{is_of, is_below, queued, with_entry, with_state, without}
+use Rattle.ckr_queue.specs.Queue.{queued, with_entry, with_state, without}
 use Rattle.ckr_points.specs.Tables.{queued_run}
 use Rattle.ckr_points.specs.Rows.{RunRow}
 use Rattle.ckr_desk_turn.specs.Queue.{entry_with, entry_of, queue_state, AreNumbered}

@@ -1,5 +1,5 @@
 -- The queue of the tables' runs behind an event.
-use Rattle.std.proofs.Common.{◌≡◌, ◌+◌, ℕ, zero, suc, true, List, [], ◌∷◌, refl, ap, sym, ◌∙◌, subst, Option, None, Some, arith, slice_get, slice_set}
+use Rattle.std.proofs.Common.{◌≡◌, ◌+◌, ℕ, zero, suc, true, List, [], ◌∷◌, refl, ap, sym, ◌∙◌, Option, None, Some, arith, slice_get, slice_set}
 use Rattle.std.proofs.lemmas.Option.{same_Some}
 use Rattle.std.specs.List.{filter_map}
 use Rattle.std.specs.Option.{option_map_or}
@@ -11,7 +11,6 @@ use Rattle.ckr_base.specs.declared.code.Code.{Code}
 use Rattle.ckr_base.proofs.Numbers.{one-plus}
 use Rattle.ckr_meaning.specs.EffectiveJob.{OwnedStep}
 use Rattle.ckr_jcl.specs.declared.deck.Job.{Job}
-use Rattle.ckr_library.specs.NameMaps.{Named}
 use Rattle.ckr_queue.specs.declared.entry.QueueEntry.{QueueEntry}
 use Rattle.ckr_queue.specs.declared.entry.QueueState.{QueueState}
 use Rattle.ckr_queue.specs.declared.entry.QueueState.TheVariants as InQueue
@@ -20,7 +19,7 @@ use Rattle.ckr_meaning.specs.declared.place.Place.TheVariants.{Before, Opened, W
 use Rattle.ckr_points.specs.declared.run.RunState.TheVariants.{Queued, On, Purged as PurgedRun}
 use Rattle.ckr_points.specs.Tables.{after_selected, after_started, after_commit, after_rewritten, after_step_ended, after_dispositions}
 use Rattle.ckr_points.specs.Restart.{after_event, after_passed_ended, after_coded, after_abnormal, by_step, place_of, step_in}
-use Rattle.ckr_points.specs.Rows.{RunRow, TableSet, TablesModel, run_of, step_of_run, with_row, with_run}
+use Rattle.ckr_points.specs.Rows.{RunRow, TablesModel, run_of, step_of_run, with_row, with_run}
 use Rattle.ckr_desk_turn.specs.Queue.{entry_of, queue_of, queue_state, AreNumbered}
 use Rattle.ckr_desk_turn.proofs.Queue.Changes.{moved, left, stayed}
 

@@ -1,20 +1,18 @@
 -- The queue of the tables' runs selects the run that comes next.
-use Rattle.std.proofs.Common.{◌≡◌, ℕ, Bool, true, false, not, ◌&&◌, ◌||◌, List, [], ◌∷◌, refl, ap, sym, ◌∙◌, cond, Option, None, Some, find}
+use Rattle.std.proofs.Common.{◌≡◌, Bool, true, false, not, ◌&&◌, ◌||◌, List, [], ◌∷◌, refl, ap, ◌∙◌, cond, Some, find}
 use Rattle.std.specs.List.{list_all, list_any, filter_map}
-use Rattle.ckr_library.specs.declared.uses.Use.{Use}
 use Rattle.ckr_uses.specs.Uses.{uses_of, holds}
 use Rattle.ckr_queue.specs.declared.entry.QueueEntry.{QueueEntry}
 use Rattle.ckr_queue.specs.declared.entry.QueueState.{QueueState}
 use Rattle.ckr_queue.specs.declared.entry.QueueState.TheVariants as InQueue
 use Rattle.ckr_queue.specs.declared.entry.Selection.{Selection}
 use Rattle.ckr_queue.specs.Queue.{keeps_out, may_start, selection_with, selection_of}
-use Rattle.ckr_points.specs.declared.run.RunState.{RunState}
 use Rattle.ckr_points.specs.declared.run.RunState.TheVariants.{Queued, On, Held, Released, Ended, Denied, Purged}
 use Rattle.ckr_points.specs.Follows.{may_hold}
 use Rattle.ckr_points.specs.Office.{is_holder}
 use Rattle.ckr_points.specs.Rows.{RunRow, TablesModel}
 use Rattle.ckr_desk_turn.specs.Select.{may_select, next_run}
-use Rattle.ckr_desk_turn.specs.Queue.{entry_with, entry_of, queue_of, queue_state, selection_for}
+use Rattle.ckr_desk_turn.specs.Queue.{entry_with, entry_of, queue_of, selection_for}
 
 -- whether a run isn't kept out by any of these
 abbrev pub is_let_in : RunRow → List RunRow → Bool

@@ -1,6 +1,6 @@
 -- A unit that rewrites a record: its event may come and carries what the job gives, and the desk behind it is as its events have
 -- brought it about.
-use Rattle.std.proofs.Common.{◌≡◌, ◌≤◌, ℕ, suc, true, false, not, ◌&&◌, List, [], ◌∷◌, length, refl, ap, sym, ◌∙◌, subst, Some, None, arith}
+use Rattle.std.proofs.Common.{◌≡◌, ◌≤◌, ℕ, suc, true, not, ◌&&◌, List, [], ◌∷◌, length, refl, ap, sym, ◌∙◌, subst, Some, None, arith}
 use Rattle.std.specs.Prelude.{◌==◌, nat_le, nat_lt}
 use Rattle.std.specs.List.{AllByRecursion, list_any}
 use Rattle.std.specs.Option.{option_map_or}
@@ -25,7 +25,7 @@ use Rattle.ckr_points.specs.Rows.{RunRow, TableSet, run_of, step_of_run}
 use Rattle.ckr_points_invariant.proofs.Holders.Rows.{run-other, run-same}
 use Rattle.ckr_points_invariant.proofs.EventLaws.{rewritten}
 use Rattle.ckr_desk_turn.specs.Desk.{DeskModel, DeskStep, behind as desk_behind, with_progress, without_run}
-use Rattle.ckr_desk_turn.specs.Units.{StepProgress}
+use Rattle.ckr_desk_turn.specs.Units.{StepProgress, arrived}
 use Rattle.ckr_desk_turn.specs.NextEvents.{Comes, IsWithinStep}
 use Rattle.ckr_desk_turn.specs.Invariant.{IsAdmitted, IsDesk, IsFailed, IsGoing, is_accounted}
 use Rattle.ckr_desk_turn.proofs.StepEnd.{by-changed}
@@ -122,7 +122,7 @@ module _ (desk : DeskModel) (is : IsDesk desk) (run : ℕ) (row : RunRow) (numbe
       }))
 
   abbrev pub further : StepProgress
-  further = record { taken = taken; writes = suc before; closed = false }
+  further = arrived taken (suc before)
 
   next_within : IsWithinStep now run next number (suc before) start
   next_within = record {

@@ -7,11 +7,12 @@ use Rattle.std.proofs.lemmas.Option.{same_Some}
 use Rattle.arrayvec.specs.ArrayVec.{ArrayVec}
 use Rattle.ckr_base.proofs.Bools.{and-first, and-second}
 use Rattle.ckr_base.proofs.Numbers.{equal-true}
-use Rattle.ckr_events.specs.declared.event.Event.TheVariants.{Purged as PurgedEvent, Rewritten as RewrittenEvent, Selected as SelectedEvent, Started as StartedEvent, StepEnded as StepEndedEvent, Submitted as SubmittedEvent}
+use Rattle.ckr_events.specs.declared.event.Event.TheVariants.{Cancelled as CancelledEvent, Checkpointed as CheckpointedEvent, Purged as PurgedEvent, Rewritten as RewrittenEvent, Selected as SelectedEvent, Started as StartedEvent, StepEnded as StepEndedEvent, Submitted as SubmittedEvent}
 use Rattle.ckr_events.specs.declared.event.Made.{Made}
 use Rattle.ckr_jcl.specs.declared.deck.Job.{Job}
 use Rattle.ckr_jcl_decks.specs.Parts.Fault.{Fault}
 use Rattle.ckr_jcl_decks.specs.Deck.{stored_deck}
+use Rattle.ckr_library.specs.declared.sets.Kept.{Kept}
 use Rattle.ckr_library.specs.NameMaps.{Name, Named, with_changed}
 use Rattle.ckr_meaning.specs.Allotments.{DdAllotment, opened_all}
 use Rattle.ckr_meaning.specs.EffectiveJob.{OwnedStep, placed_in, stamp_of}
@@ -22,25 +23,25 @@ use Rattle.ckr_points_decks.specs.Cards.{job_in, kept_deck, stored_of_kept}
 use Rattle.ckr_points_decks.specs.Form.{is_run}
 use Rattle.ckr_points.specs.declared.run.RunState.{RunState}
 use Rattle.ckr_points.specs.declared.run.RunState.TheVariants.{On, Queued, Purged}
-use Rattle.ckr_points.specs.Follows.{is_empty, is_in_state, is_rewrite, is_running, is_within, lengths_follow, of_step, own_step}
+use Rattle.ckr_points.specs.Follows.{is_checkpoint, is_empty, is_in_state, is_rewrite, is_running, is_within, lengths_follow, of_step, own_step}
 use Rattle.ckr_points.specs.Marks.{with_point}
 use Rattle.ckr_points.specs.Office.{Leg, Office, office_after}
 use Rattle.ckr_points.specs.Payload.{carries}
 use Rattle.ckr_points.specs.Restart.{place_of, step_in}
-use Rattle.ckr_points.specs.Rows.{RunRow, TableSet, TablesModel, run_of, standing_of, step_of_run, table_ways, with_run}
+use Rattle.ckr_points.specs.Rows.{RunRow, TableSet, TablesModel, run_of, standing_of, table_ways, with_run}
 use Rattle.ckr_points.specs.Soundness.{may_come}
-use Rattle.ckr_points.specs.Tables.{after_commit, after_dispositions, after_rewritten, after_step_ended, after_submitted, committed, is_updates, made_tables, name_with_role, queued_run, row_rewritten, start_point, table_rewritten}
+use Rattle.ckr_points.specs.Tables.{after_cancelled, after_checkpointed, after_commit, after_dispositions, after_rewritten, after_step_ended, after_submitted, committed, fresh_effect, is_checkpoints, is_updates, made_tables, name_with_role, queued_run, row_rewritten, start_point, table_rewritten}
 use Rattle.ckr_points_invariant.specs.Invariant.{IsAgreed}
 use Rattle.ckr_points_invariant.proofs.Holders.Rows.{queued-is, run-other, run-same}
 use Rattle.ckr_points_invariant.proofs.Select.Holders.{all_legs}
 use Rattle.ckr_points_invariant.proofs.Select.Invariant.{chosen}
-use Rattle.ckr_points_invariant.proofs.Start.Event.{StartsNow, by-start}
+use Rattle.ckr_points_invariant.proofs.Start.Event.{by-start}
 use Rattle.ckr_points_invariant.proofs.Steps.Events.{step-by}
 use Rattle.ckr_points_invariant.proofs.WaitingRuns.{by-selected, follows-of, tested-run}
 use Rattle.ckr_volumes.specs.declared.layout.Layout.{Layout}
 use Rattle.ckr_desk_turn.specs.Invariant.{HasRuns, IsAdmitted, is_on_one, is_plain_row, is_plain_state}
 use Rattle.ckr_desk_turn.specs.RunEvents.{IsRunDeck}
-use Rattle.ckr_desk_turn.proofs.Runs.Rows.{HasRow, Renewed, Stands, has-row, runs-renewed, stands-more, stands-one}
+use Rattle.ckr_desk_turn.proofs.Runs.Rows.{HasRow, Stands, has-row, runs-renewed, stands-more, stands-one}
 use Rattle.ckr_desk_turn.proofs.Select.{front_row, last_row}
 use Rattle.ckr_desk_turn.proofs.StepEnd.{by-changed}
 
@@ -118,6 +119,21 @@ module _ (layout : Layout) (office : Office) (kept : IsAgreed layout office) (ha
       off : (row : RunRow) → is_in_state Queued row ≡ true → is_plain_row row ≡ true → is_plain_row (record row { state = Purged }) ≡ true
       off row queued plain = sym (ap (λ (s : RunState). is_plain_state s && ((is_none row.initiator || is_on_one s) && (is_none row.code && is_run row.deck))) (queued-is row.state queued)) ∙ plain
 
+  pub cancelled-runs : (job : ℕ) (deck : Option Job) → may_come layout office (CancelledEvent job, deck) ≡ true → HasRuns (office_after (CancelledEvent job, deck) office)
+  cancelled-runs job deck may =
+      tested-run office.tables job is_running (follows-of layout office (CancelledEvent job) deck may)
+      (λ row at runs.
+      let next : RunRow = record row { in_effect = None } in
+      let was : HasRow row = has-row office has job row at in
+      subst (λ (o : Option RunRow). HasRuns (record office { tables = option_map_or (λ row. after_cancelled row office.tables) o office.tables })) (sym at)
+      (runs-renewed office (record office { tables = with_run next office.tables }) job has
+      (record {
+        next = next;
+        stands = stands-one office.tables office.tables.sets job row next at (kept.numbered job row at);
+        has = record { plain = was.plain; admitted = record { cards = was.admitted.cards; accepted = was.admitted.accepted; lodged = was.admitted.lodged }; stepped = was.stepped };
+      })
+      has.spaced has.spaced_legs))
+
   pub started-runs : (job step : ℕ) (items : ArrayVec Made) (deck : Option Job) → may_come layout office (StartedEvent job step items, deck) ≡ true → carries layout office (StartedEvent job step items) deck ≡ true → HasRuns (office_after (StartedEvent job step items, deck) office)
   started-runs job step items deck may carried =
       by-start HasRuns layout office job step items deck kept may carried
@@ -151,6 +167,29 @@ module _ (layout : Layout) (office : Office) (kept : IsAgreed layout office) (ha
       (record {
         next = next;
         stands = stands-one office.tables sets job row next at (kept.numbered job row at);
+        has = has-step next owned found was.plain (record { cards = was.admitted.cards; accepted = was.admitted.accepted; lodged = was.admitted.lodged });
+      })
+      has.spaced has.spaced_legs)))
+
+  -- an entry is written, which no deck that the desk runs by now asks for
+  pub checkpointed-runs : (job taken writes place bytes : ℕ) (id : Name) (lengths : ArrayVec ℕ) (deck : Option Job) → may_come layout office (CheckpointedEvent job id taken writes lengths place bytes, deck) ≡ true → HasRuns (office_after (CheckpointedEvent job id taken writes lengths place bytes, deck) office)
+  checkpointed-runs job taken writes place bytes id lengths deck may =
+      tested-run office.tables job (λ row. is_running row && lengths_follow office.tables row lengths.items && of_step row (is_checkpoint office.tables id lengths.items place bytes row)) (follows-of layout office (CheckpointedEvent job id taken writes lengths place bytes) deck may)
+      (λ row at passes.
+      step-by office.tables row lengths.items
+      (and-second (is_running row) (lengths_follow office.tables row lengths.items) (and-first (is_running row && lengths_follow office.tables row lengths.items) (of_step row (is_checkpoint office.tables id lengths.items place bytes row)) passes))
+      (λ owned found are.
+      let step : ℕ = step_in (place_of row) in
+      let kept_now : Kept = record { id = id; run = job; place = place; bytes = bytes } in
+      let next : RunRow = record row { count = suc row.count; in_effect = Some (fresh_effect (name_with_role row.job.root owned is_checkpoints) kept_now); place = Some (Within step writes) } in
+      let sets : Named TableSet = committed (output_names row.job.root owned) lengths.items office.tables.sets in
+      let stands : Stands office.tables (with_run next (record office.tables { sets = sets })) job next = stands-one office.tables sets job row next at (kept.numbered job row at) in
+      let was : HasRow row = has-row office has job row at in
+      by-changed (λ tables. HasRuns (record office { tables = tables })) office.tables job row owned (λ row owned step. after_checkpointed row owned step kept_now taken writes lengths.items office.tables) at found
+      (runs-renewed office (record office { tables = after_checkpointed row owned step kept_now taken writes lengths.items office.tables }) job has
+      (record {
+        next = next;
+        stands = record { mine = stands.mine; others = stands.others };
         has = has-step next owned found was.plain (record { cards = was.admitted.cards; accepted = was.admitted.accepted; lodged = was.admitted.lodged });
       })
       has.spaced has.spaced_legs)))

@@ -1,9 +1,9 @@
 -- Sound events of what the desk runs leave what a desk of its runs has.
-use Rattle.std.proofs.Common.{◌≡◌, ℕ, zero, suc, true, false, not, List, [], ◌∷◌, refl, arith, Option, Some, None}
+use Rattle.std.proofs.Common.{◌≡◌, ℕ, zero, suc, true, false, List, [], ◌∷◌, refl, arith, Option}
 use Rattle.std.specs.Prelude.{◌==◌}
 use Rattle.ckr_base.proofs.Numbers.{equal-true}
 use Rattle.ckr_events.specs.declared.event.Event.{Event}
-use Rattle.ckr_events.specs.declared.event.Event.TheVariants.{Cancelled, Checkpointed, Denied, Ended, Held, Purged, Released, Restarted, Rewritten, Selected, Started, StepEnded, Submitted}
+use Rattle.ckr_events.specs.declared.event.Event.TheVariants.{Cancelled, Ended, Purged, Restarted, Rewritten, Selected, Started, StepEnded, Submitted}
 use Rattle.ckr_events.specs.declared.event.Ending.TheVariants.{Allocation, Coded, Completed}
 use Rattle.ckr_jcl.specs.declared.deck.Job.{Job}
 use Rattle.ckr_volumes.specs.declared.layout.Layout.{Layout}
@@ -19,7 +19,7 @@ use Rattle.ckr_desk_turn.specs.Invariant.{HasRuns, IsDesk}
 use Rattle.ckr_desk_turn.specs.RunEvents.{AreRunEvents, IsRunEvent}
 use Rattle.ckr_desk_turn.proofs.Opening.{opened-is}
 use Rattle.ckr_desk_turn.proofs.Runs.Ends.{coded-runs, completed-runs, refused-runs}
-use Rattle.ckr_desk_turn.proofs.Runs.Events.{purged-runs, rewritten-runs, selected-runs, started-runs, step_ended-runs, submitted-runs}
+use Rattle.ckr_desk_turn.proofs.Runs.Events.{cancelled-runs, purged-runs, rewritten-runs, selected-runs, started-runs, step_ended-runs, submitted-runs}
 
 none-before : (before : ℕ) → (suc before == 0) ≡ true → ⊥
 none-before before e = let same : suc before ≡ 0 = equal-true (suc before) 0 e in omega (arith, same)
@@ -38,6 +38,7 @@ module _ (layout : Layout) (now : Office) (kept : IsKept layout now) (has : HasR
   runs-next (Selected job initiator (suc before) step id) deck is next = absurd (none-before before is)
   runs-next (Started job step items) deck is next = started-runs layout now kept.events has job step items deck next.may next.carried
   runs-next (Rewritten job taken writes lengths place image) deck is next = rewritten-runs layout now kept.events has job taken writes place lengths image deck next.may
+  runs-next (Cancelled job) deck is next = cancelled-runs layout now kept.events has job deck next.may
   runs-next (StepEnded job step rc writes lengths) deck is next = step_ended-runs layout now kept.events has job step rc writes lengths deck next.may
   runs-next (Ended job Completed) deck is next = completed-runs layout now kept.events has job deck next.may
   runs-next (Ended job (Coded code rule writes lengths)) deck is next = coded-runs layout now kept.events has job rule writes code lengths deck next.may

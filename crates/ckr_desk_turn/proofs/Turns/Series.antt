@@ -6,7 +6,7 @@ use Rattle.ckr_meaning.specs.StepRun.{StepStart}
 use Rattle.ckr_points.specs.Rows.{RunRow, run_of}
 use Rattle.ckr_points_invariant.specs.Invariant.{IsKept}
 use Rattle.ckr_desk_turn.specs.declared.plan.Plan.{Plan}
-use Rattle.ckr_desk_turn.specs.declared.plan.Plan.TheVariants.{Rest, Tell, Work}
+use Rattle.ckr_desk_turn.specs.declared.plan.Plan.TheVariants.{Rest, Tell, Work, Pass}
 use Rattle.ckr_desk_turn.specs.declared.reply.Reply.TheVariants.{Idle}
 use Rattle.ckr_desk_turn.specs.declared.reply.Turn.{Turn}
 use Rattle.ckr_desk_turn.specs.Desk.{DeskModel, carried_out, desk_after, done_by, jobs_of, progress_of, start_of, turn_of, unit_done, with_progress, work_of}
@@ -21,6 +21,7 @@ done-layout : (plan : Plan) (desk : DeskModel) → (done_by plan desk).desk.layo
 done-layout (Rest reply) desk = refl
 done-layout (Tell reply event) desk = refl
 done-layout (Work job) desk = refl
+done-layout (Pass job reply) desk = refl
 
 unit-layout : (row : RunRow) (end : UnitEnd) (desk : DeskModel) → (unit_done row end desk).desk.layout ≡ desk.layout
 unit-layout row end desk = done-layout _ (with_progress row.number end.progress desk)
@@ -44,6 +45,7 @@ plan-layout : (plan : Plan) (desk : DeskModel) → (carried_out plan desk).desk.
 plan-layout (Rest reply) desk = refl
 plan-layout (Tell reply event) desk = refl
 plan-layout (Work job) desk = work-layout job desk
+plan-layout (Pass job reply) desk = refl
 
 turn-layout : (desk : DeskModel) (turn : Turn) → (turn_of desk turn).desk.layout ≡ desk.layout
 unfolding turn_of

@@ -15,7 +15,7 @@ use Rattle.ckr_desk_turn.specs.declared.plan.Plan.TheVariants.{Rest, Tell}
 use Rattle.ckr_desk_turn.specs.declared.reply.Reply.TheVariants.{Idle, Worked}
 use Rattle.ckr_desk_turn.specs.Desk.{DeskModel, DeskStep, TurnDone, done_by, jobs_of, progress_of, seen, seen_from, start_of, unit_done, with_progress, work_of}
 use Rattle.ckr_desk_turn.specs.Jobs.{TurnStep, step_name_of}
-use Rattle.ckr_desk_turn.specs.Units.{StepProgress, UnitEnd, abended, finished_by, first_rewrite, no_more_space, unit_end, updated_lrecl, went}
+use Rattle.ckr_desk_turn.specs.Units.{StepProgress, UnitEnd, abended, arrived, finished_by, first_rewrite, no_more_space, unit_end, updated_lrecl, went}
 use Rattle.ckr_desk_turn.specs.NextEvents.{IsWithinStep}
 use Rattle.ckr_desk_turn.specs.Invariant.{IsDesk, IsGoing, IsOpen, Keeps, next_writes}
 use Rattle.ckr_desk_turn.proofs.Units.LastUnit.{full-plain, goes-closed, update-once}
@@ -69,8 +69,8 @@ module _ (desk : DeskModel) (is : IsDesk desk) (on : DeskStep) (going : IsGoing 
   work-went opened below fit none =
       subst (Keeps desk)
       (sym (works_so None fit (takes_one (case_at going.start) on.progress.taken below).goes_on
-      ∙ ap (λ o. unit_done going.row (record { unit = went o; progress = record { taken = suc on.progress.taken; writes = next_writes going.start on.progress; closed = false } }) desk) none))
-      (went-keeps desk is going.row (record { taken = suc on.progress.taken; writes = next_writes going.start on.progress; closed = false })
+      ∙ ap (λ o. unit_done going.row (record { unit = went o; progress = arrived (suc on.progress.taken) (next_writes going.start on.progress) }) desk) none))
+      (went-keeps desk is going.row (arrived (suc on.progress.taken) (next_writes going.start on.progress))
       (goes_so _ (goes-further desk.office on going opened below fit none)))
 
   -- the closing unit of a program that ends with a code
@@ -83,7 +83,7 @@ module _ (desk : DeskModel) (is : IsDesk desk) (on : DeskStep) (going : IsGoing 
   pub work-closed : (rc : ℕ) → IsOpen going.start on.progress → next_writes going.start on.progress ≤ length (work_at going.start).writes → (program_unit (case_at going.start) on.progress.taken).finish ≡ Some (Returned rc) → Keeps desk (work_of on.run desk)
   work-closed rc opened fit returned =
       subst (Keeps desk) (sym (works_so (Some (Returned rc)) fit returned))
-      (went-keeps desk is going.row (record { taken = on.progress.taken; writes = next_writes going.start on.progress; closed = true })
+      (went-keeps desk is going.row (record on.progress { writes = next_writes going.start on.progress; closed = true })
       (goes_so _ (goes-closed desk.office on going rc opened fit returned)))
 
   -- the unit of which a write has no space
@@ -108,7 +108,7 @@ module _ (desk : DeskModel) (is : IsDesk desk) (on : DeskStep) (going : IsGoing 
         omega (arith, once, some)
 
     abbrev its_progress : StepProgress
-    its_progress = record { taken = suc on.progress.taken; writes = suc on.progress.writes; closed = false }
+    its_progress = arrived (suc on.progress.taken) (suc on.progress.writes)
 
     abbrev its_told : IsTold desk.office going.row going.start on.progress.writes at
     its_told = told desk is going.row.number going.row going.number going.committed going.start here on.progress.writes (suc on.progress.taken) at going.behind going.plain its_rewrite
@@ -127,8 +127,8 @@ module _ (desk : DeskModel) (is : IsDesk desk) (on : DeskStep) (going : IsGoing 
     work-rewrote =
         subst (Keeps desk)
         (sym (works_so None fit (takes_one (case_at going.start) on.progress.taken below).goes_on
-        ∙ ap (λ o. unit_done going.row (record { unit = went o; progress = record { taken = suc on.progress.taken; writes = next_writes going.start on.progress; closed = false } }) desk) first
-        ∙ ap (λ n. unit_done going.row (record { unit = went (Some at); progress = record { taken = suc on.progress.taken; writes = n; closed = false } }) desk) count
+        ∙ ap (λ o. unit_done going.row (record { unit = went o; progress = arrived (suc on.progress.taken) (next_writes going.start on.progress) }) desk) first
+        ∙ ap (λ n. unit_done going.row (record { unit = went (Some at); progress = arrived (suc on.progress.taken) n }) desk) count
         ∙ ap (λ step. told_by step (updated_lrecl (jobs_of (with_progress going.row.number its_progress desk)) going.row)) its_seen
         ∙ ap (told_by (seen_from desk.office going.row.number its_progress going.start)) its_told.lrecl))
         (record {

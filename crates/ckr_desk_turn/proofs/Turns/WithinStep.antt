@@ -1,9 +1,11 @@
 -- A turn of a run within a step: its event may come, and the desk behind it is as its events have brought it about.
-use Rattle.std.proofs.Common.{◌≡◌, ℕ, Bool, true, false, cond, refl, ap, sym, ◌∙◌, subst, Option, Some, None}
+use Rattle.std.proofs.Common.{◌≡◌, ℕ, Bool, true, false, refl, ap, sym, ◌∙◌, subst, Option, Some, None}
 use Rattle.std.specs.Option.{option_map_or}
 use Rattle.std.proofs.lemmas.Option.{same_Some}
 use Rattle.ckr_base.specs.declared.code.Code.{Code}
 use Rattle.ckr_base.specs.declared.programs.Finish.TheVariants.{Returned}
+use Rattle.ckr_base.specs.declared.programs.NextDue.{NextDue}
+use Rattle.ckr_base.specs.declared.programs.NextDue.TheVariants.{Unit as OneUnit, Checkpoint, Cancel, Finished}
 use Rattle.ckr_base.proofs.Bools.{bool-cases}
 use Rattle.ckr_base.proofs.Options.{option-cases}
 use Rattle.ckr_events.specs.declared.event.Event.TheVariants.{StepEnded as StepEndedEvent}
@@ -16,16 +18,20 @@ use Rattle.ckr_desk_turn.specs.declared.plan.Plan.{Plan}
 use Rattle.ckr_desk_turn.specs.declared.plan.Plan.TheVariants.{Rest}
 use Rattle.ckr_desk_turn.specs.declared.reply.Reply.TheVariants.{Idle, NothingToFail}
 use Rattle.ckr_desk_turn.specs.Codes.{code_plan, reached_by, rule_for}
-use Rattle.ckr_desk_turn.specs.Desk.{DeskModel, DeskStep, carried_out, jobs_of, rc_by, work_of}
+use Rattle.ckr_desk_turn.specs.Desk.{DeskModel, DeskStep, carried_out, jobs_of, seen_from, work_of}
+use Rattle.ckr_desk_turn.specs.Due.{next_due, rc_by}
 use Rattle.ckr_desk_turn.specs.Jobs.{TurnStep, is_failed, running_in}
-use Rattle.ckr_desk_turn.specs.Plans.{fail_plan, is_within, placed_plan, run_plan, running_plan, system_failure}
+use Rattle.ckr_desk_turn.specs.Plans.{due_plan, fail_plan, finished_plan, is_within, placed_plan, run_plan, running_plan, system_failure}
 use Rattle.ckr_desk_turn.specs.NextEvents.{Comes, IsWithinStep}
 use Rattle.ckr_desk_turn.specs.Invariant.{HasCome, IsClosed, IsDesk, IsGoing, Keeps, is_plain_row}
 use Rattle.ckr_desk_turn.proofs.StepEnd.{code-kept, step_end-kept}
 use Rattle.ckr_desk_turn.proofs.OtherRuns.{row-plain}
 use Rattle.ckr_desk_turn.proofs.RunningSteps.{FoundStep, found-step, going-within, reached-comes}
 use Rattle.ckr_desk_turn.proofs.NextEvents.WithinStep.{step_ended-comes}
+use Rattle.ckr_desk_turn.proofs.Cancel.{cancelled-comes, cancelled-kept}
+use Rattle.ckr_desk_turn.proofs.Checkpoints.Due.{IsFinished, finished-only, unit-only}
 use Rattle.ckr_desk_turn.proofs.Units.AnyUnit.{work-keeps}
+use Rattle.ckr_desk_turn.proofs.Units.Invariant.{passed-kept}
 
 -- what a plan comes to
 abbrev pub PlanKeeps : DeskModel → Plan → Type 0
@@ -44,7 +50,7 @@ module _ (desk : DeskModel) (is : IsDesk desk) (row : RunRow) (number committed 
         kept = code-kept desk is row.number row number committed start within plain code (rule_number (rule_for desk.layout row code)) (reached_by (jobs_of desk) row).writes (record { items = (reached_by (jobs_of desk) row).lengths }) comes;
       }
 
-  -- a running step: it goes on, or it ends with its return code
+  -- a running step: it goes on, what is due in it is served, or it ends with its return code
   module _ (isnt : is_failed (jobs_of desk) row.number ≡ false) (step : TurnStep) (found : FoundStep desk.office desk.running row.number step) where
     its_row : found.going.row ≡ row
     its_row = same_Some _ _ (sym found.going.row_at ∙ ap (run_of desk.office.tables) found.same ∙ within.row_at)
@@ -62,23 +68,32 @@ module _ (desk : DeskModel) (is : IsDesk desk) (row : RunRow) (number committed 
     goes_on : found.on.progress.closed ≡ false → Keeps desk (work_of row.number desk)
     goes_on = work-keeps desk is row.number found.on.progress (ap (λ (o : Option DeskStep). option_map_or (λ (step : DeskStep). Some step.progress) o None) found.at)
 
-    by-closed : (closed : Bool) → found.on.progress.closed ≡ closed → HasCome found.going.start found.on.progress closed → PlanKeeps desk (running_plan row number (record {
-      run = found.on.run;
-      taken = found.on.progress.taken;
-      writes = found.on.progress.writes;
-      finished = cond closed (Some (rc_by (work_at found.going.start).finish)) None;
-      lengths = lengths_at found.going.start desk.office.tables.sets found.on.progress.writes;
-    }))
-    by-closed false opened come = goes_on opened
-    by-closed true opened come =
-        let comes = ends found.going come at_number in
+    abbrev its_seen : TurnStep
+    its_seen = seen_from desk.office found.on.run found.on.progress found.going.start
+
+    -- its end
+    finishes : IsClosed found.going.start found.on.progress → PlanKeeps desk (finished_plan row number its_seen (rc_by (work_at found.going.start).finish))
+    finishes closed =
+        let comes = ends found.going closed at_number in
         record {
           comes = comes;
           kept = step_end-kept desk is row.number row number committed start within plain (rc_by (work_at found.going.start).finish) found.on.progress.writes (record { items = lengths_at found.going.start desk.office.tables.sets found.on.progress.writes }) comes isnt;
         }
 
+    by-due : (due : NextDue) → next_due found.going.start found.on.progress ≡ due → PlanKeeps desk (due_plan row number its_seen due)
+    by-due OneUnit comes_now = goes_on (unit-only found.going.start found.on.progress comes_now)
+    by-due Checkpoint comes_now = record { comes = tt; kept = passed-kept desk is row.number found.on found.at found.going found.same }
+    by-due Cancel comes_now = record {
+      comes = cancelled-comes desk is row number committed start within;
+      kept = cancelled-kept desk is row number committed start within found.on found.at found.going found.same;
+    }
+    by-due (Finished rc) comes_now =
+        let its : IsFinished found.on.progress.closed (rc_by (work_at found.going.start).finish) rc = finished-only found.going.start found.on.progress rc comes_now in
+        subst (λ n. PlanKeeps desk (finished_plan row number its_seen n)) its.code
+        (finishes (subst (HasCome found.going.start found.on.progress) its.closed_so found.going.come))
+
     running_plan-keeps : PlanKeeps desk (running_plan row number step)
-    running_plan-keeps = subst (λ s. PlanKeeps desk (running_plan row number s)) (sym found.is) (by-closed found.on.progress.closed refl found.going.come)
+    running_plan-keeps = subst (λ s. PlanKeeps desk (running_plan row number s)) (sym found.is) (by-due (next_due found.going.start found.on.progress) refl)
 
   -- a turn with no code
   placed_plan-keeps : is_failed (jobs_of desk) row.number ≡ false → PlanKeeps desk (placed_plan desk.layout (jobs_of desk) row (place_of row))

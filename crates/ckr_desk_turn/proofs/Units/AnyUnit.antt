@@ -21,7 +21,7 @@ use Rattle.ckr_desk_turn.proofs.Units.LastUnit.{not-at-end}
 use Rattle.ckr_desk_turn.proofs.Turns.Units.{work-abended, work-closed, work-full, work-rewrote, work-went}
 
 -- the running step of a run
-found-going : (office : Office) (run : ℕ) (progress : StepProgress) (running : List DeskStep) → AllByRecursion (IsGoing office) running → option_map_or (λ (step : DeskStep). Some step.progress) (find (λ (step : DeskStep). step.run == run) running) None ≡ Some progress → IsGoing office (record { run = run; progress = progress })
+pub found-going : (office : Office) (run : ℕ) (progress : StepProgress) (running : List DeskStep) → AllByRecursion (IsGoing office) running → option_map_or (λ (step : DeskStep). Some step.progress) (find (λ (step : DeskStep). step.run == run) running) None ≡ Some progress → IsGoing office (record { run = run; progress = progress })
 found-going office run progress running going found =
     option-cases (find (λ (step : DeskStep). step.run == run) running)
     (λ none. absurd (some-not-none progress (sym found ∙ ap (λ (o : Option DeskStep). option_map_or (λ (step : DeskStep). Some step.progress) o None) none)))

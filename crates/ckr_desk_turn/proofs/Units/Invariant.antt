@@ -1,7 +1,9 @@
--- A unit of a running step: the desk behind it, where the step goes on and where it ends with a code.
-use Rattle.std.proofs.Common.{◌≡◌, ◌≤◌, ℕ, Bool, true, false, cond, not, ◌||◌, List, [], ◌∷◌, filter, length, refl, ap, sym, ◌∙◌, subst, Some, None}
+-- A unit of a running step: the desk behind it, where the step goes on and where it ends with a code; and the desk where more of the step
+-- is served.
+use Rattle.std.proofs.Common.{◌≡◌, ◌≤◌, ℕ, Bool, true, false, cond, not, ◌||◌, List, [], ◌∷◌, filter, find, length, refl, ap, sym, ◌∙◌, subst, Option, Some, None}
 use Rattle.std.specs.Prelude.{◌==◌}
 use Rattle.std.specs.List.{AllByRecursion, list_any}
+use Rattle.std.specs.Option.{option_map_or}
 use Rattle.std.proofs.lemmas.Bool.{false≢true, or_left, or_right}
 use Rattle.std.proofs.lemmas.Option.{same_Some}
 use Rattle.arrayvec.specs.ArrayVec.{ArrayVec}
@@ -13,14 +15,15 @@ use Rattle.ckr_events.specs.declared.event.Event.TheVariants.{Ended as EndedEven
 use Rattle.ckr_events.specs.declared.event.Ending.TheVariants.{Coded as CodedEnding}
 use Rattle.ckr_meaning.specs.StepRun.{StepStart, work_at}
 use Rattle.ckr_points.specs.Follows.{is_running}
+use Rattle.ckr_points.specs.Office.{Office}
 use Rattle.ckr_points.specs.Payload.{lengths_at, rewrites_nothing}
 use Rattle.ckr_points.specs.Rows.{RunRow, run_of}
 use Rattle.ckr_rules.specs.RuleTables.{rule_number}
 use Rattle.ckr_desk_turn.specs.Codes.{CodePlaceModel, code_plan, rule_for, running_reached}
-use Rattle.ckr_desk_turn.specs.Desk.{DeskModel, DeskStep, behind as desk_behind, done_by, unit_done, with_progress, without_run}
+use Rattle.ckr_desk_turn.specs.Desk.{DeskModel, DeskStep, behind as desk_behind, checkpoint_done, done_by, unit_done, with_change, with_progress, without_run}
 use Rattle.ckr_desk_turn.specs.Units.{StepProgress, went, abended}
 use Rattle.ckr_desk_turn.specs.NextEvents.{Comes, IsWithinStep}
-use Rattle.ckr_desk_turn.specs.Invariant.{IsDesk, IsGoing, Keeps, is_accounted}
+use Rattle.ckr_desk_turn.specs.Invariant.{HasCome, IsDesk, IsGoing, Keeps, is_accounted}
 use Rattle.ckr_desk_turn.proofs.StepEnd.{code-kept}
 use Rattle.ckr_desk_turn.proofs.OtherRuns.{all-by, row-plain, running-same}
 use Rattle.ckr_desk_turn.proofs.RunningSteps.{going-within, seen-so}
@@ -66,6 +69,39 @@ module _ (desk : DeskModel) (is : IsDesk desk) (run : ℕ) (progress : StepProgr
     spaced = is.spaced;
     spaced_legs = is.spaced_legs;
   }
+
+-- however much of it is served, a running step has come as far
+pub come-served : (start : StepStart) (progress : StepProgress) (checkpointed cancelled closed : Bool) → HasCome start progress closed → HasCome start (record progress { checkpointed = checkpointed; cancelled = cancelled }) closed
+come-served start progress checkpointed cancelled false come = record { taken = come.taken; writes = come.writes }
+come-served start progress checkpointed cancelled true come = record { writes = come.writes; rc = come.rc; returned = come.returned }
+
+pub going-served : (office : Office) (on : DeskStep) (checkpointed cancelled : Bool) → IsGoing office on → IsGoing office (record { run = on.run; progress = record on.progress { checkpointed = checkpointed; cancelled = cancelled } })
+going-served office on checkpointed cancelled going = record {
+  row = going.row;
+  row_at = going.row_at;
+  on = going.on;
+  number = going.number;
+  committed = going.committed;
+  place = going.place;
+  start = going.start;
+  start_at = going.start_at;
+  fit = going.fit;
+  behind = going.behind;
+  plain = going.plain;
+  come = come-served going.start on.progress checkpointed cancelled on.progress.closed going.come;
+}
+
+-- the running steps where that of a run is found and changes
+pub with_change-found : (run : ℕ) (change : StepProgress → StepProgress) (running : List DeskStep) (on : DeskStep) → find (λ (step : DeskStep). step.run == run) running ≡ Some on → with_change run change running ≡ record { run = run; progress = change on.progress } ∷ without_run run running
+with_change-found run change running on found =
+    ap (λ (o : Option DeskStep). option_map_or (λ (step : DeskStep). let changed : DeskStep = record { run = run; progress = change step.progress } in changed ∷ without_run run running) o running) found
+
+-- the desk behind a checkpoint that is done without an entry
+pub passed-kept : (desk : DeskModel) → IsDesk desk → (run : ℕ) (on : DeskStep) → find (λ (step : DeskStep). step.run == run) desk.running ≡ Some on → IsGoing desk.office on → on.run ≡ run → IsDesk (record desk { running = with_change run checkpoint_done desk.running })
+passed-kept desk is run on found going same =
+    subst (λ running. IsDesk (record desk { running = running })) (sym (with_change-found run checkpoint_done desk.running on found))
+    (moved-kept desk is run (checkpoint_done on.progress)
+    (subst (λ n. IsGoing desk.office (record { run = n; progress = checkpoint_done on.progress })) same (going-served desk.office on true on.progress.cancelled going)))
 
 -- a unit by which the step goes on, with no rewrite
 pub went-keeps : (desk : DeskModel) → IsDesk desk → (row : RunRow) (progress : StepProgress) → IsGoing desk.office (record { run = row.number; progress = progress }) → Keeps desk (unit_done row (record { unit = went None; progress = progress }) desk)

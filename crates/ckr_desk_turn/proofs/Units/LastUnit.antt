@@ -71,11 +71,11 @@ all-done start progress finish opened fit ended =
 
 -- a unit that fits and ends its program with a return code: the step is closed
 pub goes-closed : (office : Office) (on : DeskStep) (going : IsGoing office on) (rc : ℕ) → IsOpen going.start on.progress → next_writes going.start on.progress ≤ length (work_at going.start).writes → (unit_done (case_at going.start) on.progress.taken).finish ≡ Some (Returned rc)
-    → IsGoing office (record { run = on.run; progress = record { taken = on.progress.taken; writes = next_writes going.start on.progress; closed = true } })
+    → IsGoing office (record { run = on.run; progress = record on.progress { writes = next_writes going.start on.progress; closed = true } })
 goes-closed office on going rc opened fit returned =
     let items : List Write = (unit_done (case_at going.start) on.progress.taken).writes.items in
     let done : IsDone going.start on.progress (Returned rc) = all-done going.start on.progress (Returned rc) opened fit returned in
-    goes-behind office on going on.progress.taken true [] opened
+    goes-behind office on going (record on.progress { closed = true }) [] opened
     (done.all ∙ ap (λ xs. upto (case_at going.start) on.progress.taken ++ xs) (sym (append-nil items))) fit
     (ending-adds (case_at going.start) on.progress.taken done.last)
     (record { writes = done.most; rc = rc; returned = done.ends })

@@ -1,5 +1,5 @@
 -- A running step behind one more unit that fits and rewrites nothing.
-use Rattle.std.proofs.Common.{◌≡◌, ◌≤◌, ◌<◌, ◌+◌, ◌-◌, ℕ, zero, suc, Bool, true, false, not, ◌&&◌, List, [], ◌∷◌, ◌++◌, drop, take, length, refl, ap, sym, ◌∙◌, subst, Option, Some, None, arith, length-append, append_assoc}
+use Rattle.std.proofs.Common.{◌≡◌, ◌≤◌, ◌<◌, ◌+◌, ◌-◌, ℕ, zero, suc, Bool, true, not, ◌&&◌, List, [], ◌∷◌, ◌++◌, drop, take, length, refl, ap, sym, ◌∙◌, subst, Option, Some, None, arith, length-append, append_assoc}
 use Rattle.std.specs.List.{list_all}
 use Rattle.std.proofs.lemmas.Bool.{and_from}
 use Rattle.ckr_base.specs.declared.programs.Output.{Output}
@@ -14,7 +14,7 @@ use Rattle.ckr_meaning.proofs.Prefixes.{TakesOne, takes_one, work_in_parts}
 use Rattle.ckr_points.specs.Payload.{is_in_place, rewrites_nothing}
 use Rattle.ckr_points.specs.Office.{Office}
 use Rattle.ckr_points.specs.Soundness.{rewrite_of}
-use Rattle.ckr_desk_turn.specs.Units.{first_rewrite}
+use Rattle.ckr_desk_turn.specs.Units.{StepProgress, arrived, first_rewrite}
 use Rattle.ckr_desk_turn.specs.Desk.{DeskStep}
 use Rattle.ckr_desk_turn.specs.Invariant.{HasCome, IsGoing, IsOpen, next_writes}
 
@@ -84,12 +84,12 @@ module _ (start : StepStart) (front items more : List Write) (whole : (work (cas
 -- ---- a running step
 
 -- behind a unit whose writes fit and rewrite nothing
-pub goes-behind : (office : Office) (on : DeskStep) (going : IsGoing office on) (taken : ℕ) (closed : Bool) (more : List Write) → IsOpen going.start on.progress
+pub goes-behind : (office : Office) (on : DeskStep) (going : IsGoing office on) (base : StepProgress) (more : List Write) → IsOpen going.start on.progress
     → (work (case_at going.start)).writes ≡ upto (case_at going.start) on.progress.taken ++ ((unit_done (case_at going.start) on.progress.taken).writes.items ++ more)
     → next_writes going.start on.progress ≤ length (work_at going.start).writes → list_all adds (unit_done (case_at going.start) on.progress.taken).writes.items ≡ true
-    → HasCome going.start (record { taken = taken; writes = next_writes going.start on.progress; closed = closed }) closed
-    → IsGoing office (record { run = on.run; progress = record { taken = taken; writes = next_writes going.start on.progress; closed = closed } })
-goes-behind office on going taken closed more opened whole fit none come =
+    → HasCome going.start (record base { writes = next_writes going.start on.progress }) base.closed
+    → IsGoing office (record { run = on.run; progress = record base { writes = next_writes going.start on.progress } })
+goes-behind office on going base more opened whole fit none come =
     let items : List Write = (unit_done (case_at going.start) on.progress.taken).writes.items in
     let front : List Write = upto (case_at going.start) on.progress.taken in
     let count : on.progress.writes ≡ length front = opened.writes in
@@ -117,7 +117,7 @@ goes-behind office on going taken closed more opened whole fit none come =
 pub goes-further : (office : Office) (on : DeskStep) (going : IsGoing office on) → IsOpen going.start on.progress → on.progress.taken < records_taken (case_at going.start)
     → on.progress.writes + length (unit_done (case_at going.start) on.progress.taken).writes.items ≤ length (work_at going.start).writes
     → first_rewrite (unit_done (case_at going.start) on.progress.taken).writes.items ≡ None
-    → IsGoing office (record { run = on.run; progress = record { taken = suc on.progress.taken; writes = on.progress.writes + length (unit_done (case_at going.start) on.progress.taken).writes.items; closed = false } })
+    → IsGoing office (record { run = on.run; progress = arrived (suc on.progress.taken) (on.progress.writes + length (unit_done (case_at going.start) on.progress.taken).writes.items) })
 goes-further office on going opened below fit none =
     let next : TakesOne (case_at going.start) on.progress.taken = takes_one (case_at going.start) on.progress.taken below in
     let count : on.progress.writes ≡ length (upto (case_at going.start) on.progress.taken) = opened.writes in
@@ -127,7 +127,7 @@ goes-further office on going opened below fit none =
     work_in_parts (case_at going.start) (suc on.progress.taken) below
     ∙ ap (λ xs. xs ++ rest (case_at going.start) (suc on.progress.taken)) later
     ∙ append_assoc (upto (case_at going.start) on.progress.taken) (unit_done (case_at going.start) on.progress.taken).writes.items (rest (case_at going.start) (suc on.progress.taken)) in
-    goes-behind office on going (suc on.progress.taken) false (rest (case_at going.start) (suc on.progress.taken)) opened whole fit
+    goes-behind office on going (arrived (suc on.progress.taken) on.progress.writes) (rest (case_at going.start) (suc on.progress.taken)) opened whole fit
     (no-rewrite (unit_done (case_at going.start) on.progress.taken).writes.items none)
     (record {
       taken = below;

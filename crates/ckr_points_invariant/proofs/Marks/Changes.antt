@@ -31,8 +31,8 @@ module _ (P : Mark → Type 0) where
   abbrev pub EachEntryHolds : Named TableSet → Type 0
   EachEntryHolds sets = EachEntry (λ (table : TableSet). AllByRecursion P (marks_of_entries table)) sets
 
-  abbrev pub Points : ℕ → List StartPoint → Type 0
-  Points run points = AllByRecursion P (flat_map (λ point. point.marks) points)
+  abbrev pub Points : ℕ → ℕ → List StartPoint → Type 0
+  Points run count points = AllByRecursion P (flat_map (λ point. point.marks) points)
 
   abbrev pub Entries : List KeptEntry → Type 0
   Entries entries = AllByRecursion P (flat_map (λ entry. entry.point.marks) entries)

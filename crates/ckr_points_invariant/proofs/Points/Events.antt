@@ -79,8 +79,8 @@ points-rewritten legs run step (first ∷ rest) each =
     ]
 
 module _ (layout : Layout) (now : Office) (kept : IsAgreed layout now) (pointed : ArePointed now) where
-  abbrev R : ℕ → List StartPoint → Type 0
-  R = AreStepPoints now.legs
+  abbrev R : ℕ → ℕ → List StartPoint → Type 0
+  R run count = AreStepPoints now.legs run
 
   abbrev E : List KeptEntry → Type 0
   E = AreEntryPoints now.legs
@@ -246,7 +246,7 @@ module _ (layout : Layout) (now : Office) (kept : IsAgreed layout now) (pointed 
         apart : run ≢ row.number
         apart same = some-not-none its.leg (sym its.led ∙ ap (leg_of now) same ∙ (waits layout now row initiator kept row_at queued plain free).alone)
 
-    pointed-there : PointsHold (AreStepPoints later.legs) (AreEntryPoints later.legs) now.tables
+    pointed-there : PointsHold (λ run count. AreStepPoints later.legs run) (AreEntryPoints later.legs) now.tables
     pointed-there = record {
       rows = each-implies (λ (row : RunRow). AreStepPoints now.legs row.number row.points) (λ (row : RunRow). AreStepPoints later.legs row.number row.points) now.tables.runs
           (λ one. each-implies
@@ -262,8 +262,8 @@ module _ (layout : Layout) (now : Office) (kept : IsAgreed layout now) (pointed 
 
     pub pointed-chosen : ArePointed later
     pointed-chosen =
-        rows.run-holds (AreStepPoints later.legs) (AreEntryPoints later.legs) tt (fewer later.legs) (next layout now row initiator kept row_at queued plain free) now.tables
-        (rows.row-holds (AreStepPoints later.legs) (AreEntryPoints later.legs) tt (fewer later.legs) now.tables row.number row pointed-there row_at) pointed-there
+        rows.run-holds (λ run count. AreStepPoints later.legs run) (AreEntryPoints later.legs) tt (fewer later.legs) (next layout now row initiator kept row_at queued plain free) now.tables
+        (rows.row-holds (λ run count. AreStepPoints later.legs run) (AreEntryPoints later.legs) tt (fewer later.legs) now.tables row.number row pointed-there row_at) pointed-there
 
   pub pointed-selected : (job initiator step : ℕ) (id : Option Name) (deck : Option Job) → may_come layout now (Selected job initiator 0 step id, deck) ≡ true → ArePointed (office_after (Selected job initiator 0 step id, deck) now)
   pointed-selected job initiator step id deck may =

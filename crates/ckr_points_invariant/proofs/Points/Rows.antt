@@ -26,12 +26,12 @@ all_set P [] (suc place) x one each = tt
 all_set P (first ∷ rest) zero x one each = (one, each.1)
 all_set P (first ∷ rest) (suc place) x one each = (each.0, all_set P rest place x one each.1)
 
-module _ (R : ℕ → List StartPoint → Type 0) (E : List KeptEntry → Type 0) (none : E []) (fewer : (kept : KeptEntry → Bool) (entries : List KeptEntry) → E entries → E (filter kept entries)) where
+module _ (R : ℕ → ℕ → List StartPoint → Type 0) (E : List KeptEntry → Type 0) (none : E []) (fewer : (kept : KeptEntry → Bool) (entries : List KeptEntry) → E entries → E (filter kept entries)) where
   abbrev pub Hold : TablesModel → Type 0
   Hold tables = PointsHold R E tables
 
   abbrev pub RowHolds : RunRow → Type 0
-  RowHolds row = R row.number row.points
+  RowHolds row = R row.number row.count row.points
 
   abbrev pub SetsHold : Named TableSet → Type 0
   SetsHold all = sets.EachHolds E none fewer all

@@ -7,7 +7,6 @@ use Rattle.ckr_desk.specs.Soundness.{state_of}
 use Rattle.ckr_desk.specs.Turn.{event_of_turn}
 use Rattle.ckr_desk.specs.State.{disk_of}
 use Rattle.batch_desk.specs.declared.stop.Halt.TheVariants as Halts
-use Rattle.batch_desk.specs.Calls.{plain_turn}
 use Rattle.batch_desk.specs.Turns.{TurnHalt}
 use Rattle.batch_desk.proofs.Calls.Stops.{failed_kept, goes_done, with_failed_disk, with_full_book, without_memory}
 use Rattle.batch_desk.proofs.turns.one_turn.Goals as goal
@@ -23,7 +22,7 @@ returns-in-Err-NoMemory-clause-halt g c holds =
     let d = g.D.Disk in
     let old = c.args.desk.now in
     let e = c.in-Err-NoMemory.ensures in
-    without_memory d.content d.moment d.left_since d.size Reply d.may_leave d.faults old c.turn.new.self c.in-Err-NoMemory.field-0 _ (TurnHalt Halts.Memory c.args.initiator (state_of d.content old))
+    without_memory d.content d.moment d.left_since d.size Reply d.may_leave d.faults old c.turn.new.self c.in-Err-NoMemory.field-0 _ (TurnHalt Halts.Memory c.args.turn (state_of d.content old))
     c.in-Err-NoMemory.field-0-is (e.kept c.requires.is_open holds) e.keeps.stays (refl, refl)
 
 pub returns-in-Err-BookFull-clause-halt : goal.returns-in-Err-BookFull-clause-halt
@@ -32,8 +31,8 @@ returns-in-Err-BookFull-clause-halt g c holds =
     let old = c.args.desk.now in
     let e = c.in-Err-BookFull.ensures in
     with_full_book d.content d.moment d.left_since d.size Reply d.may_leave d.faults old c.turn.new.self c.in-Err-BookFull.field-0 c.in-Err-BookFull.field-0-0 c.in-Err-BookFull.field-0-1 _
-    (TurnHalt Halts.Book c.args.initiator (state_of d.content old)) c.in-Err-BookFull.field-0-is (e.kept c.requires.is_open holds) e.keeps.stays
-    (turn-full (state_of d.content old) (plain_turn c.args.initiator) c.in-Err-BookFull.field-0 c.in-Err-BookFull.field-0-0 c.in-Err-BookFull.field-0-1 c.in-Err-BookFull.field-0-is (e.comes holds).cause, refl, refl)
+    (TurnHalt Halts.Book c.args.turn (state_of d.content old)) c.in-Err-BookFull.field-0-is (e.kept c.requires.is_open holds) e.keeps.stays
+    (turn-full (state_of d.content old) c.args.turn c.in-Err-BookFull.field-0 c.in-Err-BookFull.field-0-0 c.in-Err-BookFull.field-0-1 c.in-Err-BookFull.field-0-is (e.comes holds).cause, refl, refl)
 
 pub returns-in-Err-DiskFault-clause-halt : goal.returns-in-Err-DiskFault-clause-halt
 returns-in-Err-DiskFault-clause-halt g c holds =
@@ -43,14 +42,14 @@ returns-in-Err-DiskFault-clause-halt g c holds =
     let new = c.turn.new.self in
     let e = c.in-Err-DiskFault.ensures in
     let s = state_of d.content old in
-    let came = spelled (event_of_turn s (plain_turn c.args.initiator)) in
-    with_failed_disk d.content d.moment d.left_since d.size d.may_leave old new came (TurnHalt Halts.Disk c.args.initiator s)
-    (laws.reads_an_image (disk_of new) holds.tells) (laws.counts_now (disk_of new)) (turn-few s (plain_turn c.args.initiator))
+    let came = spelled (event_of_turn s c.args.turn) in
+    with_failed_disk d.content d.moment d.left_since d.size d.may_leave old new came (TurnHalt Halts.Disk c.args.turn s)
+    (laws.reads_an_image (disk_of new) holds.tells) (laws.counts_now (disk_of new)) (turn-few s c.args.turn)
     (failed_kept d.content d.moment d.left_since d.size Reply old new c.in-Err-DiskFault.field-0 came c.in-Err-DiskFault.field-0-is (e.kept c.requires.is_open holds))
     (λ kept either. (refl, either))
 
 pub returns-in-Ok-clause-fits : goal.returns-in-Ok-clause-fits
-returns-in-Ok-clause-fits g c holds = turn-fits (state_of g.D.Disk.content c.args.desk.now) (plain_turn c.args.initiator) (c.in-Ok.ensures.comes holds).fits
+returns-in-Ok-clause-fits g c holds = turn-fits (state_of g.D.Disk.content c.args.desk.now) c.args.turn (c.in-Ok.ensures.comes holds).fits
 
 pub returns-in-Ok-clause-after : goal.returns-in-Ok-clause-after
 returns-in-Ok-clause-after g c holds = (c.in-Ok.ensures.comes holds).after

@@ -10,7 +10,7 @@ use Rattle.batch_desk.proofs.turns.turned.Given as goal
 abbrev pub invariant-loop : goal.invariant-loop
 invariant-loop g l = record {
   turns : IsTrusted g.D.Disk.told g.D.Disk.content g.D.Disk.may_leave l.fn.desk
-      → Turns (layout_of l.fn.desk) l.initiator l.count (l.count - l.counter) (state_of g.D.Disk.content l.fn.desk) (state_of g.D.Disk.content l.desk) l.waiting l.fn.out l.out
+      → Turns (layout_of l.fn.desk) l.turn l.count (l.count - l.counter) (state_of g.D.Disk.content l.fn.desk) (state_of g.D.Disk.content l.desk) l.waiting l.fn.out l.out
       (event_records (layout_of l.fn.desk) (g.D.Disk.content (disk_of l.fn.desk))) (event_records (layout_of l.desk) (g.D.Disk.content (disk_of l.desk)));
   told : IsToldWaiting l.waiting;
   few : waiting_count l.waiting ≤ l.counter;

@@ -6,7 +6,7 @@ use Rattle.ckr_desk_memory.proofs.event.keep_running.Goals as goal
 
 pub start_step-requires : goal.start_step-requires
 start_step-requires c =
-    let may = subst (λ event. MayRun event c.args.tables.now.desk c.args.begun (vec_capacity c.args.running.now - vec_len c.args.running.now)) c.in-Started.is c.requires in
+    let may = subst (λ event. MayRun event c.args.tables.now.desk c.args.begun (vec_capacity c.args.running.now - vec_len c.args.running.now)) c.in-Started.is c.requires.may in
     record {
       job = may.few;
       begun = may.prepared;
@@ -19,6 +19,10 @@ start_step-requires c =
 pub returns-in-Started : goal.returns-in-Started
 returns-in-Started c =
     subst (λ event. GoesOn event c.args.tables.now.desk (map step_seen c.args.running.now.items) (map step_seen c.start_step.new.running.items)) (sym c.in-Started.is) c.start_step.ensures
+
+pub returns-in-Cancelled : goal.returns-in-Cancelled
+returns-in-Cancelled c =
+    subst (λ event. GoesOn event c.args.tables.now.desk (map step_seen c.args.running.now.items) (map step_seen c.serve.new.running.items)) (sym c.in-Cancelled.is) c.serve.ensures
 
 pub returns-in-StepEnded : goal.returns-in-StepEnded
 returns-in-StepEnded c =

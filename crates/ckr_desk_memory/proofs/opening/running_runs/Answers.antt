@@ -1,4 +1,4 @@
-use Rattle.std.proofs.Common.{◌≡◌, ◌∷◌, ◌++◌, [], sym}
+use Rattle.std.proofs.Common.{◌≡◌, ◌∷◌, ◌++◌, []}
 use Rattle.ckr_desk_memory.proofs.FailedRuns.{one-left, one-put}
 use Rattle.ckr_desk_memory.proofs.opening.running_runs.Goals as goal
 use Rattle.ckr_desk_memory.proofs.opening.running_runs.Goals.{then-is_running+in_ok-push, else-is_running}

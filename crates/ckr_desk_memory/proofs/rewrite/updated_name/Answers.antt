@@ -1,8 +1,6 @@
-use Rattle.std.proofs.Common.{◌≡◌, ap, sym, ◌∙◌, Option, None, find, option_and_then}
+use Rattle.std.proofs.Common.{◌≡◌, ap, ◌∙◌, Option, None, option_and_then}
 use Rattle.std.specs.Option.{option_map_or}
-use Rattle.ckr_jcl.specs.declared.deck.Dd.{Dd}
 use Rattle.ckr_meaning.specs.EffectiveJob.{OwnedStep, name_of, owned_by, plain_job, step_at}
-use Rattle.ckr_points.specs.Tables.{is_updates}
 use Rattle.ckr_points.specs.Restart.{place_of, step_in}
 use Rattle.ckr_desk_memory.specs.Plans.{row_for}
 use Rattle.ckr_desk_memory.specs.Rewrite.{updated_in}

@@ -1,4 +1,4 @@
-use Rattle.std.proofs.Common.{◌≡◌, ℕ, [], Option, ap, sym, ◌∙◌, subst, refl, arith}
+use Rattle.std.proofs.Common.{◌≡◌, [], Option, ap, sym, ◌∙◌, subst, refl, arith}
 use Rattle.std.specs.Option.{option_map_or}
 use Rattle.ckr_events.specs.Format.{length_list}
 use Rattle.ckr_meaning.specs.EffectiveJob.{OwnedStep, owned_by, plain_job, step_at}

@@ -1,4 +1,4 @@
-use Rattle.std.proofs.Common.{◌≡◌, ap, sym, ◌∙◌, inl, inr, arith}
+use Rattle.std.proofs.Common.{ap, sym, ◌∙◌, inl, inr, arith}
 use Rattle.ckr_rules.specs.RuleTables.{automatic}
 use Rattle.ckr_desk_turn.specs.Codes.{rule_by}
 use Rattle.ckr_desk_memory.proofs.run_code.rule_for.Goals as goal

@@ -1,4 +1,4 @@
-use Rattle.std.proofs.Common.{Some, arith, ap, ◌∙◌, subst}
+use Rattle.std.proofs.Common.{arith, ap, ◌∙◌, subst}
 use Rattle.ckr_desk_memory.specs.Parts.{step_seen}
 use Rattle.ckr_desk_memory.specs.Preparation.{HasStep}
 use Rattle.ckr_desk_memory.specs.declared.jobs.RunningStep.{RunningStep}

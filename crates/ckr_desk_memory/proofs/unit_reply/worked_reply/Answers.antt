@@ -1,4 +1,4 @@
-use Rattle.std.proofs.Common.{◌≡◌, ap, sym, ◌∙◌, [], Option, Some, None}
+use Rattle.std.proofs.Common.{◌≡◌, ap, sym, ◌∙◌, [], Option, Some}
 use Rattle.std.specs.Option.{option_map_or}
 use Rattle.ckr_base.proofs.Options.{some-not-none}
 use Rattle.ckr_meaning.specs.EffectiveJob.{OwnedStep, plain_job, step_at}

@@ -1,5 +1,5 @@
-use Rattle.std.proofs.Common.{◌≡◌, ◌<◌, ◌≤◌, ℕ, ap, length, get_or, map, None, remove, Some, subst, sym, ◌∙◌}
-use Rattle.std.specs.List.{position_or_len, position}
+use Rattle.std.proofs.Common.{◌<◌, ap, length, get_or, map, remove, Some, subst, sym, ◌∙◌}
+use Rattle.std.specs.List.{position}
 use Rattle.ckr_base.proofs.Sequences.{position-none, position-some}
 use Rattle.ckr_desk_memory.specs.Parts.{step_seen}
 use Rattle.ckr_desk_memory.specs.declared.jobs.RunningStep.{RunningStep}

@@ -1,4 +1,4 @@
-use Rattle.ckr_desk_refines.proofs.Durable.Events.{completed-stays, purged-stays, refused-stays, submitted-stays}
+use Rattle.ckr_desk_refines.proofs.Durable.Events.{cancelled-stays, completed-stays, purged-stays, refused-stays, submitted-stays}
 use Rattle.ckr_desk_refines.proofs.Durable.Start.{selected-stays, started-stays}
 use Rattle.ckr_desk_refines.proofs.durable_laws.events_leave_what_is_committed.Goals as goal
 
@@ -10,6 +10,9 @@ returns-clause-selected c = selected-stays
 
 pub returns-clause-started : goal.returns-clause-started
 returns-clause-started c = started-stays
+
+pub returns-clause-cancelled : goal.returns-clause-cancelled
+returns-clause-cancelled c = cancelled-stays
 
 pub returns-clause-completed : goal.returns-clause-completed
 returns-clause-completed c = completed-stays

@@ -1,4 +1,4 @@
-use Rattle.ckr_desk_refines.proofs.Durable.Fellows.{others-coded, others-completed, others-purged, others-refused, others-rewritten, others-selected, others-started, others-step-ended, others-submitted}
+use Rattle.ckr_desk_refines.proofs.Durable.Fellows.{others-cancelled, others-coded, others-completed, others-purged, others-refused, others-rewritten, others-selected, others-started, others-step-ended, others-submitted}
 use Rattle.ckr_desk_refines.proofs.Durable.SharedSets.{step-others}
 use Rattle.ckr_desk_refines.proofs.shared_sets.events_leave_the_data_sets_of_other_steps.Goals as goal
 
@@ -10,6 +10,9 @@ returns-clause-selected c = others-selected
 
 pub returns-clause-started : goal.returns-clause-started
 returns-clause-started c = others-started
+
+pub returns-clause-cancelled : goal.returns-clause-cancelled
+returns-clause-cancelled c = others-cancelled
 
 pub returns-clause-step_ended : goal.returns-clause-step_ended
 returns-clause-step_ended c = others-step-ended

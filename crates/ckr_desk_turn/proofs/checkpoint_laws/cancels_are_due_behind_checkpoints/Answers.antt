@@ -8,7 +8,7 @@ pub returns : goal.returns
 returns c = record {
   due = cancel-due;
   only = λ start progress e.
-      and_from (is_cancel_count start.owned.step.parm progress.step.taken) (not (is_checkpoint_count start.owned.step.parm progress.step.taken && not progress.checkpointed))
+      and_from (is_cancel_count start.owned.step.parm progress.taken) (not (is_checkpoint_count start.owned.step.parm progress.taken && not progress.checkpointed))
       (cancel-only start progress e).count (ap not (cancel-only start progress e).behind);
   behind = cancel-behind;
   once = cancel-once;

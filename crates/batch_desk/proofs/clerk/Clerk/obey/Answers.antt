@@ -34,7 +34,7 @@ returns-in-Turns-clause-serves g c holds =
     let old = c.args.self.now in
     let line = c.args.text.now in
     let reads = c.read_order.ensures.value ∙ ap (λ (l : Layout). order_of l.initiators line) c.layout.ensures.layout in
-    order_served_on c.turned.result (seen d.content old) _ c.args.number line (Turns c.in-Turns.initiator c.in-Turns.count) _ _ (sym c.in-Turns.is ∙ reads)
+    order_served_on c.turned.result (seen d.content old) _ c.args.number line (Turns c.in-Turns.turn c.in-Turns.count) _ _ (sym c.in-Turns.is ∙ reads)
     (c.turned.ensures.fits holds) (c.turned.ensures.after holds) (on_ok c.turned.result _ (order_kept old.refused _ refl))
     (events_on d.content d.moment d.left_since d.size c.turned.result old.desk c.turned.new.desk _ c.turned.ensures.layout (c.turned.ensures.events holds)) (c.turned.ensures.text holds)
 
@@ -115,8 +115,8 @@ returns-in-Turns-clause-halt g c holds =
     let line = c.args.text.now in
     let reads = c.read_order.ensures.value ∙ ap (λ (l : Layout). order_of l.initiators line) c.layout.ensures.layout in
     stopped_on d.content d.moment d.left_since d.size c.turned.result old (disk_of c.turned.new.desk)
-    (λ halt. TurnsHalt (layout_of old) c.in-Turns.initiator halt c.in-Turns.count s c.args.out.now c.turned.new.out) (λ halt. HaltsSo halt s (Command c.args.number line ∷ []) c.args.out.now c.turned.new.out)
-    (turns_halted_so s c.args.number line _ reads c.in-Turns.initiator c.in-Turns.count c.args.out.now c.turned.new.out c.in-Turns.is) (c.turned.ensures.halt holds)
+    (λ halt. TurnsHalt (layout_of old) c.in-Turns.turn halt c.in-Turns.count s c.args.out.now c.turned.new.out) (λ halt. HaltsSo halt s (Command c.args.number line ∷ []) c.args.out.now c.turned.new.out)
+    (turns_halted_so s c.args.number line _ reads c.in-Turns.turn c.in-Turns.count c.args.out.now c.turned.new.out c.in-Turns.is) (c.turned.ensures.halt holds)
 
 pub returns-in-ListOf-clause-halt : goal.returns-in-ListOf-clause-halt
 returns-in-ListOf-clause-halt g c holds =

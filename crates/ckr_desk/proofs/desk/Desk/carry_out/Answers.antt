@@ -1,5 +1,5 @@
 use Rattle.std.proofs.Common.{◌≡◌, ◌≤◌, ◌∙◌, arith, ap, subst, sym, None, IfErr, IfOk, OnOk}
-use Rattle.ckr_desk_memory.specs.Plans.{HasUnitDue, IsToldReply}
+use Rattle.ckr_desk_memory.specs.Plans.{HasDue, IsSpelledPlan, IsToldReply}
 use Rattle.ckr_desk_memory.specs.TurnEvents.{FollowsBetween}
 use Rattle.ckr_points.specs.Rows.{TablesModel}
 use Rattle.ckr_volumes.specs.declared.layout.Layout.{Layout}
@@ -8,6 +8,7 @@ use Rattle.ckr_desk_store.specs.State.{IsSound, StoreView}
 use Rattle.ckr_book.specs.Book.{room_of}
 use Rattle.ckr_desk.proofs.Calls.FullBooks.{of-disk-numbers, unready-numbers}
 use Rattle.ckr_desk.proofs.Calls.Requests.{if-err, if-err-both, on-ok, on-ok-both}
+use Rattle.ckr_desk.proofs.Turns.Checkpoints.{turned-past}
 use Rattle.ckr_desk.proofs.Turns.Preparation.{as-before, came-of-disk, planned-before, same-unchanged, turned-before, turned-not}
 use Rattle.ckr_desk.proofs.Turns.Plans.{behind-takes, go-after, go-cause, go-fits, go-kept, go-may-fail, go-of-disk, go-reply, go-told, go-trusted, go-unready, if-ok, of-disk-stays, plain-told, rests-so, unready-stays, unready-takes}
 use Rattle.ckr_desk.proofs.Calls.Stops.{now-left, opens-so, same-left}
@@ -18,14 +19,14 @@ use Rattle.ckr_desk.specs.Soundness.{state_of}
 use Rattle.ckr_desk.specs.State.{DeskView}
 use Rattle.ckr_desk.specs.Turn.{event_of_turn}
 use Rattle.ckr_desk.specs.NoChange.{StaysBy}
-use Rattle.ckr_desk.specs.Units.{HasTurned}
+use Rattle.ckr_desk.specs.Units.{HasTurned, IsPlanned}
 use Rattle.ckr_desk.proofs.desk.Desk.carry_out.Goals as goal
 
 pub work-requires-clause-due : goal.work-requires-clause-due
-work-requires-clause-due g c κs within = subst (HasUnitDue c.args.self.now.jobs) c.in-Work.is c.requires.works
+work-requires-clause-due g c κs within = subst (HasDue c.args.self.now.jobs) c.in-Work.is c.requires.due
 
 pub go_on-requires-clause-plain : goal.go_on-requires-clause-plain
-go_on-requires-clause-plain g c κs within = plain-told c.args.plan c.requires.plain (rests-so c.args.plan c.in_default.not-Work)
+go_on-requires-clause-plain g c κs within = plain-told c.args.plan c.requires.plain (rests-so c.args.plan c.in_default.not-Work c.in_default.not-Pass)
 
 pub go_on-requires-clause-follows : goal.go_on-requires-clause-follows
 go_on-requires-clause-follows g c κs within =
@@ -42,7 +43,7 @@ returns-in_err-ready-in_default g c =
     let mid = c.ready_for.new.self in
     let plan = c.args.plan in
     let shape = c.requires.spelled in
-    let rests = rests-so plan c.in_default.not-Work in
+    let rests = rests-so plan c.in_default.not-Work c.in_default.not-Pass in
     let store = c.ready_for.ensures.store in
     let before = as-before d.content d.may_leave now mid d.told (same-unchanged d.content d.may_leave now mid c.ready_for.ensures.jobs store) in
     let sized = ap (λ (s : StoreView g.row.D.Denot). d.size s.disk) store in
@@ -77,7 +78,7 @@ returns-in_ok-ready-in_default g c =
     let mid = c.ready_for.new.self in
     let plan = c.args.plan in
     let shape = c.requires.spelled in
-    let rests = rests-so plan c.in_default.not-Work in
+    let rests = rests-so plan c.in_default.not-Work c.in_default.not-Pass in
     let store = c.ready_for.ensures.store in
     let before = as-before d.content d.may_leave now mid d.told (same-unchanged d.content d.may_leave now mid c.ready_for.ensures.jobs store) in
     let sized = ap (λ (s : StoreView g.row.D.Denot). d.size s.disk) store in
@@ -112,4 +113,27 @@ returns-in_ok-ready-in_default g c =
           (if-err (go-may-fail d.faults mid new plan) c.go_on.result c.go_on.ensures.cause);
       full = if-err (λ error not. of-disk-numbers (room_of now.store.book) error (go-of-disk d.faults mid new plan error not)) c.go_on.result c.go_on.ensures.cause;
       stays = if-err-both (λ error not halted. of-disk-stays d.content d.may_leave d.faults now new error (go-of-disk d.faults mid new plan error not) halted) c.go_on.result c.go_on.ensures.cause c.go_on.ensures.halted;
+    }
+
+pub returns-in-Pass : goal.returns-in-Pass
+returns-in-Pass g c =
+    let d = g.D.Disk in
+    let now = c.args.self.now in
+    let new = c.pass.new.self in
+    let store = c.pass.ensures.store in
+    let laws = g.met.D.Disk g.world.𝓛 g.world.𝓜 g.world.𝓡 ((λ s x. x), (λ x. x), (λ x. x), λ x. x) in
+    let sound = subst (λ (s : DeskView g.row.D.Denot). IsSound d.content d.may_leave d.size s.store) c.self.view_is c.layout-layout.ensures.sound in
+    let since = now-left d.told d.content d.may_leave d.moment d.left_since d.size now sound c.requires.is_open (laws.only_now now.store.disk) in
+    record {
+      turned = λ turn p.
+          turned-past d.told d.content d.may_leave d.moment d.left_since d.size now turn c.in-Pass.job c.in-Pass.reply
+          (subst (IsPlanned d.told d.content d.may_leave now turn) c.in-Pass.is p) new.jobs c.pass.ensures.passed new.store store since;
+      spelled = subst IsSpelledPlan c.in-Pass.is c.requires.spelled;
+      is_open = ap (λ (s : StoreView g.row.D.Denot). s.fault) store ∙ c.requires.is_open;
+      layout = ap (λ (s : StoreView g.row.D.Denot). s.layout) store;
+      size = ap (λ (s : StoreView g.row.D.Denot). d.size s.disk) store;
+      faults = subst (λ (s : StoreView g.row.D.Denot). d.faults now.store.disk ≤ d.faults s.disk) (sym store) (omega arith);
+      may_fail = tt;
+      full = tt;
+      stays = tt;
     }

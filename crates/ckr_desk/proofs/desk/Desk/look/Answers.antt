@@ -4,7 +4,7 @@ use Rattle.ckr_base.specs.declared.programs.NextDue.TheVariants.{Unit as OneUnit
 use Rattle.ckr_steps.specs.Units.{due_of}
 use Rattle.ckr_desk_turn.specs.declared.plan.Plan.TheVariants.{Work}
 use Rattle.ckr_desk_memory.specs.Parts.{step_seen}
-use Rattle.ckr_desk_memory.specs.Plans.{HasUnitDue, behind_unit, told_by}
+use Rattle.ckr_desk_memory.specs.Plans.{HasDue, behind_unit, told_by}
 use Rattle.ckr_desk_memory.specs.View.{RunningStepView, running_of}
 use Rattle.ckr_desk_store.specs.State.{StoreView}
 use Rattle.ckr_volumes.specs.declared.layout.Layout.{Layout}
@@ -16,7 +16,7 @@ use Rattle.ckr_desk.proofs.desk.Desk.look.Goals as goal
 
 pub ahead-requires-clause-due : goal.ahead-requires-clause-due
 ahead-requires-clause-due g c κs within =
-    let its = subst (λ (s : DeskView g.row.D.Denot). HasUnitDue s.jobs (Work c.args.run)) (sym c.self.view_is) c.requires.due in
+    let its = subst (λ (s : DeskView g.row.D.Denot). HasDue s.jobs (Work c.args.run)) (sym c.self.view_is) c.requires.due in
     subst (λ (on : RunningStepView). due_of on.step.parm on.step.state ≡ OneUnit)
     (same_Some its.0 (step_seen c.in-Some.on.now) (sym its.1 ∙ sym c.in-Some.ensures.step)) its.2
 

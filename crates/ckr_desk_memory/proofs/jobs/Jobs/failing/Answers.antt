@@ -1,4 +1,4 @@
-use Rattle.std.proofs.Common.{ap, sym, ◌∙◌, refl, inl, inr}
+use Rattle.std.proofs.Common.{ap, sym, ◌∙◌, inl, inr}
 use Rattle.ckr_desk_turn.specs.Plans.{is_within}
 use Rattle.ckr_desk_memory.specs.Plans.{row_for}
 use Rattle.ckr_desk_memory.specs.View.{jobs_of}

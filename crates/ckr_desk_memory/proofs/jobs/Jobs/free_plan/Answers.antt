@@ -1,5 +1,4 @@
-use Rattle.std.proofs.Common.{◌≡◌, ap, sym, ◌∙◌, subst}
-use Rattle.ckr_desk_turn.specs.Select.{next_run}
+use Rattle.std.proofs.Common.{ap, sym, ◌∙◌, subst}
 use Rattle.ckr_desk_turn.specs.Queue.{AreNumbered, queue_of}
 use Rattle.ckr_desk_memory.specs.View.{jobs_of}
 use Rattle.ckr_desk_memory.proofs.Plans.{free-chosen, free-idle, next-none, next-one}

@@ -1,21 +1,29 @@
 use Rattle.std.proofs.Common.{List, ap, ◌∙◌, map, sym, subst}
+use Rattle.std.specs.List.{AllByRecursion}
 use Rattle.ckr_desk_memory.specs.RunningSteps.{GoesOn, MayRun}
 use Rattle.ckr_desk_memory.specs.Parts.{step_seen}
+use Rattle.ckr_desk_memory.specs.Plans.{HasCounts}
 use Rattle.ckr_desk_memory.specs.Rewrite.{HasRecordPlace}
 use Rattle.ckr_desk_memory.specs.View.{JobsView, RunningStepView}
 use Rattle.ckr_desk_memory.proofs.Rewrites.{place-behind}
 use Rattle.ckr_desk_memory.proofs.RunningSteps.Events.{jobs-behind, may-run}
+use Rattle.ckr_desk_memory.proofs.RunningSteps.Served.{counted-all}
 use Rattle.ckr_desk_memory.proofs.jobs.Jobs.keep.Goals as goal
 
 pub go_on-requires-clause-follows : goal.go_on-requires-clause-follows
 go_on-requires-clause-follows c = (c.requires.follows.0, c.requires.follows.2)
 
-pub keep_running-requires : goal.keep_running-requires
-keep_running-requires c =
+pub keep_running-requires-clause-may : goal.keep_running-requires-clause-may
+keep_running-requires-clause-may c =
     subst (λ (j : JobsView). MayRun c.args.event.now j.tables.desk c.args.prepared.step j.running_room) (sym c.self.view_is)
     (subst (MayRun c.args.event.now c.go_on.new.self.tables.desk c.args.prepared.step) (sym c.go_on.ensures.room)
     (may-run c.requires.follows.0 c.args.self.now c.args.event.now c.args.deck c.args.prepared.step c.go_on.new.self.tables.desk c.go_on.ensures.numbered c.go_on.ensures.few c.requires.follows.1
     c.requires.plain c.requires.follows.2 c.requires.prepared.started c.go_on.ensures.tables))
+
+pub keep_running-requires-clause-counted : goal.keep_running-requires-clause-counted
+keep_running-requires-clause-counted c =
+    subst (AllByRecursion HasCounts) (sym (ap (λ (j : JobsView). j.running) c.self.view_is ∙ c.go_on.ensures.running))
+    (counted-all c.requires.follows.0 c.args.self.now.running c.requires.follows.1.running)
 
 pub returns-clause-running : goal.returns-clause-running
 returns-clause-running c =

@@ -1,4 +1,4 @@
-use Rattle.std.proofs.Common.{◌≡◌, ◌≤◌, None, Some, IfNone, ap, sym, ◌∙◌, subst, length}
+use Rattle.std.proofs.Common.{◌≡◌, ◌≤◌, None, Some, IfNone, ap, ◌∙◌, subst, length}
 use Rattle.std.specs.Option.{option_copied, option_map}
 use Rattle.ckr_points.specs.Rows.{run_of}
 use Rattle.ckr_points_tables.specs.View.{facts_in, facts_of}

@@ -1,4 +1,4 @@
-use Rattle.std.proofs.Common.{◌≡◌, ap, sym, ◌∙◌, refl, false, None, Some}
+use Rattle.std.proofs.Common.{◌≡◌, ap, sym, ◌∙◌, refl, false, None}
 use Rattle.std.specs.Option.{is_some}
 use Rattle.ckr_points.specs.Restart.{place_of}
 use Rattle.ckr_desk_turn.specs.Jobs.{is_failed}

@@ -1,4 +1,4 @@
-use Rattle.std.proofs.Common.{◌≡◌, ap, sym, ◌∙◌}
+use Rattle.std.proofs.Common.{sym, ◌∙◌}
 use Rattle.ckr_base.proofs.Options.{some-not-none}
 use Rattle.ckr_desk_memory.proofs.jobs.Jobs.updated.Goals as goal
 

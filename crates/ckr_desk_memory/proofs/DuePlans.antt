@@ -1,0 +1,99 @@
+-- A turn that comes to a unit or a checkpoint finds the running step of which it is due.
+use Rattle.std.proofs.Common.{◌≡◌, ℕ, List, Bool, true, false, find, refl, ap, sym, ◌∙◌, Option, Some, None, Result, Ok, Err}
+use Rattle.std.specs.Option.{option_map_or}
+use Rattle.std.proofs.lemmas.Option.{same_Some}
+use Rattle.ckr_base.specs.declared.code.Code.{Code}
+use Rattle.ckr_base.specs.declared.programs.NextDue.{NextDue}
+use Rattle.ckr_base.specs.declared.programs.NextDue.TheVariants.{Unit as OneUnit, Checkpoint, Cancel, Finished}
+use Rattle.ckr_base.proofs.Options.{some-not-none}
+use Rattle.ckr_events.specs.declared.event.Made.{Made}
+use Rattle.ckr_meaning.specs.declared.place.Place.{Place}
+use Rattle.ckr_meaning.specs.declared.place.Place.TheVariants.{Before, Opened, Within}
+use Rattle.ckr_points.specs.Restart.{place_of}
+use Rattle.ckr_points.specs.Rows.{RunRow, step_of_run}
+use Rattle.ckr_points_library.specs.declared.cause.Refusal.{Refusal}
+use Rattle.ckr_desk_turn.specs.declared.plan.Plan.{Plan}
+use Rattle.ckr_desk_turn.specs.declared.plan.Plan.TheVariants.{Rest, Tell, Work, Pass}
+use Rattle.ckr_desk_turn.specs.declared.reply.Turn.{Turn}
+use Rattle.ckr_desk_turn.specs.Allocation.{allocation_of}
+use Rattle.ckr_desk_turn.specs.Select.{next_run, run_on_initiator}
+use Rattle.ckr_desk_turn.specs.Jobs.{TurnStep, is_failed, running_in}
+use Rattle.ckr_desk_turn.specs.Plans.{between_plan, chosen_plan, due_plan, fail_plan, free_plan, is_within, placed_plan, plan_of, run_plan, running_plan}
+use Rattle.ckr_volumes.specs.declared.layout.Layout.{Layout}
+use Rattle.ckr_desk_memory.specs.EventChanges.{is_of_run}
+use Rattle.ckr_desk_memory.specs.Plans.{HasDue, IsDue}
+use Rattle.ckr_desk_memory.specs.View.{JobsView, RunningStepView, jobs_of, running_of}
+use Rattle.ckr_desk_memory.proofs.FoundRuns.{running-found}
+
+module _ (layout : Layout) (jobs : JobsView) where
+  either-due : (r : Result (List Made) Refusal) (f : Refusal → Plan) (g : List Made → Plan) → ((x : Refusal) → HasDue jobs (f x)) → ((x : List Made) → HasDue jobs (g x))
+      → HasDue jobs (elim r as (λ _. Plan) [ Err refusal ↦ f refusal | Ok items ↦ g items ])
+  either-due (Err refusal) f g first second = first refusal
+  either-due (Ok items) f g first second = second items
+
+  any-due : {X : Type 0} (o : Option X) (f : X → Plan) (none : Plan) → HasDue jobs none → ((x : X) → o ≡ Some x → HasDue jobs (f x)) → HasDue jobs (option_map_or f o none)
+  any-due None f none first second = first
+  any-due (Some x) f none first second = second x refl
+
+  some-due : {X : Type 0} (o : Option X) (none : Plan) (f : X → Plan) → (o ≡ None → HasDue jobs none) → ((x : X) → HasDue jobs (f x)) → HasDue jobs (elim o as (λ _. Plan) [ None ↦ none | Some x ↦ f x ])
+  some-due None none f first second = first refl
+  some-due (Some x) none f first second = second x
+
+  if-due : (b : Bool) (one two : Plan) → HasDue jobs one → HasDue jobs two → HasDue jobs (elim b as (λ _. Plan) [ true ↦ one | false ↦ two ])
+  if-due true one two first second = first
+  if-due false one two first second = second
+
+  -- the running step that a turn sees is there
+  step-there : (run : ℕ) (step : TurnStep) → running_in (jobs_of jobs) run ≡ Some step → (on : RunningStepView) × (find (is_of_run run) jobs.running ≡ Some on) × (running_of jobs.tables.desk on ≡ step)
+  step-there run step is = by (find (is_of_run run) jobs.running) refl
+    where
+      by : (found : Option RunningStepView) → find (is_of_run run) jobs.running ≡ found → (on : RunningStepView) × (find (is_of_run run) jobs.running ≡ Some on) × (running_of jobs.tables.desk on ≡ step)
+      by None none = absurd (some-not-none step (sym (sym (running-found jobs run None (sym none)) ∙ is)))
+      by (Some on) found = (on, found, same_Some _ _ (sym (running-found jobs run (Some on) (sym found)) ∙ is))
+
+  step-due : (run : ℕ) (step : TurnStep) (due : NextDue) → running_in (jobs_of jobs) run ≡ Some step → step.due ≡ due → IsDue jobs run due
+  step-due run step due is same =
+      let its = step-there run step is in
+      (its.0, its.1, ap (λ (s : TurnStep). s.due) its.2 ∙ same)
+
+  running-due : (row : RunRow) (number : ℕ) (step : TurnStep) → running_in (jobs_of jobs) row.number ≡ Some step → HasDue jobs (running_plan row number step)
+  running-due row number step is = by step.due refl
+    where
+      by : (due : NextDue) → step.due ≡ due → HasDue jobs (due_plan row number step due)
+      by OneUnit same = step-due row.number step OneUnit is same
+      by Checkpoint same = step-due row.number step Checkpoint is same
+      by Cancel same = tt
+      by (Finished rc) same = tt
+
+  between-due : (row : RunRow) (number : ℕ) → HasDue jobs (between_plan layout (jobs_of jobs) row number)
+  between-due row number = some-due (step_of_run row number) _ _ (λ none. tt) (λ owned. either-due (allocation_of layout row owned number (jobs_of jobs).tables) _ _ (λ refusal. tt) (λ items. tt))
+
+  placed-due : (row : RunRow) (place : Place) → HasDue jobs (placed_plan layout (jobs_of jobs) row place)
+  placed-due row (Before number) = between-due row number
+  placed-due row (Opened number) = between-due row number
+  placed-due row (Within number writes) = any-due (running_in (jobs_of jobs) row.number) (running_plan row number) _ tt (running-due row number)
+
+  fail-due : (row : RunRow) (fail : Option Code) → HasDue jobs (fail_plan layout (jobs_of jobs) row fail)
+  fail-due row None = placed-due row (place_of row)
+  fail-due row (Some code) = if-due (is_within (place_of row)) _ _ tt tt
+
+  run-due : (fail : Option Code) (row : RunRow) → HasDue jobs (run_plan layout (jobs_of jobs) fail row)
+  run-due fail row = if-due (is_failed (jobs_of jobs) row.number) _ _ tt (fail-due row fail)
+
+  chosen-due : (initiator : ℕ) (row : RunRow) → HasDue jobs (chosen_plan layout (jobs_of jobs) initiator row)
+  chosen-due initiator row = some-due row.code _ _ (λ none. tt) (λ code. tt)
+
+  free-due : (initiator : ℕ) (fail : Option Code) → HasDue jobs (free_plan layout (jobs_of jobs) initiator fail)
+  free-due initiator (Some code) = tt
+  free-due initiator None = any-due (next_run (jobs_of jobs).tables) (chosen_plan layout (jobs_of jobs) initiator) _ tt (λ row is. chosen-due initiator row)
+
+  pub plan-due : (turn : Turn) → HasDue jobs (plan_of layout (jobs_of jobs) turn)
+  unfolding plan_of
+  plan-due turn = any-due (run_on_initiator (jobs_of jobs).tables turn.initiator) (run_plan layout (jobs_of jobs) turn.fail) _ (free-due turn.initiator turn.fail) (λ row is. run-due turn.fail row)
+
+-- so it is where the running steps are the same
+pub due-alike : (old new : JobsView) (plan : Plan) → new.running ≡ old.running → HasDue old plan → HasDue new plan
+due-alike old new (Rest reply) same due = tt
+due-alike old new (Tell reply event) same due = tt
+due-alike old new (Work job) same due = (due.0, ap (find (is_of_run job)) same ∙ due.1, due.2)
+due-alike old new (Pass job reply) same due = (due.0, ap (find (is_of_run job)) same ∙ due.1, due.2)

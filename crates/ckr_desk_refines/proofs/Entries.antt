@@ -1,0 +1,15 @@
+pub mod Sets
+pub mod Rows
+pub mod There
+pub mod Events
+pub mod Checkpoint
+pub mod Images
+pub mod Refusal
+pub mod KeptEntries
+pub mod Effects
+pub mod EffectEvents
+pub mod EffectLaws
+pub mod NewEntry
+pub mod RunningStep
+pub mod SoundEvents
+pub mod Written

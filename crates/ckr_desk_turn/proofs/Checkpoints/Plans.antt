@@ -1,0 +1,182 @@
+-- How a checkpoint of a running step is taken, and that the turn which is planned for one that RD suppresses takes it.
+use Rattle.std.proofs.Common.{◌≡◌, ℕ, zero, suc, cond, true, false, not, List, [], ◌∷◌, find, slice_get, refl, ap, sym, ◌∙◌, Option, Some, None}
+use Rattle.std.specs.Prelude.{◌==◌}
+use Rattle.std.specs.List.{list_all}
+use Rattle.std.specs.Option.{is_none, option_map, option_map_or, option_or}
+use Rattle.std.proofs.lemmas.Bool.{and_parts}
+use Rattle.std.proofs.lemmas.Option.{same_Some, slice_get-map}
+use Rattle.ckr_base.specs.declared.programs.NextDue.TheVariants.{Checkpoint}
+use Rattle.ckr_base.proofs.Bools.{and-first}
+use Rattle.ckr_base.proofs.Numbers.{equal-itself}
+use Rattle.ckr_base.proofs.Options.{option-cases, some-not-none}
+use Rattle.ckr_base.proofs.Sequences.{all-get}
+use Rattle.ckr_events.specs.declared.event.Event.TheVariants.{Cancelled as CancelledEvent}
+use Rattle.ckr_jcl.specs.declared.deck.Job.{Job}
+use Rattle.ckr_jcl.specs.declared.deck.Rd.{Rd}
+use Rattle.ckr_jcl.specs.declared.deck.Rd.TheVariants.{R, Rnc, Nr, Nc}
+use Rattle.ckr_jcl.specs.declared.deck.Step.{Step}
+use Rattle.ckr_library.specs.NameMaps.{Name}
+use Rattle.ckr_meaning.specs.EffectiveJob.{Effective, OwnedStep, owned_by, plain_job, step_at}
+use Rattle.ckr_meaning.specs.StepRun.{StepStart}
+use Rattle.ckr_points.specs.Restart.{place_of, step_in}
+use Rattle.ckr_points.specs.RuleCases.{rd_in_effect}
+use Rattle.ckr_points.specs.Rows.{RunRow, step_of_run}
+use Rattle.ckr_points_decks.specs.Form.{is_run, is_run_step, is_run_under}
+use Rattle.ckr_programs.specs.Due.{is_checkpoint_count}
+use Rattle.ckr_rules.specs.RuleTables.{suppresses}
+use Rattle.ckr_desk_turn.specs.declared.plan.Plan.TheVariants.{Rest}
+use Rattle.ckr_desk_turn.specs.declared.reply.Chkpt.TheVariants.{Suppressed}
+use Rattle.ckr_desk_turn.specs.declared.reply.Reply.TheVariants.{Checkpointed as CheckpointedReply, Idle}
+use Rattle.ckr_desk_turn.specs.Checkpoints.{ServedTurn, checkpoint_turn, checkpoint_unless}
+use Rattle.ckr_desk_turn.specs.Desk.{DeskModel, DeskStep, TurnDone, behind, cancel_done, carried_out, checkpoint_done, done_by, jobs_of, progress_of, seen_from, start_of, with_change, with_progress, without_run}
+use Rattle.ckr_desk_turn.specs.Due.{next_due}
+use Rattle.ckr_desk_turn.specs.Invariant.{IsDesk, IsGoing}
+use Rattle.ckr_desk_turn.specs.Jobs.{is_failed, step_name_of}
+use Rattle.ckr_desk_turn.specs.NextEvents.{IsWithinStep}
+use Rattle.ckr_desk_turn.specs.Plans.{due_plan, run_plan, suppressed_plan}
+use Rattle.ckr_desk_turn.specs.Taken.{behind_entry, served_by, taken_of}
+use Rattle.ckr_desk_turn.specs.Units.{StepProgress}
+use Rattle.ckr_desk_turn.proofs.Checkpoints.Due.{checkpoint-behind, checkpoint-only}
+use Rattle.ckr_desk_turn.proofs.NextEvents.BetweenSteps.{no_restart, plain_parts}
+use Rattle.ckr_desk_turn.proofs.NextEvents.WithinStep.{by-step}
+use Rattle.ckr_desk_turn.proofs.OtherRuns.{row-plain}
+use Rattle.ckr_desk_turn.proofs.RunningSteps.{going-within}
+use Rattle.ckr_desk_turn.proofs.Turns.Due.{plan-due}
+use Rattle.ckr_desk_turn.proofs.Units.AnyUnit.{found-going}
+use Rattle.ckr_desk_turn.proofs.Units.Invariant.{with_change-found}
+
+-- ---- the form of the decks
+
+under-suppresses : (rd : Option Rd) → is_run_under rd true ≡ true → suppresses rd ≡ true
+under-suppresses None e = e
+under-suppresses (Some R) e = e
+under-suppresses (Some Rnc) e = refl
+under-suppresses (Some Nr) e = e
+under-suppresses (Some Nc) e = refl
+
+-- a step of a deck, by its step in the job
+pub record IsOwnStep (run : ℕ) (deck : Job) (number : ℕ) (owned : OwnedStep) : Type 0 where
+  pub before : ℕ
+  pub is : number ≡ suc before
+  pub step : Step
+  pub at : slice_get deck.steps before ≡ Some step
+  pub same : owned ≡ owned_by run deck step
+
+own-step : (run : ℕ) (deck : Job) (number : ℕ) (owned : OwnedStep) → step_at (plain_job run deck) number ≡ Some owned → IsOwnStep run deck number owned
+own-step run deck zero owned found = absurd (some-not-none owned (sym found))
+own-step run deck (suc before) owned found =
+    let mapped : option_map (owned_by run deck) (slice_get deck.steps before) ≡ Some owned = sym (slice_get-map (owned_by run deck) deck.steps before) ∙ found in
+    option-cases (slice_get deck.steps before)
+    (λ none. absurd (some-not-none owned (sym mapped ∙ ap (option_map (owned_by run deck)) none)))
+    (λ step at. record {
+      before = before;
+      is = refl;
+      step = step;
+      at = at;
+      same = same_Some _ _ (sym mapped ∙ ap (option_map (owned_by run deck)) at);
+    })
+
+-- ---- the running steps behind it
+
+changed-steps : (running : List DeskStep) (run : ℕ) (change : StepProgress → StepProgress) (progress : StepProgress) → option_map_or (λ (step : DeskStep). Some step.progress) (find (λ (step : DeskStep). step.run == run) running) None ≡ Some progress
+    → with_change run change running ≡ record { run = run; progress = change progress } ∷ without_run run running
+changed-steps running run change progress known =
+    option-cases (find (λ (step : DeskStep). step.run == run) running)
+    (λ none. absurd (some-not-none progress (sym known ∙ ap (λ (o : Option DeskStep). option_map_or (λ (step : DeskStep). Some step.progress) o None) none)))
+    (λ on at.
+    with_change-found run change running on at
+    ∙ ap (λ p. let changed : DeskStep = record { run = run; progress = change p } in changed ∷ without_run run running)
+    (same_Some on.progress progress (sym (ap (λ (o : Option DeskStep). option_map_or (λ (step : DeskStep). Some step.progress) o None) at) ∙ known)))
+
+-- the step of a run that stands before the others is the one that is found
+progress-first : (run : ℕ) (progress : StepProgress) (others : List DeskStep) → option_map_or (λ (step : DeskStep). Some step.progress) (find (λ (step : DeskStep). step.run == run) (record { run = run; progress = progress } ∷ others)) None ≡ Some progress
+progress-first run progress others =
+    let first : DeskStep = record { run = run; progress = progress } in
+    ap (λ b. option_map_or (λ (step : DeskStep). Some step.progress) (cond b (Some first) (find (λ (step : DeskStep). step.run == run) others)) None) (equal-itself run)
+
+-- behind a cancel it is done
+pub cancelled-behind : (desk : DeskModel) (run : ℕ) (progress : StepProgress) → progress_of desk run ≡ Some progress → progress_of (behind (CancelledEvent run) None desk) run ≡ Some (cancel_done progress)
+cancelled-behind desk run progress known =
+    ap (λ running. option_map_or (λ (step : DeskStep). Some step.progress) (find (λ (step : DeskStep). step.run == run) running) None) (changed-steps desk.running run cancel_done progress known)
+    ∙ progress-first run (cancel_done progress) (without_run run desk.running)
+
+-- ---- a step of a desk
+
+module _ (desk : DeskModel) (on : DeskStep) (going : IsGoing desk.office on) (is : IsDesk desk) where
+  -- what is said of the step by the one of its deck
+  by-own : {A : Type 0} → ((own : IsOwnStep going.row.number going.row.deck going.number going.start.owned) → going.start.number ≡ going.number → step_of_run going.row (step_in (place_of going.row)) ≡ Some going.start.owned → A) → A
+  by-own use_it =
+      by-step desk is on.run going.row going.number going.committed going.start (going-within desk.office on going)
+      (λ leg owned running same spaced.
+      let at_leg : step_at leg.job going.number ≡ Some owned = ap (λ (job : Effective). step_at job going.number) (is.kept.events.places on.run going.row leg running.holder).job ∙ running.found in
+      let plain : leg.job ≡ plain_job going.row.number going.row.deck =
+      (is.kept.events.uses on.run going.row leg running.holder).plain (no_restart going.row.deck (plain_parts going.row (row-plain desk is on.run going.row going.row_at)).runs) in
+      let its : owned ≡ going.start.owned = ap (λ (s : StepStart). s.owned) (sym same) in
+      use_it
+      (own-step going.row.number going.row.deck going.number going.start.owned (ap (λ (job : Effective). step_at job going.number) (sym plain) ∙ at_leg ∙ ap Some its))
+      (ap (λ (s : StepStart). s.number) same)
+      (ap (λ place. step_of_run going.row (step_in place)) running.stands ∙ running.found ∙ ap Some its))
+
+  -- the step's name is that of its start
+  pub names-step : step_name_of going.row ≡ going.start.owned.step.name
+  names-step = by-own (λ own numbered found. ap (λ (o : Option OwnedStep). option_map_or (λ owned. owned.step.name) o []) found)
+
+  -- a checkpoint is due only in a step whose RD suppresses it
+  pub suppressed-each : next_due going.start on.progress ≡ Checkpoint → suppresses (rd_in_effect going.row going.start.number) ≡ true
+  suppressed-each comes =
+      by-own (λ own numbered found.
+      let runs : is_run going.row.deck ≡ true = (plain_parts going.row (row-plain desk is on.run going.row going.row_at)).runs in
+      let each : list_all (is_run_step going.row.deck.rd) going.row.deck.steps ≡ true = (and_parts _ _ (and_parts (is_none going.row.deck.restart) _ runs).1).1 in
+      let step : is_run_step going.row.deck.rd own.step ≡ true = all-get (is_run_step going.row.deck.rd) going.row.deck.steps own.before own.step each own.at in
+      let count : is_checkpoint_count going.start.owned.step.parm on.progress.taken ≡ true = (checkpoint-only going.start on.progress comes).count in
+      let takes : not (going.start.owned.step.parm.chk == 0) ≡ true = and-first (not (going.start.owned.step.parm.chk == 0)) _ (and-first _ _ count) in
+      let takes_own : not (own.step.parm.chk == 0) ≡ true = ap (λ (owned : OwnedStep). not (owned.step.parm.chk == 0)) (sym own.same) ∙ takes in
+      let rd : rd_in_effect going.row going.start.number ≡ option_or going.row.deck.rd own.step.rd =
+      ap (rd_in_effect going.row) (numbered ∙ own.is) ∙ ap (λ (o : Option Step). option_or going.row.deck.rd (option_map_or (λ own. own.rd) o None)) own.at in
+      ap suppresses rd
+      ∙ under-suppresses (option_or going.row.deck.rd own.step.rd) (ap (is_run_under (option_or going.row.deck.rd own.step.rd)) (sym takes_own) ∙ step))
+
+  numbered : going.row.number ≡ on.run
+  numbered = is.kept.events.numbered on.run going.row going.row_at
+
+  -- how a checkpoint is taken
+  pub takes : progress_of desk on.run ≡ Some on.progress → taken_of on.run desk ≡ served_by going.row (checkpoint_turn desk.office.tables going.row going.start on.progress) desk
+  takes known =
+      ap (λ (o : Option RunRow). option_map_or (λ row. option_map_or (λ start. option_map_or (λ progress. served_by row (checkpoint_turn desk.office.tables row start progress) desk) (progress_of desk on.run) (done_by (Rest Idle) desk)) (start_of desk.office row) (done_by (Rest Idle) desk)) o (done_by (Rest Idle) desk)) going.row_at
+      ∙ ap (λ (o : Option StepStart). option_map_or (λ start. option_map_or (λ progress. served_by going.row (checkpoint_turn desk.office.tables going.row start progress) desk) (progress_of desk on.run) (done_by (Rest Idle) desk)) o (done_by (Rest Idle) desk)) going.start_at
+      ∙ ap (λ (o : Option StepProgress). option_map_or (λ progress. served_by going.row (checkpoint_turn desk.office.tables going.row going.start progress) desk) o (done_by (Rest Idle) desk)) known
+
+  -- the turn that is planned for one that is suppressed
+  pub plan-taken : progress_of desk on.run ≡ Some on.progress → suppresses (rd_in_effect going.row going.start.number) ≡ true → carried_out (suppressed_plan going.row) desk ≡ taken_of on.run desk
+  plan-taken known suppressed =
+      let here : progress_of desk going.row.number ≡ Some on.progress = ap (progress_of desk) numbered ∙ known in
+      ap (λ name. passed_by name (with_change going.row.number checkpoint_done desk.running)) names-step
+      ∙ ap (passed_by going.start.owned.step.name) (changed-steps desk.running going.row.number checkpoint_done on.progress here)
+      ∙ ap (λ b. served_by going.row (checkpoint_unless b desk.office.tables going.row going.start on.progress) desk) (sym suppressed)
+      ∙ sym (takes known)
+    where
+      passed_by : Name → List DeskStep → TurnDone
+      passed_by name running = record { reply = CheckpointedReply going.row.number name Suppressed None; event = None; desk = record desk { running = running } }
+
+  -- behind a checkpoint that is taken it is done
+  pub done-behind : progress_of desk on.run ≡ Some on.progress → progress_of (taken_of on.run desk).desk on.run ≡ Some (checkpoint_done on.progress)
+  done-behind known =
+      let served : ServedTurn = checkpoint_turn desk.office.tables going.row going.start on.progress in
+      ap (λ (done : TurnDone). progress_of done.desk on.run) (takes known)
+      ∙ ap (λ run. progress_of (with_progress run served.progress (behind_entry served.event desk)) on.run) numbered
+      ∙ progress-first on.run served.progress (without_run on.run (behind_entry served.event desk).running)
+      ∙ ap (λ (p : StepProgress). Some p) (checkpoint-behind going.start desk.office.tables going.row on.progress)
+
+-- the turn of a run in whose step a checkpoint is due
+pub turn-taken : (desk : DeskModel) (row : RunRow) (number committed : ℕ) (start : StepStart) (progress : StepProgress) → IsDesk desk → IsWithinStep desk.office row.number row number committed start → is_failed (jobs_of desk) row.number ≡ false → progress_of desk row.number ≡ Some progress → next_due start progress ≡ Checkpoint
+    → carried_out (run_plan desk.layout (jobs_of desk) None row) desk ≡ taken_of row.number desk
+turn-taken desk row number committed start progress is within isnt known comes =
+    let on : DeskStep = record { run = row.number; progress = progress } in
+    let going : IsGoing desk.office on = found-going desk.office row.number progress desk.running is.going known in
+    let mine : going.row ≡ row = same_Some _ _ (sym going.row_at ∙ within.row_at) in
+    let begun : going.start ≡ start = same_Some _ _ (sym going.start_at ∙ ap (start_of desk.office) mine ∙ within.start_at) in
+    ap (λ plan. carried_out plan desk)
+    (plan-due desk row number committed start progress within isnt known
+    ∙ ap (due_plan row number (seen_from desk.office row.number progress start)) comes
+    ∙ ap suppressed_plan (sym mine))
+    ∙ plan-taken desk on going is known (suppressed-each desk on going is (ap (λ (s : StepStart). next_due s progress) begun ∙ comes))
