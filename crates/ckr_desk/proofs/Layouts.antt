@@ -1,9 +1,13 @@
--- The jobs stay such as the layout of the disk has them where the disk fails.
+-- The jobs stay such as the layout of the disk has them, also where the disk fails.
 use Rattle.std.proofs.Common.{◌≡◌, ℕ, [], ap, subst, sym}
 use Rattle.std.specs.List.{AllByRecursion}
 use Rattle.ckr_base.proofs.Options.{some-not-none}
 use Rattle.ckr_desk_memory.specs.Invariant.{AreJobs, IsAcceptedRow, IsPlacedRow, IsRunnable}
+use Rattle.ckr_desk_memory.specs.Holders.{AreHolders}
+use Rattle.ckr_desk_memory.specs.OwnSets.{IsRunningOf}
+use Rattle.ckr_desk_memory.specs.OwnSteps.{AreLeft, AreSingle, HoldTheirOwn, IsLeft}
 use Rattle.ckr_desk_memory.specs.View.{JobsView}
+use Rattle.ckr_desk_turn.specs.Queue.{AreNumbered}
 use Rattle.ckr_points.specs.Rows.{TablesModel, no_tables}
 use Rattle.ckr_points.specs.Soundness.{AreLaidOut}
 use Rattle.ckr_desk_store.specs.Answers.{AppendCause, DiskCause}
@@ -11,6 +15,11 @@ use Rattle.ckr_desk_store.specs.State.{StoreView}
 use Rattle.ckr_desk_store.specs.declared.error.StoreError.{StoreError}
 use Rattle.ckr_desk_store.specs.declared.error.StoreError.TheVariants.{DiskFault, BookFull, Stopped}
 use Rattle.ckr_volumes.specs.declared.layout.Layout.{Layout}
+use Rattle.ckr_desk.specs.State.{AreKept}
+
+left-same : (one two : JobsView) → two.tables.desk ≡ one.tables.desk → two.failed ≡ one.failed → AreLeft one → AreLeft two
+left-same one two desk failed left =
+    subst (λ (tables : TablesModel). AllByRecursion (IsLeft tables) two.failed) (sym desk) (subst (AllByRecursion (IsLeft one.tables.desk)) (sym failed) left)
 
 pub jobs-stay : (layout later : Layout) (one two : JobsView) → later ≡ layout → two.tables.desk ≡ one.tables.desk → two.running ≡ one.running → AreJobs layout one → AreJobs later two
 jobs-stay layout later one two same desk running jobs =
@@ -21,6 +30,41 @@ jobs-stay layout later one two same desk running jobs =
       placed = subst (λ (tables : TablesModel). AllByRecursion IsPlacedRow tables.runs) (sym desk) jobs.placed;
       running = subst (AllByRecursion (IsRunnable layout)) (sym running) jobs.running;
     })
+
+-- so do those that hold their own, with what else holds of them on any disk
+pub kept-stay : (layout later : Layout) (one two : JobsView) → later ≡ layout → two.tables.desk ≡ one.tables.desk → two.running ≡ one.running → two.failed ≡ one.failed → AreKept layout one → AreKept later two
+kept-stay layout later one two same desk running failed kept = record {
+  are = jobs-stay layout later one two same desk running kept.are;
+  own = record {
+    holders = subst AreHolders (sym desk) kept.own.holders;
+    running = subst (λ (tables : TablesModel). AllByRecursion (IsRunningOf tables) two.running) (sym desk) (subst (AllByRecursion (IsRunningOf one.tables.desk)) (sym running) kept.own.running);
+    single = subst AreSingle (sym running) kept.own.single;
+  };
+  left = left-same one two desk failed kept.left;
+  numbered = subst (λ (tables : TablesModel). AreNumbered 1 tables.runs) (sym desk) kept.numbered;
+}
+
+-- with other running steps that hold their own
+pub kept-moved : (layout : Layout) (one two : JobsView) → two.tables.desk ≡ one.tables.desk → two.failed ≡ one.failed → AreJobs layout two → HoldTheirOwn two → AreKept layout one → AreKept layout two
+kept-moved layout one two desk failed are own kept = record {
+  are = are;
+  own = own;
+  left = left-same one two desk failed kept.left;
+  numbered = subst (λ (tables : TablesModel). AreNumbered 1 tables.runs) (sym desk) kept.numbered;
+}
+
+-- where no step is running, and the runs stay apart
+pub kept-opened : (layout : Layout) (one two : JobsView) → two.tables.desk ≡ one.tables.desk → two.running ≡ [] → AreJobs layout two → AreLeft two → AreHolders one.tables.desk → AreNumbered 1 one.tables.desk.runs → AreKept layout two
+kept-opened layout one two desk running are left holders numbered = record {
+  are = are;
+  own = record {
+    holders = subst AreHolders (sym desk) holders;
+    running = subst (AllByRecursion (IsRunningOf two.tables.desk)) (sym running) tt;
+    single = subst AreSingle (sym running) tt;
+  };
+  left = left;
+  numbered = subst (λ (tables : TablesModel). AreNumbered 1 tables.runs) (sym desk) numbered;
+}
 
 -- where there are no jobs they are such as any layout has them
 pub no-jobs : (layout : Layout) (jobs : JobsView) → jobs.tables.desk ≡ no_tables → jobs.running ≡ [] → AreJobs layout jobs

@@ -1,5 +1,5 @@
 -- What a call of the desk does whose event is this one, on any disk.
-use Rattle.std.specs.Prelude.{◌≡◌, ◌≤◌, ◌<◌, ◌+◌, ◌++◌, ◌∷◌, ◌&&◌, ◌⊎◌, [], ℕ, Bool, true, false, List, length, Option, Some, None}
+use Rattle.std.specs.Prelude.{◌≡◌, ◌≤◌, ◌<◌, ◌+◌, ◌++◌, ◌∷◌, ◌&&◌, ◌⊎◌, [], ℕ, Bool, true, List, length, Option, Some, None}
 use Rattle.ckr_book.specs.Book.{IsBeforeOrAfter, room_of}
 use Rattle.ckr_events.specs.declared.event.Event.{Event}
 use Rattle.ckr_events.specs.Event.{spelling}
@@ -66,12 +66,6 @@ module _ {D : Type 0} (faults : D → ℕ) where
   abbrev pub NotEntered : DeskView D → DeskView D → DeskError → Type 0
   NotEntered old new DiskFault = HasFailed faults old.store new.store × HasSameJobs old new
   NotEntered old new _ = ⊥
-
-  -- why an event of a turn that is ready isn't kept; it follows where the disk reads what was written
-  abbrev pub NotKeptByTurn : Event → DeskView D → DeskView D → DeskError → Type 0
-  NotKeptByTurn event old new DiskFault = NotEntered old new DiskFault
-  NotKeptByTurn event old new Misread = (may_follow event None old ≡ false) × IsSame old new
-  NotKeptByTurn event old new _ = ⊥
 
   -- why an event that follows isn't kept
   abbrev pub NotKept : Event → Option Job → DeskView D → DeskView D → DeskError → Type 0

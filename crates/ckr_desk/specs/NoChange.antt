@@ -26,10 +26,9 @@ StaysBy content may_leave faults old new NoMemory = IsUnchanged content may_leav
 StaysBy content may_leave faults old new DiskFault = new.store.fault ≡ Some (faults new.store.disk)
 StaysBy content may_leave faults old new (BookFull need room) = IsUnchanged content may_leave old new
 StaysBy content may_leave faults old new (Stopped fault) = IsUnchanged content may_leave old new
-StaysBy content may_leave faults old new Misread = Unit {0}
+StaysBy content may_leave faults old new Misread = ⊥
 
--- once a unit is done, only the disk can fail: its faults rose, or it doesn't read what was written
+-- once a unit is done, only the disk can fail
 abbrev pub IsOfDisk : DeskError → Type 0
 IsOfDisk DiskFault = Unit {0}
-IsOfDisk Misread = Unit {0}
 IsOfDisk _ = ⊥

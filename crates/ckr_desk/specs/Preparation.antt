@@ -1,11 +1,12 @@
 -- What an event needs before it is told, and what a unit comes to before it is done.
-use Rattle.std.specs.Prelude.{◌≡◌, ◌≤◌, ◌<◌, ℕ, List, length, find, true, Option, Some, None}
+use Rattle.std.specs.Prelude.{◌≡◌, ◌≤◌, ◌<◌, ℕ, List, [], ◌∷◌, length, find, true, Option, Some, None}
 use Rattle.ckr_book.specs.Book.{room_of}
 use Rattle.ckr_events.specs.declared.event.Event.{Event}
 use Rattle.ckr_events.specs.Event.{spelling}
 use Rattle.ckr_desk_memory.specs.Model.RewriteCounts.{may_count}
 use Rattle.ckr_jcl.specs.declared.deck.Job.{Job}
 use Rattle.ckr_desk_memory.specs.EventChanges.{is_of_run}
+use Rattle.ckr_desk_memory.specs.OwnSteps.{PlanCommits, PlanFollows, PlanIsOf}
 use Rattle.ckr_desk_memory.specs.Plans.{IsSpelledPlan, IsUnitPlan, behind_unit}
 use Rattle.ckr_desk_memory.specs.Preparation.{IsPrepared}
 use Rattle.ckr_desk_memory.specs.View.{RunningStepView}
@@ -58,12 +59,15 @@ pub record IsWorkedOut {D : Type 0} (told : Type 0) (content : D → List ℕ) (
   pub there : AreThere on.step.files on.sets
   pub out : HasWorkedOut told (content desk.store.disk) desk.store.layout on.step on.sets unit
 
--- and this is what the turn tells of it
+-- And this is what the turn tells of it: it follows, and commits what the step has behind the unit.
 pub record IsLookedAhead {D : Type 0} (told : Type 0) (content : D → List ℕ) (run : ℕ) (desk : DeskView D) (unit : UnitAhead) (plan : Plan) : Type 0 where
   pub of : IsWorkedOut told content run desk unit
   pub planned : IsToldOf desk.store.layout desk.jobs.tables.desk (behind_unit of.on unit) unit.worked plan
   pub shape : IsUnitPlan plan
   pub spelled : IsSpelledPlan plan
+  pub follows : PlanFollows desk.store.layout desk.jobs.tables.desk plan
+  pub commits : PlanCommits desk.jobs.tables.desk (behind_unit of.on unit ∷ []) plan
+  pub of_run : PlanIsOf of.on.run plan
 
 -- what it tells is ready
 pub record IsAhead {D : Type 0} (told : Type 0) (content : D → List ℕ) (run : ℕ) (desk : DeskView D) (ahead : Ahead) : Type 0 where

@@ -57,7 +57,7 @@ MayFail before now stopped NoMemory = Unit {0}
 MayFail before now stopped DiskFault = Rose before now
 MayFail before now stopped (BookFull need room) = Unit {0}
 MayFail before now stopped (Stopped fault) = stopped ≡ Some fault
-MayFail before now stopped Misread = Unit {0}
+MayFail before now stopped Misread = ⊥
 
 -- the book is full, by its room and the event of the call: what the event needs, and the room that is left, which is less
 abbrev pub IsFull : ℕ → Option Event → ℕ → ℕ → Type 0

@@ -4,10 +4,12 @@ use Rattle.ckr_book.specs.Book.{room_of}
 use Rattle.ckr_events.specs.declared.event.Event.{Event}
 use Rattle.ckr_events.specs.Event.{spelling}
 use Rattle.ckr_desk_memory.specs.Invariant.{AreJobs}
+use Rattle.ckr_desk_memory.specs.OwnSteps.{AreLeft, HoldTheirOwn}
 use Rattle.ckr_desk_memory.specs.View.{JobsView}
 use Rattle.ckr_points.specs.Rows.{TablesModel}
 use Rattle.ckr_desk_store.specs.State.{StoreView}
 use Rattle.ckr_desk_turn.specs.Desk.{DeskModel}
+use Rattle.ckr_desk_turn.specs.Queue.{AreNumbered}
 use Rattle.ckr_volumes.specs.declared.layout.Layout.{Layout}
 
 pub record DeskView (D : Type 0) : Type 0 where
@@ -40,9 +42,17 @@ IsOpen desk = fault_of desk ≡ None
 abbrev pub tables_in_memory : {D : Type 0} → DeskView D → TablesModel
 tables_in_memory desk = desk.jobs.tables.desk
 
--- the jobs are such as the layout of the disk has them
+-- The jobs are such as a layout has them, on any disk: they hold their own, their runs are numbered, and those that were running when the system failed are
+-- on an initiator and within a step.
+pub record AreKept (layout : Layout) (jobs : JobsView) : Type 0 where
+  pub are : AreJobs layout jobs
+  pub own : HoldTheirOwn jobs
+  pub left : AreLeft jobs
+  pub numbered : AreNumbered 1 jobs.tables.desk.runs
+
+-- so they are in the layout of the desk's disk
 abbrev pub IsKept : {D : Type 0} → DeskView D → Type 0
-IsKept desk = AreJobs desk.store.layout desk.jobs
+IsKept desk = AreKept desk.store.layout desk.jobs
 
 -- the room of the book that an event needs: its gate, its length, its bytes and the next gate
 abbrev pub need_of : Event → ℕ

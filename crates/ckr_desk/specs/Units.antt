@@ -25,8 +25,8 @@ use Rattle.ckr_desk_turn.specs.declared.reply.Turn.{Turn}
 use Rattle.ckr_desk_turn.specs.Plans.{plan_of}
 use Rattle.ckr_volumes.specs.declared.layout.Layout.{Layout}
 use Rattle.ckr_desk.specs.declared.error.DeskError.{DeskError}
-use Rattle.ckr_desk.specs.declared.error.DeskError.TheVariants.{DiskFault, Misread, NoMemory}
-use Rattle.ckr_desk.specs.Calls.{HasGoneOn, IsLeftBy, may_follow, may_keep}
+use Rattle.ckr_desk.specs.declared.error.DeskError.TheVariants.{DiskFault, NoMemory}
+use Rattle.ckr_desk.specs.Calls.{HasGoneOn, IsLeftBy, may_keep}
 use Rattle.ckr_desk.specs.Soundness.{IsTrusted, KeepsWithin, state_of}
 use Rattle.ckr_desk.specs.State.{DeskView}
 use Rattle.ckr_desk.specs.Rewrite.{IsWrittenBy, LacksAtMost, OpensSame}
@@ -115,7 +115,6 @@ IsPlainTold (Pass job reply) = ⊥
 -- why what a turn comes to wasn't done
 abbrev pub NotTold : {D : Type 0} → (D → ℕ) → Event → DeskView D → DeskView D → DeskError → Type 0
 NotTold faults event old new DiskFault = Rose (faults old.store.disk) (faults new.store.disk)
-NotTold faults event old new Misread = may_follow event None old ≡ false
 NotTold faults event old new _ = ⊥
 
 abbrev pub NotBehind : {D : Type 0} → (D → ℕ) → Plan → DeskView D → DeskView D → DeskError → Type 0

@@ -1,23 +1,24 @@
 //! The jobs in memory with their disk.
-ghost use Rattle.std.specs.Prelude.{◌≡◌, ◌≤◌, ◌++◌, ◌∷◌, [], IfErr, IfSome, IsTrue, OnOk, Err, None, false, length, map, true};
+ghost use Rattle.std.specs.Prelude.{◌≡◌, ◌≤◌, ◌++◌, ◌∷◌, [], IfErr, IfSome, IsTrue, OnOk, Err, None, length, map, true};
 ghost use Rattle.ckr_events.specs.Event.{IsCounted, spelling};
 ghost use Rattle.ckr_desk_memory.specs.Invariant.{IsAnyAccepted};
 ghost use Rattle.ckr_desk_memory.specs.Rewrite.{HasRecordPlace};
-ghost use Rattle.ckr_desk_memory.specs.TurnEvents.{is_of_step};
+ghost use Rattle.ckr_desk_memory.specs.OwnSets.{CommitsItsOwn};
+ghost use Rattle.ckr_desk_memory.specs.OwnSteps.{LeavesLeft};
 ghost use Rattle.ckr_outside.specs.Disk.{EachSince, Only};
 ghost use Rattle.ckr_points.specs.Rows.{holding_of};
 ghost use Rattle.ckr_desk_refines.specs.Moves.{HasSameRecords};
 ghost use Rattle.ckr_desk_store.specs.OpenImages.{event_records};
 ghost use Rattle.ckr_points_tables.specs.Invariant.{is_plain_event, MaySubmit};
 ghost use Rattle.ckr_points_tables.specs.View.{line_of, seen_by};
-ghost use Rattle.ckr_desk.specs.Calls.{HasGoneOn, IsLeftBy, NotEntered, NotKept, NotKeptByTurn, may_follow};
+ghost use Rattle.ckr_desk.specs.Calls.{HasGoneOn, IsLeftBy, NotEntered, NotKept, may_follow};
 ghost use Rattle.ckr_desk.specs.Preparation.{IsReady};
 ghost use Rattle.ckr_desk.specs.Soundness.{IsTrusted, KeepsWithin};
 ghost use Rattle.ckr_desk.specs.State.{IsOpen, disk_of, layout_of, tables_in_memory};
 
 use crate::DeskError;
 use crate::preparation::Ready;
-use ckr_desk_memory::{Jobs, follows, is_of_step};
+use ckr_desk_memory::Jobs;
 use ckr_desk_store::Store;
 use ckr_events::Event;
 use ckr_jcl::Job;
@@ -78,24 +79,22 @@ impl<D: Disk> Desk<D> {
         store.into_disk()
     }
 
-    /// Whether an event of a turn follows. One between the steps of a run does, and isn't tested.
-    fn may_tell(&self, event: &Event) -> bool
-        requires plain { IsTrue (is_plain_event event.now) }
-        requires between { is_of_step event.now ≡ false → may_follow event.now None self.now ≡ true }
-        ensures { result ≡ may_follow event.now None self.now }
-    {
-        if !is_of_step(event) {
-            return true;
-        }
-        follows(self.jobs.tables(), self.store.layout(), event, None)
-    }
-
-    /// Puts an event on the disk that is ready, behind all that was written before, and the jobs go on by it. It takes no memory.
-    fn enter(&mut self, event: &Event, deck: Option<Job>, ready: Ready) -> Result<(), DeskError>
+    /// Puts an event on the disk that follows and is ready, behind all that was written before, and the jobs go on by it. What it commits is up to
+    /// what its running step has, and it ends no step of a run that was running when the system failed. It takes no memory.
+    ///
+    /// `DiskFault`: only where the disk's faults rose in this call; then the desk has stopped.
+    pub(crate) fn enter(
+        &mut self,
+        event: &Event,
+        deck: Option<Job>,
+        ready: Ready,
+    ) -> Result<(), DeskError>
         requires plain { IsTrue (is_plain_event event.now) }
         requires deck { MaySubmit event.now deck }
         requires accepted { IsAnyAccepted event.now deck }
         requires follows { may_follow event.now deck self.old ≡ true }
+        requires commits { CommitsItsOwn event.now self.old.jobs.tables.desk self.old.jobs.running }
+        requires leaves { LeavesLeft event.now self.old.jobs.failed }
         requires ready { IsReady event.now deck self.old ready }
         requires is_open { self.old.store.fault ≡ None }
         ensures ok { OnOk result (HasGoneOn event.now deck self.old self.new) }
@@ -118,37 +117,6 @@ impl<D: Disk> Desk<D> {
         Ok(())
     }
 
-    /// Keeps the event of a turn that is ready: what was written before is synced, the event is put on the disk, and the jobs go on by it.
-    /// It takes no memory.
-    ///
-    /// `DiskFault`: only where the disk's faults rose in this call; then the desk has stopped. `Misread`: exactly where the event doesn't
-    /// follow, which never is so between the steps of a run; nothing has changed then.
-    pub(crate) fn tell_ready(&mut self, event: &Event, ready: Ready) -> Result<(), DeskError>
-        requires plain { IsTrue (is_plain_event event.now) }
-        requires between { is_of_step event.now ≡ false → may_follow event.now None self.old ≡ true }
-        requires deck { MaySubmit event.now None }
-        requires accepted { IsAnyAccepted event.now None }
-        requires ready { IsReady event.now None self.old ready }
-        requires is_open { self.old.store.fault ≡ None }
-        ensures ok { OnOk result (HasGoneOn event.now None self.old self.new) }
-        ensures told { D.told → OnOk result (event_records self.old.store.layout (D.content self.new.store.disk)
-            ≡ event_records self.old.store.layout (D.content self.old.store.disk) ++ spelling event.now ∷ []) }
-        ensures records { D.told → OnOk result (HasSameRecords self.old.store.layout (D.content self.old.store.disk) (D.content self.new.store.disk)) }
-        ensures settled { OnOk result (Only (D.content self.new.store.disk) (D.may_leave self.new.store.disk)) }
-        ensures place { OnOk result (HasRecordPlace event.now self.new.jobs.tables.desk) }
-        ensures left { EachSince D.moment D.left_since self.old.store.disk self.new.store.disk (IsLeftBy D.content D.may_leave D.size event.now None self.old) }
-        ensures size { D.size self.new.store.disk ≡ D.size self.old.store.disk }
-        ensures faults { D.faults self.old.store.disk ≤ D.faults self.new.store.disk }
-        ensures layout { self.new.store.layout ≡ self.old.store.layout }
-        ensures cause { IfErr result (NotKeptByTurn D.faults event.now self.old self.new) }
-    {
-        let _layout = self.store.layout();
-        if !self.may_tell(event) {
-            return Err(DeskError::Misread);
-        }
-        self.enter(event, None, ready)
-    }
-
     /// Keeps a plain event that follows, with the memory that it needs. A deck is given exactly where the event is Submitted and its cards
     /// are a deck, and it is that deck, accepted and of a form that the desk runs.
     ///
@@ -158,6 +126,8 @@ impl<D: Disk> Desk<D> {
     pub(crate) fn tell(&mut self, event: &Event, deck: Option<Job>) -> Result<(), DeskError>
         requires plain { IsTrue (is_plain_event event.now) }
         requires follows { may_follow event.now deck self.old ≡ true }
+        requires commits { CommitsItsOwn event.now self.old.jobs.tables.desk self.old.jobs.running }
+        requires leaves { LeavesLeft event.now self.old.jobs.failed }
         requires counted { IsCounted event.now }
         requires small { length (spelling event.now) ≤ 4294967289 }
         requires deck { MaySubmit event.now deck }

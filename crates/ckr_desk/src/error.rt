@@ -24,7 +24,7 @@ pub enum DeskError {
     /// The desk has stopped since an earlier call, whose fault was the disk's one of this number. Nothing has changed.
     #[error("stopped by fault {fault} of the disk")]
     Stopped { fault: u64 },
-    /// An event doesn't follow, so the disk doesn't read what was written.
+    /// An event doesn't follow, so the disk doesn't read what was written. No call answers so: what the desk tells follows on any disk.
     #[error("the disk doesn't read what was written")]
     Misread,
 }

@@ -1,7 +1,9 @@
 //! The disk as it is opened: its layout, and the jobs that its events have brought about.
 ghost use Rattle.std.specs.Prelude.{◌≡◌, ◌≤◌, ◌+◌, ◌<◌, [], IfOk, IfErr, OnOk, IsTrue, Ok, Err, None, take, drop};
 ghost use Rattle.ckr_desk_memory.specs.EventChanges.{failed_in};
+ghost use Rattle.ckr_desk_memory.specs.Holders.{AreHolders};
 ghost use Rattle.ckr_desk_memory.specs.Invariant.{AreJobs};
+ghost use Rattle.ckr_desk_turn.specs.Queue.{AreNumbered};
 ghost use Rattle.ckr_journal.specs.Events.{ReadAt, GoesOn};
 ghost use Rattle.std.specs.Option.{is_some};
 ghost use Rattle.ckr_book.specs.Records.{records_from};
@@ -18,7 +20,7 @@ ghost use Rattle.ckr_desk.specs.FirstSync.{FromSync, IsLeft};
 ghost use Rattle.ckr_desk.specs.Replay.{IsReplayed, IsReplayedTo, GoneOn, LastGone, ReplayCause, EventCause, OpenCause, IsFound};
 ghost use Rattle.ckr_desk.specs.Replay.{HasFailedAgain, IsLackingAgain, IsWrittenAgain, fits_in, has_record};
 ghost use Rattle.ckr_desk.specs.Soundness.{AllSound, HasKept, IsTrusted, desk_opening, events_in, last_on, state_of};
-ghost use Rattle.ckr_desk.specs.State.{opened_of};
+ghost use Rattle.ckr_desk.specs.State.{AreKept, opened_of};
 
 use crate::{Desk, OpenError, Opening};
 use ckr_base::Rec;
@@ -71,6 +73,8 @@ fn replay_one<D: Disk>(
     ensures goes { IfOk result (GoneOn D.told layout.now (part 512 layout.now.book (D.content disk.old)) found.old.jobs.tables.desk found.old.place found.new.jobs.tables.desk found.new.place) }
     ensures last { D.told → IfOk result (LastGone (part 512 layout.now.book (D.content disk.old)) found.old.place found.old.last found.new.place found.new.last) }
     ensures jobs { OnOk result (AreJobs layout.now found.old.jobs → AreJobs layout.now found.new.jobs) }
+    ensures holders { OnOk result (AreJobs layout.now found.old.jobs → AreHolders found.old.jobs.tables.desk → AreHolders found.new.jobs.tables.desk) }
+    ensures numbered { OnOk result (AreNumbered 1 found.old.jobs.tables.desk.runs → AreNumbered 1 found.new.jobs.tables.desk.runs) }
     ensures running { OnOk result (found.new.jobs.running ≡ found.old.jobs.running) }
     ensures only_reads { OnlyReads D.content D.may_leave D.moment D.left_since disk.old disk.new }
     ensures size { D.size disk.new ≡ D.size disk.old }
@@ -100,6 +104,8 @@ fn replay<D: Disk>(alloc: Global, disk: &mut D, layout: &Layout) -> Result<Repla
     ensures last { D.told → IfOk result (λ found. last_event (events_in (records_from 0 (part 512 layout.now.book (D.content disk.old)))) ≡ found.last) }
     ensures place { IfOk result (λ found. found.place ≤ layout.now.book) }
     ensures jobs { IfOk result (λ found. AreJobs layout.now found.jobs) }
+    ensures holders { IfOk result (λ found. AreHolders found.jobs.tables.desk) }
+    ensures numbered { IfOk result (λ found. AreNumbered 1 found.jobs.tables.desk.runs) }
     ensures running { IfOk result (λ found. found.jobs.running ≡ []) }
     ensures only_reads { OnlyReads D.content D.may_leave D.moment D.left_since disk.old disk.new }
     ensures size { D.size disk.new ≡ D.size disk.old }
@@ -152,7 +158,7 @@ fn read_disk<D: Disk>(alloc: Global, disk: &mut D) -> Result<Found, OpenError>
     ensures header { IfOk result (λ found. IsHeader found.layout (D.size disk.new)) }
     ensures laid { IfOk result (λ found. IsTrue (is_laid_out found.layout)) }
     ensures end { IfOk result (λ found. found.end ≤ found.layout.book) }
-    ensures jobs { IfOk result (λ found. AreJobs found.layout found.jobs) }
+    ensures kept { IfOk result (λ found. AreKept found.layout found.jobs) }
     ensures failed { IfOk result (λ found. found.jobs.failed ≡ failed_in found.jobs.tables.desk) }
     ensures running { IfOk result (λ found. found.jobs.running ≡ []) }
     ensures settled { OnOk result (Only (D.content disk.new) (D.may_leave disk.new)) }

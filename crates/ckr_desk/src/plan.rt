@@ -1,8 +1,8 @@
 //! What goes on behind what a turn comes to.
 ghost use Rattle.std.specs.Prelude.{◌≡◌, ◌≤◌, IfErr, IfOk, OnOk, None};
 ghost use Rattle.ckr_book.specs.Book.{room_of};
+ghost use Rattle.ckr_desk_memory.specs.OwnSteps.{PlanCommits, PlanFollows, PlanLeaves};
 ghost use Rattle.ckr_desk_memory.specs.Plans.{HasDue, IsSpelledPlan, IsToldReply};
-ghost use Rattle.ckr_desk_memory.specs.TurnEvents.{FollowsBetween};
 ghost use Rattle.ckr_outside.specs.Disk.{EachSince};
 ghost use Rattle.ckr_desk_refines.specs.Moves.{event_in, reply_in};
 ghost use Rattle.ckr_desk_refines.specs.Unit.{HasPassed};
@@ -25,7 +25,9 @@ impl<D: Disk> Desk<D> {
         requires is_open { self.old.store.fault ≡ None }
         requires spelled { IsSpelledPlan plan }
         requires plain { IsPlainTold plan }
-        requires follows { FollowsBetween self.old.store.layout self.old.jobs.tables.desk plan }
+        requires follows { PlanFollows self.old.store.layout self.old.jobs.tables.desk plan }
+        requires commits { PlanCommits self.old.jobs.tables.desk self.old.jobs.running plan }
+        requires leaves { PlanLeaves self.old.jobs.failed plan }
         requires ready { IsReadyFor (event_in plan) self.old ready }
         ensures reply { IfOk result (λ reply. reply ≡ reply_in plan) }
         ensures spelled { IfOk result IsToldReply }
@@ -44,7 +46,7 @@ impl<D: Disk> Desk<D> {
             Plan::Rest(reply) => Ok(reply),
             Plan::Tell { reply, event } => {
                 let Some(ready) = ready else { unreachable!() };
-                self.tell_ready(&event, ready)?;
+                self.enter(&event, None, ready)?;
                 self.rewrite(&event)?;
                 Ok(reply)
             }
@@ -66,7 +68,9 @@ impl<D: Disk> Desk<D> {
         requires is_open { self.old.store.fault ≡ None }
         requires spelled { IsSpelledPlan plan }
         requires plain { IsPlainPlan plan }
-        requires follows { FollowsBetween self.old.store.layout self.old.jobs.tables.desk plan }
+        requires follows { PlanFollows self.old.store.layout self.old.jobs.tables.desk plan }
+        requires commits { PlanCommits self.old.jobs.tables.desk self.old.jobs.running plan }
+        requires leaves { PlanLeaves self.old.jobs.failed plan }
         requires due { HasDue self.old.jobs plan }
         ensures turned { (turn : TurnOf) → IsPlanned D.told D.content D.may_leave self.old turn plan → HasTurned D.told D.content D.may_leave D.moment D.left_since D.size turn self.old self.new result }
         ensures spelled { IfOk result IsToldReply }

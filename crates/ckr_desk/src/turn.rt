@@ -19,8 +19,7 @@ impl<D: Disk> Desk<D> {
     ///
     /// `NoMemory`: on a trusted disk only where the turn tells an event. `BookFull`: exactly where the event of the turn needs more than the
     /// room of the book, and there was memory. Nothing has changed after these two: a unit is looked at before it is done. `DiskFault`: only
-    /// where the disk's faults rose in this call; then the desk has stopped. `Stopped`: exactly where it had stopped before. `Misread`: never
-    /// on a disk that reads what was written.
+    /// where the disk's faults rose in this call; then the desk has stopped. `Stopped`: exactly where it had stopped before. `Misread` doesn't come.
     pub fn turn(&mut self, turn: Turn) -> Result<Reply, DeskError>
         requires initiator { IsTurnOf (layout_of self.old) turn }
         requires code { IsAnyCode turn.fail }

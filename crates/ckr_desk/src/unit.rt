@@ -2,6 +2,7 @@
 ghost use Rattle.std.specs.Prelude.{◌≡◌, ◌≤◌, ℕ, IfErr, IfOk, OnOk, None, false};
 ghost use Rattle.ckr_book.specs.Book.{room_of};
 ghost use Rattle.ckr_desk_memory.specs.Invariant.{IsRunnable};
+ghost use Rattle.ckr_desk_memory.specs.OwnSteps.{PlanCommits};
 ghost use Rattle.ckr_desk_memory.specs.Parts.{step_seen};
 ghost use Rattle.ckr_desk_memory.specs.Plans.{HasDue, IsToldReply};
 ghost use Rattle.ckr_meaning.specs.StepRun.{StepStart};
@@ -105,6 +106,7 @@ impl<D: Disk> Desk<D> {
         requires unit { IsWorkedOut D.told D.content run self.old unit }
         ensures done { OnOk result ((plan : PlanOf) → IsLookedAhead D.told D.content run self.old unit plan → HasDoneUnit D.told D.content D.may_leave D.moment D.left_since run self.old self.new plan) }
         ensures tables { OnOk result (self.new.jobs.tables ≡ self.old.jobs.tables) }
+        ensures commits { OnOk result ((plan : PlanOf) → IsLookedAhead D.told D.content run self.old unit plan → PlanCommits self.new.jobs.tables.desk self.new.jobs.running plan) }
         ensures left { EachSince D.moment D.left_since self.old.store.disk self.new.store.disk (IsLeftByUnit D.content D.may_leave D.size run self.old) }
         ensures events { D.told → OnOk result (event_records self.old.store.layout (D.content self.new.store.disk) ≡ event_records self.old.store.layout (D.content self.old.store.disk)) }
         ensures kept { OnOk result (self.new.store ≡ record self.old.store { disk = self.new.store.disk }) }

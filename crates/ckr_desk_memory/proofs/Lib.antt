@@ -8,6 +8,8 @@ pub mod Masters
 pub mod RecordCounts
 pub mod Rewrites
 pub mod Invariant
+pub mod EntryPoints
+pub mod EntryModels
 pub mod Extents
 pub mod Queue
 pub mod Replays
@@ -16,3 +18,4 @@ pub mod SetCopies
 pub mod Starts
 pub mod TurnEvents
 pub mod RunningSteps
+pub mod Holders

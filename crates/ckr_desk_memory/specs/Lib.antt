@@ -11,3 +11,10 @@ pub mod Start
 pub mod TurnEvents
 pub mod Rewrite
 pub mod Model
+pub mod EntryMarks
+pub mod Entries
+pub mod EntryModels
+pub mod Holders
+pub mod OwnSets
+pub mod OwnEvents
+pub mod OwnSteps

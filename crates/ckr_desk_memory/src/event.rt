@@ -5,6 +5,8 @@ ghost use Rattle.ckr_jcl.specs.declared.deck.Job.{Job as JobOfDeck};
 ghost use Rattle.ckr_desk_memory.specs.EventChanges.{HasUses, MayQueue};
 ghost use Rattle.ckr_desk_memory.specs.RunningSteps.{GoesOn, MayRun};
 ghost use Rattle.ckr_desk_memory.specs.Invariant.{AreJobs, IsAnyAccepted, MayGoOn};
+ghost use Rattle.ckr_desk_memory.specs.OwnSets.{CommitsItsOwn};
+ghost use Rattle.ckr_desk_memory.specs.OwnSteps.{AreLeft, HoldTheirOwn, LeavesLeft};
 ghost use Rattle.ckr_desk_memory.specs.Parts.{step_seen};
 ghost use Rattle.ckr_desk_memory.specs.Plans.{HasCounts};
 ghost use Rattle.ckr_desk_memory.specs.Preparation.{HasQueueRoom, IsPrepared};
@@ -123,6 +125,10 @@ impl Jobs {
         ensures failed { self.new.failed ≡ failed_behind event.now self.old.failed }
         ensures place { HasRecordPlace event.now self.new.tables.desk }
         ensures jobs { (layout : LayoutOfDisk) → AreJobs layout self.old → follows layout self.old.tables.desk event.now deck ≡ true → AreJobs layout self.new }
+        ensures own { (layout : LayoutOfDisk) → AreJobs layout self.old → HoldTheirOwn self.old → follows layout self.old.tables.desk event.now deck ≡ true
+            → CommitsItsOwn event.now self.old.tables.desk self.old.running → HoldTheirOwn self.new }
+        ensures left { (layout : LayoutOfDisk) → AreJobs layout self.old → AreLeft self.old → follows layout self.old.tables.desk event.now deck ≡ true
+            → LeavesLeft event.now self.old.failed → AreLeft self.new }
     {
         self.go_on(event, deck, prepared.uses);
         keep_running(event, prepared.step, &self.tables, &mut self.running);

@@ -6,6 +6,8 @@ ghost use Rattle.ckr_events.specs.Format.{length_list};
 ghost use Rattle.ckr_jcl.specs.declared.deck.Dd.{Dd as DdOfDeck};
 ghost use Rattle.ckr_desk_memory.specs.EventChanges.{is_of_run};
 ghost use Rattle.ckr_desk_memory.specs.Invariant.{AreJobs, IsAcceptedRow, IsRunnable};
+ghost use Rattle.ckr_desk_memory.specs.OwnSets.{IsRunningOf};
+ghost use Rattle.ckr_desk_memory.specs.OwnSteps.{HoldTheirOwn};
 ghost use Rattle.ckr_desk_memory.specs.Parts.{step_seen};
 ghost use Rattle.ckr_desk_memory.specs.Plans.{reached_seen, row_for, HasCounts, IsKnown};
 ghost use Rattle.ckr_desk_memory.specs.View.{jobs_of, RunningStepView};
@@ -15,6 +17,7 @@ ghost use Rattle.ckr_points.specs.Payload.{writes_in};
 ghost use Rattle.ckr_points.specs.Rows.{run_of, step_of_run, RunRow};
 ghost use Rattle.ckr_desk_turn.specs.Codes.{reached_by};
 ghost use Rattle.ckr_desk_turn.specs.Jobs.{is_failed};
+ghost use Rattle.ckr_desk_turn.specs.Queue.{AreNumbered};
 ghost use Rattle.ckr_volumes.specs.declared.layout.Layout.{Layout as LayoutOfDisk};
 
 use crate::run_code::{CodePlace, Extents, lengths_of, place_of};
@@ -61,6 +64,7 @@ impl Jobs {
         requires { AllByRecursion IsAcceptedRow self.now.tables.desk.runs }
         ensures some { IfSome (option_copied result) (IsKnown self.now.tables.desk job) }
         ensures none { IfNone result (run_of self.now.tables.desk job ≡ None) }
+        ensures numbered { AreNumbered 1 self.now.tables.desk.runs }
     {
         self.tables.run(job)
     }
@@ -83,6 +87,7 @@ impl Jobs {
     pub fn running_step(&self, run: u32) -> Option<&RunningStep>
         ensures step { option_map step_seen (option_copied result) ≡ find (is_of_run run) self.now.running }
         ensures runnable { (layout : LayoutOfDisk) → AreJobs layout self.now → IfSome (option_copied result) (λ on. IsRunnable layout (step_seen on)) }
+        ensures own { HoldTheirOwn self.now → IfSome (option_copied result) (λ on. IsRunningOf self.now.tables.desk (step_seen on)) }
     {
         self.running_in(run)
     }

@@ -2,6 +2,7 @@
 ghost use Rattle.std.specs.Prelude.{◌≡◌, ◌≤◌, [], length, map};
 ghost use Rattle.ckr_points.specs.Rows.{no_tables, holding_of};
 ghost use Rattle.ckr_points_tables.specs.View.{line_of, seen_by};
+ghost use Rattle.ckr_desk_memory.specs.OwnSteps.{AreLeft, HoldTheirOwn};
 ghost use Rattle.ckr_desk_memory.specs.Parts.{step_seen};
 
 use ckr_library::Library;
@@ -51,6 +52,8 @@ impl Jobs {
         ensures tables { result.tables.desk ≡ no_tables }
         ensures running { result.running ≡ [] }
         ensures failed { result.failed ≡ [] }
+        ensures own { HoldTheirOwn result }
+        ensures left { AreLeft result }
     {
         Jobs {
             alloc,

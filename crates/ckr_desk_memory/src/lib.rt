@@ -1,8 +1,12 @@
 //! The jobs of a desk in memory: the tables, the queue, and the running steps, each with its data sets.
 #![tactic(auto)]
 
+mod entry;
+mod entry_laws;
+mod entry_marks;
 mod event;
 mod found_run;
+mod holder_laws;
 mod jobs;
 mod opening;
 mod plan;
@@ -17,6 +21,11 @@ mod turn_events;
 mod unit_reply;
 mod unit_step;
 
+pub use entry::NextEntry;
+pub use entry_laws::entries_are_those_of_the_job;
+pub use holder_laws::{
+    holders_stay_apart, jobs_hold_their_own, own_events_follow, running_steps_stay_theirs,
+};
 pub use jobs::{Jobs, RunningStep};
 pub use preparation::Prepared;
 pub use set_copy::copy_of_set;

@@ -1,12 +1,15 @@
 //! The jobs behind the opening of the desk.
 ghost use Rattle.std.specs.Prelude.{◌≡◌, Some, IfOk, OnErr, OnOk, filter, map};
 ghost use Rattle.ckr_desk_memory.specs.EventChanges.{failed_in};
+ghost use Rattle.ckr_desk_memory.specs.Invariant.{AreJobs};
+ghost use Rattle.ckr_desk_memory.specs.OwnSteps.{AreLeft};
 ghost use Rattle.ckr_points.specs.Restart.{place_of};
 ghost use Rattle.ckr_points.specs.Rows.{run_of, RunRow as RowOfRun};
 ghost use Rattle.ckr_points_tables.specs.View.{line_of};
 ghost use Rattle.ckr_desk_turn.specs.Desk.{is_running};
 ghost use Rattle.ckr_desk_turn.specs.Plans.{is_within};
 ghost use Rattle.ckr_desk_turn.specs.Queue.{AreNumbered};
+ghost use Rattle.ckr_volumes.specs.declared.layout.Layout.{Layout as LayoutOfDisk};
 
 use crate::Jobs;
 use ckr_base::NoMemory;
@@ -55,6 +58,9 @@ impl Jobs {
         ensures err { OnErr result (self.new.failed ≡ self.old.failed) }
         ensures tables { self.new.tables ≡ self.old.tables }
         ensures running { self.new.running ≡ self.old.running }
+
+        // Each of these runs is within its step.
+        ensures left { (layout : LayoutOfDisk) → AreJobs layout self.old → OnOk result (AreLeft self.new) }
     {
         let failed = running_runs(self.alloc, &self.tables)?;
         self.failed = failed;

@@ -4,6 +4,7 @@ ghost use Rattle.std.specs.List.{AllByRecursion};
 ghost use Rattle.std.specs.Option.{option_map_or};
 ghost use Rattle.ckr_events.specs.declared.event.Event.TheVariants.{StepEnded as StepEndedEvent};
 ghost use Rattle.ckr_desk_memory.specs.Invariant.{AreJobs, IsAcceptedRow};
+ghost use Rattle.ckr_desk_memory.specs.OwnSteps.{AreLeft, HoldTheirOwn, PlanCommits, PlanFollows, PlanLeaves};
 ghost use Rattle.ckr_desk_memory.specs.Plans.{next_step, row_for, HasCounts, HasDd, HasPlanRoom, HasDue, IsAnyCode, IsKnown, IsSpelledPlan, Tells};
 ghost use Rattle.ckr_desk_memory.specs.TurnEvents.{FollowsBetween};
 ghost use Rattle.ckr_desk_memory.specs.View.{jobs_of, lengths_of_row};
@@ -126,6 +127,11 @@ impl Jobs {
 
         // What it tells between the steps of a run follows, whatever the disk reads.
         ensures follows { IfOk result (FollowsBetween layout.now self.new.tables.desk) }
+
+        // So does all that it tells, where the jobs hold their own, and what it commits is its step's own.
+        ensures own { HoldTheirOwn self.old → AreLeft self.old → IfOk result (PlanFollows layout.now self.new.tables.desk) }
+        ensures commits { IfOk result (PlanCommits self.new.tables.desk self.new.running) }
+        ensures left { IfOk result (PlanLeaves self.new.failed) }
 
         // A unit or a checkpoint is due where the turn comes to one.
         ensures due { IfOk result (HasDue self.new) }

@@ -1,6 +1,7 @@
 //! The jobs go on by the events of the desk as they are read again.
 ghost use Rattle.std.specs.Prelude.{◌≡◌, IfOk, IsTrue, OnErr, OnOk, unwrap_or};
 ghost use Rattle.std.specs.Option.{is_some};
+ghost use Rattle.ckr_desk_memory.specs.Holders.{AreHolders};
 ghost use Rattle.ckr_desk_memory.specs.Invariant.{AreJobs};
 ghost use Rattle.ckr_desk_memory.specs.Replay.{deck_of, goes_on, is_run_as, is_run_by, replayed, HasFewCards};
 ghost use Rattle.ckr_points.specs.Follows.{follows};
@@ -82,6 +83,7 @@ impl Jobs {
         ensures running { self.new.running ≡ self.old.running }
         ensures failed { self.new.failed ≡ self.old.failed }
         ensures jobs { AreJobs layout.now self.old → AreJobs layout.now self.new }
+        ensures holders { AreJobs layout.now self.old → AreHolders self.old.tables.desk → AreHolders self.new.tables.desk }
     {
         let deck = deck_of(self.alloc, event)?;
         if !goes_on(&self.tables, layout, event, &deck) {

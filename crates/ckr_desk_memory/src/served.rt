@@ -3,6 +3,7 @@ ghost use Rattle.std.specs.Prelude.{◌≡◌, map};
 ghost use Rattle.std.specs.List.{AllByRecursion};
 ghost use Rattle.ckr_desk_memory.specs.EventChanges.{served_in};
 ghost use Rattle.ckr_desk_memory.specs.Invariant.{AreJobs};
+ghost use Rattle.ckr_desk_memory.specs.OwnSteps.{HoldTheirOwn};
 ghost use Rattle.ckr_desk_memory.specs.Parts.{step_seen};
 ghost use Rattle.ckr_desk_memory.specs.Plans.{HasCounts};
 ghost use Rattle.ckr_volumes.specs.declared.layout.Layout.{Layout as LayoutOfDisk};
@@ -33,6 +34,7 @@ impl Jobs {
         ensures failed { self.new.failed ≡ self.old.failed }
         ensures queue { self.new.queue_room ≡ self.old.queue_room }
         ensures jobs { (layout : LayoutOfDisk) → AreJobs layout self.old → AreJobs layout self.new }
+        ensures own { HoldTheirOwn self.old → HoldTheirOwn self.new }
     {
         serve(&mut self.running, run);
     }

@@ -1,19 +1,25 @@
 //! What a turn tells of a unit that was worked out.
-ghost use Rattle.std.specs.Prelude.{◌≡◌, ◌≤◌, IfSome, Some};
+ghost use Rattle.std.specs.Prelude.{◌≡◌, ◌≤◌, [], ◌∷◌, IfSome, Some};
 ghost use Rattle.std.specs.List.{AllByRecursion};
+ghost use Rattle.ckr_base.specs.declared.programs.Heads.{Heads as HeadsOfInputs};
 ghost use Rattle.ckr_events.specs.Format.{length_list};
 ghost use Rattle.ckr_desk_memory.specs.Extents.{IsShort};
 ghost use Rattle.ckr_desk_memory.specs.Invariant.{IsAcceptedRow};
+ghost use Rattle.ckr_desk_memory.specs.OwnSets.{IsRunningOf};
+ghost use Rattle.ckr_desk_memory.specs.OwnSteps.{PlanCommits, PlanFollows, PlanIsOf, PlanLeaves};
 ghost use Rattle.ckr_desk_memory.specs.Parts.{step_seen};
 ghost use Rattle.ckr_desk_memory.specs.Plans.{behind_unit, reached_seen, row_for, told_by, IsSpelledPlan, IsToldReply, IsUnitPlan, IsWorkedCode};
+ghost use Rattle.ckr_desk_memory.specs.Start.{AllFit};
 ghost use Rattle.ckr_desk_memory.specs.View.{lengths_of_row, running_of};
 ghost use Rattle.ckr_meaning.specs.EffectiveJob.{OwnedStep};
 ghost use Rattle.ckr_points.specs.Restart.{place_of as place_of_row, step_in as step_in_place};
 ghost use Rattle.ckr_points.specs.Rows.{run_of, step_of_run, RunRow};
-ghost use Rattle.ckr_steps.specs.StepUnit.{AreCounted, behind_ahead};
+ghost use Rattle.ckr_steps.specs.Inputs.{AreThere};
+ghost use Rattle.ckr_steps.specs.StepUnit.{behind_ahead, AreCounted, IsUnitFor};
 ghost use Rattle.ckr_steps.specs.Units.{taken_of};
 ghost use Rattle.ckr_points_decks.specs.DeckLimits.{IsWithinLimits};
 ghost use Rattle.ckr_desk_turn.specs.Jobs.{step_name_of};
+ghost use Rattle.ckr_desk_turn.specs.Queue.{AreNumbered};
 
 use crate::run_code::{CodePlace, Extents, code_plan, lengths_of, place_of};
 use crate::{Jobs, RunningStep};
@@ -61,6 +67,31 @@ impl Jobs {
         requires counted { AreCounted (behind_ahead on.now.step ahead.now) }
         requires short { IsShort on.now.sets }
         requires code { IsWorkedCode ahead.now.worked }
+        ensures plan { (row : RunRow) (own : OwnedStep) → run_of self.now.tables.desk on.now.run ≡ Some row → step_of_run row (step_in_place (place_of_row row)) ≡ Some own
+            → result ≡ told_by layout.now row (running_of self.now.tables.desk (behind_unit (step_seen on.now) ahead.now)) ahead.now.worked }
+        ensures spelled { IsSpelledPlan result }
+        ensures unit { IsUnitPlan result }
+
+        // Where the step is that of its run, and the unit is its own for some heads, what is told is of its run and follows on any disk. It
+        // commits what the step has behind the unit.
+        ensures own { (heads : HeadsOfInputs) → IsRunningOf self.now.tables.desk (step_seen on.now) → AllFit on.now.sets.sets → AreThere on.now.step.files on.now.sets
+            → IsUnitFor on.now.sets on.now.step heads ahead.now → PlanFollows layout.now self.now.tables.desk result }
+        ensures commits { IsRunningOf self.now.tables.desk (step_seen on.now) → PlanCommits self.now.tables.desk (behind_unit (step_seen on.now) ahead.now ∷ []) result }
+        ensures of_run { IsRunningOf self.now.tables.desk (step_seen on.now) → PlanIsOf on.now.run result }
+
+        // It ends no step.
+        ensures left { PlanLeaves self.now.failed result }
+    {
+        self.answered(layout, on, ahead)
+    }
+
+    /// What a turn tells of it, by the tables.
+    fn answered(&self, layout: &Layout, on: &RunningStep, ahead: &UnitAhead) -> Plan
+        requires rows { AllByRecursion IsAcceptedRow self.now.tables.desk.runs }
+        requires counted { AreCounted (behind_ahead on.now.step ahead.now) }
+        requires short { IsShort on.now.sets }
+        requires code { IsWorkedCode ahead.now.worked }
+        ensures numbered { AreNumbered 1 self.now.tables.desk.runs }
         ensures plan { (row : RunRow) (own : OwnedStep) → run_of self.now.tables.desk on.now.run ≡ Some row → step_of_run row (step_in_place (place_of_row row)) ≡ Some own
             → result ≡ told_by layout.now row (running_of self.now.tables.desk (behind_unit (step_seen on.now) ahead.now)) ahead.now.worked }
         ensures spelled { IsSpelledPlan result }

@@ -1,8 +1,11 @@
 //! A running step is taken out for a unit of its work, and put back.
 ghost use Rattle.std.specs.Prelude.{◌≡◌, ◌==◌, ◌∷◌, ◌-◌, ◌<◌, IsSome, IfSome, find, map, position, vec_len, vec_capacity};
+ghost use Rattle.std.specs.List.{AllByRecursion};
 ghost use Rattle.std.specs.Option.{option_map};
 ghost use Rattle.ckr_desk_memory.specs.EventChanges.{is_of_run, without_first};
 ghost use Rattle.ckr_desk_memory.specs.Invariant.{AreJobs, IsRunnable};
+ghost use Rattle.ckr_desk_memory.specs.OwnSets.{IsRunningOf};
+ghost use Rattle.ckr_desk_memory.specs.OwnSteps.{HoldTheirOwn, IsOfOther};
 ghost use Rattle.ckr_desk_memory.specs.Parts.{step_seen};
 ghost use Rattle.ckr_desk_memory.specs.declared.jobs.RunningStep.{RunningStep as StepOnIt};
 ghost use Rattle.ckr_volumes.specs.declared.layout.Layout.{Layout as LayoutOfDisk};
@@ -43,6 +46,11 @@ impl Jobs {
         // What holds of the jobs holds of the step and of the others.
         ensures jobs { (layout : LayoutOfDisk) → AreJobs layout self.old → AreJobs layout self.new }
         ensures runnable { (layout : LayoutOfDisk) → AreJobs layout self.old → IfSome result (λ on. IsRunnable layout (step_seen on)) }
+
+        // So it does on any disk; and no other running step is of the run.
+        ensures own { HoldTheirOwn self.old → HoldTheirOwn self.new }
+        ensures own_step { HoldTheirOwn self.old → IfSome result (λ on. IsRunningOf self.old.tables.desk (step_seen on)) }
+        ensures others { HoldTheirOwn self.old → AllByRecursion (IsOfOther run) self.new.running }
     {
         take_first(&mut self.running, run)
     }
@@ -55,6 +63,7 @@ impl Jobs {
         ensures failed { self.new.failed ≡ self.old.failed }
         ensures queue { self.new.queue_room ≡ self.old.queue_room }
         ensures jobs { (layout : LayoutOfDisk) → AreJobs layout self.old → IsRunnable layout (step_seen step) → AreJobs layout self.new }
+        ensures own { HoldTheirOwn self.old → IsRunningOf self.old.tables.desk (step_seen step) → AllByRecursion (IsOfOther step.run) self.old.running → HoldTheirOwn self.new }
     {
         put_first(&mut self.running, step);
     }

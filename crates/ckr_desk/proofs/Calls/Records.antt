@@ -88,7 +88,7 @@ module _ {D : Type 0} (faults : D → ℕ) (old new : StoreView D) where
   reading-may-fail DiskFault cause = cause.0
   reading-may-fail (BookFull need room) cause = tt
   reading-may-fail (Stopped fault) cause = absurd cause
-  reading-may-fail Misread cause = tt
+  reading-may-fail Misread cause = absurd cause
 
   pub reading-fails-by : (room : ℕ) (error : DeskError) → ReadingCause faults old new error → FailsBy room None error
   reading-fails-by room NoMemory cause = tt
@@ -111,4 +111,4 @@ module _ {D : Type 0} (faults : D → ℕ) (old new : StoreView D) where
   reading-stays content may_leave moment left_since jobs reads DiskFault cause = ap (λ (s : StoreView D). s.fault) cause.1
   reading-stays content may_leave moment left_since jobs reads (BookFull need room) cause = absurd cause
   reading-stays content may_leave moment left_since jobs reads (Stopped fault) cause = absurd cause
-  reading-stays content may_leave moment left_since jobs reads Misread cause = tt
+  reading-stays content may_leave moment left_since jobs reads Misread cause = absurd cause

@@ -7,11 +7,14 @@ use Rattle.ckr_book.specs.Records.{records_from, end_from, starts_open}
 use Rattle.ckr_book.specs.Next.{NoneAt, LeadsWith}
 use Rattle.ckr_events.specs.declared.event.Event.{Event}
 use Rattle.ckr_events.specs.Event.{spelling, event_of}
-use Rattle.ckr_desk_memory.specs.Replay.{replayed}
+use Rattle.ckr_desk_memory.proofs.Invariant.{numbered-behind}
+use Rattle.ckr_desk_memory.proofs.Replays.{goes-on-with}
+use Rattle.ckr_desk_memory.specs.Replay.{deck_of, goes_on, replayed}
+use Rattle.ckr_desk_turn.specs.Queue.{AreNumbered}
 use Rattle.ckr_journal.specs.declared.events.Next.{Next}
 use Rattle.ckr_journal.specs.declared.events.Next.TheVariants as Nexts
 use Rattle.ckr_journal.specs.Events.{EventAt, IsBadAt, NoEventAt, GoesOnAt, ReadAt}
-use Rattle.ckr_points.specs.Restart.{Decked}
+use Rattle.ckr_points.specs.Restart.{Decked, after_event}
 use Rattle.ckr_points.specs.Rows.{TablesModel, no_tables}
 use Rattle.ckr_desk_refines.specs.RewriteRecord.{last_event}
 use Rattle.ckr_volumes.specs.declared.layout.Layout.{Layout}
@@ -61,6 +64,22 @@ one_more layout book tables place next event (Some went) earlier at is comes som
           ∙ ap (λ (l : List ℕ). behind_records layout went (place + (length (spelling event) + 5)) (records_from 0 l)) (sym later)
           ∙ ap (λ (k : ℕ). behind_records layout went k (records_from 0 (drop next book))) (sym is);
     }
+
+-- the runs stay numbered
+pub numbered-replayed : (layout : Layout) (tables : TablesModel) (event : Event) → AreNumbered 1 tables.runs → AreNumbered 1 (unwrap_or (replayed layout tables event) tables).runs
+unfolding replayed
+numbered-replayed layout tables event numbered =
+    by (goes_on layout tables event (deck_of event))
+    (λ goes.
+    let its = goes-on-with layout tables event (deck_of event) goes in
+    numbered-behind layout tables event (deck_of event) its.plain its.follow numbered)
+  where
+    after : TablesModel
+    after = after_event event (deck_of event) tables
+
+    by : (b : Bool) → (b ≡ true → AreNumbered 1 after.runs) → AreNumbered 1 (unwrap_or (cond b (Some after) None) tables).runs
+    by true goes = goes refl
+    by false goes = numbered
 
 -- an event that doesn't follow
 not_behind : (behind : Option TablesModel) (follows : Bool) → follows ≡ is_some behind → follows ≡ false → behind ≡ None

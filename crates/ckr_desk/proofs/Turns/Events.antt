@@ -1,7 +1,6 @@
 -- A turn that tells an event without a unit: the desk behind it, and what a stop leaves.
 use Rattle.std.proofs.Common.{◌≡◌, ◌+◌, ◌-◌, ℕ, List, [], ◌∷◌, Bool, true, false, length, refl, ap, sym, ◌∙◌, subst, ⊎_elim, arith, Some, None}
 use Rattle.std.proofs.lemmas.Bool.{and_from, le-leb}
-use Rattle.ckr_base.proofs.Bools.{and-first}
 use Rattle.ckr_base.proofs.Options.{some-not-none}
 use Rattle.ckr_book.specs.Book.{IsBeforeOrAfter, room_of}
 use Rattle.ckr_events.specs.declared.event.Event.{Event}
@@ -13,7 +12,6 @@ use Rattle.ckr_desk_turn.proofs.Turns.Initiator.{turn-keeps}
 use Rattle.ckr_desk_turn.specs.NextEvents.{EventComes}
 use Rattle.ckr_desk_turn.specs.Invariant.{IsDesk, IsTurnOf}
 use Rattle.ckr_points.specs.Events.{IsNext}
-use Rattle.ckr_points.specs.Follows.{follows}
 use Rattle.ckr_points.specs.Office.{office_after}
 use Rattle.ckr_points.specs.Restart.{after_event}
 use Rattle.ckr_desk_refines.proofs.Standing.Plans.{plans-so}
@@ -36,7 +34,7 @@ use Rattle.ckr_desk.proofs.Images.Soundness.{again-so, kept-before, kept-behind}
 use Rattle.ckr_desk.proofs.Turns.PlainEvents.{IsQuietPlan, is_quiet, plan-quiet, quiet-plain}
 use Rattle.ckr_desk.proofs.Trust.Events.{IsBehind, IsComing, desk-behind}
 use Rattle.ckr_desk.specs.Requests.{has_room, room_behind}
-use Rattle.ckr_desk.specs.Calls.{HasGoneOn, IsLeftBy, IsSettledBehind, may_follow, may_keep}
+use Rattle.ckr_desk.specs.Calls.{HasGoneOn, IsLeftBy, IsSettledBehind, may_keep}
 use Rattle.ckr_desk.specs.Rewrite.{IsWrittenBy, LacksAtMost, OpensSame}
 use Rattle.ckr_desk.specs.Turn.{behind_turn, event_of_turn, turn_fits}
 use Rattle.ckr_desk.specs.Units.{HasGoneBehind, HasWrittenBehind, IsLeftBehind}
@@ -163,10 +161,3 @@ module _ {D : Type 0} (told : Type 0) (content : D → List ℕ) (may_leave : D 
         by)
         (λ lacks. absurd (quiet-lacks event quiet-so layout _ lacks.told_on image lacks.lacks))
         left
-
-    -- ---- it may come
-
-    pub follows-so : may_follow event None old ≡ true
-    follows-so =
-        ap (λ tables. follows layout tables event None) trusted.stands.tables
-        ∙ and-first (follows layout desk.office.tables event None) _ comes.may

@@ -18,7 +18,7 @@ use Rattle.ckr_desk_turn.specs.Plans.{plan_of}
 use Rattle.ckr_desk.proofs.Turns.Preparation.{same-unchanged}
 use Rattle.ckr_desk.proofs.Images.Soundness.{kept-before}
 use Rattle.ckr_desk.proofs.Trust.Events.{trusted-behind}
-use Rattle.ckr_desk.proofs.Turns.Events.{behind-turn-so, coming-turn, event-so, follows-so, image-kept, state-behind, turn-fits-so, turned}
+use Rattle.ckr_desk.proofs.Turns.Events.{behind-turn-so, coming-turn, event-so, image-kept, state-behind, turn-fits-so, turned}
 use Rattle.ckr_desk.specs.declared.error.DeskError.{DeskError}
 use Rattle.ckr_desk.specs.declared.error.DeskError.TheVariants.{NoMemory, DiskFault, BookFull, Stopped, Misread}
 use Rattle.ckr_desk.specs.Requests.{FailsBy, IsFull, MayFail, has_room, room_behind, spelled}
@@ -57,7 +57,7 @@ go-may-fail faults old new (Tell reply event) NoMemory not = absurd not
 go-may-fail faults old new (Tell reply event) DiskFault not = not
 go-may-fail faults old new (Tell reply event) (BookFull need room) not = absurd not
 go-may-fail faults old new (Tell reply event) (Stopped fault) not = absurd not
-go-may-fail faults old new (Tell reply event) Misread not = tt
+go-may-fail faults old new (Tell reply event) Misread not = absurd not
 go-may-fail faults old new (Work job) error not = absurd not
 go-may-fail faults old new (Pass job reply) error not = absurd not
 
@@ -68,7 +68,7 @@ go-of-disk faults old new (Tell reply event) NoMemory not = absurd not
 go-of-disk faults old new (Tell reply event) DiskFault not = tt
 go-of-disk faults old new (Tell reply event) (BookFull need room) not = absurd not
 go-of-disk faults old new (Tell reply event) (Stopped fault) not = absurd not
-go-of-disk faults old new (Tell reply event) Misread not = tt
+go-of-disk faults old new (Tell reply event) Misread not = absurd not
 go-of-disk faults old new (Work job) error not = absurd not
 go-of-disk faults old new (Pass job reply) error not = absurd not
 
@@ -88,7 +88,7 @@ of-disk-stays content may_leave faults old new NoMemory is halted = absurd is
 of-disk-stays content may_leave faults old new DiskFault is halted = halted
 of-disk-stays content may_leave faults old new (BookFull need room) is halted = absurd is
 of-disk-stays content may_leave faults old new (Stopped fault) is halted = absurd is
-of-disk-stays content may_leave faults old new Misread is halted = tt
+of-disk-stays content may_leave faults old new Misread is halted = absurd is
 
 -- what isn't ready leaves all as it was
 pub unready-stays : {D : Type 0} (content : D → List ℕ) (may_leave : D → List ℕ → Type 0) (faults : D → ℕ) (old new : DeskView D) (event : Option Event) (error : DeskError) → NotReadyFor event old new error
@@ -236,6 +236,6 @@ module _ {D : Type 0} (told : Type 0) (content : D → List ℕ) (may_leave : D 
   go-cause (Tell reply event) new DiskFault is shape rests not = tt
   go-cause (Tell reply event) new (BookFull need room) is shape rests not = absurd not
   go-cause (Tell reply event) new (Stopped fault) is shape rests not = absurd not
-  go-cause (Tell reply event) new Misread is shape rests not = true≢false (sym (follows-so told content may_leave size old trusted turn its reply event is shape.0) ∙ not)
+  go-cause (Tell reply event) new Misread is shape rests not = absurd not
   go-cause (Work job) new error is shape rests not = absurd (true≢false rests)
   go-cause (Pass job reply) new error is shape rests not = absurd (true≢false rests)

@@ -1,10 +1,11 @@
 -- A turn that works, once its unit was looked at: what is ready for it, and why it wasn't done.
-use Rattle.std.proofs.Common.{◌≡◌, ◌<◌, ℕ, List, [], find, refl, ap, sym, ◌∙◌, subst, arith, Option, Some, None, Result, Ok, Err, IsErrAnd, IsSome}
+use Rattle.std.proofs.Common.{◌≡◌, ◌<◌, ℕ, List, [], ◌∷◌, find, refl, ap, sym, ◌∙◌, subst, arith, Option, Some, None, Result, Ok, Err, IsErrAnd, IsSome}
 use Rattle.std.proofs.lemmas.Option.{same_Some}
 use Rattle.ckr_book.specs.Book.{room_of}
 use Rattle.ckr_events.specs.declared.event.Event.{Event}
 use Rattle.ckr_desk_memory.specs.EventChanges.{is_of_run}
 use Rattle.ckr_desk_memory.specs.View.{RunningStepView, running_of}
+use Rattle.ckr_desk_memory.specs.OwnSteps.{PlanCommits, PlanFollows, PlanIsOf}
 use Rattle.ckr_desk_memory.specs.Plans.{IsSpelledPlan, IsUnitPlan, behind_unit, told_by}
 use Rattle.ckr_outside.specs.Disk.{OnlyReads}
 use Rattle.ckr_points.specs.Rows.{TablesModel, run_of}
@@ -49,7 +50,8 @@ module _ {D : Type 0} (told : Type 0) (content : D → List ℕ) (faults : D →
     (disk : mid.store ≡ record old.store { disk = mid.store.disk }) (reads : content mid.store.disk ≡ content old.store.disk) (kept : mid.jobs.running ≡ old.jobs.running) (tables : mid.jobs.tables.desk ≡ old.jobs.tables.desk)
     (store : new.store ≡ mid.store) (jobs : HasSameJobs mid new)
     (found : find (is_of_run run) old.jobs.running ≡ Some on) (there : AreThere on.step.files on.sets) (out : HasWorkedOut told (content old.store.disk) old.store.layout on.step on.sets unit)
-    (planned : IsToldOf old.store.layout old.jobs.tables.desk (behind_unit on unit) unit.worked plan) (shape : IsUnitPlan plan) (spelled : IsSpelledPlan plan) where
+    (planned : IsToldOf old.store.layout old.jobs.tables.desk (behind_unit on unit) unit.worked plan) (shape : IsUnitPlan plan) (spelled : IsSpelledPlan plan)
+    (follows : PlanFollows old.store.layout old.jobs.tables.desk plan) (commits : PlanCommits old.jobs.tables.desk (behind_unit on unit ∷ []) plan) (of_run : PlanIsOf on.run plan) where
   layout-is : new.store.layout ≡ old.store.layout
   layout-is = ap (λ (s : StoreView D). s.layout) store ∙ ap (λ (s : StoreView D). s.layout) disk
 
@@ -77,6 +79,9 @@ module _ {D : Type 0} (told : Type 0) (content : D → List ℕ) (faults : D →
         ∙ ap (λ (t : TablesModel). told_by new.store.layout row (running_of t moved) unit.worked) (sym tables-are);
     shape = shape;
     spelled = spelled;
+    follows = subst (λ (l : Layout). PlanFollows l new.jobs.tables.desk plan) (sym layout-is) (subst (λ (t : TablesModel). PlanFollows old.store.layout t plan) (sym tables-are) follows);
+    commits = subst (λ (t : TablesModel). PlanCommits t (moved ∷ []) plan) (sym tables-are) commits;
+    of_run = of_run;
   }
 
   pub is-ahead : (ready : Option Ready) → IsReadyFor (event_in plan) new ready → IsAhead told content run new (record { unit = unit; plan = plan; ready = ready })

@@ -1,21 +1,23 @@
 -- What is ready for the event of a unit is ready behind the unit too.
-use Rattle.std.proofs.Common.{◌≡◌, ◌≤◌, true, refl, ap, sym, ◌∙◌, subst, Option, Some, None}
+use Rattle.std.proofs.Common.{◌≡◌, ◌≤◌, ℕ, true, List, [], ◌∷◌, refl, ap, sym, ◌∙◌, subst, Option, Some, None}
+use Rattle.std.specs.List.{AllByRecursion}
 use Rattle.std.proofs.lemmas.Bool.{false≢true}
 use Rattle.ckr_book.specs.Book.{room_of}
 use Rattle.ckr_events.specs.declared.event.Event.{Event}
 use Rattle.ckr_events.specs.declared.event.Event.TheVariants.{Rewritten, Ended}
 use Rattle.ckr_desk_memory.specs.Model.RewriteCounts.{may_count}
 use Rattle.ckr_desk_memory.specs.declared.preparation.Prepared.{Prepared}
+use Rattle.ckr_desk_memory.proofs.Holders.OwnUnits.{others-commit}
+use Rattle.ckr_desk_memory.specs.OwnSteps.{IsOfOther, LeavesLeft, PlanCommits, PlanIsOf, PlanLeaves}
 use Rattle.ckr_desk_memory.specs.Plans.{IsUnitPlan, is_unit_event}
 use Rattle.ckr_desk_memory.specs.Preparation.{IsPrepared}
-use Rattle.ckr_desk_memory.specs.TurnEvents.{FollowsBetween, is_of_step}
+use Rattle.ckr_desk_memory.specs.View.{RunningStepView}
 use Rattle.ckr_points.specs.Rows.{TablesModel}
 use Rattle.ckr_points_tables.specs.Invariant.{HasRoom, is_plain_event}
 use Rattle.ckr_points_tables.specs.View.{RoomyTables}
 use Rattle.ckr_desk_refines.specs.Moves.{event_in}
 use Rattle.ckr_desk_turn.specs.declared.plan.Plan.{Plan}
 use Rattle.ckr_desk_turn.specs.declared.plan.Plan.TheVariants.{Rest, Tell, Work, Pass}
-use Rattle.ckr_volumes.specs.declared.layout.Layout.{Layout}
 use Rattle.ckr_desk.specs.declared.preparation.Ready.{Ready}
 use Rattle.ckr_desk.specs.Preparation.{IsReady, IsReadyFor}
 use Rattle.ckr_desk.specs.State.{DeskView, need_of}
@@ -33,17 +35,26 @@ plain-so (Tell reply event) shape = plain-event event shape
 plain-so (Work job) shape = absurd shape
 plain-so (Pass job reply) shape = absurd shape
 
-unit-of-step : (event : Event) → is_unit_event event ≡ true → is_of_step event ≡ true
-unit-of-step (Rewritten job taken writes lengths place image) its = refl
-unit-of-step (Ended job ending) its = its
-unit-of-step _ its = absurd (false≢true its)
+-- and it ends no step of a run that was running when the system failed
+leaves-so : (failed : List ℕ) (event : Event) → is_unit_event event ≡ true → LeavesLeft event failed
+leaves-so failed (Rewritten job taken writes lengths place image) its = tt
+leaves-so failed (Ended job ending) its = tt
+leaves-so failed _ its = absurd (false≢true its)
 
--- and it isn't between the steps of a run
-pub unit-between : (layout : Layout) (tables : TablesModel) (plan : Plan) → IsUnitPlan plan → FollowsBetween layout tables plan
-unit-between layout tables (Rest reply) shape = tt
-unit-between layout tables (Tell reply event) shape = λ between. absurd (false≢true (sym between ∙ unit-of-step event shape))
-unit-between layout tables (Work job) shape = tt
-unit-between layout tables (Pass job reply) shape = tt
+pub unit-leaves : (failed : List ℕ) (plan : Plan) → IsUnitPlan plan → PlanLeaves failed plan
+unit-leaves failed (Rest reply) shape = tt
+unit-leaves failed (Tell reply event) shape = leaves-so failed event shape
+unit-leaves failed (Work job) shape = tt
+unit-leaves failed (Pass job reply) shape = tt
+
+-- what the unit's step commits, it commits behind the unit with steps of other runs beside it
+pub commits-beside : (tables : TablesModel) (run : ℕ) (plan : Plan) (seen moved : RunningStepView) (others : List RunningStepView) → PlanIsOf run plan → moved.run ≡ seen.run → moved.sets.sets ≡ seen.sets.sets
+    → AllByRecursion (IsOfOther run) others → PlanCommits tables (seen ∷ []) plan → PlanCommits tables (moved ∷ others) plan
+commits-beside tables run (Rest reply) seen moved others of_run same sets apart commits = tt
+commits-beside tables run (Tell reply event) seen moved others of_run same sets apart commits =
+    others-commit tables event seen moved others same sets (subst (λ n. AllByRecursion (IsOfOther n) others) (sym of_run) apart) commits
+commits-beside tables run (Work job) seen moved others of_run same sets apart commits = tt
+commits-beside tables run (Pass job reply) seen moved others of_run same sets apart commits = tt
 
 module _ {D : Type 0} (old mid : DeskView D) (tables : mid.jobs.tables ≡ old.jobs.tables) (book : room_of mid.store.book ≡ room_of old.store.book) where
   still-prepared : (event : Event) → is_unit_event event ≡ true → (prepared : Prepared) → IsPrepared old.jobs event None prepared → IsPrepared mid.jobs event None prepared

@@ -1,6 +1,5 @@
 -- What a turn that works has done, with an event or without one.
 use Rattle.std.proofs.Common.{◌≡◌, ◌++◌, ℕ, List, true, refl, ap, sym, ◌∙◌, subst, Option, Some, None}
-use Rattle.std.proofs.lemmas.Bool.{false≢true}
 use Rattle.ckr_events.specs.declared.event.Event.{Event}
 use Rattle.ckr_desk_memory.specs.Plans.{IsSpelledPlan}
 use Rattle.ckr_desk_memory.specs.View.{jobs_of}
@@ -16,7 +15,7 @@ use Rattle.ckr_desk_turn.specs.declared.reply.Turn.{Turn}
 use Rattle.ckr_desk_turn.specs.Plans.{plan_of}
 use Rattle.ckr_volumes.specs.declared.layout.Layout.{Layout}
 use Rattle.ckr_desk.proofs.Turns.Plans.{gone-told}
-use Rattle.ckr_desk.proofs.Units.Turn.{behind-kept, event-so, reply-so, rest-state, rest-trusted, unit-fits, unit-follows, unit-kept, unit-state, unit-trusted}
+use Rattle.ckr_desk.proofs.Units.Turn.{behind-kept, event-so, reply-so, rest-state, rest-trusted, unit-fits, unit-kept, unit-state, unit-trusted}
 use Rattle.ckr_desk.specs.Requests.{FailsBy, has_room, spelled}
 use Rattle.ckr_desk.specs.Rewrite.{IsFault}
 use Rattle.ckr_desk.specs.Calls.{IsSettledBehind}
@@ -128,7 +127,7 @@ module _ {D : Type 0} (told : Type 0) (content : D → List ℕ) (may_leave : D 
     tell-cause reply event is faults new DiskFault not = tt
     tell-cause reply event is faults new (BookFull need room) not = absurd not
     tell-cause reply event is faults new (Stopped fault) not = absurd not
-    tell-cause reply event is faults new Misread not = false≢true (sym not ∙ unit-follows told content may_leave moment left_since size old trusted turn run planned mid plan done events shape stems event (ap event_in is))
+    tell-cause reply event is faults new Misread not = absurd not
 
     cause-by : (by : Plan) → plan ≡ by → (faults : D → ℕ) (new : DeskView D) (error : DeskError) → NotBehind faults by mid new error → FailsBy state.room (event_of_turn state turn) error
     cause-by (Rest reply) is faults new error not = absurd not

@@ -2,7 +2,6 @@
 use Rattle.std.proofs.Common.{◌≡◌, ◌≤◌, ◌+◌, ◌-◌, ◌++◌, ◌&&◌, ℕ, List, [], ◌∷◌, true, length, take, refl, ap, sym, ◌∙◌, subst, ⊎_elim, arith, Option, Some, None, Ok}
 use Rattle.std.proofs.lemmas.Bool.{and_from, le-leb}
 use Rattle.std.proofs.lemmas.Option.{same_Some}
-use Rattle.ckr_base.proofs.Bools.{and-first}
 use Rattle.ckr_base.proofs.Options.{some-not-none}
 use Rattle.arrayvec.specs.ArrayVec.{ArrayVec}
 use Rattle.ckr_book.specs.Book.{IsBeforeOrAfter, ends_closed, room_of}
@@ -58,7 +57,7 @@ use Rattle.ckr_desk.proofs.Trust.Events.{IsBehind, IsComing, desk-behind, truste
 use Rattle.ckr_desk.proofs.Turns.Events.{small-runs}
 use Rattle.ckr_desk.proofs.Trust.Conditions.{goes-out, shows-in, worked-out}
 use Rattle.ckr_desk.specs.Requests.{has_room, room_behind}
-use Rattle.ckr_desk.specs.Calls.{HasGoneOn, IsLeftBy, IsSettledBehind, may_follow, may_keep}
+use Rattle.ckr_desk.specs.Calls.{HasGoneOn, IsLeftBy, IsSettledBehind, may_keep}
 use Rattle.ckr_desk.specs.Rewrite.{IsWrittenBy, LacksAtMost, OpensSame}
 use Rattle.ckr_desk.specs.Turn.{behind_turn, event_of_turn, reply_of, turn_fits}
 use Rattle.ckr_desk.specs.Units.{HasDoneUnit, HasGoneBehind, HasWrittenBehind, IsPlainPlan, IsLeftBehind, IsLeftByUnit, IsLeftRewriting, StemsFromUnit}
@@ -290,12 +289,6 @@ module _ {D : Type 0} (told : Type 0) (content : D → List ℕ) (may_leave : D 
 
       tables-mid : mid.jobs.tables.desk ≡ office.tables
       tables-mid = done.tables ∙ trusted.stands.tables
-
-      pub unit-follows : may_follow event None mid ≡ true
-      unit-follows =
-          ap (λ (l : Layout). follows l mid.jobs.tables.desk event None) layout-same
-          ∙ ap (λ (tables : TablesModel). follows layout tables event None) tables-mid
-          ∙ and-first (follows layout office.tables event None) _ ensues.comes.may
 
       event-is : event_of_turn (state_of content old) turn ≡ Some event
       event-is = sym event-so ∙ is

@@ -1,10 +1,11 @@
-use Rattle.std.proofs.Common.{◌∙◌, ap, arith, subst, sym}
+use Rattle.std.proofs.Common.{◌∙◌, ap, arith, refl, subst, sym}
 use Rattle.ckr_outside.specs.Faults.{Rose}
 use Rattle.ckr_desk_refines.specs.RewriteRecord.{last_event}
 use Rattle.ckr_desk_store.specs.OpenImages.{event_records}
 use Rattle.ckr_points_tables.specs.View.{RoomyTables}
 use Rattle.ckr_desk.specs.Replay.{IsFound}
 use Rattle.ckr_desk.specs.Soundness.{events_in, last_on}
+use Rattle.ckr_desk.proofs.Layouts.{jobs-stay, kept-opened}
 use Rattle.ckr_desk.proofs.Openings.Answers.{found_behind, book_cause_behind, rose_before}
 use Rattle.ckr_desk.proofs.Openings.Replay.{handed_on}
 use Rattle.ckr_desk.proofs.Openings.Syncs.{reads-behind}
@@ -37,3 +38,11 @@ returns-clause-synced g c =
     let d = g.D.Disk in
     reads-behind d.content d.may_leave d.moment d.left_since c.args.disk.now c.sync.new.self c.layout_of.new.disk c.replay.new.disk
     c.in_ok-sync.ensures.only_reads c.in_ok-sync.ensures.durable c.in_ok-layout.ensures.only_reads c.in_ok-jobs.ensures.only_reads
+
+pub returns-clause-kept : goal.returns-clause-kept
+returns-clause-kept g c =
+    let layout = c.in_ok-layout.layout in
+    let jobs = c.in_ok-jobs.field-0.jobs in
+    let desk = ap (λ (t : RoomyTables). t.desk) c.open.ensures.tables in
+    kept-opened layout jobs c.open.new.self desk (c.open.ensures.running ∙ c.in_ok-jobs.ensures.running)
+    (jobs-stay layout layout jobs c.open.new.self refl desk c.open.ensures.running c.in_ok-jobs.ensures.jobs) (c.in_ok-open.ensures.left layout c.in_ok-jobs.ensures.jobs) c.in_ok-jobs.ensures.holders c.in_ok-jobs.ensures.numbered

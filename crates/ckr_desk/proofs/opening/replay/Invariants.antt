@@ -1,6 +1,8 @@
 use Rattle.std.proofs.Common.{◌≡◌, ◌≤◌, ◌-◌, []}
 use Rattle.ckr_outside.specs.Disk.{OnlyReads, part}
+use Rattle.ckr_desk_memory.specs.Holders.{AreHolders}
 use Rattle.ckr_desk_memory.specs.Invariant.{AreJobs}
+use Rattle.ckr_desk_turn.specs.Queue.{AreNumbered}
 use Rattle.ckr_desk.specs.Replay.{IsLastTo, IsReplayed}
 use Rattle.ckr_desk.proofs.opening.replay.Given as goal
 
@@ -12,6 +14,8 @@ invariant-loop-found g l =
       last : d.told → IsLastTo (part 512 l.layout.book (d.content l.fn.disk)) l.found.place l.found.last;
       place : l.found.place ≤ l.layout.book;
       jobs : AreJobs l.layout l.found.jobs;
+      holders : AreHolders l.found.jobs.tables.desk;
+      numbered : AreNumbered 1 l.found.jobs.tables.desk.runs;
       running : l.found.jobs.running ≡ [];
       only_reads : OnlyReads d.content d.may_leave d.moment d.left_since l.fn.disk l.disk;
       size : d.size l.disk ≡ d.size l.fn.disk;

@@ -1,8 +1,10 @@
-use Rattle.std.proofs.Common.{subst}
+use Rattle.std.proofs.Common.{subst, sym}
+use Rattle.ckr_desk_turn.specs.Queue.{AreNumbered}
 use Rattle.ckr_outside.specs.Disk.{part}
+use Rattle.ckr_points.specs.Rows.{TablesModel}
 use Rattle.ckr_outside.specs.Faults.{Rose}
 use Rattle.ckr_journal.specs.Events.{GoesOn}
-use Rattle.ckr_desk.proofs.Openings.Replay.{gone_on, not_followed, book_inside, replay_cause, handed_on, event_read}
+use Rattle.ckr_desk.proofs.Openings.Replay.{gone_on, not_followed, numbered-replayed, book_inside, replay_cause, handed_on, event_read}
 use Rattle.ckr_desk.proofs.opening.replay_one.Goals as goal
 
 pub returns-in_err-event_at-clause-cause : goal.returns-in_err-event_at-clause-cause
@@ -25,3 +27,8 @@ returns-else-not-branch-clause-goes g c =
 
 pub event_at-requires-clause-inside : goal.event_at-requires-clause-inside
 event_at-requires-clause-inside g c _ _ = book_inside c.args.layout.now (g.D.Disk.size c.args.disk.now) c.requires.header
+
+pub returns-else-not-branch-clause-numbered : goal.returns-else-not-branch-clause-numbered
+returns-else-not-branch-clause-numbered g c = λ numbered.
+    subst (λ (tables : TablesModel). AreNumbered 1 tables.runs) (sym c.in_ok-replay-in-Event.ensures.ok)
+    (numbered-replayed c.args.layout.now c.args.found.now.jobs.tables.desk c.in-Event.event numbered)

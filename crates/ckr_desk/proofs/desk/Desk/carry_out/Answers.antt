@@ -1,6 +1,7 @@
-use Rattle.std.proofs.Common.{◌≡◌, ◌≤◌, ◌∙◌, arith, ap, subst, sym, None, IfErr, IfOk, OnOk}
+use Rattle.std.proofs.Common.{◌≡◌, ◌≤◌, ◌∙◌, arith, ap, subst, sym, ℕ, List, None, IfErr, IfOk, OnOk}
 use Rattle.ckr_desk_memory.specs.Plans.{HasDue, IsSpelledPlan, IsToldReply}
-use Rattle.ckr_desk_memory.specs.TurnEvents.{FollowsBetween}
+use Rattle.ckr_desk_memory.specs.OwnSteps.{PlanCommits, PlanFollows, PlanLeaves}
+use Rattle.ckr_desk_memory.specs.View.{RunningStepView}
 use Rattle.ckr_points.specs.Rows.{TablesModel}
 use Rattle.ckr_volumes.specs.declared.layout.Layout.{Layout}
 use Rattle.ckr_desk_refines.specs.Moves.{event_in}
@@ -30,8 +31,16 @@ go_on-requires-clause-plain g c κs within = plain-told c.args.plan c.requires.p
 
 pub go_on-requires-clause-follows : goal.go_on-requires-clause-follows
 go_on-requires-clause-follows g c κs within =
-    subst (λ (l : Layout). FollowsBetween l c.ready_for.new.self.jobs.tables.desk c.args.plan) (sym (ap (λ (s : StoreView g.row.D.Denot). s.layout) c.ready_for.ensures.store))
-    (subst (λ (tables : TablesModel). FollowsBetween c.args.self.now.store.layout tables c.args.plan) (sym c.ready_for.ensures.jobs.tables) c.requires.follows)
+    subst (λ (l : Layout). PlanFollows l c.ready_for.new.self.jobs.tables.desk c.args.plan) (sym (ap (λ (s : StoreView g.row.D.Denot). s.layout) c.ready_for.ensures.store))
+    (subst (λ (tables : TablesModel). PlanFollows c.args.self.now.store.layout tables c.args.plan) (sym c.ready_for.ensures.jobs.tables) c.requires.follows)
+
+pub go_on-requires-clause-commits : goal.go_on-requires-clause-commits
+go_on-requires-clause-commits g c κs within =
+    subst (λ (tables : TablesModel). PlanCommits tables c.ready_for.new.self.jobs.running c.args.plan) (sym c.ready_for.ensures.jobs.tables)
+    (subst (λ (running : List RunningStepView). PlanCommits c.args.self.now.jobs.tables.desk running c.args.plan) (sym c.ready_for.ensures.jobs.running) c.requires.commits)
+
+pub go_on-requires-clause-leaves : goal.go_on-requires-clause-leaves
+go_on-requires-clause-leaves g c κs within = subst (λ (failed : List ℕ). PlanLeaves failed c.args.plan) (sym c.ready_for.ensures.jobs.failed) c.requires.leaves
 
 pub go_on-requires-clause-ready : goal.go_on-requires-clause-ready
 go_on-requires-clause-ready g c κs within = c.in_ok-ready-in_default.ensures.ready

@@ -1,6 +1,12 @@
-use Rattle.std.proofs.Common.{◌∷◌, ap, inr, sym, subst, ◌∙◌}
+use Rattle.std.proofs.Common.{◌≡◌, List, [], ◌∷◌, ap, inr, sym, subst, ◌∙◌}
+use Rattle.std.specs.List.{AllByRecursion}
 use Rattle.std.specs.Option.{option_map}
-use Rattle.ckr_desk_memory.specs.Invariant.{AreJobs}
+use Rattle.ckr_base.proofs.Numbers.{equal-true}
+use Rattle.ckr_base.proofs.Sequences.{find-passes}
+use Rattle.ckr_desk_memory.proofs.Holders.Units.{running-unit}
+use Rattle.ckr_desk_memory.specs.EventChanges.{is_of_run}
+use Rattle.ckr_desk_memory.specs.OwnSets.{IsRunningOf}
+use Rattle.ckr_desk_memory.specs.OwnSteps.{IsOfOther, PlanCommits, PlanIsOf}
 use Rattle.ckr_desk_memory.specs.Parts.{step_seen}
 use Rattle.ckr_desk_memory.specs.Plans.{behind_unit}
 use Rattle.ckr_desk_memory.specs.View.{RunningStepView}
@@ -8,15 +14,19 @@ use Rattle.ckr_outside.specs.Moments.{both_since, in_other_words}
 use Rattle.ckr_steps.specs.StepUnit.{HasWorkedOut}
 use Rattle.ckr_steps.specs.Writes.{StemsKeeping}
 use Rattle.ckr_volumes.specs.declared.layout.Layout.{Layout}
-use Rattle.ckr_desk.specs.State.{DeskView}
+use Rattle.ckr_points.specs.Rows.{TablesModel}
+use Rattle.ckr_points_tables.specs.View.{RoomyTables}
+use Rattle.ckr_desk.specs.State.{AreKept, DeskView}
 use Rattle.ckr_desk.specs.Rewrite.{OpensSame}
 use Rattle.ckr_desk.specs.Units.{IsLeftByUnit, IsToldOf}
 use Rattle.ckr_desk.specs.Preparation.{IsWorkedOut}
+use Rattle.ckr_desk.proofs.Layouts.{kept-moved}
 use Rattle.ckr_desk.proofs.Units.Preparation.{same-on, told-moved}
+use Rattle.ckr_desk.proofs.Units.Readiness.{commits-beside}
 use Rattle.ckr_desk.proofs.desk.Desk.done_unit.Goals as goal
 
 pub do_unit-requires-clause-runnable : goal.do_unit-requires-clause-runnable
-do_unit-requires-clause-runnable g c κs within = c.in-Some.ensures.runnable c.self.inside.store.layout c.self.invariant
+do_unit-requires-clause-runnable g c κs within = c.in-Some.ensures.runnable c.self.inside.store.layout c.self.invariant.are
 
 pub do_unit-requires-clause-unit : goal.do_unit-requires-clause-unit
 do_unit-requires-clause-unit g c κs within =
@@ -29,7 +39,11 @@ do_unit-requires-clause-unit g c κs within =
 
 pub invariant_of-self : goal.invariant_of-self
 invariant_of-self g c =
-    subst (λ (l : Layout). AreJobs l c.take_step.new.self) (sym c.do_unit.ensures.layout) (c.take_step.ensures.jobs c.self.inside.store.layout c.self.invariant)
+    let layout = c.self.inside.store.layout in
+    let kept = c.self.invariant in
+    subst (λ (l : Layout). AreKept l c.take_step.new.self) (sym c.do_unit.ensures.layout)
+    (kept-moved layout c.self.inside.jobs c.take_step.new.self (ap (λ (t : RoomyTables). t.desk) c.take_step.ensures.tables) c.take_step.ensures.failed
+    (c.take_step.ensures.jobs layout kept.are) (c.take_step.ensures.own kept.own) kept)
 
 pub returns-in_err-do_unit-clause-left : goal.returns-in_err-do_unit-clause-left
 returns-in_err-do_unit-clause-left g c =
@@ -46,8 +60,42 @@ returns-in_err-do_unit-clause-left g c =
 
 pub invariant_of-self-2 : goal.invariant_of-self-2
 invariant_of-self-2 g c =
-    subst (λ (l : Layout). AreJobs l c.put_step.new.self) (sym c.do_unit.ensures.layout)
-    (c.put_step.ensures.jobs c.self.inside.store.layout (c.take_step.ensures.jobs c.self.inside.store.layout c.self.invariant) c.in_ok-do_unit.ensures.runnable)
+    let layout = c.self.inside.store.layout in
+    let kept = c.self.invariant in
+    let run = c.args.run in
+    let on = step_seen c.in-Some.on in
+    let moved = step_seen c.do_unit.new.on in
+    let desk = ap (λ (t : RoomyTables). t.desk) c.take_step.ensures.tables in
+    let worked = c.in_ok-do_unit.ensures.worked in
+    let found = sym c.take_step.ensures.step ∙ ap (option_map step_seen) c.in-Some.is in
+    let its : moved.run ≡ run = c.do_unit.ensures.run ∙ equal-true on.run run (find-passes (is_of_run run) c.self.inside.jobs.running on found) in
+    let is : IsRunningOf c.self.inside.jobs.tables.desk moved =
+    running-unit c.self.inside.jobs.tables.desk on moved worked.heads c.in_ok-do_unit.field-0 kept.are.rows kept.numbered c.do_unit.ensures.run worked.done (c.in-Some.ensures.own_step kept.own) in
+    subst (λ (l : Layout). AreKept l c.put_step.new.self) (sym c.do_unit.ensures.layout)
+    (kept-moved layout c.self.inside.jobs c.put_step.new.self (ap (λ (t : RoomyTables). t.desk) c.put_step.ensures.tables ∙ desk) (c.put_step.ensures.failed ∙ c.take_step.ensures.failed)
+    (c.put_step.ensures.jobs layout (c.take_step.ensures.jobs layout kept.are) c.in_ok-do_unit.ensures.runnable)
+    (c.put_step.ensures.own (c.take_step.ensures.own kept.own) (subst (λ (t : TablesModel). IsRunningOf t moved) (sym desk) is)
+    (subst (λ n. AllByRecursion (IsOfOther n) c.take_step.new.self.running) (sym its) (c.take_step.ensures.others kept.own))) kept)
+
+pub returns-clause-commits : goal.returns-clause-commits
+returns-clause-commits g c =
+    let d = g.D.Disk in
+    let old : DeskView g.row.D.Denot = record { store = c.self.inside.store; jobs = c.self.inside.jobs } in
+    let run = c.args.run in
+    let on = step_seen c.in-Some.on in
+    let moved = step_seen c.do_unit.new.on in
+    let unit = c.args.unit in
+    let tables = old.jobs.tables.desk in
+    let found = sym c.take_step.ensures.step ∙ ap (option_map step_seen) c.in-Some.is in
+    rw (← c.self.view_is)
+    (λ plan looked.
+    let same : looked.of.on ≡ on = same-on d.told d.content run old unit looked.of on found in
+    subst (λ (t : TablesModel). PlanCommits t c.put_step.new.self.running plan) (sym (ap (λ (t : RoomyTables). t.desk) c.put_step.ensures.tables ∙ ap (λ (t : RoomyTables). t.desk) c.take_step.ensures.tables))
+    (subst (λ (running : List RunningStepView). PlanCommits tables running plan) (sym c.put_step.ensures.running)
+    (commits-beside tables run plan (behind_unit on unit) moved c.take_step.new.self.running
+    (subst (λ n. PlanIsOf n plan) (equal-true looked.of.on.run run (find-passes (is_of_run run) old.jobs.running looked.of.on looked.of.found)) looked.of_run)
+    c.do_unit.ensures.run c.in_ok-do_unit.ensures.lengths (c.take_step.ensures.others c.self.invariant.own)
+    (subst (λ (its : RunningStepView). PlanCommits tables (behind_unit its unit ∷ []) plan) same looked.commits))))
 
 pub returns-clause-done : goal.returns-clause-done
 returns-clause-done g c =

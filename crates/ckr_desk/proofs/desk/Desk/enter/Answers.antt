@@ -1,16 +1,22 @@
-use Rattle.std.proofs.Common.{ap, refl, subst, ◌∙◌}
+use Rattle.std.proofs.Common.{ap, refl, subst, sym, ◌∙◌}
 use Rattle.std.proofs.lemmas.Bool.{and_from}
 use Rattle.ckr_book.specs.Book.{IsBeforeOrAfter}
+use Rattle.ckr_desk_memory.proofs.Invariant.{numbered-behind}
 use Rattle.ckr_desk_memory.proofs.RewriteCounts.{counted-may}
 use Rattle.ckr_desk_memory.specs.Model.RewriteCounts.{may_count}
+use Rattle.ckr_desk_memory.specs.OwnSets.{CommitsItsOwn}
+use Rattle.ckr_desk_memory.specs.OwnSteps.{LeavesLeft}
+use Rattle.ckr_desk_turn.specs.Queue.{AreNumbered}
 use Rattle.ckr_outside.specs.Disk.{EachSince, SameOutside}
+use Rattle.ckr_points.specs.Rows.{TablesModel}
 use Rattle.ckr_desk_store.specs.OpenImages.{Opens, event_records}
 use Rattle.ckr_volumes.specs.declared.layout.Layout.{Layout}
 use Rattle.ckr_volumes.specs.Records.{records_on}
 use Rattle.ckr_desk.proofs.Images.Records.{records-stay}
-use Rattle.ckr_desk.proofs.Layouts.{append-layout, failed-layout, jobs-stay}
+use Rattle.ckr_desk.proofs.Layouts.{append-layout, failed-layout, kept-stay}
 use Rattle.ckr_desk.proofs.Calls.Stops.{appended-store}
 use Rattle.ckr_desk.specs.Calls.{may_follow}
+use Rattle.ckr_desk.specs.State.{AreKept, DeskView}
 use Rattle.ckr_desk.proofs.desk.Desk.enter.Goals as goal
 
 pub returns-clause-records : goal.returns-clause-records
@@ -60,10 +66,27 @@ returns-clause-left g c =
 
 pub invariant_of-self : goal.invariant_of-self
 invariant_of-self g c =
-    jobs-stay c.self.inside.store.layout c.sync.new.self.layout c.self.inside.jobs c.self.inside.jobs
-    (failed-layout g.D.Disk.faults c.self.inside.store c.sync.new.self c.in_err-sync.field-0.0 c.in_err-sync.ensures.cause) refl refl c.self.invariant
+    kept-stay c.self.inside.store.layout c.sync.new.self.layout c.self.inside.jobs c.self.inside.jobs
+    (failed-layout g.D.Disk.faults c.self.inside.store c.sync.new.self c.in_err-sync.field-0.0 c.in_err-sync.ensures.cause) refl refl refl c.self.invariant
 
 pub invariant_of-self-in_err-append : goal.invariant_of-self-in_err-append
 invariant_of-self-in_err-append g c =
-    jobs-stay c.self.inside.store.layout c.append.new.self.layout c.self.inside.jobs c.self.inside.jobs
-    (append-layout g.D.Disk.faults c.sync.new.self c.append.new.self _ c.in_err-append.field-0.0 c.in_err-append.ensures.cause ∙ ap (λ s. s.layout) c.in_ok-sync.ensures.kept) refl refl c.self.invariant
+    kept-stay c.self.inside.store.layout c.append.new.self.layout c.self.inside.jobs c.self.inside.jobs
+    (append-layout g.D.Disk.faults c.sync.new.self c.append.new.self _ c.in_err-append.field-0.0 c.in_err-append.ensures.cause ∙ ap (λ s. s.layout) c.in_ok-sync.ensures.kept) refl refl refl c.self.invariant
+
+pub invariant_of-self-2 : goal.invariant_of-self-2
+invariant_of-self-2 g c =
+    let event = c.args.event.now in
+    let deck = c.args.deck in
+    let layout = c.self.inside.store.layout in
+    let jobs = c.self.inside.jobs in
+    let kept = c.self.invariant in
+    let follow = ap (may_follow event deck) c.self.view_is ∙ c.requires.follows in
+    subst (λ (l : Layout). AreKept l c.keep.new.self) (sym (ap (λ s. s.layout) c.in_ok-append.ensures.kept ∙ ap (λ s. s.layout) c.in_ok-sync.ensures.kept))
+    (record {
+      are = c.keep.ensures.jobs layout kept.are follow;
+      own = c.keep.ensures.own layout kept.are kept.own follow (subst (λ (s : DeskView g.row.D.Denot). CommitsItsOwn event s.jobs.tables.desk s.jobs.running) (sym c.self.view_is) c.requires.commits);
+      left = c.keep.ensures.left layout kept.are kept.left follow (subst (λ (s : DeskView g.row.D.Denot). LeavesLeft event s.jobs.failed) (sym c.self.view_is) c.requires.leaves);
+      numbered = subst (λ (tables : TablesModel). AreNumbered 1 tables.runs) (sym c.keep.ensures.tables)
+          (numbered-behind layout jobs.tables.desk event deck c.requires.plain follow kept.numbered);
+    })

@@ -1,5 +1,7 @@
 use Rattle.std.proofs.Common.{◌≡◌, sym, subst, true, arith, Some}
 use Rattle.ckr_desk_memory.specs.Invariant.{IsAnyAccepted}
+use Rattle.ckr_desk_memory.specs.OwnSets.{CommitsItsOwn}
+use Rattle.ckr_desk_memory.specs.OwnSteps.{LeavesLeft}
 use Rattle.ckr_events.specs.declared.event.Event.TheVariants.{Submitted}
 use Rattle.ckr_desk_store.specs.State.{IsSound}
 use Rattle.ckr_points_decks.specs.Cards.{kept_of_stored}
@@ -31,3 +33,10 @@ returns-in_err-event-clause-left g c is_open =
     let laws = g.met.D.Disk g.world.𝓛 g.world.𝓜 g.world.𝓡 ((λ s x. x), (λ x. x), (λ x. x), λ x. x) in
     nothing-left d.told d.content d.may_leave d.moment d.left_since d.size (Submitted c.args.number (kept_of_stored c.args.cards.now)) (Some c.args.job) now
     (subst (λ s. IsSound d.content d.may_leave d.size s.store) c.self.view_is c.layout-layout.ensures.sound) is_open (laws.only_now now.store.disk)
+
+pub tell-requires-clause-commits : goal.tell-requires-clause-commits
+tell-requires-clause-commits g c κs within =
+    subst (λ event. CommitsItsOwn event c.args.self.now.jobs.tables.desk c.args.self.now.jobs.running) (sym c.in_ok-event.ensures.event) tt
+
+pub tell-requires-clause-leaves : goal.tell-requires-clause-leaves
+tell-requires-clause-leaves g c κs within = subst (λ event. LeavesLeft event c.args.self.now.jobs.failed) (sym c.in_ok-event.ensures.event) tt

@@ -3,6 +3,8 @@ use Rattle.std.proofs.lemmas.Option.{same_Some}
 use Rattle.ckr_base.specs.declared.programs.NextDue.TheVariants.{Unit as OneUnit}
 use Rattle.ckr_steps.specs.Units.{due_of}
 use Rattle.ckr_desk_turn.specs.declared.plan.Plan.TheVariants.{Work}
+use Rattle.ckr_desk_memory.proofs.Holders.Rooms.{stored-fit}
+use Rattle.ckr_desk_memory.specs.OwnSteps.{PlanFollows}
 use Rattle.ckr_desk_memory.specs.Parts.{step_seen}
 use Rattle.ckr_desk_memory.specs.Plans.{HasDue, behind_unit, told_by}
 use Rattle.ckr_desk_memory.specs.View.{RunningStepView, running_of}
@@ -21,19 +23,19 @@ ahead-requires-clause-due g c κs within =
     (same_Some its.0 (step_seen c.in-Some.on.now) (sym its.1 ∙ sym c.in-Some.ensures.step)) its.2
 
 pub ahead-requires-clause-counted : goal.ahead-requires-clause-counted
-ahead-requires-clause-counted g c κs within = (c.in-Some.ensures.runnable c.self.inside.store.layout c.self.invariant).counted
+ahead-requires-clause-counted g c κs within = (c.in-Some.ensures.runnable c.self.inside.store.layout c.self.invariant.are).counted
 
 pub ahead-requires-clause-stored : goal.ahead-requires-clause-stored
-ahead-requires-clause-stored g c κs within = (c.in-Some.ensures.runnable c.self.inside.store.layout c.self.invariant).stored
+ahead-requires-clause-stored g c κs within = (c.in-Some.ensures.runnable c.self.inside.store.layout c.self.invariant.are).stored
 
 pub ahead-requires-clause-there : goal.ahead-requires-clause-there
-ahead-requires-clause-there g c κs within = (c.in-Some.ensures.runnable c.self.inside.store.layout c.self.invariant).there
+ahead-requires-clause-there g c κs within = (c.in-Some.ensures.runnable c.self.inside.store.layout c.self.invariant.are).there
 
 pub told-plan-requires-clause-counted : goal.told-plan-requires-clause-counted
 told-plan-requires-clause-counted g c = c.in_ok-unit.ensures.ahead.unit.counted
 
 pub told-plan-requires-clause-short : goal.told-plan-requires-clause-short
-told-plan-requires-clause-short g c name set is = short-so _ _ (c.in-Some.ensures.runnable c.self.inside.store.layout c.self.invariant).stored name set is
+told-plan-requires-clause-short g c name set is = short-so _ _ (c.in-Some.ensures.runnable c.self.inside.store.layout c.self.invariant.are).stored name set is
 
 pub told-plan-requires-clause-code : goal.told-plan-requires-clause-code
 told-plan-requires-clause-code g c =
@@ -49,11 +51,15 @@ returns-clause-ahead g c =
     let kept = c.in_ok-unit.ensures.kept in
     is-ahead d.told d.content d.faults c.args.run old mid c.ready_for.new.self on unit c.told-plan.result
     kept c.ahead.ensures.only_reads.same refl refl c.ready_for.ensures.store c.ready_for.ensures.jobs
-    (sym c.in-Some.ensures.step) (c.in-Some.ensures.runnable c.self.inside.store.layout c.self.invariant).there c.in_ok-unit.ensures.ahead
+    (sym c.in-Some.ensures.step) (c.in-Some.ensures.runnable c.self.inside.store.layout c.self.invariant.are).there c.in_ok-unit.ensures.ahead
     (λ row own at within.
     c.told-plan.ensures.plan row own at within
     ∙ ap (λ (l : Layout). told_by l row (running_of c.self.inside.jobs.tables.desk (behind_unit on unit)) unit.worked) (c.layout.ensures.layout ∙ ap (λ (s : StoreView g.row.D.Denot). s.layout) kept))
     c.told-plan.ensures.unit c.told-plan.ensures.spelled
+    (subst (λ (l : Layout). PlanFollows l c.self.inside.jobs.tables.desk c.told-plan.result) (c.layout.ensures.layout ∙ ap (λ (s : StoreView g.row.D.Denot). s.layout) kept)
+    (c.told-plan.ensures.own c.in_ok-unit.ensures.ahead.heads (c.in-Some.ensures.own c.self.invariant.own) (stored-fit c.self.inside.store.layout on.sets (c.in-Some.ensures.runnable c.self.inside.store.layout c.self.invariant.are).stored)
+    (c.in-Some.ensures.runnable c.self.inside.store.layout c.self.invariant.are).there c.in_ok-unit.ensures.ahead.unit))
+    (c.told-plan.ensures.commits (c.in-Some.ensures.own c.self.invariant.own)) (c.told-plan.ensures.of_run (c.in-Some.ensures.own c.self.invariant.own))
     c.in_ok-ready.ready c.in_ok-ready.ensures.ready
 
 pub returns-in_err-ready-clause-cause : goal.returns-in_err-ready-clause-cause
@@ -69,9 +75,13 @@ returns-in_err-ready-clause-cause g c =
     (subst (λ r. IfErr r (NotLooked d.told d.content d.faults c.args.run old c.ready_for.new.self)) (sym (err-is c.from_residual-in_err-ready.result error c.from_residual-in_err-ready.ensures.1))
     (not-ready d.told d.content d.faults c.args.run old mid c.ready_for.new.self on unit c.told-plan.result
     kept c.ahead.ensures.only_reads.same refl refl c.ready_for.ensures.store c.ready_for.ensures.jobs
-    (sym c.in-Some.ensures.step) (c.in-Some.ensures.runnable c.self.inside.store.layout c.self.invariant).there c.in_ok-unit.ensures.ahead
+    (sym c.in-Some.ensures.step) (c.in-Some.ensures.runnable c.self.inside.store.layout c.self.invariant.are).there c.in_ok-unit.ensures.ahead
     (λ row own at within.
     c.told-plan.ensures.plan row own at within
     ∙ ap (λ (l : Layout). told_by l row (running_of c.self.inside.jobs.tables.desk (behind_unit on unit)) unit.worked) (c.layout.ensures.layout ∙ ap (λ (s : StoreView g.row.D.Denot). s.layout) kept))
     c.told-plan.ensures.unit c.told-plan.ensures.spelled
+    (subst (λ (l : Layout). PlanFollows l c.self.inside.jobs.tables.desk c.told-plan.result) (c.layout.ensures.layout ∙ ap (λ (s : StoreView g.row.D.Denot). s.layout) kept)
+    (c.told-plan.ensures.own c.in_ok-unit.ensures.ahead.heads (c.in-Some.ensures.own c.self.invariant.own) (stored-fit c.self.inside.store.layout on.sets (c.in-Some.ensures.runnable c.self.inside.store.layout c.self.invariant.are).stored)
+    (c.in-Some.ensures.runnable c.self.inside.store.layout c.self.invariant.are).there c.in_ok-unit.ensures.ahead.unit))
+    (c.told-plan.ensures.commits (c.in-Some.ensures.own c.self.invariant.own)) (c.told-plan.ensures.of_run (c.in-Some.ensures.own c.self.invariant.own))
     error c.in_err-ready.ensures.cause))

@@ -1,8 +1,14 @@
+use Rattle.std.proofs.Common.{ap}
+use Rattle.ckr_points_tables.specs.View.{RoomyTables}
+use Rattle.ckr_desk.proofs.Layouts.{kept-moved}
 use Rattle.ckr_desk.proofs.Turns.Checkpoints.{all-counted}
 use Rattle.ckr_desk.proofs.desk.Desk.pass.Goals as goal
 
 pub pass-requires : goal.pass-requires
-pass-requires g c = record { counted = all-counted c.self.inside.store.layout c.self.inside.jobs.running c.self.invariant.running }
+pass-requires g c = record { counted = all-counted c.self.inside.store.layout c.self.inside.jobs.running c.self.invariant.are.running }
 
 pub invariant_of-self : goal.invariant_of-self
-invariant_of-self g c = c.pass.ensures.jobs c.self.inside.store.layout c.self.invariant
+invariant_of-self g c =
+    let layout = c.self.inside.store.layout in
+    let kept = c.self.invariant in
+    kept-moved layout c.self.inside.jobs c.pass.new.self (ap (λ (t : RoomyTables). t.desk) c.pass.ensures.tables) c.pass.ensures.failed (c.pass.ensures.jobs layout kept.are) (c.pass.ensures.own kept.own) kept

@@ -15,7 +15,7 @@ use Rattle.ckr_desk.proofs.desk.Desk.records.Goals as goal
 
 pub read_all-requires-clause-stands : goal.read_all-requires-clause-stands
 read_all-requires-clause-stands g c κs within =
-    free-stands c.self.inside.store.layout c.self.inside.jobs.tables.desk c.args.name.now c.in-Some-free_set.set.now c.self.invariant.laid.stand
+    free-stands c.self.inside.store.layout c.self.inside.jobs.tables.desk c.args.name.now c.in-Some-free_set.set.now c.self.invariant.are.laid.stand
     (sym c.free_set.ensures.set ∙ ap option_copied c.in-Some-free_set.is)
 
 pub returns-in_ok-read_all-in-Some-free_set-clause-records : goal.returns-in_ok-read_all-in-Some-free_set-clause-records

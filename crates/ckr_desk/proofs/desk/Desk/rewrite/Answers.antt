@@ -39,7 +39,7 @@ write_record-requires-clause-image g c κs within =
 
 pub write_record-requires-clause-stands : goal.write_record-requires-clause-stands
 write_record-requires-clause-stands g c κs within =
-    set-stands c.self.inside.store.layout c.library.result.now c.self.inside.jobs.tables.desk.sets c.in-Some.name c.in-Some-get.set.now c.library.ensures.sets (sym c.in-Some-get.ensures) c.self.invariant.laid.stand
+    set-stands c.self.inside.store.layout c.library.result.now c.self.inside.jobs.tables.desk.sets c.in-Some.name c.in-Some-get.set.now c.library.ensures.sets (sym c.in-Some-get.ensures) c.self.invariant.are.laid.stand
 
 pub returns-in_err-write_record-clause-left : goal.returns-in_err-write_record-clause-left
 returns-in_err-write_record-clause-left g c =
@@ -48,7 +48,7 @@ returns-in_err-write_record-clause-left g c =
     let layout = c.self.inside.store.layout in
     let tables = c.self.inside.jobs.tables.desk in
     let set = c.in-Some-get.set.now in
-    let stands = set-stands layout c.library.result.now tables.sets c.in-Some.name set c.library.ensures.sets (sym c.in-Some-get.ensures) c.self.invariant.laid.stand in
+    let stands = set-stands layout c.library.result.now tables.sets c.in-Some.name set c.library.ensures.sets (sym c.in-Some-get.ensures) c.self.invariant.are.laid.stand in
     let is_open = ap (λ s. s.store.fault) c.self.view_is ∙ c.requires.is_open in
     rw (← c.self.view_is)
     (λ only.
@@ -68,7 +68,7 @@ returns-in_err-sync-clause-left g c =
     let layout = c.self.inside.store.layout in
     let tables = c.self.inside.jobs.tables.desk in
     let set = c.in-Some-get.set.now in
-    let stands = set-stands layout c.library.result.now tables.sets c.in-Some.name set c.library.ensures.sets (sym c.in-Some-get.ensures) c.self.invariant.laid.stand in
+    let stands = set-stands layout c.library.result.now tables.sets c.in-Some.name set c.library.ensures.sets (sym c.in-Some-get.ensures) c.self.invariant.are.laid.stand in
     let is_open = ap (λ s. s.store.fault) c.self.view_is ∙ c.requires.is_open in
     rw (← c.self.view_is)
     (λ only.
@@ -104,7 +104,7 @@ returns-clause-left g c =
     let layout = c.self.inside.store.layout in
     let tables = c.self.inside.jobs.tables.desk in
     let set = c.in-Some-get.set.now in
-    let stands = set-stands layout c.library.result.now tables.sets c.in-Some.name set c.library.ensures.sets (sym c.in-Some-get.ensures) c.self.invariant.laid.stand in
+    let stands = set-stands layout c.library.result.now tables.sets c.in-Some.name set c.library.ensures.sets (sym c.in-Some-get.ensures) c.self.invariant.are.laid.stand in
     let is_open = ap (λ s. s.store.fault) c.self.view_is ∙ c.requires.is_open in
     rw (← c.self.view_is)
     (λ only.

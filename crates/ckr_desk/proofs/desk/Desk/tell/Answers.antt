@@ -3,6 +3,8 @@ use Rattle.ckr_points.specs.Follows.{follows}
 use Rattle.ckr_points.specs.Rows.{TablesModel}
 use Rattle.ckr_events.specs.Event.{spelling}
 use Rattle.ckr_outside.specs.Disk.{EachSince}
+use Rattle.ckr_desk_memory.specs.OwnSets.{CommitsItsOwn}
+use Rattle.ckr_desk_memory.specs.OwnSteps.{LeavesLeft}
 use Rattle.ckr_desk_refines.specs.Moves.{HasSameRecords}
 use Rattle.ckr_desk_store.specs.OpenImages.{event_records}
 use Rattle.ckr_desk_store.specs.State.{IsSound, StoreView}
@@ -39,6 +41,14 @@ pub enter-requires-clause-follows : goal.enter-requires-clause-follows
 enter-requires-clause-follows g c κs within =
     subst (λ (s : StoreView g.row.D.Denot). follows s.layout c.make_ready.new.self.jobs.tables.desk c.args.event.now c.args.deck ≡ true) (sym c.make_ready.ensures.store)
     (subst (λ (tables : TablesModel). follows c.args.self.now.store.layout tables c.args.event.now c.args.deck ≡ true) (sym c.make_ready.ensures.jobs.tables) c.requires.follows)
+
+pub enter-requires-clause-commits : goal.enter-requires-clause-commits
+enter-requires-clause-commits g c κs within =
+    subst (λ (tables : TablesModel). CommitsItsOwn c.args.event.now tables c.make_ready.new.self.jobs.running) (sym c.make_ready.ensures.jobs.tables)
+    (subst (CommitsItsOwn c.args.event.now c.args.self.now.jobs.tables.desk) (sym c.make_ready.ensures.jobs.running) c.requires.commits)
+
+pub enter-requires-clause-leaves : goal.enter-requires-clause-leaves
+enter-requires-clause-leaves g c κs within = subst (LeavesLeft c.args.event.now) (sym c.make_ready.ensures.jobs.failed) c.requires.leaves
 
 pub returns-clause-ok : goal.returns-clause-ok
 returns-clause-ok g c =

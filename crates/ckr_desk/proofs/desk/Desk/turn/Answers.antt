@@ -1,6 +1,6 @@
 use Rattle.std.proofs.Common.{◌∙◌, IfErr, ap, refl, subst, sym}
 use Rattle.ckr_desk_memory.specs.Plans.{Tells}
-use Rattle.ckr_desk_memory.specs.TurnEvents.{FollowsBetween}
+use Rattle.ckr_desk_memory.specs.OwnSteps.{PlanFollows}
 use Rattle.ckr_desk_memory.specs.View.{jobs_of}
 use Rattle.ckr_desk_turn.specs.Invariant.{IsTurnOf}
 use Rattle.ckr_outside.specs.Moments.{started}
@@ -60,7 +60,13 @@ plan-requires-clause-turn g c =
 
 pub carry_out-requires-clause-follows : goal.carry_out-requires-clause-follows
 carry_out-requires-clause-follows g c κs within =
-    subst (λ (l : Layout). FollowsBetween l c.plan.new.self.tables.desk c.in_ok-plan.plan) c.layout.ensures.layout c.in_ok-plan.ensures.follows
+    subst (λ (l : Layout). PlanFollows l c.plan.new.self.tables.desk c.in_ok-plan.plan) c.layout.ensures.layout (c.in_ok-plan.ensures.own c.self.invariant.own c.self.invariant.left)
+
+pub carry_out-requires-clause-commits : goal.carry_out-requires-clause-commits
+carry_out-requires-clause-commits g c κs within = c.in_ok-plan.ensures.commits
+
+pub carry_out-requires-clause-leaves : goal.carry_out-requires-clause-leaves
+carry_out-requires-clause-leaves g c κs within = c.in_ok-plan.ensures.left
 
 abbrev desk_before : (g : Over) (c : goal.After-carry_out g) → DeskView g.row.D.Denot
 desk_before g c = record { store = c.self.inside.store; jobs = c.self.inside.jobs }

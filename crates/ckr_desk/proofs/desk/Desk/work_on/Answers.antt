@@ -1,14 +1,18 @@
 use Rattle.std.proofs.Common.{◌∙◌, sym, subst, ap, Result, Err}
 use Rattle.ckr_book.specs.Book.{room_of}
+use Rattle.ckr_desk_memory.specs.OwnSteps.{PlanFollows}
 use Rattle.ckr_outside.specs.Moments.{at_the_end}
 use Rattle.ckr_desk_store.specs.State.{StoreView}
+use Rattle.ckr_points_tables.specs.View.{RoomyTables}
+use Rattle.ckr_volumes.specs.declared.layout.Layout.{Layout}
 use Rattle.ckr_desk_turn.specs.declared.reply.Reply.{Reply}
 use Rattle.ckr_desk.specs.declared.error.DeskError.{DeskError}
+use Rattle.ckr_desk.proofs.Layouts.{kept-moved}
 use Rattle.ckr_desk.proofs.Units.Results.{done-after, done-cause, done-fits, done-kept, done-reply, done-told, done-trusted, unit-cause, unit-keeps, unit-takes}
 use Rattle.ckr_desk.proofs.Units.Preparation.{err-is}
 use Rattle.ckr_desk.proofs.Turns.Plans.{behind-takes, go-of-disk}
 use Rattle.ckr_desk.proofs.Turns.Preparation.{came-of-disk}
-use Rattle.ckr_desk.proofs.Units.Readiness.{plain-so, ready-behind, unit-between}
+use Rattle.ckr_desk.proofs.Units.Readiness.{plain-so, ready-behind, unit-leaves}
 use Rattle.ckr_desk.specs.Requests.{came_by, spelled}
 use Rattle.ckr_desk.specs.Soundness.{KeepsWithin, state_of}
 use Rattle.ckr_desk.specs.State.{DeskView}
@@ -42,7 +46,15 @@ pub go_on-requires-clause-plain : goal.go_on-requires-clause-plain
 go_on-requires-clause-plain g c κs within = plain-so c.args.ahead.plan c.requires.ahead.looked.shape
 
 pub go_on-requires-clause-follows : goal.go_on-requires-clause-follows
-go_on-requires-clause-follows g c κs within = unit-between c.done_unit.new.self.store.layout c.done_unit.new.self.jobs.tables.desk c.args.ahead.plan c.requires.ahead.looked.shape
+go_on-requires-clause-follows g c κs within =
+    subst (λ (l : Layout). PlanFollows l c.done_unit.new.self.jobs.tables.desk c.args.ahead.plan) (sym c.done_unit.ensures.layout)
+    (subst (λ (tables : RoomyTables). PlanFollows c.args.self.now.store.layout tables.desk c.args.ahead.plan) (sym c.in_ok-done_unit.ensures.tables) c.requires.ahead.looked.follows)
+
+pub go_on-requires-clause-commits : goal.go_on-requires-clause-commits
+go_on-requires-clause-commits g c κs within = c.in_ok-done_unit.ensures.commits c.args.ahead.plan c.requires.ahead.looked
+
+pub go_on-requires-clause-leaves : goal.go_on-requires-clause-leaves
+go_on-requires-clause-leaves g c κs within = unit-leaves c.done_unit.new.self.jobs.failed c.args.ahead.plan c.requires.ahead.looked.shape
 
 pub go_on-requires-clause-ready : goal.go_on-requires-clause-ready
 go_on-requires-clause-ready g c κs within =
@@ -50,7 +62,11 @@ go_on-requires-clause-ready g c κs within =
     c.args.ahead.plan c.requires.ahead.looked.shape c.args.ahead.ready c.requires.ahead.ready
 
 pub invariant_of-self : goal.invariant_of-self
-invariant_of-self g c = c.take_step.ensures.jobs c.self-2.inside.store.layout c.self-2.invariant
+invariant_of-self g c =
+    let layout = c.self-2.inside.store.layout in
+    let kept = c.self-2.invariant in
+    kept-moved layout c.self-2.inside.jobs c.take_step.new.self (ap (λ (t : RoomyTables). t.desk) c.take_step.ensures.tables) c.take_step.ensures.failed
+    (c.take_step.ensures.jobs layout kept.are) (c.take_step.ensures.own kept.own) kept
 
 pub returns-in-Ok-clause-turned : goal.returns-in-Ok-clause-turned
 returns-in-Ok-clause-turned g c turn p =

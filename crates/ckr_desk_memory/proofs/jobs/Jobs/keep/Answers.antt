@@ -5,6 +5,9 @@ use Rattle.ckr_desk_memory.specs.Parts.{step_seen}
 use Rattle.ckr_desk_memory.specs.Plans.{HasCounts}
 use Rattle.ckr_desk_memory.specs.Rewrite.{HasRecordPlace}
 use Rattle.ckr_desk_memory.specs.View.{JobsView, RunningStepView}
+use Rattle.ckr_desk_turn.specs.Desk.{failed_behind}
+use Rattle.ckr_desk_memory.proofs.Holders.LeftRuns.{left-behind}
+use Rattle.ckr_desk_memory.proofs.Holders.OwnSteps.{own-behind}
 use Rattle.ckr_desk_memory.proofs.Rewrites.{place-behind}
 use Rattle.ckr_desk_memory.proofs.RunningSteps.Events.{jobs-behind, may-run}
 use Rattle.ckr_desk_memory.proofs.RunningSteps.Served.{counted-all}
@@ -42,3 +45,16 @@ returns-clause-jobs c = λ layout are follow.
     (ap (λ (j : JobsView). j.tables.desk) c.self.view_is ∙ c.go_on.ensures.tables)
     (subst (λ (on : List RunningStepView). GoesOn c.args.event.now c.self.inside.tables.desk on (map step_seen c.keep_running.new.running.items))
     (ap (λ (j : JobsView). j.running) c.self.view_is ∙ c.go_on.ensures.running) c.keep_running.ensures) are
+
+pub returns-clause-own : goal.returns-clause-own
+returns-clause-own c = λ layout are.
+    own-behind layout c.args.self.now _ c.args.event.now c.args.deck are.rows c.go_on.ensures.numbered c.requires.plain
+    (ap (λ (j : JobsView). j.tables.desk) c.self.view_is ∙ c.go_on.ensures.tables)
+    (subst (λ (on : List RunningStepView). GoesOn c.args.event.now c.self.inside.tables.desk on (map step_seen c.keep_running.new.running.items))
+    (ap (λ (j : JobsView). j.running) c.self.view_is ∙ c.go_on.ensures.running) c.keep_running.ensures)
+
+pub returns-clause-left : goal.returns-clause-left
+returns-clause-left c = λ layout are.
+    left-behind layout c.args.self.now _ _ c.args.event.now c.args.deck are c.go_on.ensures.numbered c.requires.plain
+    (ap (λ (j : JobsView). j.tables.desk) c.self.view_is ∙ c.go_on.ensures.tables)
+    (c.keep_failed.ensures ∙ ap (failed_behind c.args.event.now) (ap (λ (j : JobsView). j.failed) c.self.view_is ∙ c.go_on.ensures.failed))

@@ -8,6 +8,7 @@ use Rattle.ckr_desk_turn.specs.Queue.{AreNumbered}
 use Rattle.ckr_desk_memory.specs.EventChanges.{HasUses}
 use Rattle.ckr_desk_memory.specs.Replay.{goes_on}
 use Rattle.ckr_desk_memory.specs.View.{JobsView}
+use Rattle.ckr_desk_memory.proofs.Holders.OwnSteps.{holders-replayed}
 use Rattle.ckr_desk_memory.proofs.Replays.{goes-on-with, jobs-replayed, replayed-none, replayed-some}
 use Rattle.ckr_desk_memory.proofs.jobs.Jobs.replay.Goals as goal
 
@@ -68,3 +69,12 @@ returns-clause-jobs c = λ are.
     (c.go_on.ensures.tables ∙ ap (after_event c.args.event.now c.in_ok-deck.deck) c.make_room.ensures.desk
     ∙ ap (λ deck. after_event c.args.event.now deck c.args.self.now.tables.desk) c.in_ok-deck.ensures)
     (c.go_on.ensures.running ∙ c.make_room.ensures.running) are
+
+pub returns-clause-holders : goal.returns-clause-holders
+returns-clause-holders c =
+    holders-replayed c.args.layout.now c.args.self.now c.go_on.new.self c.args.event.now
+    (subst (λ (j : JobsView). AreNumbered 1 j.tables.desk.runs) c.self.view_is c.self.invariant.numbered)
+    (sym (ap (goes_on c.args.layout.now c.args.self.now.tables.desk c.args.event.now) c.in_ok-deck.ensures)
+    ∙ sym (ap (λ (j : JobsView). goes_on c.args.layout.now j.tables.desk c.args.event.now c.in_ok-deck.deck) c.self.view_is) ∙ sym c.goes_on.ensures ∙ c.if-not-goes_on.false)
+    (c.go_on.ensures.tables ∙ ap (after_event c.args.event.now c.in_ok-deck.deck) c.make_room.ensures.desk
+    ∙ ap (λ deck. after_event c.args.event.now deck c.args.self.now.tables.desk) c.in_ok-deck.ensures)

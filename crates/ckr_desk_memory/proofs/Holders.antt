@@ -1,0 +1,16 @@
+pub mod Names
+pub mod Masters
+pub mod Sets
+pub mod Moves
+pub mod Events
+pub mod OwnSets
+pub mod RunningSteps
+pub mod Units
+pub mod Rewrites
+pub mod OwnEvents
+pub mod Rooms
+pub mod OwnSteps
+pub mod PlanCases
+pub mod OwnPlans
+pub mod OwnUnits
+pub mod LeftRuns

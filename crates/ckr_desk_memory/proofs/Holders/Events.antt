@@ -1,0 +1,393 @@
+-- By each event that follows the row of its run alone changes, and what the run's job names: so the holders stay apart.
+use Rattle.std.proofs.Common.{arith, ◌≡◌, ◌≢◌, ◌==◌, ℕ, zero, suc, Bool, true, false, ◌&&◌, ◌||◌, not, List, [], ◌∷◌, ◌++◌, length, refl, ap, sym, ◌∙◌, subst, Option, Some, None}
+use Rattle.std.specs.Prelude.{slice_get}
+use Rattle.std.specs.List.{AllByRecursion}
+use Rattle.std.specs.Option.{is_some, option_map_or}
+use Rattle.std.proofs.lemmas.Bool.{false≢true}
+use Rattle.std.proofs.lemmas.Option.{same_Some}
+use Rattle.ckr_base.proofs.Bools.{and-first, and-second, or-cases}
+use Rattle.ckr_base.proofs.Numbers.{equal-true, number-cases}
+use Rattle.ckr_base.proofs.Options.{is_some-true, some-not-none, some-one}
+use Rattle.ckr_events.specs.Jobs.{job_of}
+use Rattle.ckr_events.specs.declared.event.Ending.{Ending}
+use Rattle.ckr_events.specs.declared.event.Ending.TheVariants.{Allocation, Coded, Completed}
+use Rattle.ckr_events.specs.declared.event.Event.{Event}
+use Rattle.ckr_events.specs.declared.event.Event.TheVariants.{Cancelled, Ended, Purged, Rewritten, Selected, Started, StepEnded, Submitted}
+use Rattle.ckr_events.specs.declared.event.Made.{Made}
+use Rattle.ckr_jcl.specs.declared.deck.Job.{Job}
+use Rattle.ckr_library.specs.NameMaps.{Name, Named, entry_at}
+use Rattle.ckr_meaning.specs.Dispositions.{Stock, passed_ended}
+use Rattle.ckr_meaning.specs.EffectiveJob.{Effective, OwnedStep, flaws_in, is_among, names_of, names_of_job, placed_in}
+use Rattle.ckr_meaning.specs.declared.place.Place.{Place}
+use Rattle.ckr_meaning.specs.declared.place.Place.TheVariants.{Before, Opened, Within}
+use Rattle.ckr_base.proofs.Sequences.{get-inside}
+use Rattle.ckr_points.specs.declared.run.RunState.{RunState}
+use Rattle.ckr_points.specs.declared.run.RunState.TheVariants.{Queued, On, Held as HeldRun, Released as ReleasedRun, Ended as EndedRun, Denied as DeniedRun, Purged as PurgedRun}
+use Rattle.ckr_points.specs.Follows.{follows, is_empty, is_free, is_in_state, is_rewrite, is_running, is_update, is_within, lengths_follow, may_hold, may_start, of_step, own_step, selected_follows, started_follows, state_number, ended_follows}
+use Rattle.ckr_points.specs.Office.{is_holder, passed_made}
+use Rattle.ckr_points.specs.Restart.{after_abnormal, after_chosen, after_coded, after_ended, after_event, after_passed_ended, by_step, place_of, step_in}
+use Rattle.ckr_points.specs.Rows.{RunRow, TableSet, TablesModel, no_tables, run_of, standing_of, step_of_run, table_ways, with_run}
+use Rattle.ckr_points.specs.Tables.{after_submitted, after_cancelled, after_commit, after_dispositions, after_rewritten, after_started, after_step_ended, committed, is_updates, name_with_role, queued_run, row_rewritten, table_rewritten}
+use Rattle.ckr_points_invariant.proofs.Library.PassedList.{ended-leaves}
+use Rattle.ckr_points_invariant.proofs.Steps.Events.{on-holds}
+use Rattle.ckr_points_invariant.proofs.WaitingRuns.{tested-run}
+use Rattle.ckr_points_library.specs.Commit.{output_names}
+use Rattle.ckr_points_tables.specs.Invariant.{is_plain_event, is_submission}
+use Rattle.ckr_volumes.specs.declared.layout.Layout.{Layout}
+use Rattle.ckr_desk_memory.proofs.Holders.Moves.{RowGoesOn, HasRow, by-own, by-row, holders-go, row-accepted, row-as_is, row-next, row-number}
+use Rattle.ckr_desk_memory.proofs.Holders.Names.{changed-named, names-outside, step-formed}
+use Rattle.ckr_desk_memory.proofs.Holders.Sets.{committed-outside, disposed-outside, passed-outside, started-outside, there-changed, there-committed, there-started, updated-outside}
+use Rattle.ckr_desk_memory.specs.Invariant.{IsAcceptedRow}
+use Rattle.ckr_desk_turn.specs.Queue.{AreNumbered}
+use Rattle.ckr_desk_memory.specs.Holders.{AreHolders, PassesOwn, changed_names}
+
+-- ---- tests
+
+-- a test of what is found holds of it
+pub tested : {X A : Type 0} (o : Option X) (test : X → Bool) → option_map_or test o false ≡ true → ((x : X) → o ≡ Some x → test x ≡ true → A) → A
+tested None test passes use_it = absurd (false≢true passes)
+tested (Some x) test passes use_it = use_it x refl passes
+
+pub by-some : {X : Type 0} (Q : TablesModel → Type 0) (o : Option X) (change : X → TablesModel) (none : TablesModel) (x : X) → o ≡ Some x → Q (change x) → Q (option_map_or change o none)
+by-some Q o change none x at one = subst (λ o. Q (option_map_or change o none)) (sym at) one
+
+empty-is : {A : Type 0} (xs : List A) → is_empty xs ≡ true → xs ≡ []
+empty-is [] e = refl
+empty-is (first ∷ rest) e = absurd (false≢true e)
+
+released-holds : (state : RunState) → (state_number state == 4) ≡ true → is_holder state ≡ true
+released-holds Queued e = absurd (false≢true e)
+released-holds On e = refl
+released-holds HeldRun e = refl
+released-holds ReleasedRun e = refl
+released-holds EndedRun e = absurd (false≢true e)
+released-holds DeniedRun e = absurd (false≢true e)
+released-holds PurgedRun e = absurd (false≢true e)
+
+running-holds : (row : RunRow) → is_running row ≡ true → is_holder row.state ≡ true
+running-holds row runs = on-holds row.state (and-first (is_in_state On row) (is_within (place_of row)) runs)
+
+-- ---- one run
+
+module _ (tables : TablesModel) (rows : AllByRecursion IsAcceptedRow tables.runs) (numbered : AreNumbered 1 tables.runs) (job : ℕ) (row : RunRow) (at : run_of tables job ≡ Some row) where
+  abbrev Goes : TablesModel → Type 0
+  Goes after = RowGoesOn tables after job
+
+  mine : row.number ≡ job
+  mine = row-number tables job row numbered at
+
+  accepted : IsAcceptedRow row
+  accepted = row-accepted tables job row rows at
+
+  selected : (layout : Layout) (initiator earlier step : ℕ) (id : Option Name) → earlier ≡ 0 → selected_follows layout tables initiator earlier step id row ≡ true → Goes (after_chosen row initiator earlier step id tables)
+  selected layout initiator earlier step id none follow =
+      subst (λ n. Goes (after_chosen row initiator n step id tables)) (sym none)
+      (record {
+        row = row;
+        next = record row { state = On; initiator = Some initiator; place = Some (Before 1) };
+        row_at = at;
+        rows = row-next tables tables job row _ tables.sets (row-as_is tables job row at) mine;
+        number = refl;
+        deck = refl;
+        job_is = refl;
+        begins = λ was now. and-second (is_in_state Queued row && is_free layout tables initiator) (may_hold tables row) (and-first (is_in_state Queued row && is_free layout tables initiator && may_hold tables row) _ follow);
+        passed = λ own. own;
+        still = λ was name. refl;
+        outside = λ own name out. refl;
+        changed = λ has owned name holding within found among. absurd (false≢true within);
+      })
+
+  cancelled : Goes (after_cancelled row tables)
+  cancelled = record {
+    row = row;
+    next = record row { in_effect = None };
+    row_at = at;
+    rows = row-next tables tables job row _ tables.sets (row-as_is tables job row at) mine;
+    number = refl;
+    deck = refl;
+    job_is = refl;
+    begins = λ was now. absurd (false≢true (sym was ∙ now));
+    passed = λ own. own;
+    still = λ was name. refl;
+    outside = λ own name out. refl;
+    changed = λ has. has;
+  }
+
+  -- a run that holds nothing any more
+  over : (r : RunRow) (mid : TablesModel) (was : RunRow) (sets : Named TableSet) → HasRow tables mid job was → r.number ≡ row.number → r.deck ≡ row.deck → r.job ≡ row.job → is_holder r.state ≡ false → (PassesOwn row → PassesOwn r)
+      → (is_holder row.state ≡ false → (name : Name) → entry_at sets name ≡ entry_at tables.sets name)
+      → (PassesOwn row → (name : Name) → is_among (names_of_job row.job) name ≡ false → entry_at sets name ≡ entry_at tables.sets name)
+      → Goes (with_run r (record mid { sets = sets }))
+  over r mid was sets has number deck same gone passes still outside = record {
+    row = row;
+    next = r;
+    row_at = at;
+    rows = row-next tables mid job was r sets has (number ∙ mine);
+    number = number;
+    deck = deck;
+    job_is = same;
+    begins = λ before now. absurd (false≢true (sym gone ∙ now));
+    passed = passes;
+    still = still;
+    outside = outside;
+    changed = λ has owned name holding within found among. absurd (false≢true (sym gone ∙ holding));
+  }
+
+  purged : Goes (with_run (record row { state = PurgedRun }) tables)
+  purged = over (record row { state = PurgedRun }) tables row tables.sets (row-as_is tables job row at) refl refl refl refl (λ own. own) (λ was name. refl) (λ own name out. refl)
+
+  started : (layout : Layout) (step : ℕ) (items : List Made) → started_follows layout tables step items row ≡ true → Goes (option_map_or (λ owned. after_started row owned step items tables) (step_of_run row step) tables)
+  started layout step items follow =
+      tested (step_of_run row step) _ (and-second (is_in_state On row) _ follow)
+      (λ owned found passes.
+      by-some Goes (step_of_run row step) (λ owned. after_started row owned step items tables) tables owned found
+      (record {
+        row = row;
+        next = _;
+        row_at = at;
+        rows = row-next tables tables job row _ (after_started row owned step items tables).sets (row-as_is tables job row at) mine;
+        number = refl;
+        deck = refl;
+        job_is = refl;
+        begins = λ was now. absurd (false≢true (sym was ∙ now));
+        passed = λ own. own;
+        still = λ was name. absurd (false≢true (sym was ∙ on-holds row.state (and-first (is_in_state On row) _ follow)));
+        outside = λ own name out. started-outside row owned step name (names-outside row.job step owned name found out) items tables;
+        changed = λ has other name holding within its among.
+            let flawless = empty-is (flaws_in (placed_in table_ways (standing_of row tables) row.job.root owned)) (and-second (may_start step (place_of row)) _ (and-first (may_start step (place_of row) && is_empty (flaws_in (placed_in table_ways (standing_of row tables) row.job.root owned))) _ passes)) in
+            there-started row owned step items tables name flawless
+            (changed-named row.job.root owned name (subst (λ (owned : OwnedStep). is_among (changed_names row.job.root owned) name ≡ true) (some-one other owned (step_of_run row step) its found) among));
+      }))
+
+  -- ---- a run within a step
+
+  module _ (owned : OwnedStep) (found : own_step row ≡ Some owned) where
+    not_of_step : (name : Name) → is_among (names_of_job row.job) name ≡ false → is_among (names_of row.job.root owned) name ≡ false
+    not_of_step name out = names-outside row.job (step_in (place_of row)) owned name found out
+
+    abbrev behind : ℕ → List ℕ → TablesModel
+    behind writes lengths = after_commit row owned (step_in (place_of row)) writes lengths tables
+
+    behind_rows : (writes : ℕ) (lengths : List ℕ) → HasRow tables (behind writes lengths) job (record row { place = Some (Within (step_in (place_of row)) writes) })
+    behind_rows writes lengths = row-next tables tables job row _ (committed (output_names row.job.root owned) lengths tables.sets) (row-as_is tables job row at) mine
+
+    behind_outside : (lengths : List ℕ) (name : Name) → is_among (names_of_job row.job) name ≡ false → entry_at (committed (output_names row.job.root owned) lengths tables.sets) name ≡ entry_at tables.sets name
+    behind_outside lengths name out = committed-outside row.job.root owned name (not_of_step name out) lengths tables.sets
+
+    rewritten : (place : ℕ) (image : List ℕ) (writes : ℕ) (lengths : List ℕ) → is_running row ≡ true → is_rewrite tables place image row owned ≡ true → Goes (after_rewritten row owned (step_in (place_of row)) writes lengths tables)
+    rewritten place image writes lengths runs rewrites = record {
+      row = row;
+      next = record (row_rewritten (step_in (place_of row)) row) { place = Some (Within (step_in (place_of row)) writes) };
+      row_at = at;
+      rows = row-next tables tables job row _ (after_rewritten row owned (step_in (place_of row)) writes lengths tables).sets (row-as_is tables job row at) mine;
+      number = refl;
+      deck = refl;
+      job_is = refl;
+      begins = λ was now. absurd (false≢true (sym was ∙ now));
+      passed = λ own. own;
+      still = λ was name. absurd (false≢true (sym was ∙ running-holds row runs));
+      outside = λ own name out.
+          updated-outside row.job.root owned name (not_of_step name out) (table_rewritten owned.owner (step_in (place_of row))) (committed (output_names row.job.root owned) lengths tables.sets)
+          (step-formed row (step_in (place_of row)) owned accepted found) (and-first (is_update owned.step.program) _ rewrites)
+          ∙ behind_outside lengths name out;
+      changed = λ has other name holding within its among.
+          there-changed (name_with_role row.job.root owned is_updates) name (table_rewritten owned.owner (step_in (place_of row))) (committed (output_names row.job.root owned) lengths tables.sets)
+          ∙ there-committed (output_names row.job.root owned) lengths tables.sets name
+          ∙ has other name holding (and-second (is_in_state On row) (is_within (place_of row)) runs) its among;
+    }
+
+    step_ended : (rc writes : ℕ) (lengths : List ℕ) → is_running row ≡ true → Goes (after_step_ended row owned (step_in (place_of row)) rc writes lengths tables)
+    step_ended rc writes lengths runs =
+        let done : TablesModel = behind writes lengths in
+        record {
+          row = row;
+          next = _;
+          row_at = at;
+          rows = row-next tables done job _ _ (after_dispositions row owned (step_in (place_of row)) false done).sets (behind_rows writes lengths) mine;
+          number = refl;
+          deck = refl;
+          job_is = refl;
+          begins = λ was now. absurd (false≢true (sym was ∙ now));
+          passed = λ own name out. passed-outside row owned (step_in (place_of row)) name (not_of_step name out) false done (own name out);
+          still = λ was name. absurd (false≢true (sym was ∙ running-holds row runs));
+          outside = λ own name out. disposed-outside row owned (step_in (place_of row)) name (not_of_step name out) false done ∙ behind_outside lengths name out;
+          changed = λ has other name holding within its among. absurd (false≢true within);
+        }
+
+  -- ---- the end of a run
+
+  completed : is_holder row.state ≡ true → Goes (after_passed_ended row tables)
+  completed holds =
+      over (record row { state = EndedRun; initiator = None; code = None; passed = []; in_effect = None }) tables row (passed_ended row.passed tables.sets) (row-as_is tables job row at) refl refl refl refl (λ own name out. refl)
+      (λ was name. absurd (false≢true (sym was ∙ holds)))
+      (λ own name out. ended-leaves row.passed tables.sets name (own name out))
+
+  abbrev disposed_end : RunRow → TablesModel → ℕ → OwnedStep → TablesModel
+  disposed_end r mid step owned =
+      let done = after_dispositions r owned step true mid in
+      after_passed_ended (record r { passed = done.passed }) (record mid { sets = done.sets })
+
+  -- with the dispositions of a step, by tables behind its lengths or as they are
+  disposed_over : (r was : RunRow) (mid : TablesModel) (owned : OwnedStep) (step : ℕ) → is_holder row.state ≡ true → r.number ≡ row.number → r.deck ≡ row.deck → r.job ≡ row.job → r.passed ≡ row.passed → HasRow tables mid job was → step_of_run row step ≡ Some owned
+      → ((name : Name) → is_among (names_of_job row.job) name ≡ false → entry_at mid.sets name ≡ entry_at tables.sets name)
+      → Goes (disposed_end r mid step owned)
+  disposed_over r was mid owned step holds number deck same passed has found outside =
+      over (record r { passed = []; state = EndedRun; initiator = None; code = None; in_effect = None }) mid was (passed_ended done.passed done.sets) has number deck same refl (λ own name out. refl)
+      (λ was name. absurd (false≢true (sym was ∙ holds)))
+      (λ own name out.
+      let of_step : is_among (names_of r.job.root owned) name ≡ false = ap (λ (job : Effective). is_among (names_of job.root owned) name) same ∙ names-outside row.job step owned name found out in
+      ended-leaves done.passed done.sets name (passed-outside r owned step name of_step true mid (ap (λ passed. is_among (passed_made passed) name) passed ∙ own name out))
+      ∙ disposed-outside r owned step name of_step true mid
+      ∙ outside name out)
+    where
+      done : Stock TableSet
+      done = after_dispositions r owned step true mid
+
+  abnormal : (place : Place) → place_of row ≡ place → is_holder row.state ≡ true → is_some (own_step row) ≡ true → Goes (after_abnormal row place tables)
+  abnormal (Before step) stands holds some = completed holds
+  abnormal (Opened step) stands holds some = completed holds
+  abnormal (Within step writes) stands holds some =
+      is_some-true (own_step row) some
+      (λ owned found.
+      let there : step_of_run row step ≡ Some owned = ap (λ place. step_of_run row (step_in place)) (sym stands) ∙ found in
+      by-some Goes (step_of_run row step) (disposed_end row tables step) tables owned there
+      (disposed_over row row tables owned step holds refl refl refl refl (row-as_is tables job row at) there (λ name out. refl)))
+
+  coded : (writes : ℕ) (lengths : List ℕ) → is_holder row.state ≡ true → is_some (own_step row) ≡ true → Goes (after_coded row writes lengths tables)
+  coded writes lengths holds some =
+      is_some-true (own_step row) some
+      (λ owned found.
+      by-own Goes tables (λ owned step. after_abnormal (record row { place = Some (Within step writes) }) (Within step writes) (after_commit row owned step writes lengths tables)) row owned found
+      (by-some Goes (step_of_run row (step_in (place_of row))) (disposed_end (record row { place = Some (Within (step_in (place_of row)) writes) }) (behind owned found writes lengths) (step_in (place_of row))) (behind owned found writes lengths) owned found
+      (disposed_over (record row { place = Some (Within (step_in (place_of row)) writes) }) _ (behind owned found writes lengths) owned (step_in (place_of row)) holds refl refl refl refl (behind_rows owned found writes lengths) found (behind_outside owned found lengths))))
+
+  lengths_some : (lengths : List ℕ) → lengths_follow tables row lengths ≡ true → is_some (own_step row) ≡ true
+  lengths_some lengths follow = tested (own_step row) _ follow (λ owned found passes. ap is_some found)
+
+  ended : (ending : Ending) → ended_follows tables row ending ≡ true → Goes (after_ended row ending tables)
+  ended Completed follow =
+      completed (on-holds row.state (and-first (is_in_state On row) _ (and-first (is_in_state On row && not (is_within (place_of row))) _ follow)))
+  ended (Coded code rule writes lengths) follow =
+      coded writes lengths.items
+      (or-cases (is_running row) (is_in_state ReleasedRun row) (and-first (is_running row || is_in_state ReleasedRun row) _ follow) (running-holds row) (released-holds row.state))
+      (lengths_some lengths.items (and-second (is_running row || is_in_state ReleasedRun row) _ follow))
+  ended (Allocation dd cause first second) follow =
+      abnormal (place_of row) refl (on-holds row.state (and-first (is_in_state On row) _ follow))
+      (tested (own_step row) _ (and-second (is_in_state On row) _ follow) (λ owned found passes. ap is_some found))
+
+-- ---- each event
+
+goes-in : (layout : Layout) (tables : TablesModel) → AllByRecursion IsAcceptedRow tables.runs → AreNumbered 1 tables.runs → (event : Event) (deck : Option Job) → is_plain_event event ≡ true → is_submission event ≡ false → follows layout tables event deck ≡ true → RowGoesOn tables (after_event event deck tables) (job_of event)
+goes-in layout tables rows numbered (Submitted job cards) deck plain other follow = absurd (false≢true (sym other))
+goes-in layout tables rows numbered (Selected job initiator earlier step id) deck plain other follow =
+    tested-run tables job (selected_follows layout tables initiator earlier step id) follow
+    (λ row at passes.
+    by-row (λ after. RowGoesOn tables after job) tables job (λ row. after_chosen row initiator earlier step id tables) row at
+    (selected tables rows numbered job row at layout initiator earlier step id (equal-true earlier 0 plain) passes))
+goes-in layout tables rows numbered (Started job step items) deck plain other follow =
+    tested-run tables job (started_follows layout tables step items.items) follow
+    (λ row at passes.
+    by-row (λ after. RowGoesOn tables after job) tables job (λ row. option_map_or (λ owned. after_started row owned step items.items tables) (step_of_run row step) tables) row at
+    (started tables rows numbered job row at layout step items.items passes))
+goes-in layout tables rows numbered (Rewritten job taken writes lengths place image) deck plain other follow =
+    tested-run tables job (λ row. is_running row && lengths_follow tables row lengths.items && of_step row (is_rewrite tables place image row)) follow
+    (λ row at passes.
+    tested (own_step row) (is_rewrite tables place image row) (and-second (is_running row && lengths_follow tables row lengths.items) _ passes)
+    (λ owned found rewrites.
+    by-row (λ after. RowGoesOn tables after job) tables job (λ row. by_step (λ owned step. after_rewritten row owned step writes lengths.items tables) row tables) row at
+    (by-own (λ after. RowGoesOn tables after job) tables (λ owned step. after_rewritten row owned step writes lengths.items tables) row owned found
+    (rewritten tables rows numbered job row at owned found place image writes lengths.items (and-first (is_running row) _ (and-first (is_running row && lengths_follow tables row lengths.items) _ passes)) rewrites))))
+goes-in layout tables rows numbered (Cancelled job) deck plain other follow =
+    tested-run tables job is_running follow
+    (λ row at passes. by-row (λ after. RowGoesOn tables after job) tables job (λ row. after_cancelled row tables) row at (cancelled tables rows numbered job row at))
+goes-in layout tables rows numbered (StepEnded job step rc writes lengths) deck plain other follow =
+    tested-run tables job (λ row. is_running row && step_in (place_of row) == step && lengths_follow tables row lengths.items) follow
+    (λ row at passes.
+    tested (own_step row) _ (and-second (is_running row && step_in (place_of row) == step) (lengths_follow tables row lengths.items) passes)
+    (λ owned found are.
+    by-row (λ after. RowGoesOn tables after job) tables job (λ row. by_step (λ owned step. after_step_ended row owned step rc writes lengths.items tables) row tables) row at
+    (by-own (λ after. RowGoesOn tables after job) tables (λ owned step. after_step_ended row owned step rc writes lengths.items tables) row owned found
+    (step_ended tables rows numbered job row at owned found rc writes lengths.items (and-first (is_running row) _ (and-first (is_running row && step_in (place_of row) == step) _ passes))))))
+goes-in layout tables rows numbered (Ended job ending) deck plain other follow =
+    tested-run tables job (λ row. ended_follows tables row ending) follow
+    (λ row at passes. by-row (λ after. RowGoesOn tables after job) tables job (λ row. after_ended row ending tables) row at (ended tables rows numbered job row at ending passes))
+goes-in layout tables rows numbered (Purged job) deck plain other follow =
+    tested-run tables job (is_in_state Queued) follow
+    (λ row at passes. by-row (λ after. RowGoesOn tables after job) tables job (λ row. with_run (record row { state = PurgedRun }) tables) row at (purged tables rows numbered job row at))
+goes-in layout tables rows numbered _ deck plain other follow = absurd (false≢true plain)
+
+-- by each event but a submission one run goes on
+pub goes-on : (layout : Layout) (tables : TablesModel) (event : Event) (deck : Option Job) → AllByRecursion IsAcceptedRow tables.runs → AreNumbered 1 tables.runs → is_plain_event event ≡ true → is_submission event ≡ false → follows layout tables event deck ≡ true → RowGoesOn tables (after_event event deck tables) (job_of event)
+goes-on layout tables event deck rows numbered plain other follow = goes-in layout tables rows numbered event deck plain other follow
+
+-- ---- one more run
+
+last_row : (runs : List RunRow) (row : RunRow) → slice_get (runs ++ row ∷ []) (length runs) ≡ Some row
+last_row [] row = refl
+last_row (first ∷ rest) row = last_row rest row
+
+front_row : (runs : List RunRow) (row : RunRow) (place : ℕ) → place ≢ length runs → slice_get (runs ++ row ∷ []) place ≡ slice_get runs place
+front_row [] row zero apart = absurd (apart refl)
+front_row [] row (suc place) apart = refl
+front_row (first ∷ rest) row zero apart = refl
+front_row (first ∷ rest) row (suc place) apart = front_row rest row place (λ e. apart (ap suc e))
+
+-- a run that was there stays there
+pub row-more : (tables : TablesModel) (job : ℕ) (deck : Job) (number : ℕ) (row : RunRow) → run_of tables number ≡ Some row → run_of (after_submitted job deck tables) number ≡ Some row
+row-more tables job deck zero row at = at
+row-more tables job deck (suc place) row at =
+    front_row tables.runs (queued_run job deck) place (λ e. absurd (omega (arith, e, get-inside row tables.runs place at))) ∙ at
+
+-- a run that was submitted holds nothing
+module _ (tables : TablesModel) (deck : Job) (job : ℕ) (are : AreHolders tables) where
+  abbrev more : TablesModel
+  more = after_submitted job deck tables
+
+  -- a row is that of the new run, or was there
+  one_of : {A : Type 0} (number : ℕ) (row : RunRow) → run_of more number ≡ Some row → (queued_run job deck ≡ row → A) → (run_of tables number ≡ Some row → A) → A
+  one_of zero row at new old = absurd (some-not-none row (sym at))
+  one_of (suc place) row at new old =
+      number-cases place (length tables.runs)
+      (λ here. new (same_Some (queued_run job deck) row (sym (last_row tables.runs (queued_run job deck)) ∙ ap (slice_get (tables.runs ++ queued_run job deck ∷ [])) (sym here) ∙ at)))
+      (λ apart. old (sym (front_row tables.runs (queued_run job deck) place apart) ∙ at))
+
+  no_holder : {A : Type 0} (row : RunRow) → queued_run job deck ≡ row → is_holder row.state ≡ true → A
+  no_holder row is holding = absurd (false≢true (ap (λ (r : RunRow). is_holder r.state) is ∙ holding))
+
+  pub holders-more : AreHolders more
+  holders-more = record {
+    apart = λ one other row next here there apart mine theirs.
+        one_of one row here
+        (λ new. no_holder row new mine)
+        (λ first. one_of other next there (λ new. no_holder next new theirs) (λ second. are.apart one other row next first second apart mine theirs));
+    passed = λ number row at. one_of number row at (λ new. subst PassesOwn new (λ name out. refl)) (are.passed number row);
+    changed = λ number row at.
+        one_of number row at (λ new owned name holding. no_holder row new holding) (are.changed number row);
+  }
+
+holders-submitted : (tables : TablesModel) (job : ℕ) (deck : Option Job) → AreHolders tables → AreHolders (option_map_or (λ deck. after_submitted job deck tables) deck tables)
+holders-submitted tables job None are = are
+holders-submitted tables job (Some deck) are = holders-more tables deck job are
+
+-- ---- all events
+
+no_row : (number : ℕ) → run_of no_tables number ≡ None
+no_row zero = refl
+no_row (suc before) = refl
+
+pub holders-none : AreHolders no_tables
+holders-none = record {
+  apart = λ one other row next here. absurd (some-not-none row (sym here ∙ no_row one));
+  passed = λ number row at. absurd (some-not-none row (sym at ∙ no_row number));
+  changed = λ number row at. absurd (some-not-none row (sym at ∙ no_row number));
+}
+
+submission-cases : (event : Event) (deck : Option Job) (tables : TablesModel) → AreHolders tables → (is_submission event ≡ false → AreHolders (after_event event deck tables)) → AreHolders (after_event event deck tables)
+submission-cases (Submitted job cards) deck tables are rest = holders-submitted tables job deck are
+submission-cases _ deck tables are rest = rest refl
+
+-- holders stay apart by each event that follows
+pub holders-stay : (layout : Layout) (tables : TablesModel) (event : Event) (deck : Option Job) → AreHolders tables → AllByRecursion IsAcceptedRow tables.runs → AreNumbered 1 tables.runs → is_plain_event event ≡ true → follows layout tables event deck ≡ true → AreHolders (after_event event deck tables)
+holders-stay layout tables event deck are rows numbered plain follow =
+    submission-cases event deck tables are
+    (λ other. holders-go tables (after_event event deck tables) (job_of event) (goes-on layout tables event deck rows numbered plain other follow) rows are)

@@ -1,0 +1,208 @@
+-- The jobs in memory go on to hold their own.
+use Rattle.std.proofs.Common.{◌≡◌, ◌==◌, ℕ, Bool, true, false, cond, not, List, [], ◌∷◌, find, refl, ap, sym, subst, Option, Some, None}
+use Rattle.std.specs.List.{AllByRecursion}
+use Rattle.std.specs.Option.{option_map, option_map_or}
+use Rattle.std.specs.Prelude.{IfSome}
+use Rattle.std.proofs.lemmas.Bool.{false≢true}
+use Rattle.ckr_base.proofs.Bools.{and-second}
+use Rattle.ckr_base.proofs.Numbers.{equal-false, equal-true}
+use Rattle.ckr_base.proofs.Sequences.{find-holds, find-passes}
+use Rattle.ckr_events.specs.declared.event.Event.{Event}
+use Rattle.ckr_events.specs.declared.event.Event.TheVariants.{Cancelled, Ended, Purged, Rewritten, Selected, Started, StepEnded, Submitted}
+use Rattle.ckr_events.specs.declared.event.Made.{Made}
+use Rattle.ckr_jcl.specs.declared.deck.Job.{Job}
+use Rattle.ckr_points.specs.declared.run.RunState.TheVariants.{On}
+use Rattle.ckr_points.specs.Follows.{follows, is_in_state, started_follows}
+use Rattle.ckr_points.specs.Restart.{after_event}
+use Rattle.ckr_points.specs.Rows.{RunRow, TablesModel, no_tables, run_of, step_of_run}
+use Rattle.ckr_points.specs.Tables.{after_started}
+use Rattle.ckr_points_invariant.proofs.WaitingRuns.{tested-run}
+use Rattle.ckr_points_tables.specs.Invariant.{is_plain_event}
+use Rattle.ckr_points_tables.specs.View.{RoomyTables}
+use Rattle.ckr_volumes.specs.declared.layout.Layout.{Layout}
+use Rattle.ckr_desk_memory.proofs.Holders.Events.{by-some, holders-none, holders-stay, tested}
+use Rattle.ckr_desk_memory.proofs.Holders.Moves.{by-row, row-as_is, row-next, row-number}
+use Rattle.ckr_desk_memory.proofs.Holders.OwnSets.{running-served}
+use Rattle.ckr_desk_memory.proofs.Holders.RunningSteps.{running-stay}
+use Rattle.ckr_desk_memory.proofs.Replays.{goes-on-with}
+use Rattle.ckr_desk_memory.proofs.RunningSteps.First.{all-without}
+use Rattle.ckr_desk_memory.specs.declared.jobs.RunningStep.{RunningStep}
+use Rattle.ckr_desk_memory.specs.EventChanges.{is_of_run, served_in, served_step, without_first, without_run}
+use Rattle.ckr_desk_memory.specs.Holders.{AreHolders}
+use Rattle.ckr_desk_memory.specs.Invariant.{AreJobs, IsAcceptedRow}
+use Rattle.ckr_desk_memory.specs.OwnSets.{CommitsItsOwn, IsRunningOf}
+use Rattle.ckr_desk_memory.specs.OwnSteps.{AreSingle, HoldTheirOwn, IsOfOther}
+use Rattle.ckr_desk_memory.specs.Parts.{step_seen}
+use Rattle.ckr_desk_memory.specs.Replay.{deck_of, goes_on}
+use Rattle.ckr_desk_memory.specs.RunningSteps.{GoesOn, StepStarts}
+use Rattle.ckr_desk_memory.specs.Start.{HasNew}
+use Rattle.ckr_desk_memory.specs.View.{JobsView, RunningStepView}
+use Rattle.ckr_desk_turn.specs.Queue.{AreNumbered}
+
+-- ---- no two running steps are of one run
+
+single-first : (run : ℕ) (running : List RunningStepView) → AreSingle running → AreSingle (without_first run running)
+single-first run [] single = tt
+single-first run (on ∷ rest) single = by (is_of_run run on) (single-first run rest single.1)
+  where
+    by : (b : Bool) → AreSingle (without_first run rest) → AreSingle (cond b rest (on ∷ without_first run rest))
+    by true later = single.1
+    by false later = (all-without (IsOfOther on.run) run rest single.0, later)
+
+-- those without the first one of a run are of others
+pub others-first : (run : ℕ) (running : List RunningStepView) → AreSingle running → AllByRecursion (IsOfOther run) (without_first run running)
+others-first run [] single = tt
+others-first run (on ∷ rest) single = by (is_of_run run on) refl (others-first run rest single.1)
+  where
+    by : (b : Bool) → is_of_run run on ≡ b → AllByRecursion (IsOfOther run) (without_first run rest) → AllByRecursion (IsOfOther run) (cond b rest (on ∷ without_first run rest))
+    by true e later = subst (λ n. AllByRecursion (IsOfOther n) rest) (equal-true on.run run e) single.0
+    by false e later = (equal-false on.run run e, later)
+
+all-left : (P : RunningStepView → Type 0) (run : ℕ) (running : List RunningStepView) → AllByRecursion P running → AllByRecursion P (without_run run running)
+all-left P run [] all = tt
+all-left P run (on ∷ rest) all = by (on.run == run) (all-left P run rest all.1)
+  where
+    by : (b : Bool) → AllByRecursion P (without_run run rest) → AllByRecursion P (cond (not b) (on ∷ without_run run rest) (without_run run rest))
+    by true later = later
+    by false later = (all.0, later)
+
+single-left : (run : ℕ) (running : List RunningStepView) → AreSingle running → AreSingle (without_run run running)
+single-left run [] single = tt
+single-left run (on ∷ rest) single = by (on.run == run) (single-left run rest single.1)
+  where
+    by : (b : Bool) → AreSingle (without_run run rest) → AreSingle (cond (not b) (on ∷ without_run run rest) (without_run run rest))
+    by true later = later
+    by false later = (all-left (IsOfOther on.run) run rest single.0, later)
+
+others-left : (run : ℕ) (running : List RunningStepView) → AllByRecursion (IsOfOther run) (without_run run running)
+others-left run [] = tt
+others-left run (on ∷ rest) = by (on.run == run) refl (others-left run rest)
+  where
+    by : (b : Bool) → (on.run == run) ≡ b → AllByRecursion (IsOfOther run) (without_run run rest) → AllByRecursion (IsOfOther run) (cond (not b) (on ∷ without_run run rest) (without_run run rest))
+    by true e later = later
+    by false e later = (equal-false on.run run e, later)
+
+single-served : (run : ℕ) (running : List RunningStepView) → AreSingle running → AreSingle (served_in run running)
+single-served run running single = by (find (is_of_run run) running) refl
+  where
+    by : (first : Option RunningStepView) → find (is_of_run run) running ≡ first → AreSingle (option_map_or (λ on. served_step on ∷ without_first run running) first running)
+    by None e = single
+    by (Some on) e = (
+      subst (λ n. AllByRecursion (IsOfOther n) (without_first run running)) (sym (equal-true on.run run (find-passes (is_of_run run) running on e))) (others-first run running single),
+      single-first run running single,
+    )
+
+-- ---- each event
+
+module _ (layout : Layout) (tables : TablesModel) (rows : AllByRecursion IsAcceptedRow tables.runs) (numbered : AreNumbered 1 tables.runs) where
+  abbrev StartsAlone : ℕ → ℕ → List RunningStepView → List RunningStepView → TablesModel → Type 0
+  StartsAlone job step old new after = StepStarts job step after old new → AreSingle new
+
+  started : (job step : ℕ) (items : List Made) (old new : List RunningStepView) (row : RunRow) → AreSingle old → run_of tables job ≡ Some row → started_follows layout tables step items row ≡ true
+      → StartsAlone job step old new (option_map_or (λ owned. after_started row owned step items tables) (step_of_run row step) tables)
+  started job step items old new row single at follow =
+      tested (step_of_run row step) _ (and-second (is_in_state On row) _ follow)
+      (λ owned found passes.
+      by-some (StartsAlone job step old new) (step_of_run row step) (λ owned. after_started row owned step items tables) tables owned found
+      (λ starts.
+      let after : TablesModel = after_started row owned step items tables in
+      let now = (row-next tables tables job row _ after.sets (row-as_is tables job row at) (row-number tables job row numbered at)).now in
+      let new_one : HasNew job owned after.sets old new = starts _ owned now found in
+      subst AreSingle (sym new_one.first)
+      (subst (λ n. AllByRecursion (IsOfOther n) (without_run job old)) (sym new_one.run) (others-left job old), single-left job old single)))
+
+  single_on : (event : Event) (deck : Option Job) (old new : List RunningStepView) → is_plain_event event ≡ true → follows layout tables event deck ≡ true → AreSingle old → GoesOn event (after_event event deck tables) old new → AreSingle new
+  single_on (Started job step items) deck old new plain follow single goes =
+      tested-run tables job (started_follows layout tables step items.items) follow
+      (λ row at passes.
+      by-row (StartsAlone job step old new) tables job (λ row. option_map_or (λ owned. after_started row owned step items.items tables) (step_of_run row step) tables) row at
+      (started job step items.items old new row single at passes) goes)
+  single_on (Cancelled job) deck old new plain follow single goes = subst AreSingle (sym goes) (single-served job old single)
+  single_on (StepEnded job step rc writes lengths) deck old new plain follow single goes = subst AreSingle (sym goes) (single-left job old single)
+  single_on (Ended job ending) deck old new plain follow single goes = subst AreSingle (sym goes) (single-left job old single)
+  single_on (Submitted job cards) deck old new plain follow single goes = subst AreSingle (sym goes) single
+  single_on (Selected job initiator earlier step id) deck old new plain follow single goes = subst AreSingle (sym goes) single
+  single_on (Rewritten job taken writes lengths place image) deck old new plain follow single goes = subst AreSingle (sym goes) single
+  single_on (Purged job) deck old new plain follow single goes = subst AreSingle (sym goes) single
+  single_on _ deck old new plain follow single goes = absurd (false≢true plain)
+
+-- ---- the jobs
+
+-- no step is running
+pub own-opened : (jobs : JobsView) → AreHolders jobs.tables.desk → jobs.running ≡ [] → HoldTheirOwn jobs
+own-opened jobs holders running = record {
+  holders = holders;
+  running = subst (AllByRecursion (IsRunningOf jobs.tables.desk)) (sym running) tt;
+  single = subst AreSingle (sym running) tt;
+}
+
+-- no jobs
+pub own-none : (jobs : JobsView) → jobs.tables.desk ≡ no_tables → jobs.running ≡ [] → HoldTheirOwn jobs
+own-none jobs tables running = own-opened jobs (subst AreHolders (sym tables) holders-none) running
+
+-- the same tables, and the same running steps
+pub own-alike : (old new : JobsView) → new.tables.desk ≡ old.tables.desk → new.running ≡ old.running → HoldTheirOwn old → HoldTheirOwn new
+own-alike old new tables running own = record {
+  holders = subst AreHolders (sym tables) own.holders;
+  running = subst (λ (t : TablesModel). AllByRecursion (IsRunningOf t) new.running) (sym tables) (subst (AllByRecursion (IsRunningOf old.tables.desk)) (sym running) own.running);
+  single = subst AreSingle (sym running) own.single;
+}
+
+-- behind an event
+pub own-behind : (layout : Layout) (old new : JobsView) (event : Event) (deck : Option Job) → AllByRecursion IsAcceptedRow old.tables.desk.runs → AreNumbered 1 old.tables.desk.runs → is_plain_event event ≡ true → new.tables.desk ≡ after_event event deck old.tables.desk
+    → GoesOn event new.tables.desk old.running new.running → HoldTheirOwn old → follows layout old.tables.desk event deck ≡ true → CommitsItsOwn event old.tables.desk old.running → HoldTheirOwn new
+own-behind layout old new event deck rows numbered plain tables goes own follow commits =
+    let gone : GoesOn event (after_event event deck old.tables.desk) old.running new.running = subst (λ (t : TablesModel). GoesOn event t old.running new.running) tables goes in
+    record {
+      holders = subst AreHolders (sym tables) (holders-stay layout old.tables.desk event deck own.holders rows numbered plain follow);
+      running =
+          subst (λ (t : TablesModel). AllByRecursion (IsRunningOf t) new.running) (sym tables)
+          (running-stay layout old.tables.desk event deck old.running new.running own.holders rows numbered plain follow own.running commits gone);
+      single = single_on layout old.tables.desk rows numbered event deck old.running new.running plain follow own.single gone;
+    }
+
+-- with other running steps, and the same tables
+module _ (old new : JobsView) (tables : new.tables ≡ old.tables) where
+  same_desk : new.tables.desk ≡ old.tables.desk
+  same_desk = ap (λ (t : RoomyTables). t.desk) tables
+
+  own_as : AreHolders old.tables.desk → AllByRecursion (IsRunningOf old.tables.desk) new.running → AreSingle new.running → HoldTheirOwn new
+  own_as holders running single = record {
+    holders = subst AreHolders (sym same_desk) holders;
+    running = subst (λ (t : TablesModel). AllByRecursion (IsRunningOf t) new.running) (sym same_desk) running;
+    single = single;
+  }
+
+  pub own-without : (run : ℕ) → new.running ≡ without_first run old.running → HoldTheirOwn old → HoldTheirOwn new
+  own-without run running own =
+      own_as own.holders (subst (AllByRecursion (IsRunningOf old.tables.desk)) (sym running) (all-without (IsRunningOf old.tables.desk) run old.running own.running))
+      (subst AreSingle (sym running) (single-first run old.running own.single))
+
+  pub own-put : (on : RunningStepView) → new.running ≡ on ∷ old.running → HoldTheirOwn old → IsRunningOf old.tables.desk on → AllByRecursion (IsOfOther on.run) old.running → HoldTheirOwn new
+  own-put on running own is others =
+      own_as own.holders (subst (AllByRecursion (IsRunningOf old.tables.desk)) (sym running) (is, own.running)) (subst AreSingle (sym running) (others, own.single))
+
+  pub own-served : (run : ℕ) → new.running ≡ served_in run old.running → HoldTheirOwn old → HoldTheirOwn new
+  own-served run running own =
+      own_as own.holders (subst (AllByRecursion (IsRunningOf old.tables.desk)) (sym running) (by (find (is_of_run run) old.running) refl))
+      (subst AreSingle (sym running) (single-served run old.running own.single))
+    where
+      by : (first : Option RunningStepView) → find (is_of_run run) old.running ≡ first
+          → AllByRecursion (IsRunningOf old.tables.desk) (option_map_or (λ on. served_step on ∷ without_first run old.running) first old.running)
+      by None e = own.running
+      by (Some on) e = (
+        running-served old.tables.desk on (find-holds (IsRunningOf old.tables.desk) (is_of_run run) old.running on own.running e),
+        all-without (IsRunningOf old.tables.desk) run old.running own.running,
+      )
+
+-- the first running step of a run, if there is one, is that of its run
+pub step-own : (run : ℕ) (jobs : JobsView) (taken : Option RunningStep) → HoldTheirOwn jobs → option_map step_seen taken ≡ find (is_of_run run) jobs.running → IfSome taken (λ on. IsRunningOf jobs.tables.desk (step_seen on))
+step-own run jobs None own is = tt
+step-own run jobs (Some on) own is = find-holds (IsRunningOf jobs.tables.desk) (is_of_run run) jobs.running (step_seen on) own.running (sym is)
+
+-- the runs stay apart behind an event that is read again
+pub holders-replayed : (layout : Layout) (old new : JobsView) (event : Event) → AreNumbered 1 old.tables.desk.runs → goes_on layout old.tables.desk event (deck_of event) ≡ true → new.tables.desk ≡ after_event event (deck_of event) old.tables.desk
+    → AreJobs layout old → AreHolders old.tables.desk → AreHolders new.tables.desk
+holders-replayed layout old new event numbered goes tables are holders =
+    let its = goes-on-with layout old.tables.desk event (deck_of event) goes in
+    subst AreHolders (sym tables) (holders-stay layout old.tables.desk event (deck_of event) holders are.rows numbered its.plain its.follow)

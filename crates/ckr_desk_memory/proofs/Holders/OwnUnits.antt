@@ -1,0 +1,126 @@
+-- What a turn tells of a unit of a running step follows on any disk, and commits what the step has behind it.
+use Rattle.std.proofs.Common.{◌≡◌, ℕ, true, List, [], ◌∷◌, refl, ap, sym, ◌∙◌, subst, Option, Some, None}
+use Rattle.std.specs.List.{AllByRecursion}
+use Rattle.std.specs.Option.{option_map_or}
+use Rattle.std.proofs.lemmas.Bool.{false≢true}
+use Rattle.ckr_base.specs.declared.programs.Heads.{Heads}
+use Rattle.ckr_events.specs.Jobs.{job_of}
+use Rattle.ckr_events.specs.declared.event.Ending.TheVariants.{Coded}
+use Rattle.ckr_events.specs.declared.event.Event.{Event}
+use Rattle.ckr_events.specs.declared.event.Event.TheVariants.{Ended, Rewritten, StepEnded}
+use Rattle.ckr_library.specs.Catalog.{Holding}
+use Rattle.ckr_library.specs.NameMaps.{Named}
+use Rattle.ckr_meaning.specs.EffectiveJob.{OwnedStep}
+use Rattle.ckr_points.specs.Restart.{place_of, step_in}
+use Rattle.ckr_points.specs.Rows.{RunRow, TablesModel, run_of, step_of_run}
+use Rattle.ckr_points_library.specs.Commit.{output_names}
+use Rattle.ckr_rules.specs.RuleTables.{rule_number}
+use Rattle.ckr_steps.specs.Inputs.{AreThere}
+use Rattle.ckr_steps.specs.StepUnit.{HasDone, IsUnitFor}
+use Rattle.ckr_steps.specs.Writes.{grown}
+use Rattle.ckr_steps.specs.declared.step_run.Worked.{Worked}
+use Rattle.ckr_steps.specs.declared.step_run.Worked.TheVariants.{Abend, Rewrite, Went}
+use Rattle.ckr_steps.specs.declared.unit_ahead.UnitAhead.{UnitAhead}
+use Rattle.ckr_volumes.specs.declared.layout.Layout.{Layout}
+use Rattle.ckr_desk_turn.specs.declared.plan.Plan.{Plan}
+use Rattle.ckr_desk_turn.specs.declared.plan.Plan.TheVariants.{Pass, Rest, Tell, Work}
+use Rattle.ckr_desk_turn.specs.Codes.{rule_for}
+use Rattle.ckr_desk_turn.specs.Queue.{AreNumbered}
+use Rattle.ckr_desk_memory.proofs.Holders.Moves.{row-number}
+use Rattle.ckr_desk_memory.proofs.Holders.OwnEvents.{own-committed, own-follows}
+use Rattle.ckr_desk_memory.proofs.Holders.Rewrites.{nothing-before}
+use Rattle.ckr_desk_memory.proofs.Holders.Rooms.{unit-fits}
+use Rattle.ckr_desk_memory.proofs.Holders.Units.{running-unit}
+use Rattle.ckr_desk_memory.specs.Invariant.{IsAcceptedRow}
+use Rattle.ckr_desk_memory.specs.OwnEvents.{HasOwnLengths}
+use Rattle.ckr_desk_memory.specs.OwnSets.{AreUpTo, CommitsItsOwn, IsCommitted, IsRunningOf}
+use Rattle.ckr_desk_memory.specs.OwnSteps.{IsOfOther, LeavesLeft, PlanCommits, PlanFollows, PlanIsOf, PlanLeaves}
+use Rattle.ckr_desk_memory.specs.Plans.{IsUnitPlan, behind_unit, is_unit_event, told_by}
+use Rattle.ckr_desk_memory.specs.Start.{AllFit}
+use Rattle.ckr_desk_memory.specs.View.{RunningStepView, lengths_of_row, running_of}
+
+-- ---- steps of other runs
+
+others_committed : (tables : TablesModel) (job : ℕ) (lengths : List ℕ) (others : List RunningStepView) → AllByRecursion (IsOfOther job) others → AllByRecursion (IsCommitted job lengths tables) others
+others_committed tables job lengths [] apart = tt
+others_committed tables job lengths (on ∷ rest) apart = (λ same. absurd (apart.0 same), others_committed tables job lengths rest apart.1)
+
+-- what a running step commits of its own, it commits with steps of other runs beside it
+pub others-commit : (tables : TablesModel) (event : Event) (seen moved : RunningStepView) (others : List RunningStepView) → moved.run ≡ seen.run → moved.sets.sets ≡ seen.sets.sets → AllByRecursion (IsOfOther (job_of event)) others
+    → CommitsItsOwn event tables (seen ∷ []) → CommitsItsOwn event tables (moved ∷ others)
+others-commit tables (Rewritten job taken writes lengths place image) seen moved others run sets apart commits = (
+  λ same row owned at found. subst (λ (s : Named Holding). AreUpTo s (output_names row.job.root owned) lengths.items) (sym sets) (commits.0 (sym run ∙ same) row owned at found),
+  others_committed tables job lengths.items others apart,
+)
+others-commit tables _ seen moved others run sets apart commits = tt
+
+-- ---- what is told of a unit
+
+module _ (layout : Layout) (tables : TablesModel) (on : RunningStepView) (ahead : UnitAhead) (plan : Plan) (numbered : AreNumbered 1 tables.runs) (rows : AllByRecursion IsAcceptedRow tables.runs) (is : IsRunningOf tables on)
+    (told : (row : RunRow) (own : OwnedStep) → run_of tables on.run ≡ Some row → step_of_run row (step_in (place_of row)) ≡ Some own → plan ≡ told_by layout row (running_of tables (behind_unit on ahead)) ahead.worked) where
+  abbrev moved : RunningStepView
+  moved = behind_unit on ahead
+
+  -- what holds of what is told by the row of its run
+  by-told : (Q : Plan → Type 0) → Q (told_by layout is.row (running_of tables moved) ahead.worked) → Q plan
+  by-told Q holds = subst Q (sym (told is.row is.owned is.row_at is.found)) holds
+
+  number : is.row.number ≡ on.run
+  number = row-number tables on.run is.row numbered is.row_at
+
+  lengths_of : HasOwnLengths tables moved (running_of tables moved).lengths
+  lengths_of = λ row at. ap (λ (o : Option RunRow). option_map_or (lengths_of_row moved.sets.sets) o []) at
+
+  pub told-commits : PlanCommits tables (moved ∷ []) plan
+  told-commits = by-told (PlanCommits tables (moved ∷ [])) (by ahead.worked)
+    where
+      by : (worked : Worked) → PlanCommits tables (moved ∷ []) (told_by layout is.row (running_of tables moved) worked)
+      by (Went taken) = tt
+      by (Rewrite place image taken) = (own-committed tables moved is.row.number (running_of tables moved).lengths lengths_of, tt)
+      by (Abend code) = tt
+
+  pub told-of : PlanIsOf on.run plan
+  told-of = by-told (PlanIsOf on.run) (by ahead.worked)
+    where
+      by : (worked : Worked) → PlanIsOf on.run (told_by layout is.row (running_of tables moved) worked)
+      by (Went taken) = tt
+      by (Rewrite place image taken) = number
+      by (Abend code) = number
+
+  module _ (heads : Heads) (fits : AllFit on.sets.sets) (there : AreThere on.step.files on.sets) (unit : IsUnitFor on.sets on.step heads ahead) where
+    done : HasDone heads on.step moved.step on.sets moved.sets ahead.worked
+    done = record { answer = unit.answer; step = unit.behind; lengths = ap (λ writes. grown on.step.files writes on.sets.sets) unit.writes }
+
+    pub told-own : PlanFollows layout tables plan
+    told-own = by-told (PlanFollows layout tables) (by ahead.worked refl)
+      where
+        by : (worked : Worked) → ahead.worked ≡ worked → PlanFollows layout tables (told_by layout is.row (running_of tables moved) worked)
+        by (Went taken) same = tt
+        by (Rewrite place image taken) same =
+            let asks = sym unit.answer ∙ same in
+            own-follows layout tables
+            (Rewritten is.row.number (running_of tables moved).taken (running_of tables moved).writes (record { items = (running_of tables moved).lengths }) place image)
+            None on rows numbered is fits (record {
+              run = number;
+              own = λ row at.
+                  lengths_of row at
+                  ∙ ap (λ (sets : Named Holding). lengths_of_row sets row) (ap (λ writes. grown on.step.files writes on.sets.sets) (unit.writes ∙ nothing-before on.sets on.step heads place image taken asks));
+              heads = heads;
+              taken = taken;
+              asks = asks;
+            })
+        by (Abend code) same =
+            own-follows layout tables
+            (Ended is.row.number (Coded code (rule_number (rule_for layout is.row code)) (running_of tables moved).writes (record { items = (running_of tables moved).lengths })))
+            None moved rows numbered (running-unit tables on moved heads ahead.worked rows numbered refl done is) (unit-fits on moved heads ahead.worked there fits done) (number, lengths_of)
+
+-- it ends no step
+pub told-leaves : (failed : List ℕ) (plan : Plan) → IsUnitPlan plan → PlanLeaves failed plan
+told-leaves failed (Rest reply) is = tt
+told-leaves failed (Tell reply event) is = by event is
+  where
+    by : (event : Event) → is_unit_event event ≡ true → LeavesLeft event failed
+    by (StepEnded job step rc writes lengths) is = absurd (false≢true is)
+    by _ is = tt
+told-leaves failed (Work job) is = tt
+told-leaves failed (Pass job reply) is = tt

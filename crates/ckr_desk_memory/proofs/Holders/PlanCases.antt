@@ -1,0 +1,95 @@
+-- What a turn comes to, by its cases: between the steps of a run, where a step ends, and where a run ends by a code.
+use Rattle.std.proofs.Common.{◌≡◌, ℕ, Bool, true, false, List, refl, Option, Some, None, Result, Ok, Err}
+use Rattle.std.specs.Option.{option_map_or}
+use Rattle.ckr_base.specs.declared.code.Code.{Code}
+use Rattle.ckr_base.specs.declared.programs.NextDue.{NextDue}
+use Rattle.ckr_base.specs.declared.programs.NextDue.TheVariants.{Unit as OneUnit, Checkpoint, Cancel, Finished}
+use Rattle.ckr_events.specs.declared.event.Event.{Event}
+use Rattle.ckr_events.specs.declared.event.Made.{Made}
+use Rattle.ckr_meaning.specs.declared.place.Place.{Place}
+use Rattle.ckr_meaning.specs.declared.place.Place.TheVariants.{Before, Opened, Within}
+use Rattle.ckr_points.specs.Restart.{place_of}
+use Rattle.ckr_points.specs.Rows.{RunRow, step_of_run}
+use Rattle.ckr_points_library.specs.declared.cause.Refusal.{Refusal}
+use Rattle.ckr_desk_turn.specs.declared.plan.Plan.{Plan}
+use Rattle.ckr_desk_turn.specs.declared.plan.Plan.TheVariants.{Rest, Tell, Work, Pass}
+use Rattle.ckr_desk_turn.specs.declared.reply.Reply.{Reply}
+use Rattle.ckr_desk_turn.specs.declared.reply.Turn.{Turn}
+use Rattle.ckr_desk_turn.specs.Allocation.{allocation_of}
+use Rattle.ckr_desk_turn.specs.Codes.{code_plan, reached_by}
+use Rattle.ckr_desk_turn.specs.Jobs.{TurnJobs, TurnStep, is_failed, running_in}
+use Rattle.ckr_desk_turn.specs.Plans.{between_plan, chosen_plan, due_plan, fail_plan, finished_plan, free_plan, is_within, placed_plan, plan_of, run_plan, running_plan, system_failure}
+use Rattle.ckr_desk_turn.specs.Select.{next_run, run_on_initiator}
+use Rattle.ckr_volumes.specs.declared.layout.Layout.{Layout}
+use Rattle.ckr_desk_memory.specs.TurnEvents.{is_of_step}
+
+-- ---- a plan by a choice
+
+module _ (Q : Plan → Type 0) where
+  by-result : (r : Result (List Made) Refusal) (f : Refusal → Plan) (g : List Made → Plan) → ((x : Refusal) → Q (f x)) → ((x : List Made) → Q (g x)) → Q (elim r as (λ _. Plan) [ Err refusal ↦ f refusal | Ok items ↦ g items ])
+  by-result (Err refusal) f g first second = first refusal
+  by-result (Ok items) f g first second = second items
+
+  by-found : {X : Type 0} (o : Option X) (f : X → Plan) (none : Plan) → Q none → ((x : X) → o ≡ Some x → Q (f x)) → Q (option_map_or f o none)
+  by-found None f none first second = first
+  by-found (Some x) f none first second = second x refl
+
+  by-option : {X : Type 0} (o : Option X) (none : Plan) (f : X → Plan) → Q none → ((x : X) → o ≡ Some x → Q (f x)) → Q (elim o as (λ _. Plan) [ None ↦ none | Some x ↦ f x ])
+  by-option None none f first second = first
+  by-option (Some x) none f first second = second x refl
+
+  by-test : (b : Bool) (one two : Plan) → (b ≡ true → Q one) → (b ≡ false → Q two) → Q (elim b as (λ _. Plan) [ true ↦ one | false ↦ two ])
+  by-test true one two first second = first refl
+  by-test false one two first second = second refl
+
+-- ---- the cases
+
+pub record PlanCases (layout : Layout) (seen : TurnJobs) (initiator : ℕ) (Q : Plan → Type 0) : Type 0 where
+  pub rest : (reply : Reply) → Q (Rest reply)
+  pub work : (job : ℕ) → Q (Work job)
+  pub pass : (job : ℕ) (reply : Reply) → Q (Pass job reply)
+  pub between : (reply : Reply) (event : Event) → is_of_step event ≡ false → Q (Tell reply event)
+  pub ended : (row : RunRow) → run_on_initiator seen.tables initiator ≡ Some row → is_failed seen row.number ≡ false → (number writes : ℕ) → place_of row ≡ Within number writes
+      → (step : TurnStep) → running_in seen row.number ≡ Some step → (rc : ℕ) → Q (finished_plan row number step rc)
+  pub failed : (row : RunRow) → run_on_initiator seen.tables initiator ≡ Some row → is_failed seen row.number ≡ true → Q (code_plan layout row system_failure (reached_by seen row))
+  pub given : (row : RunRow) → run_on_initiator seen.tables initiator ≡ Some row → is_within (place_of row) ≡ true → (code : Code) → Q (code_plan layout row code (reached_by seen row))
+  pub chosen : (row : RunRow) → next_run seen.tables ≡ Some row → (code : Code) → row.code ≡ Some code → Q (code_plan layout row code (reached_by seen row))
+
+module _ (layout : Layout) (seen : TurnJobs) (initiator : ℕ) (Q : Plan → Type 0) (cases : PlanCases layout seen initiator Q) where
+  between_case : (row : RunRow) (number : ℕ) → Q (between_plan layout seen row number)
+  between_case row number =
+      by-option Q (step_of_run row number) _ _ (cases.between _ _ refl)
+      (λ owned there. by-result Q (allocation_of layout row owned number seen.tables) _ _ (λ refusal. cases.between _ _ refl) (λ items. cases.between _ _ refl))
+
+  module _ (row : RunRow) (found : run_on_initiator seen.tables initiator ≡ Some row) where
+    due_case : is_failed seen row.number ≡ false → (number writes : ℕ) → place_of row ≡ Within number writes → (step : TurnStep) → running_in seen row.number ≡ Some step → (due : NextDue) → Q (due_plan row number step due)
+    due_case sound number writes is step there OneUnit = cases.work row.number
+    due_case sound number writes is step there Checkpoint = cases.pass row.number _
+    due_case sound number writes is step there Cancel = cases.between _ _ refl
+    due_case sound number writes is step there (Finished rc) = cases.ended row found sound number writes is step there rc
+
+    placed_case : is_failed seen row.number ≡ false → (place : Place) → place_of row ≡ place → Q (placed_plan layout seen row place)
+    placed_case sound (Before number) is = between_case row number
+    placed_case sound (Opened number) is = between_case row number
+    placed_case sound (Within number writes) is =
+        by-found Q (running_in seen row.number) (running_plan row number) _ (cases.rest _) (λ step there. due_case sound number writes is step there step.due)
+
+    fail_case : is_failed seen row.number ≡ false → (fail : Option Code) → Q (fail_plan layout seen row fail)
+    fail_case sound None = placed_case sound (place_of row) refl
+    fail_case sound (Some code) = by-test Q (is_within (place_of row)) _ _ (λ within. cases.given row found within code) (λ out. cases.rest _)
+
+    run_case : (fail : Option Code) → Q (run_plan layout seen fail row)
+    run_case fail = by-test Q (is_failed seen row.number) _ _ (cases.failed row found) (λ sound. fail_case sound fail)
+
+  chosen_case : (row : RunRow) → next_run seen.tables ≡ Some row → Q (chosen_plan layout seen initiator row)
+  chosen_case row next = by-option Q row.code _ _ (cases.between _ _ refl) (cases.chosen row next)
+
+  free_case : (fail : Option Code) → Q (free_plan layout seen initiator fail)
+  free_case (Some code) = cases.rest _
+  free_case None = by-found Q (next_run seen.tables) (chosen_plan layout seen initiator) _ (cases.rest _) chosen_case
+
+pub plan-cases : (layout : Layout) (seen : TurnJobs) (turn : Turn) (Q : Plan → Type 0) → PlanCases layout seen turn.initiator Q → Q (plan_of layout seen turn)
+unfolding plan_of
+plan-cases layout seen turn Q cases =
+    by-found Q (run_on_initiator seen.tables turn.initiator) (run_plan layout seen turn.fail) _ (free_case layout seen turn.initiator Q cases turn.fail)
+    (λ row found. run_case layout seen turn.initiator Q cases row found turn.fail)

@@ -1,0 +1,193 @@
+-- The running steps stay those of their runs by each event that follows.
+use Rattle.std.proofs.Common.{◌≡◌, ◌≢◌, ◌==◌, ℕ, Bool, true, false, cond, not, ◌&&◌, List, [], ◌∷◌, refl, ap, sym, ◌∙◌, subst, Option, Some, None}
+use Rattle.std.specs.Prelude.{find}
+use Rattle.std.specs.List.{AllByRecursion}
+use Rattle.std.specs.Option.{option_map_or}
+use Rattle.std.proofs.lemmas.Bool.{false≢true}
+use Rattle.arrayvec.specs.ArrayVec.{ArrayVec}
+use Rattle.ckr_base.specs.declared.record.Rec.{Rec}
+use Rattle.ckr_base.proofs.Bools.{and-first, and-second}
+use Rattle.ckr_base.proofs.Numbers.{equal-false, number-cases}
+use Rattle.ckr_base.proofs.Options.{some-one}
+use Rattle.ckr_base.proofs.Sequences.{each-implies, find-holds}
+use Rattle.ckr_events.specs.Jobs.{job_of}
+use Rattle.ckr_events.specs.declared.event.Event.{Event}
+use Rattle.ckr_events.specs.declared.event.Event.TheVariants.{Cancelled, Ended, Purged, Rewritten, Selected, Started, StepEnded, Submitted}
+use Rattle.ckr_events.specs.declared.event.Made.{Made}
+use Rattle.ckr_jcl.specs.declared.deck.Job.{Job}
+use Rattle.ckr_meaning.specs.EffectiveJob.{Effective}
+use Rattle.ckr_points.specs.declared.run.RunState.{RunState}
+use Rattle.ckr_points.specs.declared.run.RunState.TheVariants.{Queued, On, Held as HeldRun, Released as ReleasedRun, Ended as EndedRun, Denied as DeniedRun, Purged as PurgedRun}
+use Rattle.ckr_points.specs.Follows.{follows, is_free, is_in_state, may_hold, selected_follows, started_follows, state_number}
+use Rattle.ckr_points.specs.Restart.{after_event, by_step}
+use Rattle.ckr_points.specs.Rows.{RunRow, TablesModel, run_of, step_of_run}
+use Rattle.ckr_points.specs.Tables.{after_cancelled, after_rewritten, after_started, after_submitted}
+use Rattle.ckr_points_invariant.proofs.WaitingRuns.{tested-run}
+use Rattle.ckr_points_tables.specs.Invariant.{is_plain_event, is_submission}
+use Rattle.ckr_volumes.specs.declared.layout.Layout.{Layout}
+use Rattle.ckr_desk_memory.proofs.Holders.Events.{by-some, goes-on, holders-stay, row-more, tested}
+use Rattle.ckr_desk_memory.proofs.Holders.Moves.{by-own, by-row, row-accepted, row-as_is, row-next, row-number}
+use Rattle.ckr_desk_memory.proofs.Holders.OwnSets.{running-new, running-other, running-rewritten, running-same, running-served}
+use Rattle.ckr_desk_memory.specs.EventChanges.{is_of_run, served_in, served_step, without_first, without_run}
+use Rattle.ckr_desk_memory.specs.Invariant.{IsAcceptedRow}
+use Rattle.ckr_desk_memory.specs.RunningSteps.{GoesOn, StepStarts}
+use Rattle.ckr_desk_memory.specs.Start.{HasNew}
+use Rattle.ckr_desk_memory.specs.View.{RunningStepView}
+use Rattle.ckr_desk_turn.specs.Queue.{AreNumbered}
+use Rattle.ckr_desk_memory.specs.Holders.{AreHolders}
+use Rattle.ckr_desk_memory.specs.OwnSets.{CommitsItsOwn, IsCommitted, IsRunningOf}
+
+-- ---- lists of running steps
+
+module _ (P Q : RunningStepView → Type 0) where
+  each-without_run : (job : ℕ) (old : List RunningStepView) → ((on : RunningStepView) → on.run ≢ job → P on → Q on) → AllByRecursion P old → AllByRecursion Q (without_run job old)
+  each-without_run job [] goes all = tt
+  each-without_run job (on ∷ rest) goes all =
+      by (on.run == job) (λ e. goes on (equal-false on.run job e) all.0) (each-without_run job rest goes all.1)
+    where
+      by : (b : Bool) → (b ≡ false → Q on) → AllByRecursion Q (without_run job rest) → AllByRecursion Q (cond (not b) (on ∷ without_run job rest) (without_run job rest))
+      by true one others = others
+      by false one others = (one refl, others)
+
+  each-both : (C : RunningStepView → Type 0) (old : List RunningStepView) → ((on : RunningStepView) → P on → C on → Q on) → AllByRecursion P old → AllByRecursion C old → AllByRecursion Q old
+  each-both C [] goes all also = tt
+  each-both C (on ∷ rest) goes all also = (goes on all.0 also.0, each-both C rest goes all.1 also.1)
+
+each-without_first : (Q : RunningStepView → Type 0) (job : ℕ) (old : List RunningStepView) → AllByRecursion Q old → AllByRecursion Q (without_first job old)
+each-without_first Q job [] all = tt
+each-without_first Q job (on ∷ rest) all =
+    by (is_of_run job on) (each-without_first Q job rest all.1)
+  where
+    by : (b : Bool) → AllByRecursion Q (without_first job rest) → AllByRecursion Q (cond b rest (on ∷ without_first job rest))
+    by true others = all.1
+    by false others = (all.0, others)
+
+-- ---- states
+
+on-is : (state : RunState) → (state_number state == 2) ≡ true → state ≡ On
+on-is Queued e = absurd (false≢true e)
+on-is On e = refl
+on-is HeldRun e = absurd (false≢true e)
+on-is ReleasedRun e = absurd (false≢true e)
+on-is EndedRun e = absurd (false≢true e)
+on-is DeniedRun e = absurd (false≢true e)
+on-is PurgedRun e = absurd (false≢true e)
+
+-- ---- each event
+
+module _ (layout : Layout) (tables : TablesModel) (are : AreHolders tables) (rows : AllByRecursion IsAcceptedRow tables.runs) (numbered : AreNumbered 1 tables.runs) where
+  -- those of other runs
+  other-steps : (event : Event) (deck : Option Job) → is_plain_event event ≡ true → is_submission event ≡ false → follows layout tables event deck ≡ true → (on : RunningStepView) → on.run ≢ job_of event → IsRunningOf tables on → IsRunningOf (after_event event deck tables) on
+  other-steps event deck plain other follow on apart is =
+      running-other tables (after_event event deck tables) (job_of event) (goes-on layout tables event deck rows numbered plain other follow) rows are on is apart
+
+  -- those of all runs, where the run's own go on too
+  all-steps : (event : Event) (deck : Option Job) → is_plain_event event ≡ true → is_submission event ≡ false → follows layout tables event deck ≡ true → ((on : RunningStepView) → on.run ≡ job_of event → IsRunningOf tables on → IsRunningOf (after_event event deck tables) on)
+      → (old : List RunningStepView) → AllByRecursion (IsRunningOf tables) old → AllByRecursion (IsRunningOf (after_event event deck tables)) old
+  all-steps event deck plain other follow own old all =
+      each-implies (IsRunningOf tables) (IsRunningOf (after_event event deck tables)) old
+      (λ on is. number-cases on.run (job_of event) (λ here. own on here is) (λ apart. other-steps event deck plain other follow on apart is)) all
+
+  its_row : (job : ℕ) (on : RunningStepView) → on.run ≡ job → (is : IsRunningOf tables on) → run_of tables job ≡ Some is.row
+  its_row job on here is = ap (run_of tables) (sym here) ∙ is.row_at
+
+  -- a run that waits has no running step
+  not_queued : {A : Type 0} (job : ℕ) (on : RunningStepView) → on.run ≡ job → IsRunningOf tables on → (row : RunRow) → run_of tables job ≡ Some row → is_in_state Queued row ≡ true → A
+  not_queued job on here is row at queued =
+      absurd (false≢true (sym (ap (λ s. state_number s == 1) is.state) ∙ ap (is_in_state Queued) (some-one is.row row (run_of tables job) (its_row job on here is) at) ∙ queued))
+
+  submitted : (job : ℕ) (deck : Job) (on : RunningStepView) → IsRunningOf tables on → IsRunningOf (after_submitted job deck tables) on
+  submitted job deck on is = running-same tables (after_submitted job deck tables) on is is.row (row-more tables job deck on.run is.row is.row_at) refl refl refl refl
+
+  cancelled : (job : ℕ) (deck : Option Job) (on : RunningStepView) → on.run ≡ job → IsRunningOf tables on → IsRunningOf (after_event (Cancelled job) deck tables) on
+  cancelled job deck on here is =
+      by-row (λ after. IsRunningOf after on) tables job (λ row. after_cancelled row tables) is.row (its_row job on here is)
+      (running-same tables (after_cancelled is.row tables) on is (record is.row { in_effect = None })
+      (row-next tables tables on.run is.row _ tables.sets (row-as_is tables on.run is.row is.row_at) (row-number tables on.run is.row numbered is.row_at)).now refl refl refl refl)
+
+  served : (job : ℕ) (deck : Option Job) (old : List RunningStepView) → follows layout tables (Cancelled job) deck ≡ true → AllByRecursion (IsRunningOf tables) old → AllByRecursion (IsRunningOf (after_event (Cancelled job) deck tables)) (served_in job old)
+  served job deck old follow all =
+      by (find (is_of_run job) old) refl
+    where
+      behind : AllByRecursion (IsRunningOf (after_event (Cancelled job) deck tables)) old
+      behind = all-steps (Cancelled job) deck refl refl follow (cancelled job deck) old all
+
+      by : (first : Option RunningStepView) → find (is_of_run job) old ≡ first → AllByRecursion (IsRunningOf (after_event (Cancelled job) deck tables)) (option_map_or (λ on. served_step on ∷ without_first job old) first old)
+      by None e = behind
+      by (Some on) e = (
+        running-served (after_event (Cancelled job) deck tables) on (find-holds (IsRunningOf (after_event (Cancelled job) deck tables)) (is_of_run job) old on behind e),
+        each-without_first (IsRunningOf (after_event (Cancelled job) deck tables)) job old behind,
+      )
+
+  -- a step that starts stands before those of other runs
+  abbrev StartsWell : ℕ → ℕ → List RunningStepView → List RunningStepView → TablesModel → Type 0
+  StartsWell job step old new after =
+      StepStarts job step after old new → AreHolders after → AllByRecursion (IsRunningOf after) (without_run job old) → AllByRecursion (IsRunningOf after) new
+
+  started : (job step : ℕ) (items : List Made) (old new : List RunningStepView) (row : RunRow) → run_of tables job ≡ Some row → started_follows layout tables step items row ≡ true → StartsWell job step old new (option_map_or (λ owned. after_started row owned step items tables) (step_of_run row step) tables)
+  started job step items old new row at follow =
+      tested (step_of_run row step) _ (and-second (is_in_state On row) _ follow)
+      (λ owned found passes.
+      by-some (StartsWell job step old new) (step_of_run row step) (λ owned. after_started row owned step items tables) tables owned found
+      (λ starts holders others.
+      let after : TablesModel = after_started row owned step items tables in
+      let now = (row-next tables tables job row _ after.sets (row-as_is tables job row at) (row-number tables job row numbered at)).now in
+      let new_one : HasNew job owned after.sets old new = starts _ owned now found in
+      subst (AllByRecursion (IsRunningOf after)) (sym new_one.first) (
+        running-new after job _ owned old new now (on-is row.state (and-first (is_in_state On row) _ follow)) refl found
+            (ap (λ (job : Effective). job.root) (row-accepted tables job row rows at).plain ∙ row-number tables job row numbered at) holders new_one,
+        others,
+      )))
+
+  rewritten : (job taken writes : ℕ) (lengths : ArrayVec ℕ) (place : ℕ) (image : Rec) (deck : Option Job) → follows layout tables (Rewritten job taken writes lengths place image) deck ≡ true → (on : RunningStepView) → on.run ≡ job → IsRunningOf tables on → IsCommitted job lengths.items tables on → IsRunningOf (after_event (Rewritten job taken writes lengths place image) deck tables) on
+  rewritten job taken writes lengths place image deck follow on here is commits =
+      by-row (λ after. IsRunningOf after on) tables job (λ row. by_step (λ owned step. after_rewritten row owned step writes lengths.items tables) row tables) is.row (its_row job on here is)
+      (by-own (λ after. IsRunningOf after on) tables (λ owned step. after_rewritten is.row owned step writes lengths.items tables) is.row is.owned is.found
+      (running-rewritten tables on is writes lengths.items rows (row-number tables on.run is.row numbered is.row_at) (commits here is.row is.owned (its_row job on here is) is.found)))
+
+  stay : (event : Event) (deck : Option Job) (old new : List RunningStepView) → is_plain_event event ≡ true → follows layout tables event deck ≡ true → AreHolders (after_event event deck tables) → AllByRecursion (IsRunningOf tables) old
+      → CommitsItsOwn event tables old → GoesOn event (after_event event deck tables) old new → AllByRecursion (IsRunningOf (after_event event deck tables)) new
+  stay (Submitted job cards) None old new plain follow holders all commits goes = subst (AllByRecursion (IsRunningOf tables)) (sym goes) all
+  stay (Submitted job cards) (Some deck) old new plain follow holders all commits goes =
+      subst (AllByRecursion (IsRunningOf (after_submitted job deck tables))) (sym goes)
+      (each-implies (IsRunningOf tables) (IsRunningOf (after_submitted job deck tables)) old (submitted job deck) all)
+  stay (Selected job initiator earlier step id) deck old new plain follow holders all commits goes =
+      subst (AllByRecursion (IsRunningOf (after_event (Selected job initiator earlier step id) deck tables))) (sym goes)
+      (all-steps (Selected job initiator earlier step id) deck plain refl follow
+      (λ on here is.
+      tested-run tables job (selected_follows layout tables initiator earlier step id) follow
+      (λ row at passes.
+      not_queued job on here is row at
+      (and-first (is_in_state Queued row) (is_free layout tables initiator) (and-first (is_in_state Queued row && is_free layout tables initiator) (may_hold tables row) (and-first (is_in_state Queued row && is_free layout tables initiator && may_hold tables row) _ passes))))) old all)
+  stay (Started job step items) deck old new plain follow holders all commits goes =
+      tested-run tables job (started_follows layout tables step items.items) follow
+      (λ row at passes.
+      by-row (StartsWell job step old new) tables job (λ row. option_map_or (λ owned. after_started row owned step items.items tables) (step_of_run row step) tables) row at
+      (started job step items.items old new row at passes) goes holders
+      (each-without_run (IsRunningOf tables) (IsRunningOf (after_event (Started job step items) deck tables)) job old (other-steps (Started job step items) deck plain refl follow) all))
+  stay (Rewritten job taken writes lengths place image) deck old new plain follow holders all commits goes =
+      subst (AllByRecursion (IsRunningOf (after_event (Rewritten job taken writes lengths place image) deck tables))) (sym goes)
+      (each-both (IsRunningOf tables) (IsRunningOf (after_event (Rewritten job taken writes lengths place image) deck tables)) (IsCommitted job lengths.items tables) old
+      (λ on is up.
+      number-cases on.run job
+      (λ here. rewritten job taken writes lengths place image deck follow on here is up)
+      (λ apart. other-steps (Rewritten job taken writes lengths place image) deck plain refl follow on apart is)) all commits)
+  stay (Cancelled job) deck old new plain follow holders all commits goes =
+      subst (AllByRecursion (IsRunningOf (after_event (Cancelled job) deck tables))) (sym goes) (served job deck old follow all)
+  stay (StepEnded job step rc writes lengths) deck old new plain follow holders all commits goes =
+      subst (AllByRecursion (IsRunningOf (after_event (StepEnded job step rc writes lengths) deck tables))) (sym goes)
+      (each-without_run (IsRunningOf tables) (IsRunningOf (after_event (StepEnded job step rc writes lengths) deck tables)) job old (other-steps (StepEnded job step rc writes lengths) deck plain refl follow) all)
+  stay (Ended job ending) deck old new plain follow holders all commits goes =
+      subst (AllByRecursion (IsRunningOf (after_event (Ended job ending) deck tables))) (sym goes)
+      (each-without_run (IsRunningOf tables) (IsRunningOf (after_event (Ended job ending) deck tables)) job old (other-steps (Ended job ending) deck plain refl follow) all)
+  stay (Purged job) deck old new plain follow holders all commits goes =
+      subst (AllByRecursion (IsRunningOf (after_event (Purged job) deck tables))) (sym goes)
+      (all-steps (Purged job) deck plain refl follow
+      (λ on here is. tested-run tables job (is_in_state Queued) follow (λ row at queued. not_queued job on here is row at queued)) old all)
+  stay _ deck old new plain follow holders all commits goes = absurd (false≢true plain)
+
+-- the running steps stay those of their runs
+pub running-stay : (layout : Layout) (tables : TablesModel) (event : Event) (deck : Option Job) (old new : List RunningStepView) → AreHolders tables → AllByRecursion IsAcceptedRow tables.runs → AreNumbered 1 tables.runs → is_plain_event event ≡ true → follows layout tables event deck ≡ true
+    → AllByRecursion (IsRunningOf tables) old → CommitsItsOwn event tables old → GoesOn event (after_event event deck tables) old new → AllByRecursion (IsRunningOf (after_event event deck tables)) new
+running-stay layout tables event deck old new are rows numbered plain follow all commits goes =
+    stay layout tables are rows numbered event deck old new plain follow (holders-stay layout tables event deck are rows numbered plain follow) all commits goes

@@ -1,0 +1,43 @@
+use Rattle.std.proofs.Common.{◌≡◌, ◌+◌, suc, ap, ◌∙◌, add-one, arith, length, refl}
+use Rattle.ckr_meaning.specs.EffectiveJob.{names_of_job, plain_job}
+use Rattle.ckr_points.specs.Restart.{step_in}
+use Rattle.ckr_points_tables.proofs.MarkOrder.{marks-most}
+use Rattle.ckr_desk_memory.specs.EntryMarks.{mark_behind}
+use Rattle.ckr_desk_memory.specs.Entries.{step_now}
+use Rattle.ckr_desk_turn.specs.Checkpoints.{step_entries}
+use Rattle.ckr_desk_turn.specs.EntryStates.{at_checkpoint}
+use Rattle.ckr_desk_memory.specs.Plans.{row_for}
+use Rattle.ckr_desk_memory.proofs.EntryPoints.{made-entry}
+use Rattle.ckr_desk_memory.proofs.entry.entry_with.Goals as goal
+
+pub encode_entry-requires : goal.encode_entry-requires
+encode_entry-requires c =
+    let run = c.args.behind.now.on.now.run in
+    let names = names_of_job (plain_job run c.args.behind.now.table.now.job) in
+    let most = marks-most (mark_behind c.args.behind.now) names in (
+      omega (arith, most, c.requires.names, ap length c.in_ok-marks_of.ensures),
+      omega (arith, c.requires.passed, ap length (c.in_ok-passed_of.ensures ∙ c.as_slice.ensures)),
+    )
+
+pub returns-clause-entry : goal.returns-clause-entry
+returns-clause-entry c tables seen =
+    let behind = c.args.behind.now in
+    let row = row_for behind.on.now.run behind.table.now in
+    let entries = step_entries row (step_now row) in
+    let written : c.step_entries.result + 1 ≡ suc entries = add-one c.step_entries.result ∙ ap suc (c.step_entries.ensures.value behind.on.now.run) in
+    made-entry c.args.id behind tables _ seen refl (record {
+      job = c.copied.ensures;
+      run = refl;
+      owner = refl;
+      step = c.step_in.ensures ∙ ap step_in (c.place_of.ensures behind.on.now.run);
+      step_name = c.copied-2.ensures;
+      count = add-one behind.table.now.count;
+      taken = c.progress-far.ensures.taken;
+      writes = c.progress-far.ensures.writes;
+      state =
+          c.at_checkpoint.ensures
+          ∙ ap (at_checkpoint (c.step_entries.result + 1)) c.progress-far.ensures.state
+          ∙ ap (λ n. at_checkpoint n behind.on.now.step.state) written;
+      marks = c.in_ok-marks_of.ensures;
+      passed = c.in_ok-passed_of.ensures ∙ c.as_slice.ensures;
+    })

@@ -1,0 +1,15 @@
+use Rattle.std.proofs.Common.{◌≡◌, ◌≤◌, [], IsTrue, length, drop, map}
+use Rattle.ckr_meaning.specs.EffectiveJob.{names_of_steps, owned_by}
+use Rattle.ckr_points_tables.specs.MarkOrder.{are_in_order, marked, marked_onto}
+use Rattle.ckr_desk_memory.specs.EntryMarks.{mark_behind}
+use Rattle.ckr_desk_memory.proofs.entry_marks.mark_job.Given as goal
+
+abbrev pub invariant-loop-left : goal.invariant-loop-left
+invariant-loop-left l = record {
+  within : l.left ≤ length l.steps;
+  items : marked l.items.items ≡ marked_onto (mark_behind l.behind) (names_of_steps l.behind.on.now.run (map (owned_by l.behind.on.now.run l.job) (drop l.left l.steps))) [];
+  order : IsTrue (are_in_order l.items.items);
+}
+
+abbrev pub decreases-loop-left : goal.decreases-loop-left
+decreases-loop-left l = l.left

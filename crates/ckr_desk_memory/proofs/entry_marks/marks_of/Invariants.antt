@@ -1,0 +1,5 @@
+use Rattle.std.proofs.Common.{◌≡◌, take}
+use Rattle.ckr_desk_memory.proofs.entry_marks.marks_of.Given as goal
+
+abbrev pub invariant-loop-mark : goal.invariant-loop-mark
+invariant-loop-mark l = l.marks.items ≡ take l.mark-index l.mark-items

@@ -1,0 +1,76 @@
+-- The jobs in memory hold their own: their runs stay apart, and each running step is that of its run, and the only one of it.
+use Rattle.std.specs.Prelude.{◌≡◌, ◌≢◌, ℕ, true, List, [], ◌∷◌, None, Some}
+use Rattle.std.specs.List.{AllByRecursion}
+use Rattle.ckr_desk_turn.specs.declared.plan.Plan.{Plan}
+use Rattle.ckr_desk_turn.specs.declared.plan.Plan.TheVariants.{Rest, Tell, Work, Pass}
+use Rattle.ckr_events.specs.Jobs.{job_of}
+use Rattle.ckr_events.specs.declared.event.Event.{Event}
+use Rattle.ckr_events.specs.declared.event.Event.TheVariants.{StepEnded}
+use Rattle.ckr_points.specs.Follows.{follows, is_running}
+use Rattle.ckr_points.specs.Rows.{RunRow, TablesModel, run_of}
+use Rattle.ckr_volumes.specs.declared.layout.Layout.{Layout}
+use Rattle.ckr_desk_memory.specs.Holders.{AreHolders}
+use Rattle.ckr_desk_memory.specs.OwnSets.{CommitsItsOwn, IsRunningOf}
+use Rattle.ckr_desk_memory.specs.View.{JobsView, RunningStepView}
+
+-- a running step is of another run
+abbrev pub IsOfOther : ℕ → RunningStepView → Type 0
+IsOfOther run on = on.run ≢ run
+
+-- no two running steps are of one run
+abbrev pub AreSingle : List RunningStepView → Type 0
+AreSingle [] = Unit {0}
+AreSingle (on ∷ rest) = AllByRecursion (IsOfOther on.run) rest × AreSingle rest
+
+pub record HoldTheirOwn (jobs : JobsView) : Type 0 where
+  pub holders : AreHolders jobs.tables.desk
+  pub running : AllByRecursion (IsRunningOf jobs.tables.desk) jobs.running
+  pub single : AreSingle jobs.running
+
+-- ---- the runs that were running when the system failed
+
+-- a run is on an initiator and within a step
+abbrev pub IsLeft : TablesModel → ℕ → Type 0
+IsLeft tables number = (row : RunRow) × (run_of tables number ≡ Some row) × (is_running row ≡ true)
+
+-- so is each of these
+abbrev pub AreLeft : JobsView → Type 0
+AreLeft jobs = AllByRecursion (IsLeft jobs.tables.desk) jobs.failed
+
+abbrev pub IsOther : ℕ → ℕ → Type 0
+IsOther job number = number ≢ job
+
+-- no step of theirs ends by an event
+abbrev pub LeavesLeft : Event → List ℕ → Type 0
+LeavesLeft (StepEnded job step rc writes lengths) failed = AllByRecursion (IsOther job) failed
+LeavesLeft _ failed = Unit {0}
+
+-- ---- what a turn comes to
+
+-- the event of a plan, if it tells one, follows
+abbrev pub PlanFollows : Layout → TablesModel → Plan → Type 0
+PlanFollows layout tables (Rest reply) = Unit {0}
+PlanFollows layout tables (Tell reply event) = follows layout tables event None ≡ true
+PlanFollows layout tables (Work job) = Unit {0}
+PlanFollows layout tables (Pass job reply) = Unit {0}
+
+-- what it commits is its step's own
+abbrev pub PlanCommits : TablesModel → List RunningStepView → Plan → Type 0
+PlanCommits tables running (Rest reply) = Unit {0}
+PlanCommits tables running (Tell reply event) = CommitsItsOwn event tables running
+PlanCommits tables running (Work job) = Unit {0}
+PlanCommits tables running (Pass job reply) = Unit {0}
+
+-- its event is of this run
+abbrev pub PlanIsOf : ℕ → Plan → Type 0
+PlanIsOf run (Rest reply) = Unit {0}
+PlanIsOf run (Tell reply event) = job_of event ≡ run
+PlanIsOf run (Work job) = Unit {0}
+PlanIsOf run (Pass job reply) = Unit {0}
+
+-- it ends no step of a run that was running when the system failed
+abbrev pub PlanLeaves : List ℕ → Plan → Type 0
+PlanLeaves failed (Rest reply) = Unit {0}
+PlanLeaves failed (Tell reply event) = LeavesLeft event failed
+PlanLeaves failed (Work job) = Unit {0}
+PlanLeaves failed (Pass job reply) = Unit {0}

@@ -1,0 +1,342 @@
+//! The entry of the next checkpoint of a running step.
+ghost use Rattle.std.specs.Prelude.{◌≡◌, ◌≤◌, ◌<◌, ◌+◌, ◌++◌, ◌^◌, ℕ, IfOk, IfSome, Some, length};
+ghost use Rattle.std.specs.List.{list_any, AllByRecursion};
+ghost use Rattle.std.specs.Option.{option_map_or};
+ghost use Rattle.ckr_entry.specs.Entry.{spelling};
+ghost use Rattle.ckr_entry.specs.Parts.{entry_of};
+ghost use Rattle.ckr_library.specs.Catalog.{records_of};
+ghost use Rattle.ckr_library.specs.NameMaps.{same_name};
+ghost use Rattle.ckr_library.specs.declared.sets.Kept.{Kept as KeptOfSet};
+ghost use Rattle.ckr_meaning.specs.EffectiveJob.{names_of_job, plain_job, OwnedStep};
+ghost use Rattle.ckr_points.specs.Marks.{point_at};
+ghost use Rattle.ckr_points.specs.Rows.{holding_of, run_of, step_of_run, RunRow, TablesModel, StartPoint as StartOfStep};
+ghost use Rattle.ckr_points.specs.declared.run.Run.{Run as RunOfDesk};
+ghost use Rattle.ckr_points_tables.specs.View.{facts_of, seen_by};
+ghost use Rattle.ckr_steps.specs.StepUnit.{AreCounted};
+ghost use Rattle.ckr_desk_turn.specs.Checkpoints.{are_counts_in_range, id_by, is_in_range, is_state_in_range, step_entries};
+ghost use Rattle.ckr_desk_turn.specs.EntryStates.{at_checkpoint};
+ghost use Rattle.ckr_desk_memory.specs.Entries.{entry_made, id_in, next_entry, next_id, row_of_line, step_now, IsEntryOf, IsNextOf};
+ghost use Rattle.ckr_desk_memory.specs.Invariant.{IsAcceptedRow};
+ghost use Rattle.ckr_desk_memory.specs.Parts.{step_seen};
+ghost use Rattle.ckr_desk_memory.specs.Plans.{row_for};
+
+use crate::entry_marks::{Behind, marks_of};
+use crate::run_code::place_of;
+use crate::{Jobs, RunningStep};
+use arrayvec::ArrayVec;
+use ckr_base::{CheckId, NoMemory, decimal_text, last_digits};
+use ckr_entry::{Passed, PassedList, Point, State, encode_entry};
+use ckr_jcl::Step;
+use ckr_library::{DataSet, Kept, Library};
+use ckr_match::MatchState;
+use ckr_points::step_in;
+use ckr_points_tables::{RunTable, checkpoint_name, point_at, step_at};
+use ckr_programs::ProgState;
+use std::alloc::Global;
+
+/// The entry of a checkpoint, before it is written.
+#[derive(Drop)]
+pub struct NextEntry {
+    /// The point that it keeps.
+    pub point: Point,
+    /// Its bytes.
+    pub bytes: Vec<u8>,
+}
+
+/// A text and another one behind it.
+fn joined(first: &[u8], second: &[u8]) -> ArrayVec<u8, 32>
+    requires { length first.now + length second.now ≤ 32 }
+    ensures { result.items ≡ first.now ++ second.now }
+{
+    let mut text = ArrayVec::new();
+    put(&mut text, first);
+    put(&mut text, second);
+    text
+}
+
+/// Puts a piece of a text behind the others. There is room for it.
+fn put(text: &mut ArrayVec<u8, 32>, piece: &[u8])
+    requires { length text.old.items + length piece.now ≤ 32 }
+    ensures { text.new.items ≡ text.old.items ++ piece.now }
+{
+    match text.try_extend_from_slice(piece) {
+        Ok(()) => {}
+        Err(_) => unreachable!(),
+    }
+}
+
+/// The identifier of an entry by IDS, by its number in the run and by that in the step: `C` and the last seven digits of the former, or IDS and
+/// the latter (IBM GC28-6708).
+fn id_text(ids: &[u8], in_run: u128, in_step: u128) -> ArrayVec<u8, 32>
+    requires ids { length ids.now ≤ 8 }
+    requires in_step { in_step < 10 ^ 22 }
+    ensures { result.items ≡ id_by ids.now in_run in_step }
+{
+    if ids.is_empty() {
+        let digits: ArrayVec<u8, 7> = last_digits(in_run, 7);
+        return joined(b"C", digits.as_slice());
+    }
+    joined(ids, decimal_text(in_step).as_slice())
+}
+
+/// How many entries a run had written before a step.
+fn entries_before(table: &RunTable, step: u8) -> u32
+    ensures { result ≡ option_map_or (λ (point : StartOfStep). point.count) (point_at (facts_of table.now).points step) 0 }
+{
+    match point_at(table.points.as_slice(), step) {
+        Some(point) => point.count,
+        None => 0,
+    }
+}
+
+/// How many entries the step of a run has written that it is in.
+fn step_entries(table: &RunTable) -> u32
+    ensures value { (run : ℕ) → result ≡ step_entries (row_for run table.now) (step_now (row_for run table.now)) }
+    ensures bound { result ≤ table.now.count }
+{
+    table
+        .count
+        .saturating_sub(entries_before(table, step_in(place_of(table))))
+}
+
+/// The identifier of the next entry of a run in a step. `None` where the text isn't in the grammar of identifiers.
+fn id_of(table: &RunTable, own: &Step) -> Option<CheckId>
+    ensures { (run : ℕ) (owned : OwnedStep) → owned.step ≡ own.now → result ≡ id_in (next_id (row_for run table.now) owned) }
+{
+    let in_run = u128::from(table.count) + 1;
+    let in_step = u128::from(step_entries(table)) + 1;
+    CheckId::read(id_text(own.parm.ids.as_slice(), in_run, in_step).as_slice())
+}
+
+/// A state as an entry has it: the checkpoint is done and counted, the cancel isn't done, and the program isn't closed.
+fn at_checkpoint(state: &State, entries: u32) -> State
+    ensures { result ≡ at_checkpoint entries state.now }
+{
+    match state.copied() {
+        State::Plain(plain) => State::Plain(ProgState {
+            entries,
+            checkpointed: true,
+            cancelled: false,
+            closed: false,
+            ..plain
+        }),
+        State::Matched(matched) => State::Matched(MatchState {
+            entries,
+            checkpointed: true,
+            cancelled: false,
+            closed: false,
+            ..matched
+        }),
+    }
+}
+
+/// The same passed list.
+///
+/// `NoMemory`: there is none for it.
+fn passed_of(alloc: Global, items: &[Passed]) -> Result<PassedList, NoMemory>
+    ensures { IfOk result (λ passed. passed.items ≡ items.now) }
+{
+    let mut passed = PassedList::new(alloc);
+    for one in items {
+        passed.push(Passed {
+            name: one.name.copied(),
+            made: one.made,
+        })?;
+    }
+    Ok(passed)
+}
+
+/// The entry of a checkpoint of this identifier.
+///
+/// `NoMemory`: there is none for it.
+fn entry_with(alloc: Global, id: CheckId, behind: &Behind<'_>) -> Result<NextEntry, NoMemory>
+    requires run { behind.now.on.now.run ≤ 9999999 }
+    requires counted { AreCounted behind.now.on.now.step }
+    requires count { behind.now.table.now.count < 9999999 }
+    requires names { length (names_of_job (plain_job behind.now.on.now.run behind.now.table.now.job)) ≤ 1024 }
+    requires passed { length behind.now.table.now.passed.items < 65536 }
+    ensures entry { (tables : TablesModel) → behind.now.committed.now.sets ≡ seen_by holding_of tables.sets → IfOk result (λ made. IsEntryOf id behind.now tables (entry_of made.point)) }
+    ensures bytes { IfOk result (λ made. made.bytes.items ≡ spelling (entry_of made.point)) }
+{
+    let table = behind.table;
+    let far = behind.on.step.progress();
+    let point = Point {
+        id: Some(id),
+        job: table.job.name.copied(),
+        run: behind.on.run,
+        owner: behind.on.run,
+        step: step_in(place_of(table)),
+        step_name: behind.own.name.copied(),
+        count: table.count + 1,
+        taken: far.taken,
+        writes: far.writes,
+        state: at_checkpoint(far.state, step_entries(table) + 1),
+        marks: marks_of(alloc, behind, &table.job)?,
+        passed: passed_of(alloc, table.passed.as_slice())?,
+    };
+    let bytes = encode_entry(alloc, &point)?;
+    Ok(NextEntry { point, bytes })
+}
+
+/// Whether one of these entries has this identifier.
+fn has_id(entries: &[Kept], id: &CheckId) -> bool
+    ensures { result ≡ list_any (λ (kept : KeptOfSet). same_name kept.id id.now) entries.now }
+{
+    entries.iter().any(|kept| is_same_id(&kept.id, id))
+}
+
+/// Whether the identifiers are the same.
+fn is_same_id(one: &CheckId, other: &CheckId) -> bool
+    ensures { result ≡ same_name one.now other.now }
+{
+    one.text().cmp(other.text()).is_eq()
+}
+
+/// How many records of 256 bytes so many bytes take.
+fn records_of(bytes: usize) -> u64
+    ensures { result ≡ records_of bytes }
+{
+    (bytes as u64).div_ceil(256)
+}
+
+/// Whether the counts of a state are in their ranges.
+fn are_counts_in_range(first: u32, second: u32, rejects: u32, entries: u32) -> bool
+    ensures { result ≡ are_counts_in_range first second rejects entries }
+{
+    first <= 1_000_000 && second <= 1_000_000 && rejects <= 1_000_000 && entries <= 1_000_000
+}
+
+/// Whether the numbers of a state are in their ranges.
+fn is_state_in_range(state: &State) -> bool
+    ensures { result ≡ is_state_in_range state.now }
+{
+    match state {
+        State::Plain(state) => {
+            are_counts_in_range(state.first, state.second, state.rejects, state.entries)
+                && state.sum < 1_000_000_000_000_000_000_000
+        }
+        State::Matched(state) => {
+            are_counts_in_range(state.first, state.second, state.rejects, state.entries)
+        }
+    }
+}
+
+/// Whether the numbers of a point are in the ranges of an entry.
+fn is_in_range(point: &Point) -> bool
+    ensures { result ≡ is_in_range (entry_of point.now) }
+{
+    point.count <= 9_999_999 && point.writes <= 3_000_000 && is_state_in_range(&point.state)
+}
+
+/// The entry of a checkpoint of this identifier, if it fits its data set behind the last record there. Its end is looked for here: none is given.
+///
+/// `NoMemory`: there is none for it.
+fn fitting(
+    alloc: Global,
+    id: CheckId,
+    set: &DataSet,
+    behind: &Behind<'_>,
+) -> Result<Option<NextEntry>, NoMemory>
+    requires run { behind.now.on.now.run ≤ 9999999 }
+    requires counted { AreCounted behind.now.on.now.step }
+    requires names { length (names_of_job (plain_job behind.now.on.now.run behind.now.table.now.job)) ≤ 1024 }
+    requires end { behind.now.end ≡ 0 }
+    ensures entry { IfOk result (λ found. IsNextOf id behind.now set.now (entry_made found)) }
+    ensures bytes { IfOk result (λ found. IfSome found (λ made. made.bytes.items ≡ spelling (entry_of made.point))) }
+{
+    let _grammar = id.text();
+    if behind.table.count >= 9_999_999 {
+        return Ok(None);
+    }
+    if behind.table.passed.as_slice().len() > 65_535 {
+        return Ok(None);
+    }
+    if has_id(behind.committed.entries(behind.check), &id) {
+        return Ok(None);
+    }
+    let first = entry_with(alloc, id.copied(), behind)?;
+    let space = set.space;
+    let end = u64::from(set.length) + records_of(first.bytes.as_slice().len());
+    if end > u64::from(space) {
+        return Ok(None);
+    }
+    let ahead = Behind {
+        end: end as u32,
+        ..*behind
+    };
+    let made = entry_with(alloc, id, &ahead)?;
+    if !is_in_range(&made.point) {
+        return Ok(None);
+    }
+    Ok(Some(made))
+}
+
+/// The same of a run that the tables have, in this step.
+///
+/// `NoMemory`: there is none for it.
+fn next_of(
+    alloc: Global,
+    library: &Library,
+    table: &RunTable,
+    own: &Step,
+    on: &RunningStep,
+) -> Result<Option<NextEntry>, NoMemory>
+    requires run { on.now.run ≤ 9999999 }
+    requires counted { AreCounted on.now.step }
+    requires names { length (names_of_job (plain_job on.now.run table.now.job)) ≤ 1024 }
+    ensures entry { (line : RunOfDesk) (tables : TablesModel) (owned : OwnedStep) → library.now.sets ≡ seen_by holding_of tables.sets → owned.step ≡ own.now → owned.owner ≡ on.now.run → IfOk result (λ found. entry_made found ≡ next_entry tables (row_of_line on.now.run line table.now) owned (step_seen on.now)) }
+    ensures bytes { IfOk result (λ found. IfSome found (λ made. made.bytes.items ≡ spelling (entry_of made.point))) }
+{
+    let Some(check) = checkpoint_name(on.run, own) else {
+        return Ok(None);
+    };
+    let Some(set) = library.get(&check) else {
+        return Ok(None);
+    };
+    let Some(id) = id_of(table, own) else {
+        return Ok(None);
+    };
+    let behind = Behind {
+        table,
+        own,
+        on,
+        committed: library,
+        check: &check,
+        end: 0,
+    };
+    fitting(alloc, id, set, &behind)
+}
+
+impl Jobs {
+    /// The identifier of the entry that the next checkpoint of a running step writes: `C` and seven digits, or IDS and a number, by the entries
+    /// that were written (IBM GC28-6708). `None` where its run or its step isn't there, or where the text isn't in the grammar of identifiers.
+    pub fn next_id(&self, on: &RunningStep) -> Option<CheckId>
+        requires { AllByRecursion IsAcceptedRow self.now.tables.desk.runs }
+        ensures { (row : RunRow) (own : OwnedStep) → run_of self.now.tables.desk on.now.run ≡ Some row → step_of_run row (step_now row) ≡ Some own → result ≡ id_in (next_id row own) }
+    {
+        let table = self.known(on.run)?;
+        let own = step_at(&table.job, step_in(place_of(table)))?;
+        id_of(table, own)
+    }
+
+    /// The entry that the next checkpoint of a running step writes behind the last record of its data set for checkpoints, with its bytes: its
+    /// marks are those of the data sets behind it (IBM GC28-6708). `None` where it doesn't fit: the data set isn't there, has no space for
+    /// its records or keeps one of its identifier, or a number is out of its range (this project's profile). Nothing changes.
+    ///
+    /// `NoMemory`: there is none for the entry.
+    pub fn next_entry(&self, on: &RunningStep) -> Result<Option<NextEntry>, NoMemory>
+        requires rows { AllByRecursion IsAcceptedRow self.now.tables.desk.runs }
+        requires counted { AreCounted on.now.step }
+        ensures entry { (row : RunRow) (own : OwnedStep) → run_of self.now.tables.desk on.now.run ≡ Some row → step_of_run row (step_now row) ≡ Some own → IfOk result (λ found. entry_made found ≡ next_entry self.now.tables.desk row own (step_seen on.now)) }
+        ensures bytes { IfOk result (λ found. IfSome found (λ made. made.bytes.items ≡ spelling (entry_of made.point))) }
+    {
+        let Some(table) = self.known(on.run) else {
+            return Ok(None);
+        };
+        let Some(own) = step_at(&table.job, step_in(place_of(table))) else {
+            return Ok(None);
+        };
+        let _lines = self.tables.runs();
+        next_of(self.alloc, self.tables.library(), table, own, on)
+    }
+}

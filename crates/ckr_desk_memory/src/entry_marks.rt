@@ -1,0 +1,216 @@
+//! The marks of an entry: one for each name of the job, in ascending order, as the data sets are behind the checkpoint.
+ghost use Rattle.std.specs.Prelude.{◌≡◌, ◌≤◌, [], IfOk, OnOk, IsTrue, length, slice_get};
+ghost use Rattle.std.specs.Option.{option_to_list};
+ghost use Rattle.std.specs.Ordering.{is_gt};
+ghost use Rattle.ckr_library.specs.NameMaps.{name_cmp, with_entry};
+ghost use Rattle.ckr_points_library.specs.Holdings.{owned};
+ghost use Rattle.ckr_meaning.specs.EffectiveJob.{name_of, names_of, names_of_job, plain_job};
+ghost use Rattle.ckr_points.specs.Marks.{first_volume, marks_for};
+ghost use Rattle.ckr_points_tables.specs.MarkOrder.{are_in_order, has_name, marked, marked_onto, place_in};
+ghost use Rattle.ckr_desk_memory.specs.EntryMarks.{is_output_of, length_of, mark_behind, present_behind};
+
+use crate::RunningStep;
+use ckr_base::{DsName, NoMemory};
+use ckr_entry::{Mark, Marks, Present};
+use ckr_jcl::{Dd, Job, Step};
+use ckr_library::{DataSet, Library, Part};
+use ckr_points_library::output_name;
+use ckr_points_tables::RunTable;
+use ckr_uses::library_name;
+use std::alloc::Global;
+
+/// What the marks are taken from.
+#[derive(Drop)]
+pub(crate) struct Behind<'a> {
+    /// What the tables keep of the run.
+    pub(crate) table: &'a RunTable,
+    /// The step that it is in.
+    pub(crate) own: &'a Step,
+    /// The running step, whose data sets have the lengths that they have by now.
+    pub(crate) on: &'a RunningStep,
+    /// The data sets, with the lengths that are committed.
+    pub(crate) committed: &'a Library,
+    /// The name of the step's data set for checkpoints.
+    pub(crate) check: &'a DsName,
+    /// The length that it has behind the checkpoint.
+    pub(crate) end: u32,
+}
+
+/// Whether a data set of this name is an output of the step.
+fn is_output(behind: &Behind<'_>, name: &DsName) -> bool
+    requires { behind.now.on.now.run ≤ 9999999 }
+    ensures { result ≡ is_output_of behind.now name.now }
+{
+    for dd in behind.own.dds.as_slice() {
+        if let Some(output) = output_name(dd, behind.on.run, behind.on.run, behind.own) {
+            if name.is_same(&output) {
+                return true;
+            }
+        }
+    }
+    false
+}
+
+/// The length of a data set: an output has the one that the step gives it, another one that which is committed.
+fn length_of(behind: &Behind<'_>, name: &DsName, set: &DataSet) -> u32
+    requires { behind.now.on.now.run ≤ 9999999 }
+    ensures { result ≡ length_of behind.now name.now set.now }
+{
+    if !is_output(behind, name) {
+        return set.length;
+    }
+    if name.is_same(behind.check) {
+        return behind.end;
+    }
+    match behind.on.sets.get(name) {
+        Some(own) => own.length,
+        None => 0,
+    }
+}
+
+/// The volume of a data set's first part.
+fn first_volume(parts: &[Part]) -> u8
+    ensures { result ≡ first_volume parts.now }
+{
+    match parts.first() {
+        Some(part) => part.volume,
+        None => 0,
+    }
+}
+
+/// What a mark says of a data set.
+fn present_of(behind: &Behind<'_>, name: &DsName, set: &DataSet) -> Present
+    requires { behind.now.on.now.run ≤ 9999999 }
+    ensures { result ≡ present_behind behind.now name.now set.now }
+{
+    Present {
+        volume: first_volume(set.parts.as_slice()),
+        lrecl: set.lrecl,
+        space: set.space,
+        length: length_of(behind, name, set),
+        cataloged: set.cataloged,
+        stamp: set.stamp,
+    }
+}
+
+/// What a mark says of a name: nothing where there is no data set of this name.
+fn mark_of(behind: &Behind<'_>, name: DsName) -> Mark
+    requires { behind.now.on.now.run ≤ 9999999 }
+    ensures { result ≡ mark_behind behind.now name }
+{
+    let present = match behind.committed.get(&name) {
+        Some(set) => Some(present_of(behind, &name, set)),
+        None => None,
+    };
+    Mark { name, present }
+}
+
+/// Whether the first name stands above the second one.
+fn is_above(name: &DsName, other: &DsName) -> bool
+    ensures { result ≡ is_gt (name_cmp name.now other.now) }
+{
+    name.cmp(other).is_gt()
+}
+
+/// The place of a name: that of its mark, or where that is to stand.
+fn place_of(items: &[Mark], name: &DsName) -> usize
+    requires { IsTrue (are_in_order items.now) }
+    ensures place { result ≡ place_in name.now items.now }
+    ensures bound { result ≤ length items.now }
+{
+    items.partition_point(|mark| is_above(name, &mark.name))
+}
+
+/// Whether the mark at a place has this name.
+fn has_name(items: &[Mark], place: usize, name: &DsName) -> bool
+    ensures { result ≡ has_name name.now (slice_get items.now place) }
+{
+    match items.get(place) {
+        Some(mark) => name.is_same(&mark.name),
+        None => false,
+    }
+}
+
+/// Puts a mark at the place of its name, in place of the one that was there.
+fn enter(items: &mut Vec<Mark>, mark: Mark) -> Result<(), NoMemory>
+    requires { IsTrue (are_in_order items.old.items) }
+    ensures items { OnOk result (marked items.new.items ≡ with_entry mark.name mark (marked items.old.items)) }
+    ensures order { OnOk result (IsTrue (are_in_order items.new.items)) }
+{
+    let place = place_of(items.as_slice(), &mark.name);
+    if has_name(items.as_slice(), place, &mark.name) {
+        items[place] = mark;
+        return Ok(());
+    }
+    items.insert(place, mark)?;
+    Ok(())
+}
+
+/// Enters the mark of a DD's name, if it has a data set.
+fn mark_dd(behind: &Behind<'_>, step: &Step, dd: &Dd, items: &mut Vec<Mark>) -> Result<(), NoMemory>
+    requires run { behind.now.on.now.run ≤ 9999999 }
+    requires order { IsTrue (are_in_order items.old.items) }
+    ensures items { OnOk result (marked items.new.items ≡ marked_onto (mark_behind behind.now) (option_to_list (name_of behind.now.on.now.run (owned step.now behind.now.on.now.run []) dd.now)) (marked items.old.items)) }
+    ensures order { OnOk result (IsTrue (are_in_order items.new.items)) }
+{
+    match library_name(dd, behind.on.run, behind.on.run, &step.name) {
+        Some(name) => enter(items, mark_of(behind, name)),
+        None => Ok(()),
+    }
+}
+
+/// Enters the marks of a step's names.
+fn mark_step(behind: &Behind<'_>, step: &Step, items: &mut Vec<Mark>) -> Result<(), NoMemory>
+    requires run { behind.now.on.now.run ≤ 9999999 }
+    requires order { IsTrue (are_in_order items.old.items) }
+    ensures items { OnOk result (marked items.new.items ≡ marked_onto (mark_behind behind.now) (names_of behind.now.on.now.run (owned step.now behind.now.on.now.run [])) (marked items.old.items)) }
+    ensures order { OnOk result (IsTrue (are_in_order items.new.items)) }
+{
+    let dds = step.dds.as_slice();
+    let mut left = dds.len();
+    while left > 0 {
+        left -= 1;
+        mark_dd(behind, step, &dds[left], items)?;
+    }
+    Ok(())
+}
+
+/// The marks of all names of a run that continues none.
+fn mark_job(alloc: Global, behind: &Behind<'_>, job: &Job) -> Result<Vec<Mark>, NoMemory>
+    requires { behind.now.on.now.run ≤ 9999999 }
+    ensures { IfOk result (λ items. items.items ≡ marks_for (mark_behind behind.now) (names_of_job (plain_job behind.now.on.now.run job.now))) }
+{
+    let mut items = Vec::new(alloc);
+    let steps = job.steps.as_slice();
+    let mut left = steps.len();
+    while left > 0 {
+        left -= 1;
+        mark_step(behind, &steps[left], &mut items)?;
+    }
+    Ok(items)
+}
+
+/// The same mark.
+fn copy_of_mark(mark: &Mark) -> Mark
+    ensures { result ≡ mark.now }
+{
+    Mark {
+        name: mark.name.copied(),
+        present: mark.present,
+    }
+}
+
+/// The marks of all names of a run that continues none, as a point has them.
+///
+/// `NoMemory`: there is none for them.
+pub(crate) fn marks_of(alloc: Global, behind: &Behind<'_>, job: &Job) -> Result<Marks, NoMemory>
+    requires { behind.now.on.now.run ≤ 9999999 }
+    ensures { IfOk result (λ marks. marks.items ≡ marks_for (mark_behind behind.now) (names_of_job (plain_job behind.now.on.now.run job.now))) }
+{
+    let items = mark_job(alloc, behind, job)?;
+    let mut marks = Marks::new(alloc);
+    for mark in items.as_slice() {
+        marks.push(copy_of_mark(mark))?;
+    }
+    Ok(marks)
+}
