@@ -35,7 +35,6 @@ serving_status (Err Stops.Sink) = 5
 serving_status (Err Stops.Disk) = 6
 serving_status (Err Stops.Memory) = 7
 serving_status (Err Stops.Limit) = 9
-serving_status (Err Stops.Misread) = 2
 
 abbrev pub status_of : RunEnd → ℕ
 status_of (NotOpened error) = opening_status error

@@ -46,7 +46,6 @@ StopCause trusted Stops.Sink faults taken = Caused trusted Stops.Sink faults.sin
 StopCause trusted Stops.Memory faults taken = Caused trusted Stops.Memory faults.sink_before faults.sink_now faults.disk_before faults.disk_now
 StopCause trusted Stops.Book faults taken = Caused trusted Stops.Book faults.sink_before faults.sink_now faults.disk_before faults.disk_now
 StopCause trusted Stops.Disk faults taken = Caused trusted Stops.Disk faults.sink_before faults.sink_now faults.disk_before faults.disk_now
-StopCause trusted Stops.Misread faults taken = Caused trusted Stops.Misread faults.sink_before faults.sink_now faults.disk_before faults.disk_now
 
 -- the items that end within the bytes were served: their text is written, and their events came and were kept
 pub record HasServed (state : RoomyDesk) (bytes : List ℕ) (old new : Option (List ℕ)) (came kept : List (List ℕ)) : Type 0 where
@@ -63,7 +62,6 @@ StopsAt Stops.Sink faults state taken all old new came kept = StopsWithin Stops.
 StopsAt Stops.Memory faults state taken all old new came kept = StopsWithin Stops.Memory faults.sink_before faults.sink_now state (requests_of all) old new came kept
 StopsAt Stops.Book faults state taken all old new came kept = StopsWithin Stops.Book faults.sink_before faults.sink_now state (requests_of all) old new came kept
 StopsAt Stops.Disk faults state taken all old new came kept = StopsWithin Stops.Disk faults.sink_before faults.sink_now state (requests_of all) old new came kept
-StopsAt Stops.Misread faults state taken all old new came kept = StopsWithin Stops.Misread faults.sink_before faults.sink_now state (requests_of all) old new came kept
 
 -- The serving stopped: these bytes were taken. Where the disk is trusted, this is written of the text for the whole stream, and of its events
 -- these came, and these were kept.

@@ -74,28 +74,24 @@ HaltsSo Halts.Memory state requests before now came kept = ComesTo (events_told 
 HaltsSo Halts.Book state requests before now came kept =
     (all_fit state requests ≡ false) × (now ≡ before ++ text_to state requests) × (came ≡ events_told state requests) × (kept ≡ came)
 HaltsSo Halts.Disk state requests before now came kept = (text : List ℕ) × (now ≡ before ++ text) × BreaksOff state requests text came kept
-HaltsSo Halts.Misread state requests before now came kept = ⊥
 
--- only a disk whose faults rose is told to have failed, and only one that isn't trusted to read wrong
+-- only a disk whose faults rose is told to have failed
 abbrev pub HaltCause : Type 0 → Halt → ℕ → ℕ → Type 0
 HaltCause trusted Halts.Memory before now = Unit {0}
 HaltCause trusted Halts.Book before now = Unit {0}
 HaltCause trusted Halts.Disk before now = Rose before now
-HaltCause trusted Halts.Misread before now = trusted → ⊥
 
 -- nothing is told of a data set whose records weren't listed
 abbrev pub ListHalt : Halt → List ℕ → List ℕ → List (List ℕ) → List (List ℕ) → Type 0
 ListHalt Halts.Memory before now came kept = (came ≡ []) × (kept ≡ [])
 ListHalt Halts.Book before now came kept = ⊥
 ListHalt Halts.Disk before now came kept = (now ≡ before) × (came ≡ []) × (kept ≡ [])
-ListHalt Halts.Misread before now came kept = ⊥
 
 -- nor of a job that wasn't taken from the queue: whether the book has room for the event
 abbrev pub PurgeHalt : Halt → Bool → List (List ℕ) → List ℕ → List ℕ → List (List ℕ) → List (List ℕ) → Type 0
 PurgeHalt Halts.Memory fits event before now came kept = ComesTo (if fits then event else []) came kept
 PurgeHalt Halts.Book fits event before now came kept = (fits ≡ false) × (now ≡ before) × (came ≡ []) × (kept ≡ [])
 PurgeHalt Halts.Disk fits event before now came kept = (now ≡ before) × (came ≡ event) × ((kept ≡ came) ⊎ (kept ≡ []))
-PurgeHalt Halts.Misread fits event before now came kept = ⊥
 
 -- ---- what is written then
 
@@ -123,7 +119,6 @@ StopsWithin Stops.Memory before now state requests old new came kept = AppendsFr
 StopsWithin Stops.Book before now state requests old new came kept =
     (all_fit state requests ≡ false) × WritesSo before now old new (text_to state requests) × (came ≡ events_told state requests) × (kept ≡ came)
 StopsWithin Stops.Disk before now state requests old new came kept = (text : List ℕ) × BreaksOff state requests text came kept × WritesSo before now old new text
-StopsWithin Stops.Misread before now state requests old new came kept = ⊥
 
 -- why serving requests stopped: the faults of the sink and of the disk are counted before and now
 abbrev pub Caused : Type 0 → Stop → ℕ → ℕ → ℕ → ℕ → Type 0
@@ -133,11 +128,9 @@ Caused trusted Stops.Sink sink sink' disk disk' = Rose sink sink'
 Caused trusted Stops.Memory sink sink' disk disk' = Unit {0}
 Caused trusted Stops.Book sink sink' disk disk' = Unit {0}
 Caused trusted Stops.Disk sink sink' disk disk' = Rose disk disk'
-Caused trusted Stops.Misread sink sink' disk disk' = trusted → ⊥
 
 -- what was answered before the serving stopped is written, as far as the sink takes it
 abbrev pub RestWritten : Halt → Stop → ℕ → ℕ → Option (List ℕ) → Option (List ℕ) → List ℕ → Type 0
 RestWritten Halts.Memory stop before now old new text = (stop ≡ Stops.Memory) × (new ≡ old)
 RestWritten Halts.Book stop before now old new text = (stop ≡ Stops.Book) × WritesSo before now old new text
 RestWritten Halts.Disk stop before now old new text = (stop ≡ Stops.Disk) × WritesSo before now old new text
-RestWritten Halts.Misread stop before now old new text = (stop ≡ Stops.Misread) × WritesSo before now old new text

@@ -59,11 +59,9 @@ module _ (layout : Layout) (turn : Turn) where
       (turns_fit turn count state ≡ false) × (now ≡ before ++ answer_text (BrokenOff layout turn.initiator (turns turn count state)))
       × (came ≡ turns_events turn (length (turns turn count state)) state) × (kept ≡ came)
   TurnsHalt Halts.Disk count state before now came kept = FirstTurns count state before now came kept
-  TurnsHalt Halts.Misread count state before now came kept = ⊥
 
 -- a turn that wasn't made: whether the book has room for its event, and whether that came
 abbrev pub TurnHalt : Halt → Turn → RoomyDesk → List (List ℕ) → List (List ℕ) → Type 0
 TurnHalt Halts.Memory turn state came kept = (came ≡ []) × (kept ≡ [])
 TurnHalt Halts.Book turn state came kept = (turn_fits state turn ≡ false) × (came ≡ []) × (kept ≡ [])
 TurnHalt Halts.Disk turn state came kept = (came ≡ spelled (event_of_turn state turn)) × ((kept ≡ came) ⊎ (kept ≡ []))
-TurnHalt Halts.Misread turn state came kept = ⊥

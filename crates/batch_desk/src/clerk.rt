@@ -100,7 +100,6 @@ impl<D: Disk> Clerk<D> {
             Err(DeskError::NoMemory) => Err(Halt::Memory),
             Err(DeskError::BookFull { .. }) => Err(Halt::Book),
             Err(DeskError::DiskFault) => Err(Halt::Disk),
-            Err(DeskError::Misread) => Err(Halt::Misread),
             Err(DeskError::Stopped { .. }) => unreachable!(),
         }
     }
@@ -212,7 +211,6 @@ impl<D: Disk> Clerk<D> {
             Err(DeskError::NoMemory) => Err(Halt::Memory),
             Err(DeskError::BookFull { .. }) => Err(Halt::Book),
             Err(DeskError::DiskFault) => Err(Halt::Disk),
-            Err(DeskError::Misread) => Err(Halt::Misread),
             Err(DeskError::Stopped { .. }) => unreachable!(),
         }
     }
@@ -237,7 +235,7 @@ impl<D: Disk> Clerk<D> {
             Ok(None) => self.refuse_line(number, out),
             Err(DeskError::NoMemory) => Err(Halt::Memory),
             Err(DeskError::DiskFault) => Err(Halt::Disk),
-            Err(DeskError::BookFull { .. } | DeskError::Misread) => Err(Halt::Misread),
+            Err(DeskError::BookFull { .. }) => unreachable!(),
             Err(DeskError::Stopped { .. }) => unreachable!(),
         }
     }

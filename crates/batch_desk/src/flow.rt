@@ -47,10 +47,6 @@ fn write_rest<K: Sink>(halt: Halt, sink: &mut K, text: &Text) -> Stop
             let _ = put_all(sink, text.bytes());
             Stop::Disk
         }
-        Halt::Misread => {
-            let _ = put_all(sink, text.bytes());
-            Stop::Misread
-        }
     }
 }
 

@@ -1,6 +1,8 @@
 //! The batch desk: job decks in, a listing out.
 #![tactic(auto)]
 
+#[cfg(test)]
+mod checkpoint_tests;
 mod clerk;
 mod failure;
 mod flow;

@@ -12,8 +12,6 @@ pub enum Halt {
     Book,
     /// The disk failed.
     Disk,
-    /// The disk doesn't read what was written.
-    Misread,
 }
 
 /// Why a stream isn't served any further.
@@ -31,8 +29,6 @@ pub enum Stop {
     Book,
     /// The disk failed.
     Disk,
-    /// The disk doesn't read what was written.
-    Misread,
 }
 
 impl From<NoMemory> for Halt {

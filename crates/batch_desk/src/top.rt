@@ -38,7 +38,6 @@ fn serving_status(outcome: Result<bool, Stop>) -> u8
         Err(Stop::Disk) => 6,
         Err(Stop::Memory) => 7,
         Err(Stop::Limit) => 9,
-        Err(Stop::Misread) => 2,
     }
 }
 
@@ -52,7 +51,8 @@ fn opening_status(error: OpenError) -> u8
         OpenError::NotFormatted
         | OpenError::Version(_)
         | OpenError::BadHeader { .. }
-        | OpenError::BadBook { .. } => 2,
+        | OpenError::BadBook { .. }
+        | OpenError::BadEntry { .. } => 2,
     }
 }
 

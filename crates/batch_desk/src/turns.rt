@@ -141,7 +141,6 @@ fn one_turn<D: Disk>(desk: &mut Desk<D>, turn: Turn) -> Result<Reply, Halt>
         Err(DeskError::NoMemory) => Err(Halt::Memory),
         Err(DeskError::BookFull { .. }) => Err(Halt::Book),
         Err(DeskError::DiskFault) => Err(Halt::Disk),
-        Err(DeskError::Misread) => Err(Halt::Misread),
         Err(DeskError::Stopped { .. }) => unreachable!(),
     }
 }

@@ -2,3 +2,5 @@ pub mod Records
 pub mod NextEvent
 pub mod Rewrite
 pub mod Soundness
+pub mod Entries
+pub mod WrittenRecord

@@ -4,4 +4,5 @@ pub mod Calls
 pub mod Openings
 pub mod Units
 pub mod Turns
+pub mod Checkpoints
 pub mod Trust

@@ -1,4 +1,7 @@
 pub mod Answers
+pub mod Accepted
+pub mod EntryReads
+pub mod EntryRefusals
 pub mod Replay
 pub mod Lengths
 pub mod LastRecord

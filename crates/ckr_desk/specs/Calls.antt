@@ -12,7 +12,7 @@ use Rattle.ckr_desk_refines.specs.Moves.{HasSameRecords, HaveMoved}
 use Rattle.ckr_desk_store.specs.Answers.{HasFailed}
 use Rattle.ckr_desk_store.specs.OpenImages.{event_records, Opens}
 use Rattle.ckr_desk.specs.declared.error.DeskError.{DeskError}
-use Rattle.ckr_desk.specs.declared.error.DeskError.TheVariants.{NoMemory, DiskFault, BookFull, Stopped, Misread}
+use Rattle.ckr_desk.specs.declared.error.DeskError.TheVariants.{NoMemory, DiskFault, BookFull, Stopped}
 use Rattle.ckr_desk.specs.State.{DeskView, need_of}
 
 -- whether an event follows
@@ -59,7 +59,6 @@ NotAsked old new NoMemory = IsSame old new
 NotAsked old new DiskFault = ⊥
 NotAsked old new (BookFull need room) = ⊥
 NotAsked old new (Stopped fault) = (old.store.fault ≡ Some fault) × IsSame old new
-NotAsked old new Misread = ⊥
 
 module _ {D : Type 0} (faults : D → ℕ) where
   -- why an event that follows and is ready isn't kept: the disk failed
@@ -73,7 +72,6 @@ module _ {D : Type 0} (faults : D → ℕ) where
   NotKept event deck old new DiskFault = HasFailed faults old.store new.store × HasSameJobs old new
   NotKept event deck old new (BookFull need room) = (need ≡ need_of event) × (room ≡ room_of old.store.book) × (room < need) × IsSame old new
   NotKept event deck old new (Stopped fault) = (old.store.fault ≡ Some fault) × IsSame old new
-  NotKept event deck old new Misread = ⊥
 
   -- why a call isn't done
   abbrev pub NotDone : Option Decked → DeskView D → DeskView D → DeskError → Type 0

@@ -3,6 +3,7 @@ pub mod Calls
 pub mod Requests
 pub mod Turn
 pub mod Errors
+pub mod Entries
 pub mod Opening
 pub mod Replay
 pub mod Soundness
@@ -10,6 +11,7 @@ pub mod FirstSync
 pub mod Submit
 pub mod Rewrite
 pub mod Units
+pub mod Checkpoint
 pub mod Records
 pub mod NoChange
 pub mod CallOutcomes

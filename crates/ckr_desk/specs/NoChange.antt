@@ -5,7 +5,7 @@ use Rattle.ckr_desk_store.specs.State.{StoreView}
 use Rattle.ckr_desk.specs.Calls.{HasSameJobs}
 use Rattle.ckr_desk.specs.State.{DeskView}
 use Rattle.ckr_desk.specs.declared.error.DeskError.{DeskError}
-use Rattle.ckr_desk.specs.declared.error.DeskError.TheVariants.{NoMemory, DiskFault, BookFull, Stopped, Misread}
+use Rattle.ckr_desk.specs.declared.error.DeskError.TheVariants.{NoMemory, DiskFault, BookFull, Stopped}
 
 -- The jobs, the layout and the room of the book are as before, and the desk is open as before; the disk reads the same, and a stop
 -- leaves no image that it might not have left before.
@@ -26,7 +26,6 @@ StaysBy content may_leave faults old new NoMemory = IsUnchanged content may_leav
 StaysBy content may_leave faults old new DiskFault = new.store.fault ≡ Some (faults new.store.disk)
 StaysBy content may_leave faults old new (BookFull need room) = IsUnchanged content may_leave old new
 StaysBy content may_leave faults old new (Stopped fault) = IsUnchanged content may_leave old new
-StaysBy content may_leave faults old new Misread = ⊥
 
 -- once a unit is done, only the disk can fail
 abbrev pub IsOfDisk : DeskError → Type 0

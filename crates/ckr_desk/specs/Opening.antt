@@ -1,4 +1,4 @@
--- What opening a disk gives: what its events have brought about, or the first reason why there is none.
+-- What opening a disk gives: what its events have brought about, or the first reason why it isn't opened.
 use Rattle.std.specs.Prelude.{ℕ, ◌+◌, ◌-◌, if◌then◌else◌, List, [], ◌∷◌, length, take, drop, Option, Some, None, Result, Ok, Err}
 use Rattle.ckr_book.specs.Records.{records_from, end_from, starts_open}
 use Rattle.ckr_events.specs.declared.event.Event.{Event}
@@ -12,7 +12,8 @@ use Rattle.ckr_volumes.specs.declared.header.HeaderError.{HeaderError}
 use Rattle.ckr_volumes.specs.declared.header.HeaderError.TheVariants as HeaderErrors
 use Rattle.ckr_volumes.specs.Header.{header_of}
 use Rattle.ckr_desk.specs.declared.error.OpenError.{OpenError}
-use Rattle.ckr_desk.specs.declared.error.OpenError.TheVariants.{NotFormatted, Version, BadHeader, BadBook}
+use Rattle.ckr_desk.specs.declared.error.OpenError.TheVariants.{NotFormatted, Version, BadHeader, BadBook, BadEntry}
+use Rattle.ckr_desk.specs.Entries.{bad_entry}
 use Rattle.ckr_desk.specs.State.{Opened}
 
 abbrev pub behind_read : Layout → TablesModel → Result Event ℕ → Option TablesModel
@@ -47,11 +48,20 @@ by_end layout bytes (Ok tables) =
 abbrev pub by_book : Layout → List ℕ → Result Opened OpenError
 by_book layout bytes = by_end layout bytes (behind_records layout no_tables 0 (records_from 0 bytes))
 
+-- an entry of a checkpoint in effect may be refused behind the events
+abbrev pub refused_or : Opened → Option (ℕ × ℕ) → Result Opened OpenError
+refused_or opened None = Ok opened
+refused_or opened (Some at) = Err (BadEntry at.0 at.1)
+
+abbrev pub by_entries : List ℕ → Result Opened OpenError → Result Opened OpenError
+by_entries image (Err error) = Err error
+by_entries image (Ok opened) = refused_or opened (bad_entry opened.layout opened.tables image)
+
 abbrev pub by_header : List ℕ → Result Layout HeaderError → Result Opened OpenError
 by_header image (Err HeaderErrors.NotFormatted) = Err NotFormatted
 by_header image (Err (HeaderErrors.Version version)) = Err (Version version)
 by_header image (Err (HeaderErrors.BadHeader offset)) = Err (BadHeader offset)
-by_header image (Ok layout) = by_book layout (part 512 layout.book image)
+by_header image (Ok layout) = by_entries image (by_book layout (part 512 layout.book image))
 
 -- what opening a disk of this size gives that reads these bytes
 unfoldable pub opening_of : List ℕ → ℕ → Result Opened OpenError

@@ -17,7 +17,7 @@ use Rattle.ckr_steps.specs.StepUnit.{HasWorkedOut}
 use Rattle.ckr_desk_store.specs.Answers.{HasFailed}
 use Rattle.ckr_desk_turn.specs.declared.plan.Plan.{Plan}
 use Rattle.ckr_desk.specs.declared.error.DeskError.{DeskError}
-use Rattle.ckr_desk.specs.declared.error.DeskError.TheVariants.{NoMemory, DiskFault, BookFull, Stopped, Misread}
+use Rattle.ckr_desk.specs.declared.error.DeskError.TheVariants.{NoMemory, DiskFault, BookFull, Stopped}
 use Rattle.ckr_desk.specs.declared.preparation.Ready.{Ready}
 use Rattle.ckr_desk.specs.declared.unit.Ahead.{Ahead}
 use Rattle.ckr_desk.specs.Calls.{IsSame}
@@ -95,4 +95,3 @@ NotLooked told content faults run old new NoMemory = (new.store ≡ record old.s
 NotLooked told content faults run old new DiskFault = HasFailed faults old.store new.store
 NotLooked told content faults run old new (BookFull need room) = (new.store ≡ record old.store { disk = new.store.disk }) × HasNoRoomAhead told content run new need room
 NotLooked told content faults run old new (Stopped fault) = ⊥
-NotLooked told content faults run old new Misread = ⊥

@@ -11,13 +11,14 @@ use Rattle.ckr_library.specs.declared.sets.DataSet.{DataSet}
 use Rattle.ckr_library.specs.NameMaps.{Name, entry_at}
 use Rattle.ckr_outside.specs.Faults.{Rose}
 use Rattle.ckr_points.specs.Restart.{Decked}
+use Rattle.ckr_points.specs.RuleCases.{is_plain}
 use Rattle.ckr_points.specs.Rows.{RunRow, TableSet, TablesModel, no_tables, run_of}
 use Rattle.ckr_desk_refines.specs.RewriteRecord.{last_event}
 use Rattle.ckr_volumes.specs.declared.layout.Layout.{Layout}
 use Rattle.ckr_volumes.specs.Header.{header_of}
 use Rattle.ckr_desk.specs.declared.error.OpenError.{OpenError}
 use Rattle.ckr_desk.specs.declared.error.OpenError.TheVariants as OpenErrors
-use Rattle.ckr_desk.specs.Opening.{behind_records, by_book, opened_at, opening_of}
+use Rattle.ckr_desk.specs.Opening.{behind_records, by_book, by_entries, opened_at, opening_of}
 use Rattle.ckr_desk.specs.Soundness.{events_in}
 use Rattle.ckr_desk.specs.State.{DeskView}
 use Rattle.ckr_desk.specs.Rewrite.{IsWrittenBy, LacksAtMost, OpensSame}
@@ -60,6 +61,12 @@ OpenCause rose told opening OpenErrors.NoMemory = Unit {0}
 OpenCause rose told opening OpenErrors.Fault = rose
 OpenCause rose told opening error = told → opening ≡ Err error
 
+-- all events were read, and no entry of a checkpoint in effect is refused
+pub record IsReadTo (layout : Layout) (image : List ℕ) (tables : TablesModel) (end : ℕ) : Type 0 where
+  pub opens : by_entries image (by_book layout (part 512 layout.book image)) ≡ Ok (opened_at layout tables (layout.book - end))
+  pub is_end : end_from 0 (part 512 layout.book image) ≡ end
+  pub closed : starts_open (drop end (part 512 layout.book image)) ≡ false
+
 -- what a disk says that reads these bytes: the header, the tables that the events have brought about, and where they end
 pub record IsFound (content : List ℕ) (size : ℕ) (layout : Layout) (tables : TablesModel) (end : ℕ) : Type 0 where
   pub header : header_of (take 512 content) size ≡ Ok layout
@@ -85,9 +92,9 @@ LastGone book place last place' last' false = IsLastTo book place last → last_
 
 -- ---- its record
 
--- whether a record that is told fits in a data set
+-- whether a record that is told fits in a data set, which holds records
 abbrev pub fits_in : ℕ → List ℕ → DataSet → Bool
-fits_in place image set = nat_lt place set.space && length image == set.lrecl
+fits_in place image set = is_plain set.content && (nat_lt place set.space && length image == set.lrecl)
 
 abbrev pub fits_set : ℕ → List ℕ → TableSet → Bool
 fits_set place image table = fits_in place image table.set

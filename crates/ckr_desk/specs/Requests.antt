@@ -6,7 +6,7 @@ use Rattle.ckr_outside.specs.Faults.{Rose}
 use Rattle.ckr_points.specs.Restart.{Decked}
 use Rattle.ckr_desk_turn.specs.Desk.{DeskModel, behind}
 use Rattle.ckr_desk.specs.declared.error.DeskError.{DeskError}
-use Rattle.ckr_desk.specs.declared.error.DeskError.TheVariants.{NoMemory, DiskFault, BookFull, Stopped, Misread}
+use Rattle.ckr_desk.specs.declared.error.DeskError.TheVariants.{NoMemory, DiskFault, BookFull, Stopped}
 use Rattle.ckr_desk.specs.State.{RoomyDesk, need_of}
 
 -- ---- the room of the book
@@ -57,7 +57,6 @@ MayFail before now stopped NoMemory = Unit {0}
 MayFail before now stopped DiskFault = Rose before now
 MayFail before now stopped (BookFull need room) = Unit {0}
 MayFail before now stopped (Stopped fault) = stopped ≡ Some fault
-MayFail before now stopped Misread = ⊥
 
 -- the book is full, by its room and the event of the call: what the event needs, and the room that is left, which is less
 abbrev pub IsFull : ℕ → Option Event → ℕ → ℕ → Type 0
@@ -80,4 +79,3 @@ FailsBy room event NoMemory = Unit {0}
 FailsBy room event DiskFault = Unit {0}
 FailsBy room event (BookFull need left) = IsFull room event need left
 FailsBy room event (Stopped fault) = Unit {0}
-FailsBy room event Misread = ⊥

@@ -6,6 +6,7 @@ use Rattle.ckr_events.specs.declared.event.Event.{Event}
 use Rattle.ckr_events.specs.Event.{event_of}
 use Rattle.ckr_desk_memory.specs.Replay.{deck_of}
 use Rattle.ckr_desk_refines.specs.Commits.{HasCommitted}
+use Rattle.ckr_desk_refines.specs.Entries.{HasEntries}
 use Rattle.ckr_outside.specs.Disk.{EachSince}
 use Rattle.ckr_points.specs.Events.{AreSound}
 use Rattle.ckr_points.specs.Office.{Office, office}
@@ -51,7 +52,7 @@ desk_opening image size = desk_of_opened image (opening_of image size)
 -- ---- sound images
 
 -- An image opens, so that its events are those of what the desk runs; each of them may come and carries what its job gives; and the image
--- has what they have committed, once the record is written again that the last of them tells.
+-- has what they have committed, once the record is written again that the last of them tells, and the entries of checkpoints that they keep.
 pub record Sound (size : ℕ) (image : List ℕ) : Type 0 where
   pub layout : Layout
   pub room : ℕ
@@ -59,6 +60,7 @@ pub record Sound (size : ℕ) (image : List ℕ) : Type 0 where
   pub events : AreSound layout (events_in (event_records layout image))
   pub committed : HasCommittedAgain layout (office_on layout image) (last_on layout image) image
   pub last : HasLast (office_on layout image) (last_on layout image)
+  pub entries : HasEntries layout (office_on layout image).tables image
 
 -- a disk tells what it holds, and whatever a stop leaves of it is sound
 pub record AllSound {D : Type 0} (told : Type 0) (may_leave : D → List ℕ → Type 0) (size : D → ℕ) (disk : D) : Type 0 where
@@ -84,8 +86,8 @@ module _ {D : Type 0} (content : D → List ℕ) where
   }
 
 module _ {D : Type 0} (told : Type 0) (content : D → List ℕ) (may_leave : D → List ℕ → Type 0) where
-  -- The disk tells what it holds. Its events are sound and have brought about the tables; the jobs in memory stand for the desk of the events; and each image has what
-  -- the events have committed.
+  -- The disk tells what it holds. Its events are sound and have brought about the tables; the jobs in memory stand for the desk of the events; each image has what
+  -- the events have committed; and what the disk reads has the entries that they keep, as each image has.
   pub record IsTrusted (desk : DeskView D) : Type 0 where
     pub tells : told
     pub opens : behind_records desk.store.layout no_tables 0 (event_records desk.store.layout (content desk.store.disk)) ≡ Ok desk.jobs.tables.desk
@@ -93,6 +95,8 @@ module _ {D : Type 0} (told : Type 0) (content : D → List ℕ) (may_leave : D 
     pub stands : StandsForDesk desk.store.layout desk.jobs (content desk.store.disk) (state_of content desk).desk
     pub last : HasLast (office_on desk.store.layout (content desk.store.disk)) (last_on desk.store.layout (content desk.store.disk))
     pub committed : (image : List ℕ) → may_leave desk.store.disk image → HasCommitted desk.store.layout (office_on desk.store.layout (content desk.store.disk)) image
+    pub entries : HasEntries desk.store.layout (office_on desk.store.layout (content desk.store.disk)).tables (content desk.store.disk)
+    pub entries_left : (image : List ℕ) → may_leave desk.store.disk image → HasEntries desk.store.layout (office_on desk.store.layout (content desk.store.disk)).tables image
 
 module _ {D : Type 0} (content : D → List ℕ) (moment : D → ℕ) (left_since : D → ℕ → List ℕ → Type 0) (size : D → ℕ) where
   -- a stop at any moment from one desk to the other leaves such an image

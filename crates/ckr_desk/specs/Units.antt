@@ -19,8 +19,11 @@ use Rattle.ckr_desk_store.specs.OpenImages.{event_records, Opens}
 use Rattle.ckr_points_tables.specs.Invariant.{is_plain_event}
 use Rattle.ckr_desk_turn.specs.Invariant.{IsTurnOf}
 use Rattle.ckr_desk_turn.specs.declared.plan.Plan.{Plan}
-use Rattle.ckr_desk_turn.specs.declared.plan.Plan.TheVariants.{Rest, Tell, Work, Pass}
+use Rattle.ckr_desk_turn.specs.declared.plan.Plan.TheVariants.{Rest, Tell, Work, Pass, Take}
+use Rattle.ckr_desk_turn.specs.declared.reply.Chkpt.{Chkpt}
+use Rattle.ckr_desk_turn.specs.declared.reply.Chkpt.TheVariants.{Suppressed}
 use Rattle.ckr_desk_turn.specs.declared.reply.Reply.{Reply}
+use Rattle.ckr_desk_turn.specs.declared.reply.Reply.TheVariants.{Checkpointed}
 use Rattle.ckr_desk_turn.specs.declared.reply.Turn.{Turn}
 use Rattle.ckr_desk_turn.specs.Plans.{plan_of}
 use Rattle.ckr_volumes.specs.declared.layout.Layout.{Layout}
@@ -104,6 +107,7 @@ IsPlainPlan (Rest reply) = Unit {0}
 IsPlainPlan (Tell reply event) = is_plain_event event ≡ true
 IsPlainPlan (Work job) = Unit {0}
 IsPlainPlan (Pass job reply) = Unit {0}
+IsPlainPlan (Take job) = Unit {0}
 
 -- a plan that tells a plain event or none
 abbrev pub IsPlainTold : Plan → Type 0
@@ -111,6 +115,7 @@ IsPlainTold (Rest reply) = Unit {0}
 IsPlainTold (Tell reply event) = is_plain_event event ≡ true
 IsPlainTold (Work job) = ⊥
 IsPlainTold (Pass job reply) = ⊥
+IsPlainTold (Take job) = ⊥
 
 -- why what a turn comes to wasn't done
 abbrev pub NotTold : {D : Type 0} → (D → ℕ) → Event → DeskView D → DeskView D → DeskError → Type 0
@@ -122,13 +127,23 @@ NotBehind faults (Rest reply) old new error = ⊥
 NotBehind faults (Tell reply event) old new error = NotTold faults event old new error
 NotBehind faults (Work job) old new error = ⊥
 NotBehind faults (Pass job reply) old new error = ⊥
+NotBehind faults (Take job) old new error = ⊥
 
 -- ---- a turn
 
--- there is no memory only where the turn tells an event
-abbrev pub TakesBy : Option Event → DeskError → Type 0
-TakesBy event NoMemory = IsSome event
-TakesBy event _ = Unit {0}
+-- the reply of a checkpoint that was tried: it isn't suppressed
+abbrev pub IsTriedCode : Chkpt → Type 0
+IsTriedCode Suppressed = ⊥
+IsTriedCode _ = Unit {0}
+
+abbrev pub IsTried : Reply → Type 0
+IsTried (Checkpointed job step code id) = IsTriedCode code
+IsTried _ = ⊥
+
+-- there is no memory only where the turn tells an event or tries a checkpoint
+abbrev pub TakesBy : Reply → Option Event → DeskError → Type 0
+TakesBy reply event NoMemory = IsSome event ⊎ IsTried reply
+TakesBy reply event _ = Unit {0}
 
 -- the desk is trusted, and this is what the turn comes to
 pub record IsPlanned {D : Type 0} (told : Type 0) (content : D → List ℕ) (may_leave : D → List ℕ → Type 0) (desk : DeskView D) (turn : Turn) (plan : Plan) : Type 0 where
@@ -145,5 +160,5 @@ pub record HasTurned {D : Type 0} (told : Type 0) (content : D → List ℕ) (ma
   pub trusted : OnOk result (IsTrusted told content may_leave new)
   pub events : OnOk result (event_records old.store.layout (content new.store.disk) ≡ event_records old.store.layout (content old.store.disk) ++ spelled (event_of_turn (state_of content old) turn))
   pub cause : IfErr result (FailsBy (state_of content old).room (event_of_turn (state_of content old) turn))
-  pub takes : IfErr result (TakesBy (event_of_turn (state_of content old) turn))
+  pub takes : IfErr result (TakesBy (reply_of (state_of content old) turn) (event_of_turn (state_of content old) turn))
   pub kept : KeepsWithin content moment left_since size old new (came_by result (spelled (event_of_turn (state_of content old) turn)))

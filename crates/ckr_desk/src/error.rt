@@ -24,9 +24,6 @@ pub enum DeskError {
     /// The desk has stopped since an earlier call, whose fault was the disk's one of this number. Nothing has changed.
     #[error("stopped by fault {fault} of the disk")]
     Stopped { fault: u64 },
-    /// An event doesn't follow, so the disk doesn't read what was written. No call answers so: what the desk tells follows on any disk.
-    #[error("the disk doesn't read what was written")]
-    Misread,
 }
 
 impl From<NoMemory> for DeskError {
@@ -70,6 +67,10 @@ pub enum OpenError {
     /// The record whose gate is at this place of the book is the first that is too long, is no event or doesn't follow.
     #[error("the book is wrong at {offset}")]
     BadBook { offset: u32 },
+    /// The entry of the checkpoint in effect of this run is the first that isn't a point of the step that the run is in. The offset is that of
+    /// the entry's first byte that shows it, or 0 where it is another point, or has no place in its data set (IBM GC28-6708).
+    #[error("the entry of job {job} is wrong at {offset}")]
+    BadEntry { job: u32, offset: u32 },
 }
 
 /// A disk that isn't opened, and why.

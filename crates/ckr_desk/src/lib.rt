@@ -1,8 +1,10 @@
 //! The desk: an event is on the disk before the jobs go on by it.
 #![tactic(auto)]
 
+mod checkpoint;
 mod data_set;
 mod desk;
+mod entries;
 mod error;
 mod opening;
 mod plan;
@@ -15,6 +17,7 @@ mod turn;
 mod unit;
 
 pub use desk::Desk;
+pub use entries::entries_are_refused_by_their_bytes;
 pub use error::{DeskError, OpenError, Opening};
 
 // What the calls of a desk take and answer, of the crates below.

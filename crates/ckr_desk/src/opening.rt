@@ -14,21 +14,22 @@ ghost use Rattle.ckr_desk_refines.specs.RewriteRecord.{last_event};
 ghost use Rattle.ckr_desk_store.specs.OpenImages.{event_records};
 ghost use Rattle.ckr_volumes.specs.Header.{header_of, IsHeader};
 ghost use Rattle.ckr_volumes.specs.Layouts.{is_laid_out};
-ghost use Rattle.ckr_desk.specs.Opening.{opening_of};
+ghost use Rattle.ckr_desk.specs.Opening.{by_book, by_entries, opening_of};
 ghost use Rattle.ckr_desk.specs.Calls.{HasSameJobs};
 ghost use Rattle.ckr_desk.specs.FirstSync.{FromSync, IsLeft};
-ghost use Rattle.ckr_desk.specs.Replay.{IsReplayed, IsReplayedTo, GoneOn, LastGone, ReplayCause, EventCause, OpenCause, IsFound};
+ghost use Rattle.ckr_desk.specs.Replay.{IsReplayed, IsReplayedTo, GoneOn, LastGone, ReplayCause, EventCause, IsReadTo, OpenCause, IsFound};
 ghost use Rattle.ckr_desk.specs.Replay.{HasFailedAgain, IsLackingAgain, IsWrittenAgain, fits_in, has_record};
 ghost use Rattle.ckr_desk.specs.Soundness.{AllSound, HasKept, IsTrusted, desk_opening, events_in, last_on, state_of};
 ghost use Rattle.ckr_desk.specs.State.{AreKept, opened_of};
 
+use crate::entries::check_entries;
 use crate::{Desk, OpenError, Opening};
 use ckr_base::Rec;
 use ckr_desk_memory::Jobs;
 use ckr_desk_store::Store;
 use ckr_events::Event;
 use ckr_journal::{LayoutError, Next, NextEventError, next_event, read_layout};
-use ckr_library::DataSet;
+use ckr_library::{Content, DataSet};
 use ckr_outside::Disk;
 use ckr_volumes::Layout;
 use std::alloc::Global;
@@ -121,6 +122,28 @@ fn replay<D: Disk>(alloc: Global, disk: &mut D, layout: &Layout) -> Result<Repla
     Ok(found)
 }
 
+/// Reads the events of the book, and behind them the entries of the checkpoints in effect.
+fn read_jobs<D: Disk>(alloc: Global, disk: &mut D, layout: &Layout) -> Result<Replayed, OpenError>
+    requires header { IsHeader layout.now (D.size disk.old) }
+    requires laid { IsTrue (is_laid_out layout.now) }
+    ensures read { D.told → IfOk result (λ found. IsReadTo layout.now (D.content disk.old) found.jobs.tables.desk found.place) }
+    ensures last { D.told → IfOk result (λ found. last_event (events_in (records_from 0 (part 512 layout.now.book (D.content disk.old)))) ≡ found.last) }
+    ensures place { IfOk result (λ found. found.place ≤ layout.now.book) }
+    ensures jobs { IfOk result (λ found. AreJobs layout.now found.jobs) }
+    ensures holders { IfOk result (λ found. AreHolders found.jobs.tables.desk) }
+    ensures numbered { IfOk result (λ found. AreNumbered 1 found.jobs.tables.desk.runs) }
+    ensures running { IfOk result (λ found. found.jobs.running ≡ []) }
+    ensures only_reads { OnlyReads D.content D.may_leave D.moment D.left_since disk.old disk.new }
+    ensures size { D.size disk.new ≡ D.size disk.old }
+    ensures faults { D.faults disk.old ≤ D.faults disk.new }
+    ensures cause { IfErr result (OpenCause (Rose (D.faults disk.old) (D.faults disk.new)) D.told
+        (by_entries (D.content disk.old) (by_book layout.now (part 512 layout.now.book (D.content disk.old))))) }
+{
+    let found = replay(alloc, disk, layout)?;
+    check_entries(alloc, disk, layout, &found.jobs)?;
+    Ok(found)
+}
+
 /// The layout of a disk.
 fn layout_of<D: Disk>(disk: &mut D) -> Result<Layout, OpenError>
     ensures exact { D.told → IfOk result (λ layout. header_of (take 512 (D.content disk.old)) (D.size disk.old) ≡ Ok layout) }
@@ -174,7 +197,7 @@ fn read_disk<D: Disk>(alloc: Global, disk: &mut D) -> Result<Found, OpenError>
         mut jobs,
         place,
         last,
-    } = replay(alloc, disk, &layout)?;
+    } = read_jobs(alloc, disk, &layout)?;
     jobs.open()?;
     Ok(Found {
         layout,
@@ -184,11 +207,13 @@ fn read_disk<D: Disk>(alloc: Global, disk: &mut D) -> Result<Found, OpenError>
     })
 }
 
-/// Whether a record fits in a data set at a place.
+/// Whether a record fits in a data set at a place. One for checkpoints holds no records.
 fn fits_in(set: &DataSet, place: u32, image: &Rec) -> bool
     ensures { result ≡ fits_in place image.now set.now }
 {
-    place < set.space && image.bytes().len() == usize::from(set.lrecl)
+    matches!(set.content, Content::Plain)
+        && place < set.space
+        && image.bytes().len() == usize::from(set.lrecl)
 }
 
 /// A desk as its disk was read, and the last event of the disk.
@@ -300,7 +325,7 @@ impl<D: Disk> Desk<D> {
     /// have failed.
     ///
     /// `OpenError`: `NoMemory`, and `Fault` only where the disk's faults rose in this call; the causes behind them exactly by the bytes
-    /// that the disk reads, the first one in their order (this project's profile). Until the first sync has succeeded a stop leaves an image
+    /// that the disk reads, the first one in their order (this project's profile). So the entry of each checkpoint in effect is read. Until the first sync has succeeded a stop leaves an image
     /// that the disk might have left before, and from then on a sound one with exactly the events that the disk reads. A disk that isn't
     /// opened was only read, unless it failed while that record was written again.
     pub fn open_on(alloc: Global, disk: D) -> Result<Desk<D>, Opening<D>>

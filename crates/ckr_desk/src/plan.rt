@@ -50,13 +50,13 @@ impl<D: Disk> Desk<D> {
                 self.rewrite(&event)?;
                 Ok(reply)
             }
-            Plan::Work { .. } | Plan::Pass { .. } => unreachable!(),
+            Plan::Work { .. } | Plan::Pass { .. } | Plan::Take { .. } => unreachable!(),
         }
     }
 
-    /// The checkpoint that is due of a run's running step is done, and no entry is written: it is suppressed. The disk isn't called, and no
-    /// memory is taken (IBM GC28-6708).
-    fn pass(&mut self, run: u32)
+    /// The checkpoint that is due of a run's running step is done, and no entry is written: it is suppressed, or doesn't fit. The disk isn't
+    /// called, and no memory is taken (IBM GC28-6708).
+    pub(crate) fn pass(&mut self, run: u32)
         ensures passed { HasPassed run self.old.jobs self.new.jobs }
         ensures store { self.new.store ≡ self.old.store }
     {
@@ -85,6 +85,7 @@ impl<D: Disk> Desk<D> {
         let _layout = self.store.layout();
         match plan {
             Plan::Work { job } => self.work(job),
+            Plan::Take { job } => self.checkpoint(job),
             Plan::Pass { job, reply } => {
                 self.pass(job);
                 Ok(reply)

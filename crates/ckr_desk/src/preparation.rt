@@ -65,7 +65,7 @@ impl<D: Disk> Desk<D> {
     {
         match plan {
             Plan::Tell { event, .. } => Ok(Some(self.make_ready(event, None)?)),
-            Plan::Rest(_) | Plan::Work { .. } | Plan::Pass { .. } => Ok(None),
+            Plan::Rest(_) | Plan::Work { .. } | Plan::Pass { .. } | Plan::Take { .. } => Ok(None),
         }
     }
 }

@@ -20,7 +20,7 @@ impl<D: Disk> Desk<D> {
     ///
     /// `NoMemory`. `BookFull`: exactly where the event needs more than the room of the book, both in bytes, and there was memory. Nothing has
     /// changed after these two. `DiskFault`: only where the disk's faults rose in this call; then the desk has stopped. `Stopped`: exactly
-    /// where it had stopped before. `Misread` doesn't come (this project's profile).
+    /// where it had stopped before (this project's profile).
     pub fn purge(&mut self, job: u32) -> Result<bool, DeskError>
         ensures answer { IfOk result (λ gone. gone ≡ is_queued (tables_in_memory self.old) job) }
         ensures comes { IsTrusted D.told D.content D.may_leave self.old → HasComeTo D.told D.content D.may_leave (event_in (purge_call (tables_in_memory self.old) job))

@@ -6,8 +6,9 @@ ghost use Rattle.ckr_volumes.specs.Layouts.{StandsIn};
 ghost use Rattle.ckr_desk_refines.specs.Listing.{records_of};
 ghost use Rattle.ckr_desk.specs.CallOutcomes.{HasComeTo, KeepsDesk};
 ghost use Rattle.ckr_desk.specs.Records.{ReadingCause};
+ghost use Rattle.ckr_desk.specs.Requests.{TellsFull};
 ghost use Rattle.ckr_desk.specs.Soundness.{IsTrusted, KeepsWithin, state_of};
-ghost use Rattle.ckr_desk.specs.State.{IsOpen};
+ghost use Rattle.ckr_desk.specs.State.{IsOpen, room_left};
 
 use crate::{Desk, DeskError};
 use ckr_base::{DsName, Records};
@@ -66,11 +67,12 @@ impl<D: Disk> Desk<D> {
     /// entries, or a run holds it. The disk is only read.
     ///
     /// `NoMemory`. `DiskFault`: only where the disk's faults rose in this call; then the desk has stopped. `Stopped`: exactly where it
-    /// had stopped before. `BookFull` and `Misread` don't come (this project's profile).
+    /// had stopped before. `BookFull` doesn't come (this project's profile).
     pub fn records(&mut self, name: &DsName) -> Result<Option<Records>, DeskError>
         ensures records { IsTrusted D.told D.content D.may_leave self.old → IfOk result (λ found. found ≡ records_of (state_of D.content self.old).desk name.now) }
         ensures comes { IsTrusted D.told D.content D.may_leave self.old
             → HasComeTo D.told D.content D.may_leave None (state_of D.content self.old) self.old self.new result }
+        ensures full { IfErr result (TellsFull (room_left self.old) None) }
         ensures keeps { KeepsDesk D.content D.may_leave D.faults D.size self.old self.new result }
 
         // A stop at any moment leaves a sound image with the same events.

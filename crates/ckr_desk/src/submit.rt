@@ -128,7 +128,7 @@ impl<D: Disk> Desk<D> {
     ///
     /// `NoMemory`. `BookFull`: exactly where the event of the deck needs more than the room of the book, both in bytes, and there was memory.
     /// Nothing has changed after these two. `DiskFault`: only where the disk's faults rose in this call; then the desk has stopped. `Stopped`:
-    /// exactly where it had stopped before. `Misread` doesn't come (this project's profile).
+    /// exactly where it had stopped before (this project's profile).
     pub fn submit(&mut self, cards: &[u8]) -> Result<Submitted, DeskError>
         requires whole { length cards.now % 81 ≡ 0 }
         requires some { 81 ≤ length cards.now }

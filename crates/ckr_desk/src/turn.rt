@@ -15,11 +15,11 @@ use ckr_outside::Disk;
 
 impl<D: Disk> Desk<D> {
     /// One turn of an initiator, from 1 to the layout's number of them: one event of the desk, one unit of a running step, or one checkpoint
-    /// of it that is suppressed (IBM GC28-6708; the order of what comes first is this project's profile).
+    /// of it (IBM GC28-6708; the order of what comes first is this project's profile).
     ///
-    /// `NoMemory`: on a trusted disk only where the turn tells an event. `BookFull`: exactly where the event of the turn needs more than the
+    /// `NoMemory`: on a trusted disk only where the turn tells an event or tries a checkpoint. `BookFull`: exactly where the event of the turn needs more than the
     /// room of the book, and there was memory. Nothing has changed after these two: a unit is looked at before it is done. `DiskFault`: only
-    /// where the disk's faults rose in this call; then the desk has stopped. `Stopped`: exactly where it had stopped before. `Misread` doesn't come.
+    /// where the disk's faults rose in this call; then the desk has stopped. `Stopped`: exactly where it had stopped before.
     pub fn turn(&mut self, turn: Turn) -> Result<Reply, DeskError>
         requires initiator { IsTurnOf (layout_of self.old) turn }
         requires code { IsAnyCode turn.fail }
@@ -27,7 +27,7 @@ impl<D: Disk> Desk<D> {
         ensures spelled { IfOk result IsToldReply }
         ensures comes { IsTrusted D.told D.content D.may_leave self.old → HasComeTo D.told D.content D.may_leave (event_of_turn (state_of D.content self.old) turn)
             (behind_turn (state_of D.content self.old) turn) self.old self.new result }
-        ensures takes { IsTrusted D.told D.content D.may_leave self.old → IfErr result (TakesBy (event_of_turn (state_of D.content self.old) turn)) }
+        ensures takes { IsTrusted D.told D.content D.may_leave self.old → IfErr result (TakesBy (reply_of (state_of D.content self.old) turn) (event_of_turn (state_of D.content self.old) turn)) }
         ensures full { IfErr result (TellsNumbers (room_left self.old)) }
         ensures keeps { KeepsDesk D.content D.may_leave D.faults D.size self.old self.new result }
 

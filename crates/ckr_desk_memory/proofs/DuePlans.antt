@@ -1,5 +1,6 @@
 -- A turn that comes to a unit or a checkpoint finds the running step of which it is due.
 use Rattle.std.proofs.Common.{◌≡◌, ℕ, List, Bool, true, false, find, refl, ap, sym, ◌∙◌, Option, Some, None, Result, Ok, Err}
+use Rattle.std.specs.Prelude.{if◌then◌else◌}
 use Rattle.std.specs.Option.{option_map_or}
 use Rattle.std.proofs.lemmas.Option.{same_Some}
 use Rattle.ckr_base.specs.declared.code.Code.{Code}
@@ -11,14 +12,16 @@ use Rattle.ckr_meaning.specs.declared.place.Place.{Place}
 use Rattle.ckr_meaning.specs.declared.place.Place.TheVariants.{Before, Opened, Within}
 use Rattle.ckr_points.specs.Restart.{place_of}
 use Rattle.ckr_points.specs.Rows.{RunRow, step_of_run}
+use Rattle.ckr_points.specs.RuleCases.{rd_in_effect}
+use Rattle.ckr_rules.specs.RuleTables.{suppresses}
 use Rattle.ckr_points_library.specs.declared.cause.Refusal.{Refusal}
 use Rattle.ckr_desk_turn.specs.declared.plan.Plan.{Plan}
-use Rattle.ckr_desk_turn.specs.declared.plan.Plan.TheVariants.{Rest, Tell, Work, Pass}
+use Rattle.ckr_desk_turn.specs.declared.plan.Plan.TheVariants.{Rest, Tell, Work, Pass, Take}
 use Rattle.ckr_desk_turn.specs.declared.reply.Turn.{Turn}
 use Rattle.ckr_desk_turn.specs.Allocation.{allocation_of}
 use Rattle.ckr_desk_turn.specs.Select.{next_run, run_on_initiator}
 use Rattle.ckr_desk_turn.specs.Jobs.{TurnStep, is_failed, running_in}
-use Rattle.ckr_desk_turn.specs.Plans.{between_plan, chosen_plan, due_plan, fail_plan, free_plan, is_within, placed_plan, plan_of, run_plan, running_plan}
+use Rattle.ckr_desk_turn.specs.Plans.{between_plan, chosen_plan, due_plan, fail_plan, free_plan, is_within, placed_plan, plan_of, run_plan, running_plan, suppressed_plan}
 use Rattle.ckr_volumes.specs.declared.layout.Layout.{Layout}
 use Rattle.ckr_desk_memory.specs.EventChanges.{is_of_run}
 use Rattle.ckr_desk_memory.specs.Plans.{HasDue, IsDue}
@@ -61,7 +64,11 @@ module _ (layout : Layout) (jobs : JobsView) where
     where
       by : (due : NextDue) → step.due ≡ due → HasDue jobs (due_plan row number step due)
       by OneUnit same = step-due row.number step OneUnit is same
-      by Checkpoint same = step-due row.number step Checkpoint is same
+      by Checkpoint same = rule (suppresses (rd_in_effect row number))
+        where
+          rule : (b : Bool) → HasDue jobs (if b then suppressed_plan row else Take row.number)
+          rule true = step-due row.number step Checkpoint is same
+          rule false = step-due row.number step Checkpoint is same
       by Cancel same = tt
       by (Finished rc) same = tt
 
@@ -97,3 +104,4 @@ due-alike old new (Rest reply) same due = tt
 due-alike old new (Tell reply event) same due = tt
 due-alike old new (Work job) same due = (due.0, ap (find (is_of_run job)) same ∙ due.1, due.2)
 due-alike old new (Pass job reply) same due = (due.0, ap (find (is_of_run job)) same ∙ due.1, due.2)
+due-alike old new (Take job) same due = (due.0, ap (find (is_of_run job)) same ∙ due.1, due.2)

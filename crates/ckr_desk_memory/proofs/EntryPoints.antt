@@ -1,8 +1,8 @@
 -- The entry that is made is that of the next checkpoint: its marks are those of the tables behind it.
-use Rattle.std.proofs.Common.{◌≡◌, ◌≤◌, ◌<◌, ◌+◌, ◌*◌, ℕ, Bool, true, false, cond, not, ◌&&◌, ◌||◌, List, [], ◌∷◌, find, length, length-append, map, nat_le, option_and_then, nat_lt, arith, refl, ap, sym, ◌∙◌, Option, None, Some}
+use Rattle.std.proofs.Common.{◌≡◌, ◌≤◌, ◌<◌, ◌+◌, ◌*◌, ◌==◌, ℕ, Bool, true, false, cond, not, ◌&&◌, ◌||◌, List, [], ◌∷◌, find, length, length-append, map, nat_le, option_and_then, nat_lt, arith, refl, ap, sym, ◌∙◌, Option, None, Some}
 use Rattle.std.specs.List.{AllByRecursion, cons_option, filter_map, list_any}
 use Rattle.std.specs.Prelude.{◌↔◌, ◌^◌, if◌then◌else◌, suc, IfSome, IsSome, IsTrue}
-use Rattle.std.proofs.lemmas.Bool.{false≢true}
+use Rattle.std.proofs.lemmas.Bool.{and_from, false≢true}
 use Rattle.std.proofs.lemmas.Bool.Decides.{nat_tests}
 use Rattle.ckr_base.proofs.Numbers.{nat_le-beyond, nat_le-from}
 use Rattle.ckr_base.proofs.Options.{some-not-none}
@@ -39,10 +39,10 @@ use Rattle.ckr_points_tables.specs.View.{RunTableView, facts_in, line_of, row_wi
 use Rattle.ckr_points_decks.specs.DeckLimits.{IsWithinLimits}
 use Rattle.ckr_points_decks.proofs.DeckLimits.{few_steps}
 use Rattle.ckr_desk_memory.specs.declared.entry_marks.Behind.{Behind}
-use Rattle.ckr_desk_memory.specs.Entries.{IsEntryOf, entry_bytes, entry_end, entry_in_set, entry_to, fits_in, id_in, next_entry, is_written, next_id, row_of_line, step_now}
+use Rattle.ckr_desk_memory.specs.Entries.{IsEntryOf, entry_bytes, entry_end, entry_in_set, entry_to, fits_in, next_entry, is_written, next_id, row_of_line, step_now}
 use Rattle.ckr_desk_memory.specs.View.{RunningStepView}
 use Rattle.ckr_desk_memory.specs.EntryMarks.{length_behind, mark_behind, present_behind}
-use Rattle.ckr_desk_turn.specs.Checkpoints.{is_in_range, is_state_in_range, step_entries}
+use Rattle.ckr_desk_turn.specs.Checkpoints.{is_in_range, is_state_in_range, step_entries, id_in}
 use Rattle.ckr_desk_turn.specs.EntryStates.{at_checkpoint}
 use Rattle.ckr_desk_memory.specs.Plans.{IsKnown, row_for}
 use Rattle.ckr_desk_memory.proofs.FoundRuns.{known-row}
@@ -249,20 +249,24 @@ module _ (check : Name) (table : TableSet) (tables : TablesModel) (row : RunRow)
   unfolding entry_to
   its_id most = refl
 
-  absent : fits_in check table tables row own on ≡ false → None ≡ entry_in_set tables row own on check table
-  unfolding entry_in_set
-  absent e = ap (λ b. if b then Some its_entry else None) (sym e)
+  absent : (nat_le its_end table.set.space && is_none (kept_at tables.sets check (next_id row own)) && is_in_range its_entry && is_written its_entry) ≡ false → None ≡ entry_in_set tables row own on check table
+  unfolding fits_in entry_in_set
+  absent e = ap (λ b. if b then Some its_entry else None) (sym (ap (λ b. table.set.lrecl == 256 && b) e ∙ and-false (table.set.lrecl == 256)))
+
+  -- its records have another length
+  pub absent-records : (table.set.lrecl == 256) ≡ false → None ≡ entry_in_set tables row own on check table
+  unfolding fits_in entry_in_set
+  absent-records other =
+      ap (λ b. if b && (nat_le its_end table.set.space && is_none (kept_at tables.sets check (next_id row own)) && is_in_range its_entry && is_written its_entry) then Some its_entry else None) (sym other)
 
   -- the run has written too many entries, or has passed too much on
   pub absent-count : 9999999 ≤ row.count → None ≡ entry_in_set tables row own on check table
-  unfolding fits_in
   absent-count many =
       absent (third_false (nat_le its_end table.set.space) (is_none (kept_at tables.sets check (next_id row own))) (is_in_range its_entry) (is_written its_entry)
       (ap (λ n. nat_le n 9999999 && nat_le its_entry.writes 3000000 && is_state_in_range its_entry.state) (its_counts its_end).0
       ∙ ap (λ b. b && nat_le its_entry.writes 3000000 && is_state_in_range its_entry.state) (nat_le-beyond (suc row.count) 9999999 (omega arith))))
 
   pub absent-passed : 65536 ≤ length row.passed → None ≡ entry_in_set tables row own on check table
-  unfolding fits_in
   absent-passed many =
       absent (fourth_false (nat_le its_end table.set.space) (is_none (kept_at tables.sets check (next_id row own))) (is_in_range its_entry) (is_written its_entry)
       (ap (λ (all : List Passed). is_check_id its_entry.id && nat_lt (length all) (2 ^ 16)) (its_counts its_end).1
@@ -274,14 +278,12 @@ module _ (check : Name) (table : TableSet) (tables : TablesModel) (row : RunRow)
 
   -- its identifier is there
   pub absent-kept : is_some (kept_at tables.sets check (next_id row own)) ≡ true → None ≡ entry_in_set tables row own on check table
-  unfolding fits_in
   absent-kept there =
       absent (second_false (nat_le its_end table.set.space) (is_none (kept_at tables.sets check (next_id row own))) (is_in_range its_entry) (is_written its_entry)
       (none_not_some (kept_at tables.sets check (next_id row own)) true there))
 
   -- its text isn't in the grammar of identifiers
   pub absent-id : id_in (next_id row own) ≡ None → None ≡ entry_in_set tables row own on check table
-  unfolding fits_in
   absent-id none =
       absent (fourth_false (nat_le its_end table.set.space) (is_none (kept_at tables.sets check (next_id row own))) (is_in_range its_entry) (is_written its_entry)
       (ap (λ (n : Name). is_check_id n && nat_lt (length its_entry.passed) (2 ^ 16)) (its_id its_end) ∙ ap (λ b. b && nat_lt (length its_entry.passed) (2 ^ 16)) (by (is_check_id (next_id row own)) none)))
@@ -292,30 +294,28 @@ module _ (check : Name) (table : TableSet) (tables : TablesModel) (row : RunRow)
 
   -- there is no space
   pub absent-space : table.set.space < its_end → None ≡ entry_in_set tables row own on check table
-  unfolding fits_in
   absent-space beyond =
       absent (ap (λ b. b && is_none (kept_at tables.sets check (next_id row own)) && is_in_range its_entry && is_written its_entry) (nat_le-beyond its_end table.set.space beyond))
 
   -- a number is out of its range
   pub absent-range : (entry : Entry) → entry ≡ its_entry → is_in_range entry ≡ false → None ≡ entry_in_set tables row own on check table
-  unfolding fits_in
   absent-range entry is out =
       absent (third_false (nat_le its_end table.set.space) (is_none (kept_at tables.sets check (next_id row own))) (is_in_range its_entry) (is_written its_entry)
       (ap is_in_range (sym is) ∙ out))
 
   -- it fits
-  pub fits-there : (entry : Entry) → entry ≡ its_entry → its_end ≤ table.set.space → is_some (kept_at tables.sets check (next_id row own)) ≡ false → is_in_range entry ≡ true → is_check_id (next_id row own) ≡ true
+  pub fits-there : (entry : Entry) → entry ≡ its_entry → (table.set.lrecl == 256) ≡ true → its_end ≤ table.set.space → is_some (kept_at tables.sets check (next_id row own)) ≡ false → is_in_range entry ≡ true → is_check_id (next_id row own) ≡ true
       → length row.passed < 65536 → Some entry ≡ entry_in_set tables row own on check table
   unfolding fits_in entry_in_set
-  fits-there entry is within none ranged grammar few =
+  fits-there entry is wide within none ranged grammar few =
       ap Some is
       ∙ ap (λ b. if b then Some its_entry else None)
-      (sym (all_true (nat_le its_end table.set.space) (is_none (kept_at tables.sets check (next_id row own))) (is_in_range its_entry) (is_written its_entry) (nat_le-from its_end table.set.space within)
+      (sym (and_from (table.set.lrecl == 256) _ wide (all_true (nat_le its_end table.set.space) (is_none (kept_at tables.sets check (next_id row own))) (is_in_range its_entry) (is_written its_entry) (nat_le-from its_end table.set.space within)
       (none_not_some (kept_at tables.sets check (next_id row own)) false none) (ap is_in_range (sym is) ∙ ranged)
       (ap (λ (n : Name). is_check_id n && nat_lt (length its_entry.passed) (2 ^ 16)) (its_id its_end)
       ∙ ap (λ b. b && nat_lt (length its_entry.passed) (2 ^ 16)) grammar
       ∙ ap (λ (all : List Passed). nat_lt (length all) (2 ^ 16)) (its_counts its_end).1
-      ∙ below (length row.passed) few)))
+      ∙ below (length row.passed) few))))
     where
       below : (n : ℕ) → n < 65536 → nat_lt n (2 ^ 16) ≡ true
       below n few = grind (arith, nat_tests)

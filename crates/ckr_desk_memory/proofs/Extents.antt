@@ -1,15 +1,20 @@
 -- The data sets stay laid out behind an event that follows.
-use Rattle.std.proofs.Common.{◌≡◌, ◌==◌, ◌&&◌, ℕ, Bool, true, false, List, refl, ap, sym, ◌∙◌, subst, Option, None, Some}
+use Rattle.std.proofs.Common.{◌≡◌, ◌==◌, ◌&&◌, ℕ, Bool, true, false, cond, List, refl, ap, sym, ◌∙◌, subst, Option, None, Some}
 use Rattle.std.proofs.lemmas.Bool.{false≢true}
 use Rattle.std.specs.Option.{option_map_or}
 use Rattle.ckr_base.proofs.Bools.{and-first, and-second}
 use Rattle.ckr_base.proofs.Numbers.{equal-true}
 use Rattle.ckr_events.specs.declared.event.Made.{Made}
 use Rattle.ckr_events.specs.declared.event.Event.{Event}
-use Rattle.ckr_events.specs.declared.event.Event.TheVariants.{Submitted, Selected, Started, Rewritten, Cancelled, StepEnded, Ended, Purged}
+use Rattle.ckr_events.specs.declared.event.Event.TheVariants.{Submitted, Selected, Started, Rewritten, Checkpointed, Cancelled, StepEnded, Ended, Purged}
 use Rattle.ckr_events.specs.declared.event.Ending.{Ending}
 use Rattle.ckr_events.specs.declared.event.Ending.TheVariants.{Completed, Coded, Allocation}
 use Rattle.ckr_jcl.specs.declared.deck.Job.{Job}
+use Rattle.ckr_library.proofs.Named.{at-with_entry}
+use Rattle.ckr_library.specs.Catalog.{Holding, fresh_holding}
+use Rattle.ckr_library.specs.NameMaps.{Name, Named, entry_at, same_name, with_entry}
+use Rattle.ckr_library.specs.declared.sets.DataSet.{DataSet}
+use Rattle.ckr_library.specs.declared.sets.Kept.{Kept}
 use Rattle.ckr_library.specs.declared.sets.Stamp.{Stamp}
 use Rattle.ckr_meaning.specs.Allotments.{DdAllotment}
 use Rattle.ckr_meaning.specs.EffectiveJob.{OwnedStep, flaws_in, placed_in, stamp_of}
@@ -20,13 +25,14 @@ use Rattle.ckr_volumes.specs.declared.layout.Layout.{Layout}
 use Rattle.ckr_volumes.specs.Layouts.{StandsIn}
 use Rattle.ckr_points_library.specs.Commit.{output_names}
 use Rattle.ckr_points.specs.declared.run.RunState.TheVariants.{On}
-use Rattle.ckr_points.specs.Tables.{after_commit, after_dispositions, after_rewritten, after_started, after_step_ended, name_with_role, is_updates, run_disposals, own_made, earlier_made, table_rewritten}
-use Rattle.ckr_points.specs.Follows.{are_items, are_lengths, are_made_clear, ended_follows, follows, is_empty, is_in_state, is_rewrite, is_running, lengths_follow, may_start, of_run, of_step, started_follows}
+use Rattle.ckr_points.specs.Tables.{after_checkpointed, after_commit, after_dispositions, after_rewritten, after_started, after_step_ended, name_with_role, is_checkpoints, is_updates, run_disposals, own_made, earlier_made, table_rewritten}
+use Rattle.ckr_points.specs.Follows.{are_items, are_lengths, are_made_clear, ended_follows, follows, is_checkpoint, is_empty, is_in_state, is_rewrite, is_running, lengths_follow, may_start, of_run, of_step, started_follows}
 use Rattle.ckr_points.specs.Restart.{after_abnormal, after_ended, after_event, place_of, step_in}
 use Rattle.ckr_points.specs.Rows.{RunRow, TableSet, TablesModel, run_of, standing_of, step_of_run, table_ways}
 use Rattle.ckr_points.specs.Soundness.{AreLaidOut}
 use Rattle.ckr_points_invariant.proofs.Library.Extents.{committed-laid, disposed_all-laid, fit-lengths, laid-changed, made_all-laid, passed_ended-laid}
 use Rattle.ckr_points_tables.specs.Invariant.{is_plain_event}
+use Rattle.ckr_desk_memory.specs.View.{length_in}
 use Rattle.ckr_desk_memory.proofs.Runs.{by-run, by-step}
 
 -- what an event asks of its run, the run meets
@@ -76,6 +82,11 @@ module _ (layout : Layout) (tables : TablesModel) (laid : AreLaidOut layout tabl
       laid-changed layout (name_with_role row.job.root owned is_updates) (table_rewritten owned.owner step) _ (λ table. record { parts = refl; lrecl = refl })
       (λ table e stands. stamped_stands layout table (rewritten_stamp owned.owner step table.set.stamp) stands) (committed_so row lengths follow owned at step writes)
 
+  checkpointed_so : (row : RunRow) (kept : Kept) (taken writes : ℕ) (lengths : List ℕ) → lengths_follow tables row lengths ≡ true → (owned : OwnedStep) → step_of_run row (step_in (place_of row)) ≡ Some owned → (step : ℕ)
+      → Laid (after_checkpointed row owned step kept taken writes lengths tables)
+  checkpointed_so row kept taken writes lengths follow owned at step =
+      laid-changed layout (name_with_role row.job.root owned is_checkpoints) _ _ (λ table. record { parts = refl; lrecl = refl }) (λ table e stands. stands) (committed_so row lengths follow owned at step writes)
+
   step_ended_so : (row : RunRow) (rc writes : ℕ) (lengths : List ℕ) → lengths_follow tables row lengths ≡ true → (owned : OwnedStep) → step_of_run row (step_in (place_of row)) ≡ Some owned → (step : ℕ)
       → Laid (after_step_ended row owned step rc writes lengths tables)
   step_ended_so row rc writes lengths follow owned at step =
@@ -124,6 +135,14 @@ module _ (layout : Layout) (tables : TablesModel) (laid : AreLaidOut layout tabl
       by-step (Laid layout tables laid) tables (step_of_run row (step_in (place_of row))) _ laid
       (λ owned there.
       rewritten_so layout tables laid row writes lengths.items (and-second (is_running row) (lengths_follow tables row lengths.items) (and-first _ (of_step row (is_rewrite tables place image row)) its)) owned there (step_in (place_of row))))
+  laid-behind (Checkpointed job id taken writes lengths place bytes) deck plain follow =
+      by-run (Laid layout tables laid) tables job _ laid
+      (λ row at.
+      let its = tested tables job (λ row. is_running row && lengths_follow tables row lengths.items && of_step row (is_checkpoint tables id lengths.items place bytes row)) follow row at in
+      by-step (Laid layout tables laid) tables (step_of_run row (step_in (place_of row))) _ laid
+      (λ owned there.
+      checkpointed_so layout tables laid row (record { id = id; run = job; place = place; bytes = bytes }) taken writes lengths.items
+      (and-second (is_running row) (lengths_follow tables row lengths.items) (and-first _ (of_step row (is_checkpoint tables id lengths.items place bytes row)) its)) owned there (step_in (place_of row))))
   laid-behind (Cancelled job) deck plain follow = by-run (Laid layout tables laid) tables job _ laid (λ row at. laid)
   laid-behind (StepEnded job step rc writes lengths) deck plain follow =
       by-run (Laid layout tables laid) tables job _ laid
@@ -135,3 +154,21 @@ module _ (layout : Layout) (tables : TablesModel) (laid : AreLaidOut layout tabl
       by-run (Laid layout tables laid) tables job _ laid (λ row at. ended_so layout tables laid row ending (tested tables job (λ row. ended_follows tables row ending) follow row at))
   laid-behind (Purged job) deck plain follow = by-run (Laid layout tables laid) tables job _ laid (λ row at. laid)
   laid-behind _ deck plain follow = absurd (false≢true plain)
+
+-- ---- lengths behind an entry
+
+module _ (check name : Name) (set : DataSet) (most : ℕ) (sets : Named Holding) where
+  abbrev longer : Named Holding
+  longer = with_entry check (fresh_holding (record set { length = most })) sets
+
+  by_name : (b : Bool) → same_name name check ≡ b → length_in longer name ≡ option_map_or (λ (held : Holding). held.set.length) (cond b (Some (fresh_holding (record set { length = most }))) (entry_at sets name)) 0
+  by_name b same =
+      ap (λ (entry : Option Holding). option_map_or (λ (held : Holding). held.set.length) entry 0)
+      (at-with_entry check name (fresh_holding (record set { length = most })) sets ∙ ap (λ b. cond b (Some (fresh_holding (record set { length = most }))) (entry_at sets name)) same)
+
+  -- that of this name, and that of another one
+  pub entered-same : same_name name check ≡ true → length_in (with_entry check (fresh_holding (record set { length = most })) sets) name ≡ most
+  entered-same same = by_name true same
+
+  pub entered-other : same_name name check ≡ false → length_in (with_entry check (fresh_holding (record set { length = most })) sets) name ≡ length_in sets name
+  entered-other apart = by_name false apart

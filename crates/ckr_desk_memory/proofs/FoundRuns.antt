@@ -1,5 +1,5 @@
 -- A run as the jobs in memory have it, by its number, its line and what the tables keep of it.
-use Rattle.std.proofs.Common.{◌≡◌, ◌==◌, ◌≤◌, ◌+◌, ℕ, zero, suc, Bool, true, false, cond, refl, ap, sym, ◌∙◌, subst, List, [], ◌∷◌, map, find, length, slice_get, Option, None, Some, IfSome, IsSome, arith}
+use Rattle.std.proofs.Common.{◌≡◌, ◌==◌, ◌≤◌, ◌+◌, option_and_then, ℕ, zero, suc, Bool, true, false, cond, refl, ap, sym, ◌∙◌, subst, List, [], ◌∷◌, map, find, length, slice_get, Option, None, Some, IfSome, IsSome, arith}
 use Rattle.std.specs.List.{AllByRecursion}
 use Rattle.std.specs.Option.{option_map, option_map_or}
 use Rattle.std.proofs.lemmas.Option.{same_Some, slice_get_within}
@@ -24,6 +24,8 @@ use Rattle.ckr_desk_turn.specs.Codes.{CodePlaceModel, kept_reached, reached_by, 
 use Rattle.ckr_desk_turn.specs.Jobs.{TurnStep, running_in}
 use Rattle.ckr_desk_turn.specs.Queue.{AreNumbered}
 use Rattle.ckr_desk_turn.proofs.Queue.Events.{run_number}
+use Rattle.ckr_points_tables.specs.Checkpoint.{checkpoint_name}
+use Rattle.ckr_desk_memory.specs.EventChanges.{check_name, check_name_in}
 use Rattle.ckr_desk_memory.specs.Invariant.{IsAcceptedRow}
 use Rattle.ckr_desk_memory.specs.Plans.{row_for, IsKnown}
 use Rattle.ckr_desk_memory.specs.View.{JobsView, RunningStepView, jobs_of, lengths_in, lengths_of_row, length_in, running_of}
@@ -112,6 +114,10 @@ module _ (tables : TablesModel) (number : ℕ) (table : RunTable) (known : IsKno
       ap (λ n. option_map_or (lengths_of_row on.sets.sets) (run_of tables n) []) is
       ∙ ap (λ (found : Option RunRow). option_map_or (lengths_of_row on.sets.sets) found []) known.found
       ∙ known-is (lengths_of_row on.sets.sets) refl
+
+  -- the name of its data set for checkpoints
+  pub check-known : check_name_in tables number ≡ option_and_then (checkpoint_name number) (step_at (plain_job number table.job) (step_in (place_of (row_for number table))))
+  check-known = ap (option_and_then check_name) known.found ∙ known-is check_name refl
 
 -- a run that the tables keep is known
 pub known-of : (tables : TablesModel) → AreNumbered 1 tables.runs → length tables.runs ≤ 9999999 → AllByRecursion IsAcceptedRow tables.runs → (job : ℕ) (table : RunTable)

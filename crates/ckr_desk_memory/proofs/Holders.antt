@@ -1,9 +1,11 @@
 pub mod Names
 pub mod Masters
 pub mod Sets
+pub mod CheckSets
 pub mod Moves
 pub mod Events
 pub mod OwnSets
+pub mod Checkpoints
 pub mod RunningSteps
 pub mod Units
 pub mod Rewrites

@@ -8,7 +8,7 @@ use Rattle.ckr_base.proofs.Options.{is_some-from}
 use Rattle.ckr_base.proofs.Numbers.{equal-true, nat_le-true}
 use Rattle.ckr_base.proofs.Sequences.{each-append}
 use Rattle.ckr_events.specs.declared.event.Event.{Event}
-use Rattle.ckr_events.specs.declared.event.Event.TheVariants.{Submitted, Selected, Started, Rewritten, Cancelled, StepEnded, Ended, Purged}
+use Rattle.ckr_events.specs.declared.event.Event.TheVariants.{Submitted, Selected, Started, Rewritten, Checkpointed, Cancelled, StepEnded, Ended, Purged}
 use Rattle.ckr_events.specs.declared.event.Ending.{Ending}
 use Rattle.ckr_events.specs.declared.event.Ending.TheVariants.{Completed, Coded, Allocation}
 use Rattle.ckr_jcl.specs.declared.deck.Job.{Job}
@@ -195,6 +195,14 @@ placed-behind layout tables (Started job step items) deck plain follow placed =
     (λ owned there.
     placed_put tables.runs row.number _ (record { place = is_some-from (step_of_run row step) owned there; state = is.state; lodged = is.lodged; code = is.code }) placed))
 placed-behind layout tables (Rewritten job taken writes lengths place image) deck plain follow placed =
+    by-run ArePlaced tables job _ placed
+    (λ row at.
+    let is = row-among IsPlacedRow tables job row placed at in
+    by-step ArePlaced tables (step_of_run row (step_in (place_of row))) _ placed
+    (λ owned there.
+    placed_put tables.runs row.number _
+    (record { place = is_some-from (step_of_run row (step_in (place_of row))) owned there; state = is.state; lodged = is.lodged; code = is.code }) placed))
+placed-behind layout tables (Checkpointed job id taken writes lengths place bytes) deck plain follow placed =
     by-run ArePlaced tables job _ placed
     (λ row at.
     let is = row-among IsPlacedRow tables job row placed at in

@@ -10,9 +10,14 @@ pub mod Rewrites
 pub mod Invariant
 pub mod EntryPoints
 pub mod EntryModels
+pub mod EntrySizes
+pub mod EntryTypes
+pub mod Checkpoints
+pub mod CheckpointParts
 pub mod Extents
 pub mod Queue
 pub mod Replays
+pub mod Rooms
 pub mod Runs
 pub mod SetCopies
 pub mod Starts

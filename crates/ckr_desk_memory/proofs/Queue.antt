@@ -8,11 +8,13 @@ use Rattle.std.specs.Option.{is_some, option_map, option_map_or}
 use Rattle.ckr_base.proofs.Bools.{and-first, and-second, or-cases}
 use Rattle.ckr_base.proofs.Numbers.{equal-true}
 use Rattle.ckr_events.specs.declared.event.Event.{Event}
-use Rattle.ckr_events.specs.declared.event.Event.TheVariants.{Submitted, Selected, Started, Rewritten, Cancelled, StepEnded, Ended, Purged}
+use Rattle.ckr_events.specs.declared.event.Event.TheVariants.{Submitted, Selected, Started, Rewritten, Checkpointed, Cancelled, StepEnded, Ended, Purged}
+use Rattle.arrayvec.specs.ArrayVec.{ArrayVec}
 use Rattle.ckr_events.specs.declared.event.Ending.{Ending}
 use Rattle.ckr_events.specs.declared.event.Ending.TheVariants.{Completed, Coded, Allocation}
 use Rattle.ckr_jcl.specs.declared.deck.Job.{Job}
 use Rattle.ckr_meaning.specs.EffectiveJob.{OwnedStep}
+use Rattle.ckr_meaning.specs.declared.place.Place.TheVariants.{Within}
 use Rattle.ckr_volumes.specs.declared.layout.Layout.{Layout}
 use Rattle.ckr_points_library.specs.Commit.{output_names}
 use Rattle.ckr_points.specs.declared.run.RunState.{RunState}
@@ -20,6 +22,7 @@ use Rattle.ckr_points.specs.declared.run.RunState.TheVariants as Runs
 use Rattle.ckr_points.specs.Follows.{are_lengths, ended_follows, follows, is_free, is_in_state, is_running, may_hold, own_step, selected_follows, state_number}
 use Rattle.ckr_points.specs.Restart.{after_event, place_of, step_in}
 use Rattle.ckr_points.specs.Rows.{RunRow, TablesModel, run_of, step_of_run, with_row}
+use Rattle.ckr_points.specs.Tables.{fresh_effect, is_checkpoints, name_with_role}
 use Rattle.ckr_queue.specs.declared.entry.QueueEntry.{QueueEntry}
 use Rattle.ckr_queue.specs.declared.entry.QueueState.{QueueState}
 use Rattle.ckr_queue.specs.declared.entry.QueueState.TheVariants as InQueue
@@ -31,7 +34,7 @@ use Rattle.ckr_desk_turn.proofs.Queue.Events as behind
 use Rattle.ckr_desk_turn.proofs.Queue.Events.{kept_state, queue_in, run_number}
 use Rattle.ckr_desk_turn.proofs.Queue.Changes.{added, first_in, joined, other_number, own_number}
 use Rattle.ckr_desk_turn.proofs.Queue.Select.{let_in}
-use Rattle.ckr_desk_memory.proofs.Runs.{by-run}
+use Rattle.ckr_desk_memory.proofs.Runs.{by-run, by-step}
 use Rattle.ckr_desk_memory.specs.EventChanges.{MayQueue}
 
 -- ---- a run in the queue
@@ -167,6 +170,19 @@ module _ (layout : Layout) (tables : TablesModel) (numbered : AreNumbered 1 tabl
       subst (λ n. Behind (Selected job initiator n step id) deck) (sym is) (behind.selected tables job initiator step id deck there.0 numbered there.1 queued)
 
   -- a run keeps its state
+  checkpointed_so : (job taken writes place bytes : ℕ) (id : List ℕ) (lengths : ArrayVec ℕ) (deck : Option Job) → Behind (Checkpointed job id taken writes lengths place bytes) deck
+  checkpointed_so job taken writes place bytes id lengths deck =
+      by-run (λ (other : TablesModel). queue_of other ≡ queue_of tables) tables job _ refl
+      (λ row at.
+      by-step (λ (other : TablesModel). queue_of other ≡ queue_of tables) tables (step_of_run row (step_in (place_of row))) _ refl
+      (λ owned there.
+      let counted : RunRow = record row {
+        count = suc row.count;
+        in_effect = Some (fresh_effect (name_with_role row.job.root owned is_checkpoints) (record { id = id; run = job; place = place; bytes = bytes }));
+        place = Some (Within (step_in (place_of row)) writes);
+      } in
+      ap (λ n. queue_in (with_row counted n tables.runs)) (run_number tables job row numbered at) ∙ kept_state tables job row counted at refl refl refl))
+
   cancelled_so : (job : ℕ) (deck : Option Job) → Behind (Cancelled job) deck
   cancelled_so job deck =
       by-run (λ (other : TablesModel). queue_of other ≡ queue_of tables) tables job _ refl
@@ -192,6 +208,7 @@ module _ (layout : Layout) (tables : TablesModel) (numbered : AreNumbered 1 tabl
   queue_so (Selected job initiator earlier step id) deck plain e = selected_so job initiator earlier step id deck (equal-true earlier 0 plain) e
   queue_so (Started job step items) deck plain e = behind.started tables job step items deck numbered
   queue_so (Rewritten job t writes lengths place image) deck plain e = behind.rewritten tables job t writes place lengths image deck numbered
+  queue_so (Checkpointed job id taken writes lengths place bytes) deck plain e = checkpointed_so job taken writes place bytes id lengths deck
   queue_so (Cancelled job) deck plain e = cancelled_so job deck
   queue_so (StepEnded job step rc writes lengths) deck plain e = behind.step_ended tables job step rc writes lengths deck numbered
   queue_so (Ended job ending) deck plain e =

@@ -1,3 +1,4 @@
 pub mod First
 pub mod Served
+pub mod Entries
 pub mod Events

@@ -5,7 +5,7 @@ use Rattle.std.proofs.lemmas.Bool.{false≢true}
 use Rattle.std.specs.Option.{option_map_or}
 use Rattle.ckr_base.proofs.Numbers.{equal-true}
 use Rattle.ckr_events.specs.declared.event.Event.{Event}
-use Rattle.ckr_events.specs.declared.event.Event.TheVariants.{Submitted, Selected, Started, Rewritten, Cancelled, StepEnded, Ended, Purged}
+use Rattle.ckr_events.specs.declared.event.Event.TheVariants.{Submitted, Selected, Started, Rewritten, Checkpointed, Cancelled, StepEnded, Ended, Purged}
 use Rattle.ckr_events.specs.declared.event.Ending.{Ending}
 use Rattle.ckr_events.specs.declared.event.Ending.TheVariants.{Completed, Coded, Allocation}
 use Rattle.ckr_jcl.specs.declared.deck.Job.{Job}
@@ -96,6 +96,8 @@ module _ (tables : TablesModel) (numbered : AreNumbered 1 tables.runs) where
   runs-stay (Started job step items) deck plain other =
       by-run Stay tables job _ refl (λ row at. by-step Stay tables (step_of_run row step) _ refl (λ owned there. same_row tables numbered job row at _ refl))
   runs-stay (Rewritten job taken writes lengths place image) deck plain other =
+      by-run Stay tables job _ refl (λ row at. by-step Stay tables (step_of_run row (step_in (place_of row))) _ refl (λ owned there. same_row tables numbered job row at _ refl))
+  runs-stay (Checkpointed job id taken writes lengths place bytes) deck plain other =
       by-run Stay tables job _ refl (λ row at. by-step Stay tables (step_of_run row (step_in (place_of row))) _ refl (λ owned there. same_row tables numbered job row at _ refl))
   runs-stay (Cancelled job) deck plain other = by-run Stay tables job _ refl (λ row at. same_row tables numbered job row at _ refl)
   runs-stay (StepEnded job step rc writes lengths) deck plain other =

@@ -1,5 +1,6 @@
--- What a turn tells between the steps of a run follows, and so does the cancel of restarts.
+-- What a turn tells between the steps of a run follows by the tables alone, and so does the cancel of restarts.
 use Rattle.std.proofs.Common.{◌≡◌, ◌≤◌, ◌==◌, ℕ, Bool, true, false, List, refl, ap, sym, ◌∙◌, subst, Option, Some, None, Result, Ok, Err}
+use Rattle.std.specs.Prelude.{if◌then◌else◌}
 use Rattle.std.specs.List.{AllByRecursion}
 use Rattle.std.specs.Option.{option_map_or}
 use Rattle.std.proofs.lemmas.Bool.{and_from, true≢false}
@@ -8,7 +9,8 @@ use Rattle.ckr_base.specs.declared.programs.NextDue.{NextDue}
 use Rattle.ckr_base.specs.declared.programs.NextDue.TheVariants.{Unit as OneUnit, Checkpoint, Cancel, Finished}
 use Rattle.ckr_base.proofs.Options.{option-cases}
 use Rattle.ckr_base.proofs.Sequences.{find-passes}
-use Rattle.ckr_events.specs.declared.event.Event.TheVariants.{Cancelled as CancelledEvent, Ended as EndedEvent, Selected as SelectedEvent, Started as StartedEvent}
+use Rattle.ckr_events.specs.declared.event.Event.{Event}
+use Rattle.ckr_events.specs.declared.event.Event.TheVariants.{Cancelled as CancelledEvent, Checkpointed as CheckpointedEvent, Ended as EndedEvent, Rewritten as RewrittenEvent, Selected as SelectedEvent, Started as StartedEvent, StepEnded as StepEndedEvent}
 use Rattle.ckr_events.specs.declared.event.Ending.TheVariants.{Completed as CompletedEnding}
 use Rattle.ckr_events.specs.declared.event.Made.{Made}
 use Rattle.ckr_meaning.specs.EffectiveJob.{Effective, OwnedStep, stamp_of, step_at}
@@ -21,9 +23,11 @@ use Rattle.ckr_points.specs.declared.run.RunState.TheVariants.{On}
 use Rattle.ckr_points.specs.Follows.{follows, is_in_state, is_running, is_within, own_step, state_number}
 use Rattle.ckr_points.specs.Restart.{place_of, step_in}
 use Rattle.ckr_points.specs.Rows.{RunRow, TablesModel, run_of, standing_of, table_ways}
+use Rattle.ckr_points.specs.RuleCases.{rd_in_effect}
 use Rattle.ckr_points.specs.Soundness.{AreLaidOut}
+use Rattle.ckr_rules.specs.RuleTables.{suppresses}
 use Rattle.ckr_desk_turn.specs.declared.plan.Plan.{Plan}
-use Rattle.ckr_desk_turn.specs.declared.plan.Plan.TheVariants.{Rest, Tell}
+use Rattle.ckr_desk_turn.specs.declared.plan.Plan.TheVariants.{Pass, Rest, Take, Tell, Work}
 use Rattle.ckr_desk_turn.specs.declared.reply.How.TheVariants.{Completed}
 use Rattle.ckr_desk_turn.specs.declared.reply.Reply.TheVariants.{Idle, JobEnded, NothingToFail, Selected, Started}
 use Rattle.ckr_desk_turn.specs.declared.reply.Turn.{Turn}
@@ -31,17 +35,33 @@ use Rattle.ckr_desk_turn.specs.Allocation.{allocation_of, cause_numbers, holding
 use Rattle.ckr_desk_turn.specs.Codes.{CodePlaceModel, code_plan, reached_by}
 use Rattle.ckr_desk_turn.specs.Invariant.{IsTurnOf}
 use Rattle.ckr_desk_turn.specs.Jobs.{TurnJobs, TurnStep, is_failed, running_in}
-use Rattle.ckr_desk_turn.specs.Plans.{allocation_ended, between_plan, chosen_plan, due_plan, fail_plan, free_plan, is_within as is_planned, placed_plan, plan_of, run_plan, running_plan, start_plan, system_failure}
+use Rattle.ckr_desk_turn.specs.Plans.{allocation_ended, between_plan, chosen_plan, due_plan, fail_plan, free_plan, is_within as is_planned, placed_plan, plan_of, run_plan, running_plan, start_plan, suppressed_plan, system_failure}
 use Rattle.ckr_desk_turn.specs.Queue.{AreNumbered}
 use Rattle.ckr_desk_turn.specs.Select.{is_on, may_select, next_run, run_on_initiator}
 use Rattle.ckr_desk_turn.proofs.NextEvents.BetweenSteps.{completed-follows, lodged-on, refused-follows, selected-follows}
 use Rattle.ckr_desk_turn.proofs.RunEnd.{refused-inside}
 use Rattle.ckr_desk_turn.proofs.Start.Invariant.{started-follows}
 use Rattle.ckr_desk_memory.specs.Invariant.{AreJobs, IsAcceptedRow, IsPlacedRow}
-use Rattle.ckr_desk_memory.specs.TurnEvents.{FollowsBetween}
+use Rattle.ckr_desk_memory.specs.Plans.{is_coded}
 use Rattle.ckr_desk_memory.specs.View.{JobsView, jobs_of}
 use Rattle.ckr_desk_memory.proofs.FoundRuns.{found-run}
 use Rattle.ckr_desk_memory.proofs.Starts.Steps.{row-among}
+
+-- whether an event commits what a running step has written: a rewrite in place, a checkpoint, the end of the step, or that of its run by a code
+abbrev pub is_of_step : Event → Bool
+is_of_step (RewrittenEvent job taken writes lengths place image) = true
+is_of_step (CheckpointedEvent job id taken writes lengths place bytes) = true
+is_of_step (StepEndedEvent job step rc writes lengths) = true
+is_of_step (EndedEvent job ending) = is_coded ending
+is_of_step _ = false
+
+-- an event follows, if it isn't one of these
+abbrev pub FollowsBetween : Layout → TablesModel → Plan → Type 0
+FollowsBetween layout tables (Rest reply) = Unit {0}
+FollowsBetween layout tables (Tell reply event) = is_of_step event ≡ false → follows layout tables event None ≡ true
+FollowsBetween layout tables (Work job) = Unit {0}
+FollowsBetween layout tables (Pass job reply) = Unit {0}
+FollowsBetween layout tables (Take job) = Unit {0}
 
 refused-all : (all : Result Allocation Refusal) (refusal : Refusal) → items_in all ≡ Err refusal → all ≡ Err refusal
 refused-all (Ok done) refusal e = cc
@@ -132,7 +152,11 @@ module _ (layout : Layout) (seen : TurnJobs) (numbered : AreNumbered 1 seen.tabl
 
     due-follows : is_within (place_of row) ≡ true → (number : ℕ) (step : TurnStep) (due : NextDue) → Follows (due_plan row number step due)
     due-follows within number step OneUnit = tt
-    due-follows within number step Checkpoint = tt
+    due-follows within number step Checkpoint = by (suppresses (rd_in_effect row number))
+      where
+        by : (b : Bool) → Follows (if b then suppressed_plan row else Take row.number)
+        by true = tt
+        by false = tt
     due-follows within number step Cancel = λ not. cancelled-follows within
     due-follows within number step (Finished rc) = λ not. absurd (true≢false not)
 

@@ -1,5 +1,5 @@
 -- The entry of the next checkpoint of a running step, by the tables and by the step with its own data sets (IBM GC28-6708).
-use Rattle.std.specs.Prelude.{◌≡◌, ℕ, suc, ◌+◌, ◌^◌, Bool, ◌&&◌, nat_le, nat_lt, if◌then◌else◌, length, map, Option, None, Some, option_and_then}
+use Rattle.std.specs.Prelude.{◌≡◌, ◌==◌, ℕ, suc, ◌+◌, ◌^◌, Bool, ◌&&◌, nat_le, nat_lt, if◌then◌else◌, length, map, Option, None, Some, option_and_then}
 use Rattle.std.specs.Option.{is_none, option_map}
 use Rattle.ckr_base.specs.Grammar.{is_check_id}
 use Rattle.ckr_entry.specs.Entry.{spelling}
@@ -36,10 +36,6 @@ step_now row = step_in (place_of row)
 abbrev pub next_id : RunRow → OwnedStep → Name
 next_id row own = id_by own.step.parm.ids.items (suc row.count) (suc (step_entries row (step_now row)))
 
--- an identifier, where the text is one
-abbrev pub id_in : Name → Option Name
-id_in text = if is_check_id text then Some text else None
-
 -- ---- the entry
 
 -- the entry, where the data set for checkpoints of this name is so long behind it
@@ -64,12 +60,14 @@ entry_end check table tables row own on = table.set.length + records_of (entry_b
 abbrev pub is_written : Entry → Bool
 is_written entry = is_check_id entry.id && nat_lt (length entry.passed) (2 ^ 16)
 
--- the data set has space for its records, and keeps none of its identifier; and its numbers are in their ranges
+-- The data set has records of 256 bytes, as one for checkpoints has on each sound disk, and space for the entry's; it keeps none of its
+-- identifier; and its numbers are in their ranges.
 unfoldable pub fits_in : Name → TableSet → TablesModel → RunRow → OwnedStep → RunningStepView → Bool
 fits_in check table tables row own on =
     let entry = entry_to (Some check) (entry_end check table tables row own on) tables row own on in
-    nat_le (entry_end check table tables row own on) table.set.space && is_none (kept_at tables.sets check (next_id row own))
-    && is_in_range entry && is_written entry
+    table.set.lrecl == 256
+    && (nat_le (entry_end check table tables row own on) table.set.space && is_none (kept_at tables.sets check (next_id row own))
+    && is_in_range entry && is_written entry)
 
 -- the entry, if it fits there
 unfoldable pub entry_in_set : TablesModel → RunRow → OwnedStep → RunningStepView → Name → TableSet → Option Entry

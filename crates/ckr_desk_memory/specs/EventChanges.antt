@@ -1,15 +1,20 @@
 -- What becomes of the jobs in memory by an event.
-use Rattle.std.specs.Prelude.{◌≡◌, ◌==◌, ℕ, Bool, not, false, if◌then◌else◌, IsTrue, List, [], ◌∷◌, filter, find, map, Option, None, Some}
+use Rattle.std.specs.Prelude.{◌≡◌, ◌==◌, ℕ, Bool, not, false, if◌then◌else◌, IsTrue, List, [], ◌∷◌, filter, find, map, nat_le, nat_lt, option_and_then, Option, None, Some}
 use Rattle.std.specs.Option.{option_map_or}
 use Rattle.ckr_uses.specs.Uses.{uses_of}
 use Rattle.ckr_library.specs.declared.uses.Use.{Use}
 use Rattle.ckr_events.specs.declared.event.Event.{Event}
 use Rattle.ckr_events.specs.declared.event.Event.TheVariants.{Submitted, Selected, Ended, Purged}
 use Rattle.ckr_jcl.specs.declared.deck.Job.{Job}
-use Rattle.ckr_points.specs.Rows.{RunRow, TablesModel}
+use Rattle.ckr_library.specs.Catalog.{Holding, with_length}
+use Rattle.ckr_library.specs.NameMaps.{Name, Named, entry_at, with_changed}
+use Rattle.ckr_points.specs.Follows.{own_step}
+use Rattle.ckr_points.specs.Rows.{RunRow, TablesModel, run_of}
+use Rattle.ckr_points_tables.specs.Checkpoint.{checkpoint_name}
 use Rattle.ckr_queue.specs.declared.entry.QueueEntry.{QueueEntry}
 use Rattle.ckr_queue.specs.Queue.{has_names, is_in, is_queued, may_take, state_of}
-use Rattle.ckr_steps.specs.Units.{served_of}
+use Rattle.ckr_steps.specs.declared.step_run.StepRun.{StepRun}
+use Rattle.ckr_steps.specs.Units.{entries_of, served_of}
 use Rattle.ckr_desk_turn.specs.Desk.{is_running}
 use Rattle.ckr_desk_memory.specs.View.{RunningStepView}
 
@@ -53,6 +58,42 @@ served_step on = record on { step = record on.step { state = served_of on.step.p
 -- so is the first one of a run, and it stands before the others
 abbrev pub served_in : ℕ → List RunningStepView → List RunningStepView
 served_in run running = option_map_or (λ on. served_step on ∷ without_first run running) (find (is_of_run run) running) running
+
+-- ---- a running step behind the entry of its checkpoint
+
+-- the name of the data set for checkpoints of the step that a run is in
+abbrev pub check_name : RunRow → Option Name
+check_name row = option_and_then (checkpoint_name row.job.root) (own_step row)
+
+abbrev pub check_name_in : TablesModel → ℕ → Option Name
+check_name_in tables run = option_and_then check_name (run_of tables run)
+
+-- whether there is a data set of a name with space for so many records
+abbrev pub has_space : ℕ → Name → Named Holding → Bool
+has_space most name sets = option_map_or (λ (held : Holding). nat_le most held.set.space) (entry_at sets name) false
+
+-- the data sets of a step, with that for checkpoints so long, if it has the space
+abbrev pub with_entry_end : Option Name → ℕ → Named Holding → Named Holding
+with_entry_end None most sets = sets
+with_entry_end (Some name) most sets = if has_space most name sets then with_changed name (with_length most) sets else sets
+
+-- its checkpoint is done, and the entry is counted, up to a million of them
+abbrev pub entered_run : StepRun → StepRun
+entered_run step = record step { state = served_of step.parm (nat_lt (entries_of step.state) 1000000) step.state }
+
+-- a running step behind its entry, with which its data set for checkpoints is so long
+pub record IsEntered (check : Option Name) (most : ℕ) (old new : RunningStepView) : Type 0 where
+  pub run : new.run ≡ old.run
+  pub step : new.step ≡ entered_run old.step
+  pub sets : new.sets.sets ≡ with_entry_end check most old.sets.sets
+
+-- so is the first one of a run, if there is one, and it stands before the others
+abbrev pub FirstEnters : Option RunningStepView → ℕ → Option Name → ℕ → List RunningStepView → List RunningStepView → Type 0
+FirstEnters None run check most old new = new ≡ old
+FirstEnters (Some on) run check most old new = (behind : RunningStepView) × (new ≡ behind ∷ without_first run old) × IsEntered check most on behind
+
+abbrev pub HasEntered : ℕ → Option Name → ℕ → List RunningStepView → List RunningStepView → Type 0
+HasEntered run check most old new = FirstEnters (find (is_of_run run) old) run check most old new
 
 -- ---- opened
 

@@ -8,12 +8,13 @@ pub mod Preparation
 pub mod Replay
 pub mod View
 pub mod Start
-pub mod TurnEvents
 pub mod Rewrite
 pub mod Model
 pub mod EntryMarks
 pub mod Entries
+pub mod EntryTypes
 pub mod EntryModels
+pub mod Checkpoints
 pub mod Holders
 pub mod OwnSets
 pub mod OwnEvents

@@ -1,10 +1,10 @@
 -- A running step beside the tables: its run is in that step, and what the step may change the tables have as the step has it, but for the
 -- records that aren't committed yet.
-use Rattle.std.specs.Prelude.{◌≡◌, ◌≤◌, ℕ, true, List, [], ◌∷◌, Option, None, Some}
+use Rattle.std.specs.Prelude.{◌≡◌, ◌≢◌, ◌≤◌, ◌+◌, ℕ, true, List, [], ◌∷◌, Option, None, Some}
 use Rattle.std.specs.List.{AllByRecursion}
 use Rattle.ckr_events.specs.declared.event.Event.{Event}
-use Rattle.ckr_events.specs.declared.event.Event.TheVariants.{Rewritten}
-use Rattle.ckr_library.specs.Catalog.{Holding, set_of}
+use Rattle.ckr_events.specs.declared.event.Event.TheVariants.{Checkpointed, Rewritten}
+use Rattle.ckr_library.specs.Catalog.{Holding, records_of, set_of}
 use Rattle.ckr_library.specs.NameMaps.{Name, Named, entry_at}
 use Rattle.ckr_library.specs.declared.sets.DataSet.{DataSet}
 use Rattle.ckr_meaning.specs.EffectiveJob.{OwnedStep, is_among}
@@ -14,8 +14,10 @@ use Rattle.ckr_points.specs.Rows.{RunRow, TableSet, TablesModel, run_of}
 use Rattle.ckr_points.specs.Tables.{is_updates, name_with_role}
 use Rattle.ckr_points.specs.declared.run.RunState.TheVariants.{On}
 use Rattle.ckr_points_library.specs.Commit.{output_names}
+use Rattle.ckr_points_tables.specs.Checkpoint.{checkpoint_name}
 use Rattle.ckr_steps.specs.Files.{files_of}
 use Rattle.ckr_steps.specs.Units.{program_of}
+use Rattle.ckr_desk_memory.specs.EventChanges.{with_entry_end, without_first}
 use Rattle.ckr_desk_memory.specs.View.{RunningStepView, length_in}
 use Rattle.ckr_desk_memory.specs.Holders.{changed_names}
 
@@ -67,7 +69,19 @@ IsCommitted job lengths tables on =
     on.run ≡ job → (row : RunRow) (owned : OwnedStep) → run_of tables job ≡ Some row → own_step row ≡ Some owned
     → AreUpTo on.sets.sets (output_names row.job.root owned) lengths
 
--- so it is with an event behind which the step goes on
+-- those of a checkpoint are at most the ones that it has with its data set for checkpoints so long
+abbrev pub IsCommittedWith : ℕ → ℕ → List ℕ → TablesModel → RunningStepView → Type 0
+IsCommittedWith most job lengths tables on =
+    on.run ≡ job → (row : RunRow) (owned : OwnedStep) → run_of tables job ≡ Some row → own_step row ≡ Some owned
+    → AreUpTo (with_entry_end (checkpoint_name row.job.root owned) most on.sets.sets) (output_names row.job.root owned) lengths
+
+-- a running step is of another run
+abbrev pub IsOfOther : ℕ → RunningStepView → Type 0
+IsOfOther run on = on.run ≢ run
+
+-- so it is with an event behind which the step goes on; a checkpoint is that of the only running step of its run
 abbrev pub CommitsItsOwn : Event → TablesModel → List RunningStepView → Type 0
 CommitsItsOwn (Rewritten job taken writes lengths place image) tables running = AllByRecursion (IsCommitted job lengths.items tables) running
+CommitsItsOwn (Checkpointed job id taken writes lengths place bytes) tables running =
+    AllByRecursion (IsCommittedWith (place + records_of bytes) job lengths.items tables) running × AllByRecursion (IsOfOther job) (without_first job running)
 CommitsItsOwn _ tables running = Unit {0}

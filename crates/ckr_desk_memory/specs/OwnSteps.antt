@@ -2,7 +2,7 @@
 use Rattle.std.specs.Prelude.{◌≡◌, ◌≢◌, ℕ, true, List, [], ◌∷◌, None, Some}
 use Rattle.std.specs.List.{AllByRecursion}
 use Rattle.ckr_desk_turn.specs.declared.plan.Plan.{Plan}
-use Rattle.ckr_desk_turn.specs.declared.plan.Plan.TheVariants.{Rest, Tell, Work, Pass}
+use Rattle.ckr_desk_turn.specs.declared.plan.Plan.TheVariants.{Rest, Tell, Work, Pass, Take}
 use Rattle.ckr_events.specs.Jobs.{job_of}
 use Rattle.ckr_events.specs.declared.event.Event.{Event}
 use Rattle.ckr_events.specs.declared.event.Event.TheVariants.{StepEnded}
@@ -11,11 +11,8 @@ use Rattle.ckr_points.specs.Rows.{RunRow, TablesModel, run_of}
 use Rattle.ckr_volumes.specs.declared.layout.Layout.{Layout}
 use Rattle.ckr_desk_memory.specs.Holders.{AreHolders}
 use Rattle.ckr_desk_memory.specs.OwnSets.{CommitsItsOwn, IsRunningOf}
+pub use Rattle.ckr_desk_memory.specs.OwnSets.{IsOfOther}
 use Rattle.ckr_desk_memory.specs.View.{JobsView, RunningStepView}
-
--- a running step is of another run
-abbrev pub IsOfOther : ℕ → RunningStepView → Type 0
-IsOfOther run on = on.run ≢ run
 
 -- no two running steps are of one run
 abbrev pub AreSingle : List RunningStepView → Type 0
@@ -53,6 +50,7 @@ PlanFollows layout tables (Rest reply) = Unit {0}
 PlanFollows layout tables (Tell reply event) = follows layout tables event None ≡ true
 PlanFollows layout tables (Work job) = Unit {0}
 PlanFollows layout tables (Pass job reply) = Unit {0}
+PlanFollows layout tables (Take job) = Unit {0}
 
 -- what it commits is its step's own
 abbrev pub PlanCommits : TablesModel → List RunningStepView → Plan → Type 0
@@ -60,6 +58,7 @@ PlanCommits tables running (Rest reply) = Unit {0}
 PlanCommits tables running (Tell reply event) = CommitsItsOwn event tables running
 PlanCommits tables running (Work job) = Unit {0}
 PlanCommits tables running (Pass job reply) = Unit {0}
+PlanCommits tables running (Take job) = Unit {0}
 
 -- its event is of this run
 abbrev pub PlanIsOf : ℕ → Plan → Type 0
@@ -67,6 +66,7 @@ PlanIsOf run (Rest reply) = Unit {0}
 PlanIsOf run (Tell reply event) = job_of event ≡ run
 PlanIsOf run (Work job) = Unit {0}
 PlanIsOf run (Pass job reply) = Unit {0}
+PlanIsOf run (Take job) = Unit {0}
 
 -- it ends no step of a run that was running when the system failed
 abbrev pub PlanLeaves : List ℕ → Plan → Type 0
@@ -74,3 +74,4 @@ PlanLeaves failed (Rest reply) = Unit {0}
 PlanLeaves failed (Tell reply event) = LeavesLeft event failed
 PlanLeaves failed (Work job) = Unit {0}
 PlanLeaves failed (Pass job reply) = Unit {0}
+PlanLeaves failed (Take job) = Unit {0}

@@ -4,6 +4,8 @@ use Rattle.std.specs.List.{AllByRecursion}
 use Rattle.ckr_base.specs.declared.code.Code.{Code}
 use Rattle.ckr_base.specs.declared.programs.NextDue.{NextDue}
 use Rattle.ckr_base.specs.declared.programs.NextDue.TheVariants.{Unit as OneUnit, Checkpoint}
+use Rattle.ckr_events.specs.declared.event.Ending.{Ending}
+use Rattle.ckr_events.specs.declared.event.Ending.TheVariants.{Coded}
 use Rattle.ckr_events.specs.declared.event.Event.{Event}
 use Rattle.ckr_events.specs.declared.event.Event.TheVariants.{Rewritten as RewrittenEvent, Ended as EndedEvent}
 use Rattle.ckr_meaning.specs.EffectiveJob.{OwnedStep, plain_job}
@@ -22,7 +24,7 @@ use Rattle.ckr_points_tables.specs.declared.run_table.RunTable.{RunTable}
 use Rattle.ckr_points_tables.specs.Invariant.{HasRoom}
 use Rattle.ckr_points_tables.specs.View.{RoomyTables, facts_in, facts_of, row_with}
 use Rattle.ckr_desk_turn.specs.declared.plan.Plan.{Plan}
-use Rattle.ckr_desk_turn.specs.declared.plan.Plan.TheVariants.{Rest, Tell, Work, Pass}
+use Rattle.ckr_desk_turn.specs.declared.plan.Plan.TheVariants.{Rest, Tell, Work, Pass, Take}
 use Rattle.ckr_desk_turn.specs.declared.reply.How.{How}
 use Rattle.ckr_desk_turn.specs.declared.reply.How.TheVariants.{Completed, Abended, Allocation}
 use Rattle.ckr_desk_turn.specs.declared.reply.Reply.{Reply}
@@ -33,7 +35,6 @@ use Rattle.ckr_desk_turn.specs.Spelling.{IsCode, IsSpelled}
 use Rattle.ckr_volumes.specs.declared.layout.Layout.{Layout}
 use Rattle.ckr_desk_memory.specs.declared.run_code.CodePlace.{CodePlace}
 use Rattle.ckr_desk_memory.specs.EventChanges.{is_of_run}
-use Rattle.ckr_desk_memory.specs.TurnEvents.{is_coded}
 use Rattle.ckr_desk_memory.specs.View.{JobsView, RunningStepView}
 
 -- a run by its number and by what the tables keep of it; a plan asks no more of its line
@@ -95,6 +96,7 @@ IsSpelledPlan (Rest reply) = IsToldReply reply
 IsSpelledPlan (Tell reply event) = IsSpelled event × IsToldReply reply
 IsSpelledPlan (Work job) = Unit {0}
 IsSpelledPlan (Pass job reply) = IsToldReply reply
+IsSpelledPlan (Take job) = Unit {0}
 
 -- there is room for it
 abbrev pub HasPlanRoom : RoomyTables → Plan → Type 0
@@ -102,6 +104,7 @@ HasPlanRoom tables (Rest reply) = Unit {0}
 HasPlanRoom tables (Tell reply event) = HasRoom tables event
 HasPlanRoom tables (Work job) = Unit {0}
 HasPlanRoom tables (Pass job reply) = Unit {0}
+HasPlanRoom tables (Take job) = Unit {0}
 
 -- the running step of a run is there, and this is due
 abbrev pub IsDue : JobsView → ℕ → NextDue → Type 0
@@ -113,6 +116,7 @@ HasDue jobs (Rest reply) = Unit {0}
 HasDue jobs (Tell reply event) = Unit {0}
 HasDue jobs (Work job) = IsDue jobs job OneUnit
 HasDue jobs (Pass job reply) = IsDue jobs job Checkpoint
+HasDue jobs (Take job) = IsDue jobs job Checkpoint
 
 -- it tells an event
 abbrev pub Tells : Plan → Type 0
@@ -120,6 +124,12 @@ Tells (Rest reply) = ⊥
 Tells (Tell reply event) = Unit {0}
 Tells (Work job) = ⊥
 Tells (Pass job reply) = ⊥
+Tells (Take job) = ⊥
+
+-- whether a run ends by a code
+abbrev pub is_coded : Ending → Bool
+is_coded (Coded code rule writes lengths) = true
+is_coded _ = false
 
 -- what a unit tells, if it tells an event: a rewrite in place, or the end of its run by a code
 abbrev pub is_unit_event : Event → Bool
@@ -132,6 +142,7 @@ IsUnitPlan (Rest reply) = Unit {0}
 IsUnitPlan (Tell reply event) = is_unit_event event ≡ true
 IsUnitPlan (Work job) = ⊥
 IsUnitPlan (Pass job reply) = ⊥
+IsUnitPlan (Take job) = ⊥
 
 -- the code with which a unit ends, if it ends its step, has a spelling
 abbrev pub IsWorkedCode : Worked → Type 0

@@ -1,7 +1,7 @@
 -- The memory for an event.
-use Rattle.std.specs.Prelude.{◌≡◌, ◌≤◌, ◌<◌, ℕ, [], Option, Some}
+use Rattle.std.specs.Prelude.{◌≡◌, ◌≤◌, ◌<◌, ℕ, Bool, true, false, [], Option, Some}
 use Rattle.ckr_events.specs.declared.event.Event.{Event}
-use Rattle.ckr_events.specs.declared.event.Event.TheVariants.{Submitted, Started}
+use Rattle.ckr_events.specs.declared.event.Event.TheVariants.{Submitted, Started, Checkpointed, StepEnded, Ended}
 use Rattle.ckr_jcl.specs.declared.deck.Job.{Job}
 use Rattle.ckr_jcl.specs.declared.deck.Step.{Step}
 use Rattle.ckr_meaning.specs.EffectiveJob.{OwnedStep}
@@ -12,6 +12,15 @@ use Rattle.ckr_desk_memory.specs.declared.jobs.RunningStep.{RunningStep}
 use Rattle.ckr_desk_memory.specs.declared.preparation.Prepared.{Prepared}
 use Rattle.ckr_desk_memory.specs.EventChanges.{HasUses}
 use Rattle.ckr_desk_memory.specs.View.{JobsView, begun}
+
+-- whether an event needs memory
+abbrev pub needs_room : Event → Bool
+needs_room (Submitted job cards) = true
+needs_room (Started job step items) = true
+needs_room (Checkpointed job id taken writes lengths place bytes) = true
+needs_room (StepEnded job step rc writes lengths) = true
+needs_room (Ended job ending) = true
+needs_room _ = false
 
 -- room for a run in the queue
 abbrev pub HasQueueRoom : Event → ℕ → Type 0

@@ -1,9 +1,11 @@
 //! The entry of the next checkpoint of a running step.
-ghost use Rattle.std.specs.Prelude.{◌≡◌, ◌≤◌, ◌<◌, ◌+◌, ◌++◌, ◌^◌, ℕ, IfOk, IfSome, Some, length};
+ghost use Rattle.std.specs.Prelude.{◌≡◌, ◌==◌, ◌≤◌, ◌<◌, ◌+◌, ◌++◌, ◌^◌, ℕ, IfOk, IfSome, Some, length};
 ghost use Rattle.std.specs.List.{list_any, AllByRecursion};
 ghost use Rattle.std.specs.Option.{option_map_or};
 ghost use Rattle.ckr_entry.specs.Entry.{spelling};
 ghost use Rattle.ckr_entry.specs.Parts.{entry_of};
+ghost use Rattle.ckr_entry.specs.Sets.{passed_one};
+ghost use Rattle.ckr_fields.specs.Fields.{each_fits};
 ghost use Rattle.ckr_library.specs.Catalog.{records_of};
 ghost use Rattle.ckr_library.specs.NameMaps.{same_name};
 ghost use Rattle.ckr_library.specs.declared.sets.Kept.{Kept as KeptOfSet};
@@ -13,9 +15,10 @@ ghost use Rattle.ckr_points.specs.Rows.{holding_of, run_of, step_of_run, RunRow,
 ghost use Rattle.ckr_points.specs.declared.run.Run.{Run as RunOfDesk};
 ghost use Rattle.ckr_points_tables.specs.View.{facts_of, seen_by};
 ghost use Rattle.ckr_steps.specs.StepUnit.{AreCounted};
-ghost use Rattle.ckr_desk_turn.specs.Checkpoints.{are_counts_in_range, id_by, is_in_range, is_state_in_range, step_entries};
+ghost use Rattle.ckr_desk_turn.specs.Checkpoints.{are_counts_in_range, id_by, is_in_range, is_state_in_range, step_entries, id_in};
 ghost use Rattle.ckr_desk_turn.specs.EntryStates.{at_checkpoint};
-ghost use Rattle.ckr_desk_memory.specs.Entries.{entry_made, id_in, next_entry, next_id, row_of_line, step_now, IsEntryOf, IsNextOf};
+ghost use Rattle.ckr_desk_memory.specs.Entries.{entry_made, next_entry, next_id, row_of_line, step_now, IsEntryOf, IsNextOf};
+ghost use Rattle.ckr_desk_memory.specs.EntryTypes.{IsFormedWithState, IsTyped, IsTypedMatch};
 ghost use Rattle.ckr_desk_memory.specs.Invariant.{IsAcceptedRow};
 ghost use Rattle.ckr_desk_memory.specs.Parts.{step_seen};
 ghost use Rattle.ckr_desk_memory.specs.Plans.{row_for};
@@ -24,7 +27,7 @@ use crate::entry_marks::{Behind, marks_of};
 use crate::run_code::place_of;
 use crate::{Jobs, RunningStep};
 use arrayvec::ArrayVec;
-use ckr_base::{CheckId, NoMemory, decimal_text, last_digits};
+use ckr_base::{CheckId, NoMemory, Rec, decimal_text, last_digits};
 use ckr_entry::{Passed, PassedList, Point, State, encode_entry};
 use ckr_jcl::Step;
 use ckr_library::{DataSet, Kept, Library};
@@ -100,7 +103,7 @@ fn step_entries(table: &RunTable) -> u32
 }
 
 /// The identifier of the next entry of a run in a step. `None` where the text isn't in the grammar of identifiers.
-fn id_of(table: &RunTable, own: &Step) -> Option<CheckId>
+pub(crate) fn id_of(table: &RunTable, own: &Step) -> Option<CheckId>
     ensures { (run : ℕ) (owned : OwnedStep) → owned.step ≡ own.now → result ≡ id_in (next_id (row_for run table.now) owned) }
 {
     let in_run = u128::from(table.count) + 1;
@@ -108,10 +111,49 @@ fn id_of(table: &RunTable, own: &Step) -> Option<CheckId>
     CheckId::read(id_text(own.parm.ids.as_slice(), in_run, in_step).as_slice())
 }
 
+/// Reads the record that a state holds, if it holds one, whose type bounds it.
+fn read_held(held: &Option<Rec>)
+    ensures { IfSome held.now (λ bytes. length bytes ≤ 256) }
+{
+    match held {
+        Some(image) => {
+            let _bytes = image.bytes();
+        }
+        None => {}
+    }
+}
+
+/// Reads the last master of a state with its place, if it has one, whose types bound them.
+fn read_last(last: &Option<(u32, Rec)>)
+    ensures { IfSome last.now (λ at. (at.0 < 2 ^ 32) × (length at.1 ≤ 256)) }
+{
+    match last {
+        Some((place, image)) => {
+            let _place = *place;
+            let _bytes = image.bytes();
+        }
+        None => {}
+    }
+}
+
+/// Reads the keys and the records of a state of two inputs, whose types bound them.
+fn read_parts(state: &MatchState)
+    ensures { IsTypedMatch state.now }
+{
+    let _first_key = state.first_key.as_slice();
+    let _second_key = state.second_key.as_slice();
+    read_held(&state.held);
+    read_last(&state.last);
+}
+
 /// A state as an entry has it: the checkpoint is done and counted, the cancel isn't done, and the program isn't closed.
 fn at_checkpoint(state: &State, entries: u32) -> State
-    ensures { result ≡ at_checkpoint entries state.now }
+    ensures value { result ≡ at_checkpoint entries state.now }
+    ensures typed { IsTyped state.now }
 {
+    if let State::Matched(matched) = state {
+        read_parts(matched);
+    }
     match state.copied() {
         State::Plain(plain) => State::Plain(ProgState {
             entries,
@@ -134,10 +176,12 @@ fn at_checkpoint(state: &State, entries: u32) -> State
 ///
 /// `NoMemory`: there is none for it.
 fn passed_of(alloc: Global, items: &[Passed]) -> Result<PassedList, NoMemory>
-    ensures { IfOk result (λ passed. passed.items ≡ items.now) }
+    ensures items { IfOk result (λ passed. passed.items ≡ items.now) }
+    ensures typed { IfOk result (λ passed. each_fits passed_one.fits passed.items) }
 {
     let mut passed = PassedList::new(alloc);
     for one in items {
+        let _grammar = one.name.text();
         passed.push(Passed {
             name: one.name.copied(),
             made: one.made,
@@ -157,8 +201,13 @@ fn entry_with(alloc: Global, id: CheckId, behind: &Behind<'_>) -> Result<NextEnt
     requires passed { length behind.now.table.now.passed.items < 65536 }
     ensures entry { (tables : TablesModel) → behind.now.committed.now.sets ≡ seen_by holding_of tables.sets → IfOk result (λ made. IsEntryOf id behind.now tables (entry_of made.point)) }
     ensures bytes { IfOk result (λ made. made.bytes.items ≡ spelling (entry_of made.point)) }
+    ensures typed { IfOk result (λ _. IsTyped behind.now.on.now.step.state) }
+    ensures form { IfOk result (λ made. IsFormedWithState (entry_of made.point)) }
 {
     let table = behind.table;
+    let _id = id.text();
+    let _job = table.job.name.text();
+    let _step = behind.own.name.text();
     let far = behind.on.step.progress();
     let point = Point {
         id: Some(id),
@@ -190,6 +239,13 @@ fn is_same_id(one: &CheckId, other: &CheckId) -> bool
     ensures { result ≡ same_name one.now other.now }
 {
     one.text().cmp(other.text()).is_eq()
+}
+
+/// Whether the records of a data set have 256 bytes, as an entry's.
+fn has_entry_records(set: &DataSet) -> bool
+    ensures { result ≡ (set.now.lrecl == 256) }
+{
+    set.lrecl == 256
 }
 
 /// How many records of 256 bytes so many bytes take.
@@ -243,8 +299,13 @@ fn fitting(
     requires end { behind.now.end ≡ 0 }
     ensures entry { IfOk result (λ found. IsNextOf id behind.now set.now (entry_made found)) }
     ensures bytes { IfOk result (λ found. IfSome found (λ made. made.bytes.items ≡ spelling (entry_of made.point))) }
+    ensures typed { IfOk result (λ found. IfSome found (λ _. IsTyped behind.now.on.now.step.state)) }
+    ensures form { IfOk result (λ found. IfSome found (λ made. IsFormedWithState (entry_of made.point))) }
 {
     let _grammar = id.text();
+    if !has_entry_records(set) {
+        return Ok(None);
+    }
     if behind.table.count >= 9_999_999 {
         return Ok(None);
     }
@@ -286,6 +347,8 @@ fn next_of(
     requires names { length (names_of_job (plain_job on.now.run table.now.job)) ≤ 1024 }
     ensures entry { (line : RunOfDesk) (tables : TablesModel) (owned : OwnedStep) → library.now.sets ≡ seen_by holding_of tables.sets → owned.step ≡ own.now → owned.owner ≡ on.now.run → IfOk result (λ found. entry_made found ≡ next_entry tables (row_of_line on.now.run line table.now) owned (step_seen on.now)) }
     ensures bytes { IfOk result (λ found. IfSome found (λ made. made.bytes.items ≡ spelling (entry_of made.point))) }
+    ensures typed { IfOk result (λ found. IfSome found (λ _. IsTyped on.now.step.state)) }
+    ensures form { IfOk result (λ found. IfSome found (λ made. IsFormedWithState (entry_of made.point))) }
 {
     let Some(check) = checkpoint_name(on.run, own) else {
         return Ok(None);
@@ -320,8 +383,10 @@ impl Jobs {
     }
 
     /// The entry that the next checkpoint of a running step writes behind the last record of its data set for checkpoints, with its bytes: its
-    /// marks are those of the data sets behind it (IBM GC28-6708). `None` where it doesn't fit: the data set isn't there, has no space for
-    /// its records or keeps one of its identifier, or a number is out of its range (this project's profile). Nothing changes.
+    /// marks are those of the data sets behind it (IBM GC28-6708). `None` where it doesn't fit: the data set isn't there, has records of
+    /// another length than 256 bytes or no space for the entry's, or keeps one of its identifier; or a number is out of its range, the
+    /// identifier isn't in its grammar, or 65,536 names or more were passed on (this project's profile). Nothing changes. It is an entry that is
+    /// read back, where its state has the form of its program's states.
     ///
     /// `NoMemory`: there is none for the entry.
     pub fn next_entry(&self, on: &RunningStep) -> Result<Option<NextEntry>, NoMemory>
@@ -329,6 +394,8 @@ impl Jobs {
         requires counted { AreCounted on.now.step }
         ensures entry { (row : RunRow) (own : OwnedStep) → run_of self.now.tables.desk on.now.run ≡ Some row → step_of_run row (step_now row) ≡ Some own → IfOk result (λ found. entry_made found ≡ next_entry self.now.tables.desk row own (step_seen on.now)) }
         ensures bytes { IfOk result (λ found. IfSome found (λ made. made.bytes.items ≡ spelling (entry_of made.point))) }
+        ensures typed { IfOk result (λ found. IfSome found (λ _. IsTyped on.now.step.state)) }
+        ensures form { IfOk result (λ found. IfSome found (λ made. IsFormedWithState (entry_of made.point))) }
     {
         let Some(table) = self.known(on.run) else {
             return Ok(None);

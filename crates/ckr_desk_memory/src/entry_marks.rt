@@ -1,19 +1,23 @@
 //! The marks of an entry: one for each name of the job, in ascending order, as the data sets are behind the checkpoint.
 ghost use Rattle.std.specs.Prelude.{◌≡◌, ◌≤◌, [], IfOk, OnOk, IsTrue, length, slice_get};
+ghost use Rattle.std.specs.List.{AllByRecursion};
 ghost use Rattle.std.specs.Option.{option_to_list};
 ghost use Rattle.std.specs.Ordering.{is_gt};
+ghost use Rattle.ckr_entry.specs.Numbers.{given};
+ghost use Rattle.ckr_entry.specs.Sets.{present};
 ghost use Rattle.ckr_library.specs.NameMaps.{name_cmp, with_entry};
 ghost use Rattle.ckr_points_library.specs.Holdings.{owned};
 ghost use Rattle.ckr_meaning.specs.EffectiveJob.{name_of, names_of, names_of_job, plain_job};
 ghost use Rattle.ckr_points.specs.Marks.{first_volume, marks_for};
 ghost use Rattle.ckr_points_tables.specs.MarkOrder.{are_in_order, has_name, marked, marked_onto, place_in};
 ghost use Rattle.ckr_desk_memory.specs.EntryMarks.{is_output_of, length_of, mark_behind, present_behind};
+ghost use Rattle.ckr_desk_memory.specs.EntryTypes.{IsTypedMark};
 
 use crate::RunningStep;
 use ckr_base::{DsName, NoMemory};
 use ckr_entry::{Mark, Marks, Present};
 use ckr_jcl::{Dd, Job, Step};
-use ckr_library::{DataSet, Library, Part};
+use ckr_library::{DataSet, Library, Part, Stamp};
 use ckr_points_library::output_name;
 use ckr_points_tables::RunTable;
 use ckr_uses::library_name;
@@ -178,7 +182,8 @@ fn mark_step(behind: &Behind<'_>, step: &Step, items: &mut Vec<Mark>) -> Result<
 /// The marks of all names of a run that continues none.
 fn mark_job(alloc: Global, behind: &Behind<'_>, job: &Job) -> Result<Vec<Mark>, NoMemory>
     requires { behind.now.on.now.run ≤ 9999999 }
-    ensures { IfOk result (λ items. items.items ≡ marks_for (mark_behind behind.now) (names_of_job (plain_job behind.now.on.now.run job.now))) }
+    ensures items { IfOk result (λ items. items.items ≡ marks_for (mark_behind behind.now) (names_of_job (plain_job behind.now.on.now.run job.now))) }
+    ensures order { IfOk result (λ items. IsTrue (are_in_order items.items)) }
 {
     let mut items = Vec::new(alloc);
     let steps = job.steps.as_slice();
@@ -190,22 +195,48 @@ fn mark_job(alloc: Global, behind: &Behind<'_>, job: &Job) -> Result<Vec<Mark>, 
     Ok(items)
 }
 
-/// The same mark.
-fn copy_of_mark(mark: &Mark) -> Mark
-    ensures { result ≡ mark.now }
+/// What a mark says of a data set, again. Its numbers have the widths of their types.
+fn copy_of_present(found: Option<Present>) -> Option<Present>
+    ensures value { result ≡ found }
+    ensures typed { (given present).fits result }
 {
-    Mark {
-        name: mark.name.copied(),
-        present: mark.present,
+    match found {
+        None => None,
+        Some(set) => Some(Present {
+            volume: set.volume,
+            lrecl: set.lrecl,
+            space: set.space,
+            length: set.length,
+            cataloged: set.cataloged,
+            stamp: Stamp {
+                run: set.stamp.run,
+                step: set.stamp.step,
+                rewrites: set.stamp.rewrites,
+            },
+        }),
     }
 }
 
-/// The marks of all names of a run that continues none, as a point has them.
+/// The same mark.
+fn copy_of_mark(mark: &Mark) -> Mark
+    ensures value { result ≡ mark.now }
+    ensures typed { IsTypedMark result }
+{
+    let _grammar = mark.name.text();
+    Mark {
+        name: mark.name.copied(),
+        present: copy_of_present(mark.present),
+    }
+}
+
+/// The marks of all names of a run that continues none, as a point has them, in ascending order of the names.
 ///
 /// `NoMemory`: there is none for them.
 pub(crate) fn marks_of(alloc: Global, behind: &Behind<'_>, job: &Job) -> Result<Marks, NoMemory>
     requires { behind.now.on.now.run ≤ 9999999 }
-    ensures { IfOk result (λ marks. marks.items ≡ marks_for (mark_behind behind.now) (names_of_job (plain_job behind.now.on.now.run job.now))) }
+    ensures items { IfOk result (λ marks. marks.items ≡ marks_for (mark_behind behind.now) (names_of_job (plain_job behind.now.on.now.run job.now))) }
+    ensures order { IfOk result (λ marks. IsTrue (are_in_order marks.items)) }
+    ensures typed { IfOk result (λ marks. AllByRecursion IsTypedMark marks.items) }
 {
     let items = mark_job(alloc, behind, job)?;
     let mut marks = Marks::new(alloc);

@@ -1,9 +1,9 @@
 //! The jobs go on by an event that was written.
-ghost use Rattle.std.specs.Prelude.{◌≡◌, ◌-◌, ◌<◌, ◌≤◌, ◌==◌, true, false, not, filter, length, map, None, Option, IsTrue, vec_len, vec_capacity};
+ghost use Rattle.std.specs.Prelude.{◌≡◌, ◌+◌, ◌-◌, ◌<◌, ◌≤◌, ◌==◌, true, false, not, filter, length, map, None, Option, IsTrue, vec_len, vec_capacity};
 ghost use Rattle.std.specs.List.{AllByRecursion};
 ghost use Rattle.ckr_jcl.specs.declared.deck.Job.{Job as JobOfDeck};
-ghost use Rattle.ckr_desk_memory.specs.EventChanges.{HasUses, MayQueue};
-ghost use Rattle.ckr_desk_memory.specs.RunningSteps.{GoesOn, MayRun};
+ghost use Rattle.ckr_desk_memory.specs.EventChanges.{check_name_in, HasUses, MayQueue};
+ghost use Rattle.ckr_desk_memory.specs.RunningSteps.{GoesOn, MayLookUp, MayRun};
 ghost use Rattle.ckr_desk_memory.specs.Invariant.{AreJobs, IsAnyAccepted, MayGoOn};
 ghost use Rattle.ckr_desk_memory.specs.OwnSets.{CommitsItsOwn};
 ghost use Rattle.ckr_desk_memory.specs.OwnSteps.{AreLeft, HoldTheirOwn, LeavesLeft};
@@ -12,6 +12,7 @@ ghost use Rattle.ckr_desk_memory.specs.Plans.{HasCounts};
 ghost use Rattle.ckr_desk_memory.specs.Preparation.{HasQueueRoom, IsPrepared};
 ghost use Rattle.ckr_desk_memory.specs.Rewrite.{HasRecordPlace};
 ghost use Rattle.ckr_desk_memory.specs.declared.jobs.RunningStep.{RunningStep as StepOnIt};
+ghost use Rattle.ckr_library.specs.Catalog.{records_of};
 ghost use Rattle.ckr_points.specs.Follows.{follows};
 ghost use Rattle.ckr_points.specs.Restart.{after_event};
 ghost use Rattle.ckr_queue.specs.Queue.{queued, state_of, with_entry};
@@ -20,12 +21,15 @@ ghost use Rattle.ckr_desk_turn.specs.Desk.{failed_behind};
 ghost use Rattle.ckr_desk_turn.specs.Queue.{queue_behind, AreNumbered};
 ghost use Rattle.ckr_volumes.specs.declared.layout.Layout.{Layout as LayoutOfDisk};
 
-use crate::served::serve;
+use crate::run_code::place_of;
+use crate::served::{enter, serve};
 use crate::start::start_step;
 use crate::{Jobs, Prepared, RunningStep};
+use ckr_base::DsName;
 use ckr_events::Event;
 use ckr_jcl::Job;
-use ckr_points_tables::Tables;
+use ckr_points::step_in;
+use ckr_points_tables::{Tables, checkpoint_name, step_at};
 use ckr_queue::Queue;
 use ckr_uses::Uses;
 
@@ -79,8 +83,29 @@ fn unmark(failed: &mut Vec<u32>, run: u32)
     failed.retain(|number| *number != run);
 }
 
+/// The name of the data set for checkpoints of the step that a run is in.
+fn check_of(tables: &Tables, run: u32) -> Option<DsName>
+    requires { MayLookUp tables.now.desk }
+    ensures { result ≡ check_name_in tables.now.desk run }
+{
+    let Some(table) = tables.run(run) else {
+        return None;
+    };
+    match step_at(&table.job, step_in(place_of(table))) {
+        Some(own) => checkpoint_name(run, own),
+        None => None,
+    }
+}
+
+/// Where an entry ends that begins at a place and has so many bytes, in records of 256 bytes.
+fn end_of(place: u32, bytes: u32) -> u64
+    ensures { result ≡ place + records_of bytes }
+{
+    u64::from(place) + u64::from(bytes).div_ceil(256)
+}
+
 /// The running steps behind a plain event, by the tables behind it. The step that starts is at its beginning, and there is room for it. A
-/// cancel is due of the step that cancels.
+/// checkpoint is due of the step whose entry was written, and a cancel of the step that cancels.
 fn keep_running(
     event: &Event,
     begun: Option<RunningStep>,
@@ -93,6 +118,17 @@ fn keep_running(
 {
     match event {
         Event::Started { job, step, .. } => start_step(*job, *step, begun, tables, running),
+        Event::Checkpointed {
+            job,
+            place,
+            bytes,
+            ..
+        } => enter(
+            running,
+            *job,
+            &check_of(tables, *job),
+            end_of(*place, *bytes),
+        ),
         Event::Cancelled { job } => serve(running, *job),
         Event::StepEnded { job, .. } => leave(running, *job),
         Event::Ended { job, .. } => leave(running, *job),

@@ -1,6 +1,7 @@
 //! The jobs of a desk in memory: the tables, the queue, and the running steps, each with its data sets.
 #![tactic(auto)]
 
+mod checkpoint;
 mod entry;
 mod entry_laws;
 mod entry_marks;
@@ -17,10 +18,10 @@ mod run_code;
 mod served;
 mod set_copy;
 mod start;
-mod turn_events;
 mod unit_reply;
 mod unit_step;
 
+pub use checkpoint::Checkpoint;
 pub use entry::NextEntry;
 pub use entry_laws::entries_are_those_of_the_job;
 pub use holder_laws::{
@@ -29,8 +30,7 @@ pub use holder_laws::{
 pub use jobs::{Jobs, RunningStep};
 pub use preparation::Prepared;
 pub use set_copy::copy_of_set;
-pub use turn_events::is_of_step;
 
 // What the desk asks of the tables beside the jobs.
-pub use ckr_points_follows::{follows, may_count, purged_follows};
+pub use ckr_points_follows::{may_count, purged_follows};
 pub use ckr_points_tables::Tables;

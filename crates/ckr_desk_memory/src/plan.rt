@@ -6,7 +6,6 @@ ghost use Rattle.ckr_events.specs.declared.event.Event.TheVariants.{StepEnded as
 ghost use Rattle.ckr_desk_memory.specs.Invariant.{AreJobs, IsAcceptedRow};
 ghost use Rattle.ckr_desk_memory.specs.OwnSteps.{AreLeft, HoldTheirOwn, PlanCommits, PlanFollows, PlanLeaves};
 ghost use Rattle.ckr_desk_memory.specs.Plans.{next_step, row_for, HasCounts, HasDd, HasPlanRoom, HasDue, IsAnyCode, IsKnown, IsSpelledPlan, Tells};
-ghost use Rattle.ckr_desk_memory.specs.TurnEvents.{FollowsBetween};
 ghost use Rattle.ckr_desk_memory.specs.View.{jobs_of, lengths_of_row};
 ghost use Rattle.ckr_meaning.specs.EffectiveJob.{OwnedStep};
 ghost use Rattle.ckr_points.specs.Follows.{own_step};
@@ -17,11 +16,11 @@ ghost use Rattle.ckr_points_decks.specs.DeckLimits.{IsWithinLimits};
 ghost use Rattle.ckr_desk_turn.specs.Codes.{code_plan, reached_by};
 ghost use Rattle.ckr_desk_turn.specs.Invariant.{IsTurnOf};
 ghost use Rattle.ckr_desk_turn.specs.Jobs.{is_failed, running_in, step_name_of};
-ghost use Rattle.ckr_desk_turn.specs.Plans.{allocation_ended, between_plan, chosen_plan, fail_plan, free_plan, plan_of, cancelled_plan, run_plan, running_plan, suppressed_plan};
+ghost use Rattle.ckr_desk_turn.specs.Plans.{allocation_ended, between_plan, checkpoint_plan, chosen_plan, fail_plan, free_plan, plan_of, cancelled_plan, run_plan, running_plan, suppressed_plan};
 ghost use Rattle.ckr_desk_turn.specs.Queue.{AreNumbered};
 ghost use Rattle.ckr_desk_turn.specs.Spelling.{IsCode};
 
-use crate::run_code::{Extents, code_plan, lengths_of, place_of};
+use crate::run_code::{Extents, code_plan, is_suppressed, lengths_of, place_of};
 use crate::{Jobs, RunningStep};
 use ckr_base::{Code, Name8, NextDue, NoMemory};
 use ckr_desk_turn::{
@@ -91,6 +90,19 @@ fn suppressed(run: u32, table: &RunTable) -> Plan
     }
 }
 
+/// A checkpoint is due: the RD in effect suppresses it, or it is taken.
+fn checkpoint_due(run: u32, table: &RunTable) -> Plan
+    requires there { IsSome (own_step (row_for run table.now)) }
+    ensures plan { let row = row_for run table.now in result ≡ checkpoint_plan row (step_in_place (place_of_row row)) }
+    ensures spelled { IsSpelledPlan result }
+{
+    if is_suppressed(table) {
+        suppressed(run, table)
+    } else {
+        Plan::Take { job: run }
+    }
+}
+
 /// A cancel is due.
 fn cancelled(run: u32, table: &RunTable) -> Plan
     requires there { IsSome (own_step (row_for run table.now)) }
@@ -125,10 +137,7 @@ impl Jobs {
         ensures jobs { AreJobs layout.now self.new }
         ensures room { IfOk result (HasPlanRoom self.new.tables) }
 
-        // What it tells between the steps of a run follows, whatever the disk reads.
-        ensures follows { IfOk result (FollowsBetween layout.now self.new.tables.desk) }
-
-        // So does all that it tells, where the jobs hold their own, and what it commits is its step's own.
+        // What it tells follows, whatever the disk reads, where the jobs hold their own, and what it commits is its step's own.
         ensures own { HoldTheirOwn self.old → AreLeft self.old → IfOk result (PlanFollows layout.now self.new.tables.desk) }
         ensures commits { IfOk result (PlanCommits self.new.tables.desk self.new.running) }
         ensures left { IfOk result (PlanLeaves self.new.failed) }
@@ -154,7 +163,7 @@ impl Jobs {
     {
         match plan {
             Plan::Tell { event, .. } => self.tables.make_room(event),
-            Plan::Rest(_) | Plan::Work { .. } | Plan::Pass { .. } => Ok(()),
+            Plan::Rest(_) | Plan::Work { .. } | Plan::Pass { .. } | Plan::Take { .. } => Ok(()),
         }
     }
 
@@ -258,8 +267,8 @@ impl Jobs {
         code_plan(layout, job, table, code, self.reached(job, table))
     }
 
-    /// A run that is within a step does what is due: the step works on, or a checkpoint is suppressed, or restarts are cancelled, or the step
-    /// ends where its closing unit is done. A deck that takes checkpoints runs only where its RD suppresses them (IBM GC28-6708).
+    /// A run that is within a step does what is due: the step works on, or a checkpoint is taken or suppressed, or restarts are cancelled, or
+    /// the step ends where its closing unit is done (IBM GC28-6708).
     fn within(&self, job: u32, table: &RunTable) -> Plan
         requires known { IsKnown self.now.tables.desk job table.now }
         requires there { IsSome (own_step (row_for job table.now)) }
@@ -272,7 +281,7 @@ impl Jobs {
         };
         match on.step.due() {
             NextDue::Unit => Plan::Work { job },
-            NextDue::Checkpoint => suppressed(job, table),
+            NextDue::Checkpoint => checkpoint_due(job, table),
             NextDue::Cancel => cancelled(job, table),
             NextDue::Finished(rc) => step_ended(on, job, table, rc),
         }

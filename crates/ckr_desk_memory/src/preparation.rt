@@ -1,10 +1,10 @@
 //! Memory for an event, before it is written.
-ghost use Rattle.std.specs.Prelude.{◌≡◌, ◌≤◌, ◌<◌, IfOk, OnOk};
+ghost use Rattle.std.specs.Prelude.{◌≡◌, ◌≤◌, ◌<◌, true, IfErr, IfOk, OnOk};
 ghost use Rattle.std.specs.List.{AllByRecursion};
 ghost use Rattle.std.specs.Option.{option_copied};
 ghost use Rattle.ckr_desk_memory.specs.EventChanges.{AreUsesOf, HasUses};
 ghost use Rattle.ckr_desk_memory.specs.Invariant.{AreJobs, IsAcceptedRow};
-ghost use Rattle.ckr_desk_memory.specs.Preparation.{HasQueueRoom, HasStarting, HasStep, IsBegun, IsPrepared};
+ghost use Rattle.ckr_desk_memory.specs.Preparation.{needs_room, HasQueueRoom, HasStarting, HasStep, IsBegun, IsPrepared};
 ghost use Rattle.ckr_programs.specs.Ranges.{IsInRange};
 ghost use Rattle.ckr_points_tables.specs.Invariant.{HasRoom, IsAnySubmittable, MaySubmit};
 ghost use Rattle.ckr_volumes.specs.declared.layout.Layout.{Layout as LayoutOfDisk};
@@ -53,6 +53,20 @@ fn begin_step(alloc: Global, job: u32, step: &Step) -> Result<RunningStep, NoMem
     })
 }
 
+/// Whether an event needs memory: one that submits a run, starts or ends a step, ends a run or keeps an entry.
+fn needs_room(event: &Event) -> bool
+    ensures { result ≡ needs_room event.now }
+{
+    matches!(
+        event,
+        Event::Submitted { .. }
+            | Event::Started { .. }
+            | Event::Checkpointed { .. }
+            | Event::StepEnded { .. }
+            | Event::Ended { .. }
+    )
+}
+
 impl Jobs {
     /// The step of this number of a run, at its beginning. None where there is no such step.
     fn begun(&self, job: u32, step: u8) -> Result<Option<RunningStep>, NoMemory>
@@ -71,7 +85,7 @@ impl Jobs {
     /// Takes the memory for an event, so that `keep` takes none and doesn't fail. A deck is given exactly where the event is
     /// Submitted and its cards are a deck, and it is that deck. What the jobs are stays the same in either case.
     ///
-    /// `NoMemory`: there may be none for the event.
+    /// `NoMemory`: there may be none for the event; one that needs none gets it always.
     pub fn prepare(&mut self, event: &Event, deck: Option<&Job>) -> Result<Prepared, NoMemory>
         requires rows { AllByRecursion IsAcceptedRow self.old.tables.desk.runs }
         requires deck { MaySubmit event.now (option_copied deck) }
@@ -80,6 +94,7 @@ impl Jobs {
         ensures failed { self.new.failed ≡ self.old.failed }
         ensures jobs { (layout : LayoutOfDisk) → AreJobs layout self.old → AreJobs layout self.new }
         ensures ok { IfOk result (IsPrepared self.new event.now (option_copied deck.entry)) }
+        ensures takes { IfErr result (λ _. needs_room event.now ≡ true) }
     {
         let uses = self.make_room(event, deck)?;
         match event {
@@ -109,7 +124,11 @@ impl Jobs {
         ensures tables { OnOk result (HasRoom self.new.tables event.now) }
         ensures queue { OnOk result (HasQueueRoom event.now self.new.queue_room) }
         ensures uses { IfOk result (HasUses event.now (option_copied deck.entry)) }
+        ensures takes { IfErr result (λ _. needs_room event.now ≡ true) }
     {
+        if !needs_room(event) {
+            return Ok(None);
+        }
         self.tables.make_room(event)?;
         match event {
             Event::Submitted { job, .. } => {

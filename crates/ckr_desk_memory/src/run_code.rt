@@ -4,12 +4,15 @@ ghost use Rattle.std.specs.List.{list_any, AllByRecursion};
 ghost use Rattle.ckr_base.specs.CodeText.{same_code};
 ghost use Rattle.ckr_points_library.specs.Holdings.{owned};
 ghost use Rattle.ckr_events.specs.Format.{length_list};
+ghost use Rattle.ckr_library.specs.Catalog.{fresh_holding};
+ghost use Rattle.ckr_library.specs.NameMaps.{with_entry};
+ghost use Rattle.ckr_library.specs.declared.sets.DataSet.{DataSet as SetOfName};
 ghost use Rattle.ckr_desk_memory.specs.Extents.{sets_of, AreShort};
 ghost use Rattle.ckr_desk_memory.specs.Plans.{reached_seen, row_for, IsSpelledPlan};
 ghost use Rattle.ckr_desk_memory.specs.View.{length_in, lengths_in, lengths_of_row};
 ghost use Rattle.ckr_points.specs.RuleCases.{auto_case, rd_in_effect, since_point, since_start};
 ghost use Rattle.ckr_points.specs.Restart.{place_of as place_of_row, step_in as step_in_place};
-ghost use Rattle.ckr_rules.specs.RuleTables.{is_rnc, rule_number};
+ghost use Rattle.ckr_rules.specs.RuleTables.{is_rnc, rule_number, suppresses};
 ghost use Rattle.ckr_points_decks.specs.DeckLimits.{IsWithinLimits};
 ghost use Rattle.ckr_desk_turn.specs.Codes.{code_plan, rule_for};
 ghost use Rattle.ckr_desk_turn.specs.Spelling.{IsCode};
@@ -19,7 +22,7 @@ use arrayvec::ArrayVec;
 use ckr_base::{Code, DsName};
 use ckr_desk_turn::{How, Plan, Reply, coded_event};
 use ckr_jcl::{Rd, Step};
-use ckr_library::Library;
+use ckr_library::{DataSet, Library};
 use ckr_meaning::Place;
 use ckr_points::step_in;
 use ckr_points_library::output_name;
@@ -44,11 +47,33 @@ pub(crate) fn place_of(table: &RunTable) -> Place
     place_now(table)
 }
 
-/// Whose lengths are asked: those of a library, or those behind a unit of a running step that was worked out and isn't done yet.
+/// Whose lengths are asked: those of a library, those behind a unit of a running step that was worked out and isn't done yet, or those of a
+/// library where the data set of a name has another length, as that for checkpoints behind an entry.
 #[derive(Drop)]
 pub(crate) enum Extents<'a> {
     Now(&'a Library),
     Behind(&'a RunningStep, &'a UnitAhead),
+    Entered(&'a Library, &'a DsName, &'a DataSet, u32),
+}
+
+/// The length of a library's data set, and 0 where it isn't there.
+fn length_of(sets: &Library, name: &DsName) -> u32
+    ensures { result ≡ length_in sets.now.sets name.now }
+{
+    match sets.get(name) {
+        Some(set) => set.length,
+        None => 0,
+    }
+}
+
+/// The same, where the data set of a name has this length.
+fn length_with(sets: &Library, check: &DsName, end: u32, name: &DsName) -> u32
+    ensures { (set : SetOfName) → result ≡ length_in (with_entry check.now (fresh_holding (record set { length = end })) sets.now.sets) name.now }
+{
+    if name.is_same(check) {
+        return end;
+    }
+    length_of(sets, name)
 }
 
 /// The length of a data set, and 0 where it isn't there.
@@ -57,11 +82,9 @@ fn length_in(extents: &Extents<'_>, name: &DsName) -> u32
     ensures { result ≡ length_in (sets_of extents.now) name.now }
 {
     match extents {
-        Extents::Now(sets) => match sets.get(name) {
-            Some(set) => set.length,
-            None => 0,
-        },
+        Extents::Now(sets) => length_of(sets, name),
         Extents::Behind(on, ahead) => on.step.length_behind(ahead, &on.sets, name),
+        Extents::Entered(sets, check, _set, end) => length_with(sets, check, *end, name),
     }
 }
 
@@ -112,6 +135,20 @@ fn rd_of(table: &RunTable, step: u8) -> Option<Rd>
         Some(own) => own.rd,
         None => None,
     }
+}
+
+/// RD is RNC or NC, under which no checkpoint is taken (IBM GC28-6708).
+fn suppresses(rd: Option<Rd>) -> bool
+    ensures { result ≡ suppresses rd }
+{
+    matches!(rd, Some(Rd::Rnc | Rd::Nc))
+}
+
+/// Whether the RD in effect in the step that a run is in suppresses its checkpoints.
+pub(crate) fn is_suppressed(table: &RunTable) -> bool
+    ensures { (run : ℕ) → let row = row_for run table.now in result ≡ suppresses (rd_in_effect row (step_in_place (place_of_row row))) }
+{
+    suppresses(rd_of(table, step_in(place_of(table))))
 }
 
 /// The restarts at the start of a step, and whether a record was rewritten in place since.

@@ -9,5 +9,6 @@ pub mod Start
 pub mod Fellows
 pub mod Extents
 pub mod Rewrite
+pub mod Checkpoint
 pub mod SharedSets
 pub mod Units

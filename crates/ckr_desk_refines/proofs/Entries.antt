@@ -11,5 +11,7 @@ pub mod EffectEvents
 pub mod EffectLaws
 pub mod NewEntry
 pub mod RunningStep
+pub mod DeckNames
 pub mod SoundEvents
+pub mod CheckSets
 pub mod Written

@@ -5,3 +5,4 @@ pub mod Standing
 pub mod Events
 pub mod Units
 pub mod Entries
+pub mod Checkpoints

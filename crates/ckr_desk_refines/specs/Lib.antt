@@ -13,3 +13,4 @@ pub mod Unit
 pub mod Forecast
 pub mod Entries
 pub mod EntryRefusal
+pub mod Checkpoints

@@ -8,7 +8,7 @@ use Rattle.ckr_library.specs.declared.sets.DataSet.{DataSet}
 use Rattle.ckr_points.specs.Restart.{after_event}
 use Rattle.ckr_desk_turn.specs.Desk.{failed_behind}
 use Rattle.ckr_desk_turn.specs.declared.plan.Plan.{Plan}
-use Rattle.ckr_desk_turn.specs.declared.plan.Plan.TheVariants.{Rest, Tell, Work, Pass}
+use Rattle.ckr_desk_turn.specs.declared.plan.Plan.TheVariants.{Rest, Tell, Work, Pass, Take}
 use Rattle.ckr_desk_turn.specs.declared.reply.Reply.{Reply}
 use Rattle.ckr_desk_turn.specs.declared.reply.Reply.TheVariants.{Idle}
 use Rattle.ckr_volumes.specs.declared.layout.Layout.{Layout}
@@ -38,12 +38,14 @@ reply_in (Rest reply) = reply
 reply_in (Tell reply event) = reply
 reply_in (Work job) = Idle
 reply_in (Pass job reply) = reply
+reply_in (Take job) = Idle
 
 abbrev pub event_in : Plan → Option Event
 event_in (Rest reply) = None
 event_in (Tell reply event) = Some event
 event_in (Work job) = None
 event_in (Pass job reply) = None
+event_in (Take job) = None
 
 -- An image has what another one has of each data set that lies apart from this one, and of this one each record but the one at a place.
 pub record DiffersAt (layout : Layout) (set : DataSet) (place : ℕ) (told image : List ℕ) : Type 0 where

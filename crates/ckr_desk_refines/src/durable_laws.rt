@@ -2,7 +2,7 @@
 ghost use Rattle.std.specs.Prelude.{◌≡◌, ◌≤◌, ℕ, List, Option, Some, true};
 ghost use Rattle.arrayvec.specs.ArrayVec.{ArrayVec};
 ghost use Rattle.ckr_base.specs.declared.code.Code.{Code};
-ghost use Rattle.ckr_events.specs.declared.event.Event.TheVariants.{Cancelled, Ended, Purged, Rewritten, Selected, Started, StepEnded, Submitted};
+ghost use Rattle.ckr_events.specs.declared.event.Event.TheVariants.{Cancelled, Checkpointed, Ended, Purged, Rewritten, Selected, Started, StepEnded, Submitted};
 ghost use Rattle.ckr_events.specs.declared.event.Ending.TheVariants.{Allocation, Coded, Completed};
 ghost use Rattle.ckr_events.specs.declared.event.Made.{Made};
 ghost use Rattle.ckr_jcl.specs.declared.deck.Job.{Job};
@@ -37,10 +37,12 @@ pub fn events_leave_what_is_committed()
 {}
 
 /// An image that has what kept events have committed, and what a running step has written, has what is committed with the event
-/// that tells of it: the step ends, its run ends with a code, or the step has rewritten a record, which the image has too.
+/// that tells of it: the step ends, its run ends with a code, the step takes a checkpoint, or it has rewritten a record, which the image
+/// has too.
 pub fn events_commit_what_a_step_has_written()
     ensures step_ended { (layout : Layout) (now : Office) (image : List ℕ) (job step rc writes : ℕ) (lengths : ArrayVec ℕ) (deck : Option Job) → IsKept layout now → may_come layout now (StepEnded job step rc writes lengths, deck) ≡ true → carries layout now (StepEnded job step rc writes lengths) deck ≡ true → IsKept layout (office_after (StepEnded job step rc writes lengths, deck) now) → HasCommitted layout now image → HasWithinRun layout now job writes image → HasCommitted layout (office_after (StepEnded job step rc writes lengths, deck) now) image }
     ensures ended { (layout : Layout) (now : Office) (image : List ℕ) (job rule writes : ℕ) (code : Code) (lengths : ArrayVec ℕ) (deck : Option Job) → IsKept layout now → may_come layout now (Ended job (Coded code rule writes lengths), deck) ≡ true → carries layout now (Ended job (Coded code rule writes lengths)) deck ≡ true → IsKept layout (office_after (Ended job (Coded code rule writes lengths), deck) now) → HasCommitted layout now image → HasWithinRun layout now job writes image → HasCommitted layout (office_after (Ended job (Coded code rule writes lengths), deck) now) image }
+    ensures checkpointed { (layout : Layout) (now : Office) (image : List ℕ) (job taken writes place bytes : ℕ) (id : Name) (lengths : ArrayVec ℕ) (deck : Option Job) → IsKept layout now → may_come layout now (Checkpointed job id taken writes lengths place bytes, deck) ≡ true → carries layout now (Checkpointed job id taken writes lengths place bytes) deck ≡ true → IsKept layout (office_after (Checkpointed job id taken writes lengths place bytes, deck) now) → HasCommitted layout now image → HasWithinRun layout now job writes image → HasCommitted layout (office_after (Checkpointed job id taken writes lengths place bytes, deck) now) image }
     ensures rewritten { (layout : Layout) (now : Office) (image : List ℕ) (job taken writes place : ℕ) (lengths : ArrayVec ℕ) (bytes : List ℕ) (deck : Option Job) → IsKept layout now → may_come layout now (Rewritten job taken writes lengths place bytes, deck) ≡ true → IsKept layout (office_after (Rewritten job taken writes lengths place bytes, deck) now) → HasCommitted layout now image → HasWithinRun layout now job writes image → HasCommitted layout (office_after (Rewritten job taken writes lengths place bytes, deck) now) image }
 {}
 

@@ -28,6 +28,8 @@ ghost use Rattle.ckr_volumes.specs.Records.{records_on};
 ghost use Rattle.ckr_volumes.specs.SamePlaces.{SamePlaces};
 ghost use Rattle.ckr_desk_turn.specs.Checkpoints.{MayCheckpoint, check_set, entry_place, office_behind, written_entry};
 ghost use Rattle.ckr_desk_turn.specs.Desk.{DeskStep};
+ghost use Rattle.ckr_desk_turn.specs.Invariant.{HasRuns};
+ghost use Rattle.ckr_desk_turn.specs.RunEvents.{AreRunEvents};
 ghost use Rattle.ckr_desk_refines.specs.StepSets.{HasSets};
 ghost use Rattle.ckr_desk_refines.specs.SharedSets.{LeavesOthers};
 ghost use Rattle.ckr_desk_refines.specs.Entries.{AreWithin, HasCheckDd, HasCheckSet, HasEntries, HasNewEntry, IsReadBack, HasWritten, OnlyCheckSetsKeep, SameKept, entry_taken, jobs_of, takes_checkpoint};
@@ -100,10 +102,13 @@ pub fn checkpoints_leave_others()
 {}
 
 /// At every prefix of sound events by which no run goes back each entry that the tables keep ends within its data set, and each checkpoint
-/// in effect is one of the step that its run is in. For one more event leaves what other selected runs reach.
+/// in effect is one of the step that its run is in. For one more event leaves what other selected runs reach. Where they are those of what
+/// the desk runs, whose decks are accepted ones, only data sets for checkpoints keep entries, and the step of a checkpoint has a DD for them.
 pub fn sound_events_keep_entries_within()
     ensures within { (layout : Layout) (front more : List Decked) → AreSound layout (front ++ more) → NoneGoesBack (front ++ more) → AreWithin (office front).tables.sets }
     ensures effect { (layout : Layout) (front more : List Decked) → AreSound layout (front ++ more) → NoneGoesBack (front ++ more) → AreInEffect (office front).tables }
+    ensures plain { (layout : Layout) (front more : List Decked) → AreSound layout (front ++ more) → AreRunEvents (front ++ more) → OnlyCheckSetsKeep (office front).tables.sets }
+    ensures checks { (layout : Layout) (now : Office) (job taken writes place bytes : ℕ) (id : Name) (lengths : ArrayVec ℕ) (deck : Option Job) → IsKept layout now → HasRuns now → may_come layout now (Checkpointed job id taken writes lengths place bytes, deck) ≡ true → HasCheckDd now.tables job }
     ensures others { (layout : Layout) (now : Office) (event : Event) (deck : Option Job) → goes_back event ≡ false → IsKept layout now → IsNext layout now (event, deck) → LeavesReach now (job_of event) (after_event event deck now.tables).sets }
 {}
 

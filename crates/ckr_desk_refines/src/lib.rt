@@ -1,6 +1,7 @@
 //! That images of the disk have what the events have committed, that the jobs in memory stand for the desk of the events, and what is listed of it.
 #![tactic(auto)]
 
+mod checkpoint_laws;
 mod data_sets;
 mod durable_laws;
 mod entry_laws;
@@ -12,6 +13,10 @@ mod shared_sets;
 mod standing_laws;
 mod unit_laws;
 
+pub use checkpoint_laws::{
+    checkpoints_in_memory_are_those_of_the_desk, desks_behind_checkpoints_stand,
+    entries_are_committed_with_their_event, steps_that_stand_are_as_far,
+};
 pub use data_sets::{Listed, free_set, is_held, set_at};
 pub use durable_laws::{
     events_commit_what_a_step_has_written, events_leave_what_is_committed,

@@ -3,7 +3,7 @@ ghost use Rattle.std.specs.Prelude.{◌≡◌, ◌≢◌, ℕ, List, Option, Som
 ghost use Rattle.arrayvec.specs.ArrayVec.{ArrayVec};
 ghost use Rattle.ckr_points_library.specs.Commit.{output_names};
 ghost use Rattle.ckr_base.specs.declared.code.Code.{Code};
-ghost use Rattle.ckr_events.specs.declared.event.Event.TheVariants.{Cancelled, Ended, Purged, Rewritten, Selected, Started, StepEnded, Submitted};
+ghost use Rattle.ckr_events.specs.declared.event.Event.TheVariants.{Cancelled, Checkpointed, Ended, Purged, Rewritten, Selected, Started, StepEnded, Submitted};
 ghost use Rattle.ckr_events.specs.declared.event.Ending.TheVariants.{Allocation, Coded, Completed};
 ghost use Rattle.ckr_events.specs.declared.event.Made.{Made};
 ghost use Rattle.ckr_jcl.specs.declared.deck.Job.{Job};
@@ -45,8 +45,9 @@ pub fn shared_data_sets_do_not_grow()
     ensures long { (layout : Layout) (now : Office) (start : StepStart) (writes more : ℕ) (name : Name) (table : TableSet) (set : LibrarySet) → IsKept layout now → IsShared now start writes name → entry_at now.tables.sets name ≡ Some table → table.set.content ≡ Plain → entry_at (within_at start more) name ≡ Some set → length set.records ≡ table.set.length }
 {}
 
-/// A record that a step rewrites leaves each data set where it lies: in the same places of its volumes, with the same space, record length
-/// and content, and no shorter than it was (this project's profile).
+/// A record that a step rewrites, and a checkpoint that it takes, leave each data set where it lies: in the same places of its volumes, with
+/// the same space, record length and content, and no shorter than it was (this project's profile).
 pub fn own_events_keep_where_data_sets_lie()
-    ensures { (layout : Layout) (now : Office) (job taken writes place : ℕ) (lengths : ArrayVec ℕ) (image : List ℕ) (deck : Option Job) → IsKept layout now → may_come layout now (Rewritten job taken writes lengths place image, deck) ≡ true → LieStill now.tables.sets (office_after (Rewritten job taken writes lengths place image, deck) now).tables.sets }
+    ensures checkpointed { (layout : Layout) (now : Office) (job taken writes place bytes : ℕ) (id : Name) (lengths : ArrayVec ℕ) (deck : Option Job) → IsKept layout now → may_come layout now (Checkpointed job id taken writes lengths place bytes, deck) ≡ true → carries layout now (Checkpointed job id taken writes lengths place bytes) deck ≡ true → LieStill now.tables.sets (office_after (Checkpointed job id taken writes lengths place bytes, deck) now).tables.sets }
+    ensures rewritten { (layout : Layout) (now : Office) (job taken writes place : ℕ) (lengths : ArrayVec ℕ) (image : List ℕ) (deck : Option Job) → IsKept layout now → may_come layout now (Rewritten job taken writes lengths place image, deck) ≡ true → LieStill now.tables.sets (office_after (Rewritten job taken writes lengths place image, deck) now).tables.sets }
 {}

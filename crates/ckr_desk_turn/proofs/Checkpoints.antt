@@ -9,3 +9,5 @@ pub mod Ranges
 pub mod Turns
 pub mod Plans
 pub mod Invariant
+pub mod Identifiers
+pub mod Steps

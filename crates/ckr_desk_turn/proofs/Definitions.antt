@@ -3,7 +3,7 @@ use Rattle.ckr_uses.specs.Uses.{uses_of}
 use Rattle.ckr_programs.specs.Units as plain_units
 use Rattle.ckr_match.specs.Units as matched_units
 use Rattle.ckr_desk_turn.specs.Plans.{plan_of}
-use Rattle.ckr_desk_turn.specs.Desk.{turn_of}
+use Rattle.ckr_desk_turn.specs.Turns.{turn_of}
 
 -- a proof that computes names this one
 unfoldable pub turns_open : Unit {0}

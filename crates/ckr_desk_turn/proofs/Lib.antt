@@ -16,3 +16,5 @@ pub mod Cancel
 pub mod Rewrite
 pub mod Queue
 pub mod Checkpoints
+pub mod CheckSets
+pub mod PassedLists

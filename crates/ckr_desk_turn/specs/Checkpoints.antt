@@ -3,6 +3,7 @@ use Rattle.std.specs.Prelude.{◌≡◌, ℕ, suc, ◌+◌, ◌-◌, ◌^◌, Bo
 use Rattle.std.specs.List.{AllByRecursion}
 use Rattle.std.specs.Option.{is_none, option_map_or}
 use Rattle.ckr_base.specs.Digits.{decimal_text, last_digits}
+use Rattle.ckr_base.specs.Grammar.{is_check_id}
 use Rattle.ckr_entry.specs.declared.point.State.{State}
 use Rattle.ckr_entry.specs.declared.point.State.TheVariants.{Plain, Matched}
 use Rattle.ckr_entry.specs.Entry.{spelling}
@@ -150,11 +151,15 @@ checkpointed_by code id event row start progress = record {
   progress = checkpoint_done progress;
 }
 
+-- an identifier, where the text is one
+abbrev pub id_in : Name → Option Name
+id_in text = if is_check_id text then Some text else None
+
 -- code 00 where the entry fits, and 08 where it doesn't: then nothing is written
 abbrev pub checkpoint_try : Bool → TablesModel → RunRow → StepStart → StepProgress → ServedTurn
 checkpoint_try true tables row start progress =
     checkpointed_by Done (Some (next_id row start)) (Some (checkpoint_event tables.sets row start progress)) row start progress
-checkpoint_try false tables row start progress = checkpointed_by NotWritten (Some (next_id row start)) None row start progress
+checkpoint_try false tables row start progress = checkpointed_by NotWritten (id_in (next_id row start)) None row start progress
 
 -- under RD=RNC and RD=NC a checkpoint is suppressed
 abbrev pub checkpoint_unless : Bool → TablesModel → RunRow → StepStart → StepProgress → ServedTurn

@@ -1,4 +1,4 @@
--- The desk between two turns, with all that its jobs are to do: a turn, and the other calls.
+-- The desk between two turns, with all that its jobs are to do: a plan and a unit with the desk behind each, and the calls that are no turns.
 use Rattle.std.specs.Prelude.{ℕ, suc, ◌==◌, Bool, true, ◌&&◌, not, List, [], ◌∷◌, map, filter, find, length, Option, None, Some}
 use Rattle.std.specs.Option.{option_map_or, is_some}
 use Rattle.ckr_base.specs.declared.programs.NextDue.TheVariants.{Unit as OneUnit}
@@ -13,13 +13,12 @@ use Rattle.ckr_points.specs.Restart.{place_of, step_in}
 use Rattle.ckr_points.specs.Rows.{RunRow, run_of}
 use Rattle.ckr_volumes.specs.declared.layout.Layout.{Layout}
 use Rattle.ckr_desk_turn.specs.declared.plan.Plan.{Plan}
-use Rattle.ckr_desk_turn.specs.declared.plan.Plan.TheVariants.{Rest, Tell, Work, Pass}
+use Rattle.ckr_desk_turn.specs.declared.plan.Plan.TheVariants.{Rest, Tell, Work, Pass, Take}
 use Rattle.ckr_desk_turn.specs.declared.reply.Reply.{Reply}
 use Rattle.ckr_desk_turn.specs.declared.reply.Reply.TheVariants.{Idle}
-use Rattle.ckr_desk_turn.specs.declared.reply.Turn.{Turn}
 use Rattle.ckr_desk_turn.specs.Due.{next_due}
 use Rattle.ckr_desk_turn.specs.Jobs.{TurnJobs, TurnStep}
-use Rattle.ckr_desk_turn.specs.Plans.{plan_of, is_within}
+use Rattle.ckr_desk_turn.specs.Plans.{is_within}
 use Rattle.ckr_desk_turn.specs.Units.{StepProgress, UnitEnd, arrived, unit_end, unit_plan}
 
 -- a running step: its run, and how far it has come
@@ -113,13 +112,15 @@ behind event deck desk = record {
   failed = failed_behind event desk.failed;
 }
 
--- ---- a turn
+-- ---- a plan
 
+-- what work and checkpoints come to isn't said here: that is the step's
 abbrev pub done_by : Plan → DeskModel → TurnDone
 done_by (Rest reply) desk = record { reply = reply; event = None; desk = desk }
 done_by (Tell reply event) desk = record { reply = reply; event = Some event; desk = behind event None desk }
 done_by (Work job) desk = record { reply = Idle; event = None; desk = desk }
 done_by (Pass job reply) desk = record { reply = reply; event = None; desk = record desk { running = with_change job checkpoint_done desk.running } }
+done_by (Take job) desk = record { reply = Idle; event = None; desk = desk }
 
 abbrev pub with_progress : ℕ → StepProgress → DeskModel → DeskModel
 with_progress run progress desk = record desk { running = record { run = run; progress = progress } ∷ without_run run desk.running }
@@ -141,16 +142,6 @@ work_of run desk =
     (λ start. option_map_or (λ progress. unit_done row (unit_end start progress) desk) (progress_of desk run) (done_by (Rest Idle) desk))
     (start_of desk.office row) (done_by (Rest Idle) desk))
     (run_of desk.office.tables run) (done_by (Rest Idle) desk)
-
-abbrev pub carried_out : Plan → DeskModel → TurnDone
-carried_out (Rest reply) desk = done_by (Rest reply) desk
-carried_out (Tell reply event) desk = done_by (Tell reply event) desk
-carried_out (Work job) desk = work_of job desk
-carried_out (Pass job reply) desk = done_by (Pass job reply) desk
-
--- a turn
-unfoldable pub turn_of : DeskModel → Turn → TurnDone
-turn_of desk turn = carried_out (plan_of desk.layout (jobs_of desk) turn) desk
 
 -- ---- the other calls
 
@@ -174,13 +165,3 @@ opened layout office = record {
   running = [];
   failed = map (λ row. row.number) (filter is_running office.tables.runs);
 }
-
--- the replies of turns, one after the other
-abbrev pub replies_of : List Turn → DeskModel → List Reply
-replies_of [] desk = []
-replies_of (turn ∷ turns) desk = let done = turn_of desk turn in done.reply ∷ replies_of turns done.desk
-
--- the desk behind turns
-abbrev pub desk_after : List Turn → DeskModel → DeskModel
-desk_after [] desk = desk
-desk_after (turn ∷ turns) desk = desk_after turns (turn_of desk turn).desk

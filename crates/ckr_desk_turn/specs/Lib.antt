@@ -13,5 +13,7 @@ pub mod Due
 pub mod RunEvents
 pub mod EntryStates
 pub mod Checkpoints
+pub mod CheckSets
 pub mod EntryForms
 pub mod Taken
+pub mod Turns

@@ -1,5 +1,5 @@
 -- What a turn comes to, by the tables and the running steps.
-use Rattle.std.specs.Prelude.{ℕ, pred, Bool, true, false, [], slice_get, Option, None, Some, Ok, Err}
+use Rattle.std.specs.Prelude.{ℕ, pred, Bool, true, false, if◌then◌else◌, [], slice_get, Option, None, Some, Ok, Err}
 use Rattle.std.specs.Option.{option_map_or}
 use Rattle.ckr_points_library.specs.declared.cause.Cause.{Cause}
 use Rattle.ckr_base.specs.declared.code.Code.{Code}
@@ -12,10 +12,12 @@ use Rattle.ckr_meaning.specs.EffectiveJob.{OwnedStep}
 use Rattle.ckr_meaning.specs.declared.place.Place.{Place}
 use Rattle.ckr_meaning.specs.declared.place.Place.TheVariants.{Before, Opened, Within}
 use Rattle.ckr_points.specs.Restart.{place_of}
+use Rattle.ckr_points.specs.RuleCases.{rd_in_effect}
 use Rattle.ckr_points.specs.Rows.{RunRow, step_of_run}
+use Rattle.ckr_rules.specs.RuleTables.{suppresses}
 use Rattle.ckr_volumes.specs.declared.layout.Layout.{Layout}
 use Rattle.ckr_desk_turn.specs.declared.plan.Plan.{Plan}
-use Rattle.ckr_desk_turn.specs.declared.plan.Plan.TheVariants.{Rest, Tell, Work, Pass}
+use Rattle.ckr_desk_turn.specs.declared.plan.Plan.TheVariants.{Rest, Tell, Work, Pass, Take}
 use Rattle.ckr_desk_turn.specs.declared.reply.Chkpt.TheVariants.{Suppressed}
 use Rattle.ckr_desk_turn.specs.declared.reply.How.TheVariants.{Completed, Allocation}
 use Rattle.ckr_desk_turn.specs.declared.reply.Reply.TheVariants.{Idle, NothingToFail, Selected, Started, Checkpointed, Cancelled, StepEnded, JobEnded}
@@ -57,9 +59,13 @@ abbrev pub finished_plan : RunRow → ℕ → TurnStep → ℕ → Plan
 finished_plan row number step rc =
     Tell (StepEnded row.number (step_name_of row) rc) (StepEndedEvent row.number number rc step.writes (record { items = step.lengths }))
 
--- a deck that takes checkpoints runs only where its RD suppresses them
+-- a checkpoint that RD suppresses
 abbrev pub suppressed_plan : RunRow → Plan
 suppressed_plan row = Pass row.number (Checkpointed row.number (step_name_of row) Suppressed None)
+
+-- a checkpoint that is due is suppressed by the RD in effect, or taken
+abbrev pub checkpoint_plan : RunRow → ℕ → Plan
+checkpoint_plan row number = if suppresses (rd_in_effect row number) then suppressed_plan row else Take row.number
 
 -- a cancel comes under any RD
 abbrev pub cancelled_plan : RunRow → Plan
@@ -67,7 +73,7 @@ cancelled_plan row = Tell (Cancelled row.number (step_name_of row)) (CancelledEv
 
 abbrev pub due_plan : RunRow → ℕ → TurnStep → NextDue → Plan
 due_plan row number step OneUnit = Work row.number
-due_plan row number step Checkpoint = suppressed_plan row
+due_plan row number step Checkpoint = checkpoint_plan row number
 due_plan row number step Cancel = cancelled_plan row
 due_plan row number step (Finished rc) = finished_plan row number step rc
 

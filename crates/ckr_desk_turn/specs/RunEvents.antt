@@ -1,8 +1,8 @@
--- The events of what the desk runs: decks of its form, runs that continue no other one, no entry of a checkpoint and no restart.
+-- The events of what the desk runs: decks of its form, runs that continue no other one, and no restart.
 use Rattle.std.specs.Prelude.{◌≡◌, ◌==◌, ℕ, true, List, Option, None, Some}
 use Rattle.std.specs.List.{AllByRecursion}
 use Rattle.ckr_events.specs.declared.event.Event.{Event}
-use Rattle.ckr_events.specs.declared.event.Event.TheVariants.{Cancelled, Ended, Purged, Rewritten, Selected, Started, StepEnded, Submitted}
+use Rattle.ckr_events.specs.declared.event.Event.TheVariants.{Cancelled, Checkpointed, Ended, Purged, Rewritten, Selected, Started, StepEnded, Submitted}
 use Rattle.ckr_jcl.specs.declared.deck.Job.{Job}
 use Rattle.ckr_points.specs.Restart.{Decked}
 use Rattle.ckr_points_decks.specs.Cards.{kept_deck}
@@ -18,6 +18,7 @@ IsRunEvent (Submitted job cards) deck = IsRunDeck cards deck
 IsRunEvent (Selected job initiator earlier step id) deck = (earlier == 0) ≡ true
 IsRunEvent (Started job step items) deck = Unit {0}
 IsRunEvent (Rewritten job taken writes lengths place image) deck = Unit {0}
+IsRunEvent (Checkpointed job id taken writes lengths place bytes) deck = Unit {0}
 IsRunEvent (Cancelled job) deck = Unit {0}
 IsRunEvent (StepEnded job step rc writes lengths) deck = Unit {0}
 IsRunEvent (Ended job ending) deck = Unit {0}

@@ -25,7 +25,7 @@ ghost use Rattle.ckr_programs.specs.Due.{is_cancel_count, is_checkpoint_count};
 ghost use Rattle.ckr_rules.specs.RuleTables.{suppresses};
 ghost use Rattle.ckr_volumes.specs.declared.layout.Layout.{Layout as LayoutOfDisk};
 ghost use Rattle.ckr_desk_turn.specs.Checkpoints.{HasRow, MayCheckpoint, check_set, checkpoint_turn, entry_bytes, written_entry, entry_with, written_event, is_in_range, next_id, office_behind};
-ghost use Rattle.ckr_desk_turn.specs.Desk.{DeskModel, DeskStep, behind, cancel_done, carried_out, checkpoint_done, jobs_of, progress_of};
+ghost use Rattle.ckr_desk_turn.specs.Desk.{DeskModel, DeskStep, behind, cancel_done, checkpoint_done, jobs_of, progress_of};
 ghost use Rattle.ckr_desk_turn.specs.Due.{next_due};
 ghost use Rattle.ckr_desk_turn.specs.EntryForms.{IsEntryForm};
 ghost use Rattle.ckr_desk_turn.specs.EntryStates.{at_checkpoint, checkpoint_state};
@@ -34,6 +34,7 @@ ghost use Rattle.ckr_desk_turn.specs.Jobs.{is_failed, step_name_of};
 ghost use Rattle.ckr_desk_turn.specs.NextEvents.{EventComes, IsWithinStep};
 ghost use Rattle.ckr_desk_turn.specs.Plans.{run_plan, suppressed_plan};
 ghost use Rattle.ckr_desk_turn.specs.Taken.{taken_of};
+ghost use Rattle.ckr_desk_turn.specs.Turns.{carried_out};
 ghost use Rattle.ckr_desk_turn.specs.Units.{StepProgress};
 
 /// At a count of records that is a multiple of CHK a checkpoint is due exactly once, before the next unit, and at no other count: also past
@@ -54,15 +55,14 @@ pub fn cancels_are_due_behind_checkpoints()
     ensures once { (start : StepStart) (progress : StepProgress) → next_due start (cancel_done progress) ≡ CancelDue → ⊥ }
 {}
 
-/// Where RD suppresses a checkpoint, the turn that is planned for it is the one by which it is taken: CHKPT 00 SUPPRESSED, no event, and the
-/// checkpoint is done. RD suppresses each checkpoint that is due in a step of a desk, by the form of the decks that it runs: so the turn of
-/// a run in whose step a checkpoint is due takes it. The replies name the step as its job starts it.
-pub fn suppressed_checkpoints_are_those_of_the_rule()
+/// The turn of a run in whose step a checkpoint is due is the one by which it is taken, whatever its RD. Where RD suppresses it, the turn
+/// that is planned comes to the same: CHKPT 00 SUPPRESSED, no event, and the checkpoint is done. The replies name the step as its job
+/// starts it.
+pub fn checkpoints_that_are_due_are_taken()
     ensures turn { (desk : DeskModel) (row : RunRow) (number committed : ℕ) (start : StepStart) (progress : StepProgress) → IsDesk desk → IsWithinStep desk.office row.number row number committed start → is_failed (jobs_of desk) row.number ≡ false
         → progress_of desk row.number ≡ Some progress → next_due start progress ≡ CheckpointDue → carried_out (run_plan desk.layout (jobs_of desk) None row) desk ≡ taken_of row.number desk }
     ensures planned { (desk : DeskModel) (on : DeskStep) (going : IsGoing desk.office on) → IsDesk desk → progress_of desk on.run ≡ Some on.progress → suppresses (rd_in_effect going.row going.start.number) ≡ true
         → carried_out (suppressed_plan going.row) desk ≡ taken_of on.run desk }
-    ensures each { (desk : DeskModel) (on : DeskStep) (going : IsGoing desk.office on) → IsDesk desk → next_due going.start on.progress ≡ CheckpointDue → suppresses (rd_in_effect going.row going.start.number) ≡ true }
     ensures named { (desk : DeskModel) (on : DeskStep) (going : IsGoing desk.office on) → IsDesk desk → step_name_of going.row ≡ going.start.owned.step.name }
 {}
 

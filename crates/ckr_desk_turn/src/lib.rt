@@ -2,6 +2,7 @@
 #![tactic(auto)]
 
 mod checkpoint_laws;
+mod entry_form_laws;
 mod event_laws;
 mod events;
 mod opening_law;
@@ -18,6 +19,9 @@ pub use checkpoint_laws::{
     events_of_checkpoints_may_come, written_entries_are_kept, written_entries_count,
 };
 pub use ckr_points_library::Cause;
+pub use entry_form_laws::{
+    check_sets_have_records_of_256_bytes, next_entries_have_an_identifier, passed_lists_are_short,
+};
 pub use event_laws::{events_between_steps_may_come, events_of_calls_may_come};
 pub use events::{
     allocation_event, cancelled_event, checkpointed_event, coded_event, completed_event,

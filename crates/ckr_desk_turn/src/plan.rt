@@ -14,4 +14,6 @@ pub enum Plan {
     Work { job: u32 },
     /// The checkpoint that is due in the running step of this job is done without an entry, and this is the reply.
     Pass { job: u32, reply: Reply },
+    /// The checkpoint that is due in the running step of this job is taken; the step and its data sets decide what it comes to.
+    Take { job: u32 },
 }

@@ -5,18 +5,19 @@ ghost use Rattle.ckr_base.specs.declared.programs.Finish.TheVariants.{Abend};
 ghost use Rattle.ckr_meaning.specs.Program.{records_taken, unit_done as program_unit};
 ghost use Rattle.ckr_meaning.specs.StepRun.{StepStart, case_at, work_at};
 ghost use Rattle.ckr_points.specs.Rows.{RunRow, run_of};
-ghost use Rattle.ckr_desk_turn.specs.Desk.{DeskModel, DeskStep, carried_out, jobs_of, progress_of, seen_from, unit_done, work_of};
+ghost use Rattle.ckr_desk_turn.specs.Desk.{DeskModel, DeskStep, jobs_of, progress_of, seen_from, unit_done, work_of};
 ghost use Rattle.ckr_desk_turn.specs.Due.{next_due};
 ghost use Rattle.ckr_desk_turn.specs.Jobs.{is_failed};
 ghost use Rattle.ckr_desk_turn.specs.Plans.{due_plan, run_plan};
+ghost use Rattle.ckr_desk_turn.specs.Turns.{carried_out};
 ghost use Rattle.ckr_desk_turn.specs.Units.{StepProgress, abended, first_rewrite, went};
 ghost use Rattle.ckr_desk_turn.specs.NextEvents.{IsWithinStep};
 ghost use Rattle.ckr_desk_turn.specs.Invariant.{IsDesk, IsGoing, IsOpen, Keeps, next_writes};
 
 /// A turn of an initiator whose run is within a step tells an event that may come and carries what the job gives: restarts are cancelled,
-/// the step ends with its return code, a record is rewritten, or the run ends with a code: one that is given, that of a system failure,
-/// that of its program, or SB37. The desk behind it is as its events have brought it about, also where the turn tells none: behind a unit
-/// that rewrites nothing, and behind a checkpoint that is suppressed.
+/// the step ends with its return code, a record is rewritten, an entry is written, or the run ends with a code: one that is given, that of
+/// a system failure, that of its program, or SB37. The desk behind it is as its events have brought it about, also where the turn tells
+/// none: behind a unit that rewrites nothing, and behind a checkpoint that is suppressed or doesn't fit.
 pub fn turns_within_a_step_keep_the_desk()
     ensures { (desk : DeskModel) (row : RunRow) (number committed : ℕ) (start : StepStart) (fail : Option Code) → IsDesk desk → IsWithinStep desk.office row.number row number committed start → Keeps desk (carried_out (run_plan desk.layout (jobs_of desk) fail row) desk) }
 {}

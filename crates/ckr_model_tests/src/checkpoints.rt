@@ -1,6 +1,6 @@
 //! Checkpoints of two jobs, event by event: which follow, and which entries the data set keeps behind each.
 ghost use Rattle.std.specs.Prelude.{◌≡◌, IfOk, IsTrue, None};
-ghost use Rattle.ckr_points_tables.specs.Invariant.{MayCount, MaySubmit, is_kept_event};
+ghost use Rattle.ckr_points_tables.specs.Invariant.{MayCount, MaySubmit, is_plain_event};
 ghost use Rattle.ckr_model_tests.specs.Kinds.{IsCheckpoint, IsStart, IsStepEnd};
 
 use crate::submissions::cards_of;
@@ -92,7 +92,7 @@ fn submit(
 
 /// The tables go on by an event, where it follows.
 fn tell(tables: &mut Tables, layout: &Layout, event: &Event) -> Result<(), Fail>
-    requires kept { IsTrue (is_kept_event event.now) }
+    requires kept { IsTrue (is_plain_event event.now) }
     requires deck { MaySubmit event.now None }
     requires count { MayCount event.now tables.old.desk.sets }
 {

@@ -1,12 +1,10 @@
-//! Tests of the model and of the desk on it.
+//! Tests of the model.
 #![tactic(auto)]
 
 #[cfg(test)]
 mod allocation;
 #[cfg(test)]
 mod checkpoints;
-#[cfg(test)]
-mod desk;
 #[cfg(test)]
 mod follows;
 #[cfg(test)]

@@ -29,7 +29,7 @@ none_lacks : (job : JobText) → missing_dd job ≡ None → AllByRecursion (λ 
 unfolding missing_dd
 none_lacks job none = none_found lacks_dd job.steps (map_none step_card _ none)
 
-judged : (job : Job) (read : IsReadFrom job) → AllByRecursion IsJudged read.text.steps
+pub judged : (job : Job) (read : IsReadFrom job) → AllByRecursion IsJudged read.text.steps
 judged job read =
     all_both (λ step. AreStated step × (lacks_dd step ≡ false)) (λ step. NoneMeets (breaks WrongUse) step.dds × NoneMeets (breaks LeftOut) step.dds) IsJudged read.text.steps
     (λ step first second. record { stated = first.0; needed = first.1; used = second.0; known = second.1 })

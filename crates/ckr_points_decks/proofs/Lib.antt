@@ -4,6 +4,8 @@ pub mod AllocationNeeds
 pub mod JobForm
 pub mod KeptCards
 pub mod DeckLimits
+pub mod ParmItems
+pub mod CheckParts
 pub mod Names
 pub mod Origins
 pub mod DeckTests

@@ -99,7 +99,7 @@ status_allowed Checkpoints dd right new =
     shr_apart dd.sysout dd.disp (or_parts dd.in_stream (is_shared dd.disp.status) (or_parts (dd.in_stream || is_shared dd.disp.status) dd.sysout right).0).1
 status_allowed Unused dd right new = refl
 
-keeps_role : (dd : DdText) → breaks WrongUse dd ≡ false → breaks_role dd.role dd ≡ false
+pub keeps_role : (dd : DdText) → breaks WrongUse dd ≡ false → breaks_role dd.role dd ≡ false
 unfolding breaks is_wrong_use
 keeps_role dd right = (or_parts (breaks_role dd.role dd) _ (or_parts _ _ right).0).0
 

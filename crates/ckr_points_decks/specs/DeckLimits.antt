@@ -1,7 +1,9 @@
 -- What the steps of an accepted deck are to the desk.
-use Rattle.std.specs.Prelude.{◌≡◌, ℕ, ◌≤◌, true, IsTrue, List, [], length}
+use Rattle.std.specs.Prelude.{◌≡◌, ℕ, ◌≤◌, ◌==◌, Bool, true, ◌&&◌, ◌||◌, not, nat_le, IsTrue, List, [], length}
 use Rattle.std.specs.List.{list_all}
+use Rattle.ckr_base.specs.Grammar.{is_name_byte}
 use Rattle.ckr_jcl.specs.declared.deck.Cond.{Cond}
+use Rattle.ckr_jcl.specs.declared.deck.Dd.{Dd}
 use Rattle.ckr_jcl.specs.declared.deck.Step.{Step}
 use Rattle.ckr_programs.specs.Ranges.{IsInRange}
 use Rattle.ckr_uses.specs.Uses.{are_distinct}
@@ -9,11 +11,24 @@ use Rattle.ckr_meaning.specs.EffectiveJob.{name_of, names_of}
 use Rattle.ckr_points_library.specs.Holdings.{owned}
 use Rattle.ckr_points_library.specs.AllocationSteps.{fits_named}
 use Rattle.ckr_points.specs.Payload.{is_formed_step}
+use Rattle.ckr_points.specs.Tables.{is_checkpoints}
 
 -- at most 16 DDs, and a PARM in the ranges that the programs rest on
 pub record IsWithinLimits (step : Step) : Type 0 where
   pub few_dds : length step.dds ≤ 16
   pub parm : IsInRange step.parm
+
+-- IDS isn't given, or is at most 8 bytes of names
+abbrev pub are_ids : List ℕ → Bool
+are_ids text = nat_le (length text) 8 && list_all is_name_byte text
+
+abbrev pub has_check_records : Dd → Bool
+has_check_records dd = not (is_checkpoints dd.role) || dd.lrecl == 256
+
+-- what its checkpoints are by: the text that begins their identifiers, and records of 256 bytes where they are written
+pub record HasCheckParts (step : Step) : Type 0 where
+  pub ids : are_ids step.parm.ids.items ≡ true
+  pub records : list_all has_check_records step.dds ≡ true
 
 -- What follows holds whichever run is the root, and whichever one owns the step, by their numbers.
 

@@ -5,7 +5,7 @@ ghost use Rattle.ckr_jcl.specs.declared.deck.Job.{Job as JobOfDeck};
 ghost use Rattle.ckr_jcl_decks.specs.Deck.{stored_deck};
 ghost use Rattle.ckr_meaning.specs.EffectiveJob.{HasDistinctNames, plain_job};
 ghost use Rattle.ckr_points.specs.Payload.{is_formed};
-ghost use Rattle.ckr_points_decks.specs.DeckLimits.{FitsAllocation, HasNamesOnce, IsFormed, IsWithinLimits};
+ghost use Rattle.ckr_points_decks.specs.DeckLimits.{FitsAllocation, HasCheckParts, HasNamesOnce, IsFormed, IsWithinLimits};
 ghost use Rattle.ckr_points_decks.specs.Cards.{kept_deck, kept_of_stored};
 
 /// The cards that the event of an accepted deck keeps are that deck: what the desk reads again is what was submitted.
@@ -37,4 +37,10 @@ pub fn names_stand_once_in_each_step()
 pub fn accepted_decks_are_formed()
     ensures each { (cards : List ℕ) (job : JobOfDeck) → stored_deck cards ≡ Ok job → AllByRecursion IsFormed job.steps }
     ensures job { (cards : List ℕ) (job : JobOfDeck) (run : ℕ) → stored_deck cards ≡ Ok job → is_formed (plain_job run job) ≡ true }
+{}
+
+/// What checkpoints are taken by in a step of an accepted deck: IDS is at most 8 bytes of names, where it is given, and a data set for
+/// checkpoints has records of 256 bytes, whatever its DD says of them (this project's profile).
+pub fn accepted_decks_have_check_parts()
+    ensures { (cards : List ℕ) (job : JobOfDeck) → stored_deck cards ≡ Ok job → AllByRecursion HasCheckParts job.steps }
 {}

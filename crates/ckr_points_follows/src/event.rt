@@ -2,7 +2,7 @@
 ghost use Rattle.std.specs.Prelude.{◌≡◌, ◌≤◌, IsTrue, length};
 ghost use Rattle.std.specs.Option.{option_copied};
 ghost use Rattle.ckr_points.specs.Follows.{follows};
-ghost use Rattle.ckr_points_tables.specs.Invariant.{is_kept_event};
+ghost use Rattle.ckr_points_tables.specs.Invariant.{is_plain_event};
 
 use crate::checkpoint::{cancelled_follows, checkpointed_follows};
 use crate::rewrite::rewritten_follows;
@@ -18,7 +18,7 @@ use ckr_volumes::Layout;
 /// Whether an event follows on the tables: one of a run that continues none, and no restart, denial or holding. The deck is
 /// given for Submitted, where its cards are one. It takes no memory (this project's profile).
 pub fn follows(tables: &Tables, layout: &Layout, event: &Event, deck: Option<&Job>) -> bool
-    requires kept { IsTrue (is_kept_event event.now) }
+    requires kept { IsTrue (is_plain_event event.now) }
     ensures { result ≡ follows layout.now tables.now.desk event.now (option_copied deck.entry) }
 {
     match event {

@@ -16,7 +16,7 @@ use Rattle.ckr_points_tables.specs.declared.run_table.RunTable.{RunTable}
 use Rattle.ckr_points_tables.specs.declared.tables.Tables.TheInside.{Inside}
 use Rattle.ckr_points_tables.specs.RunChange.{going, changed, holding_kit, written_after}
 use Rattle.ckr_points_tables.specs.Parts.{tables_seen, IsKept}
-use Rattle.ckr_points_tables.specs.Invariant.{AreKept, HasRoom, MayCount, MayFollow, is_kept_event, is_submission, put_at}
+use Rattle.ckr_points_tables.specs.Invariant.{AreKept, HasRoom, MayCount, MayFollow, is_plain_event, is_submission, put_at}
 use Rattle.ckr_points_tables.specs.Needs.{MayChange}
 use Rattle.ckr_points.specs.Restart.{after_event}
 use Rattle.ckr_points.specs.Rows.{TablesModel}
@@ -32,7 +32,7 @@ read-twice items place one other inside is also = same_Some one other (sym (get-
 pub read-back : {A : Type 0} (items : List A) (place : ℕ) (new other : A) → place < length items → other ≡ slice_index_or (slice_set items place new) place other → other ≡ new
 read-back items place new other inside is = is ∙ get_or-set_same items place new other inside
 
-module _ (a : Inside) (self : RoomyTables) (view : tables_seen a ≡ self) (kept : IsKept a) (event : Event) (plain : is_kept_event event ≡ true) (other : is_submission event ≡ false) (may : (deck : Option Job) → MayFollow self.desk event deck) (number : ℕ) (numbered : number ≡ job_of event) where
+module _ (a : Inside) (self : RoomyTables) (view : tables_seen a ≡ self) (kept : IsKept a) (event : Event) (plain : is_plain_event event ≡ true) (other : is_submission event ≡ false) (may : (deck : Option Job) → MayFollow self.desk event deck) (number : ℕ) (numbered : number ≡ job_of event) where
   may_in : (deck : Option Job) → MayFollow (tables_seen a).desk event deck
   may_in deck = subst (λ v. MayFollow v.desk event deck) (sym view) (may deck)
 

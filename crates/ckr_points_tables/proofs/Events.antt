@@ -39,7 +39,7 @@ use Rattle.ckr_points_tables.specs.declared.tables.Spare.{Spare}
 use Rattle.ckr_points_tables.specs.RunChange.{Going, going, changed, check_writing, committed_by, desk_with, holding_kit, kept_by, place_now, table_kit, written_after}
 use Rattle.ckr_points_tables.specs.StepEnd.{HasLengths, MayRewriteIn}
 use Rattle.ckr_points.specs.Follows.{ended_follows, follows, is_checkpoint, is_length_of, is_rewrite, is_update, of_step, may_hold, may_restart, is_free, is_in_state, is_running, lengths_follow, of_run, selected_follows, started_follows}
-use Rattle.ckr_points_tables.specs.Invariant.{AreKept, HasKeptRoom, HasRoom, HasRoomIn, HasRoomUnder, IsRun, IsWide, MayCount, MayFollow, initiator_at, is_kept_event, is_submission, entries_at, put_at, room_at}
+use Rattle.ckr_points_tables.specs.Invariant.{AreKept, HasKeptRoom, HasRoom, HasRoomIn, HasRoomUnder, IsRun, IsWide, MayCount, MayFollow, initiator_at, is_plain_event, is_submission, entries_at, put_at, room_at}
 use Rattle.ckr_points_tables.specs.Checkpoint.{HasRoomNow, MayKeep, checkpoint_name}
 use Rattle.ckr_points_tables.specs.declared.run_table.WrittenEntry.{WrittenEntry}
 use Rattle.ckr_points_tables.specs.Needs.{MayChange}
@@ -81,7 +81,7 @@ RowFollows layout tables _ row = Unit {0}
 abbrev Followed : Layout → TablesModel → Event → Type 0
 Followed layout tables event = (row : RunRow) × (run_of tables (job_of event) ≡ Some row) × RowFollows layout tables event row
 
-followed : (layout : Layout) (tables : TablesModel) (event : Event) (deck : Option Job) → is_kept_event event ≡ true → is_submission event ≡ false → follows layout tables event deck ≡ true → Followed layout tables event
+followed : (layout : Layout) (tables : TablesModel) (event : Event) (deck : Option Job) → is_plain_event event ≡ true → is_submission event ≡ false → follows layout tables event deck ≡ true → Followed layout tables event
 followed layout tables (Submitted job cards) deck plain other e = absurd (false≢true (sym other))
 followed layout tables (Selected job initiator earlier step id) deck plain other e = of_run-there tables job (selected_follows layout tables initiator earlier step id) e
 followed layout tables (Started job step items) deck plain other e = of_run-there tables job (started_follows layout tables step items.items) e
@@ -95,7 +95,7 @@ followed layout tables (Purged job) deck plain other e = let there = of_run-ther
 followed layout tables _ deck plain other e = absurd (false≢true plain)
 
 -- the place of the run
-pub placed_at : (desk : TablesModel) (event : Event) (deck : Option Job) → is_kept_event event ≡ true → is_submission event ≡ false → MayFollow desk event deck → (0 < job_of event) × (job_of event ≤ length desk.runs)
+pub placed_at : (desk : TablesModel) (event : Event) (deck : Option Job) → is_plain_event event ≡ true → is_submission event ≡ false → MayFollow desk event deck → (0 < job_of event) × (job_of event ≤ length desk.runs)
 placed_at desk event deck plain other may =
     let there = followed may.0 desk event deck plain other may.1 in by (job_of event) there.0 there.1
   where
@@ -164,7 +164,7 @@ none_on (one ∷ runs) initiator all zero row there on =
     at_false row.initiator initiator (ap (λ (r : RunRow). option_eq nat_eq r.initiator (Some initiator)) (sym (same_Some one row there)) ∙ not-true (option_eq nat_eq one.initiator (Some initiator)) (and-first (not (option_eq nat_eq one.initiator (Some initiator))) _ all)) on
 none_on (one ∷ runs) initiator all (suc place) row there on = none_on runs initiator (and-second (not (option_eq nat_eq one.initiator (Some initiator))) _ all) place row there on
 
-module _ (library : Catalog) (lines : List Run) (tables : List RunTable) (index : List ℕ) (spare : Spare) (entered : List (Roomy WrittenEntry)) (kept : AreKept library.sets lines tables index spare.marks.items entered) (event : Event) (deck : Option Job) (plain : is_kept_event event ≡ true) (other : is_submission event ≡ false) where
+module _ (library : Catalog) (lines : List Run) (tables : List RunTable) (index : List ℕ) (spare : Spare) (entered : List (Roomy WrittenEntry)) (kept : AreKept library.sets lines tables index spare.marks.items entered) (event : Event) (deck : Option Job) (plain : is_plain_event event ≡ true) (other : is_submission event ≡ false) where
   abbrev pub writings : Writings
   writings = map written_of entered
 

@@ -7,7 +7,6 @@ pub mod StepEnd
 pub mod SetViews
 pub mod Follows
 pub mod Events
-pub mod KeptEvents
 pub mod RunIdentity
 pub mod Calls
 pub mod RoomGrowth

@@ -35,7 +35,7 @@ use Rattle.ckr_points_tables.specs.RunChange.{Going, going, fresh_point, opened_
 use Rattle.ckr_points_tables.specs.StepEnd.{made_at, made_in}
 use Rattle.ckr_points.specs.Tables.{made_tables, start_point, after_cancelled, after_checkpointed, after_commit, after_rewritten, is_checkpoints, kept_entry, name_with_role, with_kept_entry, after_dispositions, after_started, after_step_ended, earlier_made, own_made, run_disposal, step_made, steps_made}
 use Rattle.ckr_points_tables.specs.NewSets.{made_from}
-use Rattle.ckr_points_tables.specs.Invariant.{is_kept_event, is_submission}
+use Rattle.ckr_points_tables.specs.Invariant.{is_plain_event, is_submission}
 use Rattle.ckr_points.specs.Marks.{carried_marks, is_marked_absent, made_names, mark_at, mark_now, marked_under, marks_for, marks_now, own_names, point_at, with_point}
 use Rattle.ckr_points.specs.Restart.{after_event, after_abnormal, after_chosen, after_ended, after_passed_ended, by_run, by_step, step_in}
 use Rattle.ckr_points.specs.Rows.{RunRow, StartPoint, TableSet, TablesModel, run_of, step_of_run, table_ways, with_row, with_run, with_standing}
@@ -275,7 +275,7 @@ module _ (desk : TablesModel) (line : Run) (facts : RunTableView) (found : run_o
   run-in job change same = ap (λ (one : Option RunRow). option_map_or change one desk) (ap (run_of desk) (sym same) ∙ found)
 
   -- an event of the run
-  pub event_in : (event : Event) (deck : Option Job) → is_kept_event event ≡ true → is_submission event ≡ false → line.number ≡ job_of event → MakesSameBy event now → after_event event deck desk ≡ desk_with (changed table_kit event now) desk
+  pub event_in : (event : Event) (deck : Option Job) → is_plain_event event ≡ true → is_submission event ≡ false → line.number ≡ job_of event → MakesSameBy event now → after_event event deck desk ≡ desk_with (changed table_kit event now) desk
   event_in (Submitted job cards) deck plain other same makes = absurd (false≢true (sym other))
   event_in (Selected job initiator earlier step id) deck plain other same makes =
       run-in job (λ row. after_chosen row initiator earlier step id desk) same ∙ ap (λ e. after_chosen run initiator e step id desk) (zero_of earlier plain)

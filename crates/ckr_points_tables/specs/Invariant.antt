@@ -79,25 +79,13 @@ pub record AreKept (sets : Named Holding) (lines : List Run) (tables : List RunT
 
 -- ---- what an event needs
 
--- the events that the tables keep by now: no restarts, and none of a run that is held or denied
-abbrev pub is_kept_event : Event → Bool
-is_kept_event (Submitted job cards) = true
-is_kept_event (Selected job initiator earlier step id) = earlier == 0
-is_kept_event (Started job step made) = true
-is_kept_event (Rewritten job taken writes lengths place image) = true
-is_kept_event (Checkpointed job id taken writes lengths place bytes) = true
-is_kept_event (Cancelled job) = true
-is_kept_event (StepEnded job step rc writes lengths) = true
-is_kept_event (Ended job ending) = true
-is_kept_event (Purged job) = true
-is_kept_event _ = false
-
--- those that the desk brings about by now: no entry is written either
+-- the events that the desk brings about by now: no restarts, and none of a run that is held or denied
 abbrev pub is_plain_event : Event → Bool
 is_plain_event (Submitted job cards) = true
 is_plain_event (Selected job initiator earlier step id) = earlier == 0
 is_plain_event (Started job step made) = true
 is_plain_event (Rewritten job taken writes lengths place image) = true
+is_plain_event (Checkpointed job id taken writes lengths place bytes) = true
 is_plain_event (Cancelled job) = true
 is_plain_event (StepEnded job step rc writes lengths) = true
 is_plain_event (Ended job ending) = true

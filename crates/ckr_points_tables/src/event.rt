@@ -3,7 +3,7 @@ ghost use Rattle.std.specs.Prelude.{◌≡◌, ℕ, suc, ◌≤◌, ◌<◌, [],
 ghost use Rattle.ckr_library.specs.NameMaps.{are_named_in_order};
 ghost use Rattle.ckr_jcl.specs.declared.deck.Job.{Job as JobOfDeck};
 ghost use Rattle.ckr_points.specs.Tables.{after_submitted};
-ghost use Rattle.ckr_points_tables.specs.Invariant.{is_kept_event, is_submission, is_submittable, put_at, HasRoom, HasRunRoom, MayCount, MayFollow, MaySubmit};
+ghost use Rattle.ckr_points_tables.specs.Invariant.{is_plain_event, is_submission, is_submittable, put_at, HasRoom, HasRunRoom, MayCount, MayFollow, MaySubmit};
 ghost use Rattle.ckr_points.specs.Restart.{after_event};
 ghost use Rattle.ckr_points_tables.specs.View.{facts_of, fresh_facts};
 
@@ -22,7 +22,7 @@ impl Tables {
     /// Submitted and its cards are a deck, and it is that deck. There is room for the event, by `make_room` for it or for one
     /// that differs from it in its writes and lengths alone; Rewritten needs none. It takes no memory (this project's profile).
     pub fn apply(&mut self, event: &Event, job: Option<Job>)
-        requires kept { IsTrue (is_kept_event event.now) }
+        requires kept { IsTrue (is_plain_event event.now) }
         requires follows { MayFollow self.old.desk event.now job }
         requires deck { MaySubmit event.now job }
         requires room { HasRoom self.old event.now }
@@ -53,7 +53,7 @@ impl Tables {
 
     /// A run of the tables goes on by an event that follows. There is room for it.
     fn change(&mut self, event: &Event)
-        requires kept { is_kept_event event.now ≡ true }
+        requires kept { is_plain_event event.now ≡ true }
         requires other { is_submission event.now ≡ false }
         requires follows { (deck : Option JobOfDeck) → MayFollow self.old.desk event.now deck }
         requires room { HasRoom self.old event.now }

@@ -17,7 +17,7 @@ use ckr_library::{Kept, Library};
 use ckr_meaning::Place;
 use ckr_points::{Run, RunState};
 
-/// Whether an event is of those that the desk brings about by now: no entry of a checkpoint, no restart, no denial.
+/// Whether an event is of those that the desk brings about by now: no restart, no denial, no holding.
 pub fn is_plain(event: &Event) -> bool
     ensures { result ≡ is_plain_event event.now }
 {
@@ -26,6 +26,7 @@ pub fn is_plain(event: &Event) -> bool
         Event::Submitted { .. }
         | Event::Started { .. }
         | Event::Rewritten { .. }
+        | Event::Checkpointed { .. }
         | Event::Cancelled { .. }
         | Event::StepEnded { .. }
         | Event::Ended { .. }

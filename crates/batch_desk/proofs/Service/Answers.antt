@@ -115,7 +115,6 @@ module _ (s : RoomyDesk) (number : ℕ) (line : List ℕ) (order : Order) (reads
   turns_not_served Halts.Memory turn n t u is came kept why =
       let same : Turns turn n ≡ order_in s line = sym is ∙ reads in
       comes_one s (Command number line) came kept (subst (λ (events : List (List ℕ)). ComesTo events came kept) (ap (order_events s) same) why)
-  turns_not_served Halts.Misread turn n t u is came kept why = absurd why
   turns_not_served Halts.Book turn n t u is came kept why =
       let same : Turns turn n ≡ order_in s line = sym is ∙ reads in
       request_full s (Command number line) t u came kept (sym (ap (order_fits s) same) ∙ why.0)
@@ -153,7 +152,6 @@ module _ (s : RoomyDesk) (number : ℕ) (line : List ℕ) (order : Order) (reads
       let same : ListOf name ≡ order_in s line = sym is ∙ reads in
       subst (λ (w : List ℕ). HaltsSo Halts.Disk s (Command number line ∷ []) t w came kept) (sym why.0)
       (broken_at_once s (Command number line) t came kept refl (why.1 ∙ ap (λ o. order_events_before s o 0 ++ order_event_at s o 0) same) (inl (why.2 ∙ sym why.1)))
-  list_halted_so name t u is Halts.Misread came kept why = absurd why
 
   purge_not_served : (halt : Halt) (job : ℕ) (t u : List ℕ) → order ≡ Purge job → (came kept : List (List ℕ)) → PurgeHalt halt (call_fits s (purge_call (tables_of s) job)) (purge_event s job) t u came kept
       → HaltsSo halt s (Command number line ∷ []) t u came kept
@@ -170,7 +168,6 @@ module _ (s : RoomyDesk) (number : ℕ) (line : List ℕ) (order : Order) (reads
       subst (λ (w : List ℕ). HaltsSo Halts.Disk s (Command number line ∷ []) t w came kept) (sym why.0)
       (broken_at_once s (Command number line) t came kept refl (why.1 ∙ ap (λ o. order_events_before s o 0 ++ order_event_at s o 0) same)
       (⊎_elim (λ its. inl its) (λ none. inr (none ∙ ap (λ o. order_events_before s o 0) same)) why.2))
-  purge_not_served Halts.Misread job t u is came kept why = absurd why
 
   pub purge_halted_so : (tables : TablesModel) (job : ℕ) (t u : List ℕ) → tables ≡ tables_of s → order ≡ Purge job → (halt : Halt) (came kept : List (List ℕ))
       → PurgeHalt halt (call_fits s (purge_call tables job)) (spelled (event_in (purge_call tables job))) t u came kept → HaltsSo halt s (Command number line ∷ []) t u came kept

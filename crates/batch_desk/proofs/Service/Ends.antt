@@ -17,7 +17,6 @@ cause_counted trusted trusted' Stops.Sink a b c d before between now taken later
 cause_counted trusted trusted' Stops.Memory a b c d before between now taken later holds cause = tt
 cause_counted trusted trusted' Stops.Book a b c d before between now taken later holds cause = tt
 cause_counted trusted trusted' Stops.Disk a b c d before between now taken later holds cause = rose_earlier before between now later cause
-cause_counted trusted trusted' Stops.Misread a b c d before between now taken later holds cause = λ h. cause (holds h)
 
 stops_counted : (stop : Stop) (a b c d before between now : ℕ) (state : RoomyDesk) (taken all : List ℕ) (old new : Option (List ℕ)) (came kept : List (List ℕ))
     → StopsAt stop (faults_of a b c d between now) state taken all old new came kept → StopsAt stop (faults_of a b c d before now) state taken all old new came kept

@@ -98,7 +98,6 @@ halts_behind Halts.Book a b xs ys t u v came kept first so = (
   came_behind a.state b.state xs ys came first.fits first.state so.2,
   ap (λ l. events_told a.state xs ++ l) so.3,
 )
-halts_behind Halts.Misread a b xs ys t u v came kept first so = absurd so
 halts_behind Halts.Disk a b xs ys t u v came kept first so = (
   text_to a.state xs ++ so.0,
   so.1 ∙ ap (λ w. w ++ so.0) first.text ∙ append_assoc t (text_to a.state xs) so.0,
@@ -113,7 +112,6 @@ halts_before Halts.Book s xs ys t v came kept so = (
   so.2 ∙ sym (events_told-full s xs ys so.0),
   so.3,
 )
-halts_before Halts.Misread s xs ys t v came kept so = absurd so
 halts_before Halts.Disk s xs ys t v came kept so = (so.0, so.1, breaks_off_before s xs ys so.0 came kept so.2)
 
 -- ---- what is written
@@ -151,7 +149,6 @@ stops_earlier Stops.Limit before between now s xs old new came kept later so = s
 stops_earlier Stops.Sink before between now s xs old new came kept later so = so
 stops_earlier Stops.Memory before between now s xs old new came kept later so = so
 stops_earlier Stops.Book before between now s xs old new came kept later so = (so.0, writes_earlier before between now old new (text_to s xs) later so.1, so.2, so.3)
-stops_earlier Stops.Misread before between now s xs old new came kept later so = absurd so
 stops_earlier Stops.Disk before between now s xs old new came kept later so = (so.0, so.1, writes_earlier before between now old new so.0 later so.2)
 
 -- counted from an earlier moment on, and of a disk that is trusted where this one is
@@ -163,7 +160,6 @@ cause_earlier trusted trusted' Stops.Sink before between now before' between' no
 cause_earlier trusted trusted' Stops.Memory before between now before' between' now' later later' holds so = tt
 cause_earlier trusted trusted' Stops.Book before between now before' between' now' later later' holds so = tt
 cause_earlier trusted trusted' Stops.Disk before between now before' between' now' later later' holds so = rose_earlier before' between' now' later' so
-cause_earlier trusted trusted' Stops.Misread before between now before' between' now' later later' holds so = λ h. so (holds h)
 
 -- The text of the whole is that of what was served, of what was asked then, and of more.
 stops_front : (s s' : RoomyDesk) (xs ys more : List Handed) (start old new : Option (List ℕ)) → all_fit s xs ≡ true → s' ≡ after_all s xs
@@ -212,7 +208,6 @@ stops_behind Stops.Book before between now a b xs ys more t start old new came k
       came_behind a.state b.state xs ys came first.fits first.state so.2 ∙ sym (events_told-full a.state (xs ++ ys) more full),
       ap (λ l. events_told a.state xs ++ l) so.3,
     )
-stops_behind Stops.Misread before between now a b xs ys more t start old new came kept later first written so = absurd so
 stops_behind Stops.Disk before between now a b xs ys more t start old new came kept later first written so = (
   t ++ so.0,
   breaks_off_before a.state (xs ++ ys) more (t ++ so.0) (events_told a.state xs ++ came) (events_told a.state xs ++ kept)
@@ -230,7 +225,6 @@ rest_written Halts.Memory stop before now s xs out old new came kept so rest =
     (subst (λ (end : Option (List ℕ)). AppendsFront old end (text_to s xs)) (sym rest.1) ([], text_to s xs, refl, Appends-nil old), so)
 rest_written Halts.Book stop before now s xs out old new came kept so rest =
     subst (λ (w : Stop). StopsWithin w before now s xs old new came kept) (sym rest.0) (so.0, subst (WritesSo before now old new) so.1 rest.1, so.2, so.3)
-rest_written Halts.Misread stop before now s xs out old new came kept so rest = absurd so
 rest_written Halts.Disk stop before now s xs out old new came kept so rest =
     subst (λ (w : Stop). StopsWithin w before now s xs old new came kept) (sym rest.0) (so.0, so.2, subst (WritesSo before now old new) so.1 rest.1)
 
@@ -239,7 +233,6 @@ pub rest_caused : (trusted : Type 0) (halt : Halt) (stop : Stop) (before now : �
 rest_caused trusted Halts.Memory stop before now disk disk' out old new cause rest = subst (λ (w : Stop). Caused trusted w before now disk disk') (sym rest.0) tt
 rest_caused trusted Halts.Book stop before now disk disk' out old new cause rest = subst (λ (w : Stop). Caused trusted w before now disk disk') (sym rest.0) tt
 rest_caused trusted Halts.Disk stop before now disk disk' out old new cause rest = subst (λ (w : Stop). Caused trusted w before now disk disk') (sym rest.0) cause
-rest_caused trusted Halts.Misread stop before now disk disk' out old new cause rest = subst (λ (w : Stop). Caused trusted w before now disk disk') (sym rest.0) cause
 
 -- ---- of a call's result
 
@@ -255,7 +248,6 @@ pub halt_earlier : (trusted trusted' : Type 0) (halt : Halt) (before between now
 halt_earlier trusted trusted' Halts.Memory before between now later holds cause = tt
 halt_earlier trusted trusted' Halts.Book before between now later holds cause = tt
 halt_earlier trusted trusted' Halts.Disk before between now later holds cause = rose_earlier before between now later cause
-halt_earlier trusted trusted' Halts.Misread before between now later holds cause = λ h. cause (holds h)
 
 pub cause_on : {T : Type 0} (trusted trusted' : Type 0) (r : Result T Halt) (before between now : ℕ) → before ≤ between → (trusted' → trusted)
     → IfErr r (λ halt. HaltCause trusted halt between now) → IfErr r (λ halt. HaltCause trusted' halt before now)

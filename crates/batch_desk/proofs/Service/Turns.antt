@@ -339,7 +339,6 @@ module _ (layout : Layout) (turn : Turn) where
       turns_unsaid n k first s waiting before now had have came kept (none-few came why.0) (inr why.1) h
   turns_halted Halts.Book n k m first s waiting before now final had have came kept less why h last = turns_full n k m first s waiting before now final had have came kept less why.0 why.1 why.2 h last
   turns_halted Halts.Disk n k m first s waiting before now final had have came kept less why h last = turns_broken n k first s waiting before now final had have came kept why.0 why.1 h last
-  turns_halted Halts.Misread n k m first s waiting before now final had have came kept less why h last = absurd why
 
   -- the same where memory ran out for the text
   pub turns_halted_unsaid : (halt : Halt) (n k : ℕ) (first s : RoomyDesk) (waiting : Waiting) (before now final : List ℕ) (had have came kept : List (List ℕ))
@@ -349,4 +348,3 @@ module _ (layout : Layout) (turn : Turn) where
   turns_halted_unsaid Halts.Book n k first s waiting before now final had have came kept why h = turns_unsaid n k first s waiting before now had have came kept (none-few came why.1) (inr why.2) h
   turns_halted_unsaid Halts.Disk n k first s waiting before now final had have came kept why h =
       turns_unsaid n k first s waiting before now had have came kept (subst (λ (c : List (List ℕ)). length c ≤ 1) (sym why.0) (turn-few s turn)) why.1 h
-  turns_halted_unsaid Halts.Misread n k first s waiting before now final had have came kept why h = absurd why

@@ -48,7 +48,6 @@ stop_cause trusted trusted' Stops.Sink a b before between now before' between' n
 stop_cause trusted trusted' Stops.Memory a b before between now before' between' now' taken later later' holds c = tt
 stop_cause trusted trusted' Stops.Book a b before between now before' between' now' taken later later' holds c = tt
 stop_cause trusted trusted' Stops.Disk a b before between now before' between' now' taken later later' holds c = cause_earlier trusted trusted' Stops.Disk before between now before' between' now' later later' holds c
-stop_cause trusted trusted' Stops.Misread a b before between now before' between' now' taken later later' holds c = cause_earlier trusted trusted' Stops.Misread before between now before' between' now' later later' holds c
 
 -- a stop within a piece is one at these bytes
 stops_at : (stop : Stop) (faults : Faults) (between : ℕ) (s : RoomyDesk) (taken all : List ℕ) (old new : Option (List ℕ)) (came kept : List (List ℕ)) → faults.sink_before ≤ between
@@ -58,7 +57,6 @@ stops_at Stops.Limit faults between s taken all old new came kept later so = abs
 stops_at Stops.Sink faults between s taken all old new came kept later so = so
 stops_at Stops.Memory faults between s taken all old new came kept later so = so
 stops_at Stops.Book faults between s taken all old new came kept later so = stops_earlier Stops.Book faults.sink_before between faults.sink_now s (requests_of all) old new came kept later so
-stops_at Stops.Misread faults between s taken all old new came kept later so = absurd so
 stops_at Stops.Disk faults between s taken all old new came kept later so = stops_earlier Stops.Disk faults.sink_before between faults.sink_now s (requests_of all) old new came kept later so
 
 -- all but the last of m bytes

@@ -13,12 +13,13 @@ use Rattle.ckr_desk_turn.proofs.NextEvents.BetweenSteps.{purged_comes}
 use Rattle.ckr_desk_turn.proofs.Select.{purged-keeps, stored-comes, stored-keeps}
 use Rattle.ckr_desk_turn.specs.Invariant.{IsDesk}
 use Rattle.ckr_desk_refines.specs.Commits.{HasCommitted}
+use Rattle.ckr_desk_refines.specs.Entries.{HasEntries}
 use Rattle.ckr_outside.specs.Disk.{Only}
 use Rattle.ckr_points.specs.declared.run.RunState.TheVariants.{Queued}
 use Rattle.ckr_points.specs.Events.{IsNext}
 use Rattle.ckr_points.specs.Office.{office_after}
 use Rattle.ckr_points.specs.Restart.{after_event}
-use Rattle.ckr_points.specs.Rows.{RunRow, run_of}
+use Rattle.ckr_points.specs.Rows.{RunRow, TablesModel, run_of}
 use Rattle.ckr_desk_refines.specs.RewriteRecord.{RewriteRecord, rewrite_of}
 use Rattle.ckr_desk_refines.specs.Moves.{HasSameRecords, HaveMoved}
 use Rattle.ckr_desk_refines.specs.Standing.{StandsForDesk}
@@ -27,11 +28,11 @@ use Rattle.ckr_points_decks.proofs.KeptCards.{kept_accepted}
 use Rattle.ckr_points_decks.specs.Cards.{kept_of_stored}
 use Rattle.ckr_points_decks.specs.Form.{is_run}
 use Rattle.ckr_points_tables.specs.Invariant.{is_plain_event, is_submittable}
-use Rattle.ckr_desk_refines.proofs.Events.Commits.{committed-moves}
 use Rattle.ckr_desk_refines.proofs.Events.Turns.{purged-committed, purged-stands, submitted-committed, submitted-stands}
 use Rattle.ckr_desk_turn.specs.Desk.{DeskModel, behind}
 use Rattle.ckr_volumes.specs.declared.layout.Layout.{Layout}
-use Rattle.ckr_desk.proofs.Images.Soundness.{again-so, kept-before, kept-behind}
+use Rattle.ckr_desk.proofs.Images.Entries.{HasNewOne, behind-same}
+use Rattle.ckr_desk.proofs.Images.Soundness.{again-so, kept-behind, kept-left, kept-same}
 use Rattle.ckr_desk.proofs.Trust.Events.{IsBehind, IsComing, desk-behind, trusted-behind}
 use Rattle.ckr_desk.specs.Requests.{behind_call, call_fits}
 use Rattle.ckr_desk.specs.Calls.{HasGoneOn, IsLeftBy, may_keep}
@@ -54,6 +55,7 @@ module _ {D : Type 0} (told : Type 0) (content : D → List ℕ) (may_leave : D 
     pub runs : is_run_by event deck ≡ true
     pub plain : is_plain_event event ≡ true
     pub quiet : (tables : _) → rewrite_of tables event ≡ None
+    pub takes : (tables : TablesModel) (image : List ℕ) → HasNewOne layout tables event image
     pub next : IsNext layout desk.office (event, deck)
     pub kept : IsDesk (behind event deck desk)
     pub stand : (new : DeskView D) → HaveMoved event deck old.jobs new.jobs → HasSameRecords layout (content old.store.disk) (content new.store.disk)
@@ -73,6 +75,12 @@ module _ {D : Type 0} (told : Type 0) (content : D → List ℕ) (may_leave : D 
       last = λ (rewrite : RewriteRecord) is. absurd (some-not-none rewrite (sym is ∙ its.quiet (behind event deck desk).office.tables));
     }
 
+    -- an image with the same records has the entries behind it
+    entries-so : may_keep event deck old ≡ true → (image : List ℕ) → HasSameRecords layout (content old.store.disk) image → HasEntries layout (behind event deck desk).office.tables image
+    entries-so might image same =
+        behind-same told content may_leave old trusted event (behind event deck desk) (coming might) (content old.store.disk) image
+        (its.takes desk.office.tables (content old.store.disk)) trusted.entries same
+
     behind-so : (new : DeskView D) → new.store.layout ≡ layout → HasGoneOn event deck old new
         → event_records layout (content new.store.disk) ≡ event_records layout (content old.store.disk) ++ spelling event ∷ []
         → HasSameRecords layout (content old.store.disk) (content new.store.disk) → Only (content new.store.disk) (may_leave new.store.disk)
@@ -82,6 +90,7 @@ module _ {D : Type 0} (told : Type 0) (content : D → List ℕ) (may_leave : D 
       events = events;
       tables = gone.moved.tables ∙ ap (λ d. after_event event d old.jobs.tables.desk) (sym its.decked);
       stands = its.stand new gone.moved records;
+      entries = entries-so gone.might (content new.store.disk) records;
       settled = settled;
     }
 
@@ -109,13 +118,12 @@ module _ {D : Type 0} (told : Type 0) (content : D → List ℕ) (may_leave : D 
     pub called-kept : (image : List ℕ) → IsLeftBy content may_leave size event deck old image
         → HasKept layout (size old.store.disk) (event_records layout (content old.store.disk)) (spelling event ∷ []) image
     called-kept image left = ⊎_elim
-        (λ (was : OpensSame content size old image × may_leave old.store.disk image). kept-before told content may_leave size old trusted (spelling event ∷ []) image was.0 (trusted.committed image was.1))
+        (λ (was : OpensSame content size old image × may_leave old.store.disk image). kept-left told content may_leave size old trusted (spelling event ∷ []) image was.0 was.1)
         (λ (now : (may_keep event deck old ≡ true) × Opens layout (size old.store.disk) (IsBeforeOrAfter (event_records layout (content old.store.disk)) (spelling event)) image × HasSameRecords layout (content old.store.disk) image).
         ⊎_elim
-        (λ same. kept-before told content may_leave size old trusted (spelling event ∷ []) image (record { head = now.1.head; list = same; closed = now.1.closed })
-        (committed-moves layout (office_on layout (content old.store.disk)) (content old.store.disk) image trusted.stands.is_desk.kept now.2 trusted.stands.committed))
+        (λ same. kept-same told content may_leave size old trusted (spelling event ∷ []) image (record { head = now.1.head; list = same; closed = now.1.closed }) now.2)
         (λ more. kept-behind told content may_leave size old trusted event (behind event deck desk) (coming now.0) image (record { head = now.1.head; list = more; closed = now.1.closed })
-        (again-so layout (behind event deck desk).office (Some event) image (coming now.0).last (its.commits image now.2)))
+        (again-so layout (behind event deck desk).office (Some event) image (coming now.0).last (its.commits image now.2)) (entries-so now.0 image now.2))
         now.1.list)
         left
 
@@ -132,6 +140,7 @@ module _ {D : Type 0} (told : Type 0) (content : D → List ℕ) (may_leave : D 
         runs = and_from (is_run deck) _ runs fit;
         plain = refl;
         quiet = λ tables. refl;
+        takes = λ tables image. tt;
         next = subst (λ n. IsNext layout desk.office (Submitted n (kept_of_stored cards), Some deck)) (sym number) (stored-comes desk cards deck some accepted);
         kept = subst (λ n. IsDesk (behind (Submitted n (kept_of_stored cards)) (Some deck) desk)) (sym number)
             (stored-keeps desk trusted.stands.is_desk cards deck some accepted runs);
@@ -155,6 +164,7 @@ module _ {D : Type 0} (told : Type 0) (content : D → List ℕ) (may_leave : D 
         runs = refl;
         plain = refl;
         quiet = λ tables. refl;
+        takes = λ tables image. tt;
         next = record { may = purged_comes desk job row there queued; carried = refl };
         kept = purged-keeps desk trusted.stands.is_desk job row there queued;
         stand = λ new moved records. purged-stands layout old.jobs new.jobs (content old.store.disk) (content new.store.disk) desk job row trusted.stands there queued moved records;

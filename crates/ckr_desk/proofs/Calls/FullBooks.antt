@@ -6,7 +6,7 @@ use Rattle.ckr_events.specs.declared.event.Event.{Event}
 use Rattle.ckr_desk_turn.specs.declared.reply.Turn.{Turn}
 use Rattle.ckr_points.specs.Restart.{Decked}
 use Rattle.ckr_desk.specs.declared.error.DeskError.{DeskError}
-use Rattle.ckr_desk.specs.declared.error.DeskError.TheVariants.{NoMemory, DiskFault, BookFull, Stopped, Misread}
+use Rattle.ckr_desk.specs.declared.error.DeskError.TheVariants.{NoMemory, DiskFault, BookFull, Stopped}
 use Rattle.ckr_desk.specs.NoChange.{IsOfDisk}
 use Rattle.ckr_desk.specs.Preparation.{NotLooked, NotReadyFor}
 use Rattle.ckr_desk.specs.Requests.{FailsBy, IsFull, TellsNumbers, call_fits, event_in, has_room}
@@ -49,7 +49,6 @@ of-disk-numbers room NoMemory is = tt
 of-disk-numbers room DiskFault is = tt
 of-disk-numbers room (BookFull need left) is = absurd is
 of-disk-numbers room (Stopped fault) is = tt
-of-disk-numbers room Misread is = tt
 
 module _ {D : Type 0} (old new : DeskView D) where
   pub unready-numbers : (event : Option Event) (error : DeskError) → NotReadyFor event old new error → TellsNumbers (room_of old.store.book) error
@@ -58,7 +57,6 @@ module _ {D : Type 0} (old new : DeskView D) where
   unready-numbers (Some event) DiskFault not = tt
   unready-numbers (Some event) (BookFull need left) not = (event, (not.0, not.1, not.2))
   unready-numbers (Some event) (Stopped fault) not = tt
-  unready-numbers (Some event) Misread not = tt
 
   pub unlooked-numbers : (told : Type 0) (content : D → List ℕ) (faults : D → ℕ) (run : ℕ) → room_of new.store.book ≡ room_of old.store.book
       → (error : DeskError) → NotLooked told content faults run old new error → TellsNumbers (room_of old.store.book) error
@@ -68,4 +66,3 @@ module _ {D : Type 0} (old new : DeskView D) where
       let its = not.1 in
       (its.ahead.event, (its.needed, its.left ∙ room, subst (λ n. n < need) (sym its.left) (subst (λ n. room_of new.store.book < n) (sym its.needed) its.full)))
   unlooked-numbers told content faults run room (Stopped fault) not = tt
-  unlooked-numbers told content faults run room Misread not = tt

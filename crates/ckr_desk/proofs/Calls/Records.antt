@@ -21,9 +21,9 @@ use Rattle.ckr_volumes.specs.Records.{records_on}
 use Rattle.ckr_volumes.specs.Layouts.{StandsIn}
 use Rattle.ckr_desk.proofs.Turns.Preparation.{read-unchanged}
 use Rattle.ckr_desk.proofs.Trust.Sameness.{IsAsBefore, state-same, trusted-same}
-use Rattle.ckr_desk.specs.Requests.{FailsBy, MayFail}
+use Rattle.ckr_desk.specs.Requests.{FailsBy, MayFail, TellsFull}
 use Rattle.ckr_desk.specs.declared.error.DeskError.{DeskError}
-use Rattle.ckr_desk.specs.declared.error.DeskError.TheVariants.{NoMemory, DiskFault, BookFull, Stopped, Misread}
+use Rattle.ckr_desk.specs.declared.error.DeskError.TheVariants.{NoMemory, DiskFault, BookFull, Stopped}
 use Rattle.ckr_desk.specs.Records.{ReadingCause}
 use Rattle.ckr_desk.specs.Soundness.{IsTrusted, state_of}
 use Rattle.ckr_desk.specs.State.{DeskView}
@@ -88,21 +88,24 @@ module _ {D : Type 0} (faults : D → ℕ) (old new : StoreView D) where
   reading-may-fail DiskFault cause = cause.0
   reading-may-fail (BookFull need room) cause = tt
   reading-may-fail (Stopped fault) cause = absurd cause
-  reading-may-fail Misread cause = absurd cause
 
   pub reading-fails-by : (room : ℕ) (error : DeskError) → ReadingCause faults old new error → FailsBy room None error
   reading-fails-by room NoMemory cause = tt
   reading-fails-by room DiskFault cause = tt
   reading-fails-by room (BookFull need left) cause = absurd cause
   reading-fails-by room (Stopped fault) cause = absurd cause
-  reading-fails-by room Misread cause = absurd cause
+
+  pub reading-full : (room : ℕ) (error : DeskError) → ReadingCause faults old new error → TellsFull room None error
+  reading-full room NoMemory cause = tt
+  reading-full room DiskFault cause = tt
+  reading-full room (BookFull need left) cause = cause
+  reading-full room (Stopped fault) cause = absurd cause
 
   pub same-layout : (error : DeskError) → ReadingCause faults old new error → new.layout ≡ old.layout
   same-layout NoMemory cause = ap (λ (s : StoreView D). s.layout) cause
   same-layout DiskFault cause = ap (λ (s : StoreView D). s.layout) cause.1
   same-layout (BookFull need room) cause = absurd cause
   same-layout (Stopped fault) cause = absurd cause
-  same-layout Misread cause = absurd cause
 
   pub reading-stays : (content : D → List ℕ) (may_leave : D → List ℕ → Type 0) (moment : D → ℕ) (left_since : D → ℕ → List ℕ → Type 0) (jobs : JobsView) → OnlyReads content may_leave moment left_since old.disk new.disk
       → (error : DeskError) → ReadingCause faults old new error → StaysBy content may_leave faults (record { store = old; jobs = jobs }) (record { store = new; jobs = jobs }) error
@@ -111,4 +114,3 @@ module _ {D : Type 0} (faults : D → ℕ) (old new : StoreView D) where
   reading-stays content may_leave moment left_since jobs reads DiskFault cause = ap (λ (s : StoreView D). s.fault) cause.1
   reading-stays content may_leave moment left_since jobs reads (BookFull need room) cause = absurd cause
   reading-stays content may_leave moment left_since jobs reads (Stopped fault) cause = absurd cause
-  reading-stays content may_leave moment left_since jobs reads Misread cause = absurd cause

@@ -27,10 +27,10 @@ use Rattle.ckr_volumes.specs.declared.layout.Layout.{Layout}
 use Rattle.ckr_desk.proofs.Turns.Preparation.{same-unchanged}
 use Rattle.ckr_desk.proofs.Calls.Events.{IsCalled, called-deck, called-kept, called-purged, called-state, called-trusted}
 use Rattle.ckr_desk.proofs.Calls.CardCounts.{accepted-deck, few-accepted}
-use Rattle.ckr_desk.proofs.Images.Soundness.{kept-before}
+use Rattle.ckr_desk.proofs.Images.Soundness.{kept-left}
 use Rattle.ckr_desk.proofs.Calls.Stops.{opens-so}
 use Rattle.ckr_desk.specs.declared.error.DeskError.{DeskError}
-use Rattle.ckr_desk.specs.declared.error.DeskError.TheVariants.{NoMemory, DiskFault, BookFull, Stopped, Misread}
+use Rattle.ckr_desk.specs.declared.error.DeskError.TheVariants.{NoMemory, DiskFault, BookFull, Stopped}
 use Rattle.ckr_desk.specs.Requests.{FailsBy, MayFail, TellsFull, behind_call, came_by, event_in, has_room, spelled}
 use Rattle.ckr_desk.specs.Calls.{HasDone, IsLeftByCall, IsSettledBehind, NotDone, with_event}
 use Rattle.ckr_desk.specs.Soundness.{HasKept, IsTrusted, KeepsWithin, state_of}
@@ -68,36 +68,30 @@ module _ {D : Type 0} (faults : D → ℕ) (old new : DeskView D) where
   call-may-fail None DiskFault not = absurd not
   call-may-fail None (BookFull need room) not = tt
   call-may-fail None (Stopped fault) not = not.0
-  call-may-fail None Misread not = absurd not
   call-may-fail (Some call) NoMemory not = tt
   call-may-fail (Some call) DiskFault not = not.0.0
   call-may-fail (Some call) (BookFull need room) not = tt
   call-may-fail (Some call) (Stopped fault) not = not.0
-  call-may-fail (Some call) Misread not = absurd not
 
   pub call-stays : (content : D → List ℕ) (may_leave : D → List ℕ → Type 0) (call : Option Decked) (error : DeskError) → NotDone faults call old new error → StaysBy content may_leave faults old new error
   call-stays content may_leave None NoMemory not = same-unchanged content may_leave old new not.jobs not.store
   call-stays content may_leave None DiskFault not = absurd not
   call-stays content may_leave None (BookFull need room) not = absurd not
   call-stays content may_leave None (Stopped fault) not = same-unchanged content may_leave old new not.1.jobs not.1.store
-  call-stays content may_leave None Misread not = absurd not
   call-stays content may_leave (Some call) NoMemory not = same-unchanged content may_leave old new not.jobs not.store
   call-stays content may_leave (Some call) DiskFault not = ap (λ (s : StoreView D). s.fault) not.0.1
   call-stays content may_leave (Some call) (BookFull need room) not = same-unchanged content may_leave old new not.3.jobs not.3.store
   call-stays content may_leave (Some call) (Stopped fault) not = same-unchanged content may_leave old new not.1.jobs not.1.store
-  call-stays content may_leave (Some call) Misread not = absurd not
 
   pub call-full : (call : Option Decked) (error : DeskError) → NotDone faults call old new error → TellsFull (room_of old.store.book) (event_in call) error
   call-full None NoMemory not = tt
   call-full None DiskFault not = tt
   call-full None (BookFull need room) not = not
   call-full None (Stopped fault) not = tt
-  call-full None Misread not = absurd not
   call-full (Some call) NoMemory not = tt
   call-full (Some call) DiskFault not = tt
   call-full (Some call) (BookFull need room) not = (not.0, not.1, not.2)
   call-full (Some call) (Stopped fault) not = tt
-  call-full (Some call) Misread not = absurd not
 
   pub call-open : (call : Option Decked) → HasDone call old new → old.store.fault ≡ None → new.store.fault ≡ None
   call-open None done is_open = ap (λ (s : DeskView D). s.store.fault) done ∙ is_open
@@ -128,12 +122,10 @@ module _ {D : Type 0} (told : Type 0) (content : D → List ℕ) (may_leave : D 
   call-cause faults new None its DiskFault not = tt
   call-cause faults new None its (BookFull need room) not = absurd not
   call-cause faults new None its (Stopped fault) not = tt
-  call-cause faults new None its Misread not = absurd not
   call-cause faults new (Some call) its NoMemory not = tt
   call-cause faults new (Some call) its DiskFault not = tt
   call-cause faults new (Some call) its (BookFull need room) not = (not.0, not.1, not.2)
   call-cause faults new (Some call) its (Stopped fault) not = tt
-  call-cause faults new (Some call) its Misread not = absurd not
 
   module _ (new : DeskView D) (same : new.store.layout ≡ old.store.layout) where
     pub call-fits : (call : Option Decked) → IsCalledSo call → HasDone call old new → has_room (room_of old.store.book) (event_in call) ≡ true
@@ -158,7 +150,7 @@ module _ {D : Type 0} (told : Type 0) (content : D → List ℕ) (may_leave : D 
   module _ (moment : D → ℕ) (left_since : D → ℕ → List ℕ → Type 0) (sound : IsSound content may_leave size old.store) (is_open : old.store.fault ≡ None) where
     -- an image of before
     pub kept-now : (image : List ℕ) → may_leave old.store.disk image → HasKept layout (size old.store.disk) before [] image
-    kept-now image may = kept-before told content may_leave size old trusted [] image (opens-so told content may_leave moment left_since size old sound is_open image may) (trusted.committed image may)
+    kept-now image may = kept-left told content may_leave size old trusted [] image (opens-so told content may_leave moment left_since size old sound is_open image may) may
 
     image-kept : (call : Option Decked) → IsCalledSo call → (image : List ℕ) → IsLeftByCall content may_leave size call old image → HasKept layout (size old.store.disk) before (spelled (event_in call)) image
     image-kept None its image left = kept-now image left
@@ -197,7 +189,6 @@ module _ {D : Type 0} (told : Type 0) (content : D → List ℕ) (may_leave : D 
         by (Err DiskFault) not = call-kept new call its left
         by (Err (BookFull need room)) not = same-store (full call need room not)
         by (Err (Stopped fault)) not = call-kept new call its left
-        by (Err Misread) not = call-kept new call its left
 
     pub reading-kept : (new : DeskView D) → EachSince moment left_since old.store.disk new.store.disk (may_leave old.store.disk) → KeepsWithin content moment left_since size old new []
     reading-kept new reads = in_other_words moment left_since old.store.disk new.store.disk (may_leave old.store.disk) (HasKept layout (size old.store.disk) before []) reads kept-now

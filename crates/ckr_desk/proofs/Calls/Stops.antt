@@ -22,7 +22,7 @@ use Rattle.ckr_volumes.specs.declared.layout.Layout.{Layout}
 use Rattle.ckr_volumes.specs.Layouts.{is_laid_out}
 use Rattle.ckr_desk.proofs.Images.Records.{records-stay}
 use Rattle.ckr_desk.specs.declared.error.DeskError.{DeskError}
-use Rattle.ckr_desk.specs.declared.error.DeskError.TheVariants.{NoMemory, DiskFault, BookFull, Stopped, Misread}
+use Rattle.ckr_desk.specs.declared.error.DeskError.TheVariants.{NoMemory, DiskFault, BookFull, Stopped}
 use Rattle.ckr_desk.specs.Calls.{HasGoneOn, HasSameJobs, IsLeftBy, IsSame, NotEntered, NotKept, may_keep}
 use Rattle.ckr_desk.specs.Preparation.{NotReady}
 use Rattle.ckr_desk.specs.Rewrite.{OpensSame}
@@ -138,7 +138,6 @@ module _ {D : Type 0} (event : Event) (deck : Option Job) (store : StoreView D) 
     prepared-cause faults new DiskFault cause = (cause.0, same-as-before new cause.1)
     prepared-cause faults new (BookFull need room) cause = absurd cause
     prepared-cause faults new (Stopped fault) cause = absurd cause
-    prepared-cause faults new Misread cause = absurd cause
 
 -- an event that isn't ready isn't kept
 pub unready-cause : {D : Type 0} (event : Event) (deck : Option Job) (faults : D → ℕ) (old new : DeskView D) (error : DeskError) → NotReady event old new error → NotKept faults event deck old new error
@@ -146,7 +145,6 @@ unready-cause event deck faults old new NoMemory cause = cause
 unready-cause event deck faults old new DiskFault cause = absurd cause
 unready-cause event deck faults old new (BookFull need room) cause = cause
 unready-cause event deck faults old new (Stopped fault) cause = absurd cause
-unready-cause event deck faults old new Misread cause = absurd cause
 
 -- where the disk is the same, so is what a stop leaves
 pub same-left : {D : Type 0} (moment : D → ℕ) (left_since : D → ℕ → List ℕ → Type 0) (old new : StoreView D) (P : List ℕ → Type 0) → new ≡ old → EachSince moment left_since old.disk old.disk P → EachSince moment left_since old.disk new.disk P

@@ -10,8 +10,8 @@ use Rattle.ckr_journal.specs.declared.error.LayoutError.TheVariants as LayoutErr
 use Rattle.ckr_journal.specs.Layouts.{Answers}
 use Rattle.ckr_desk.specs.declared.error.OpenError.{OpenError}
 use Rattle.ckr_desk.specs.declared.error.OpenError.TheVariants as OpenErrors
-use Rattle.ckr_desk.specs.Opening.{by_book, by_header, opening_of}
-use Rattle.ckr_desk.specs.Replay.{IsReplayedTo, ReplayCause, OpenCause, IsFound}
+use Rattle.ckr_desk.specs.Opening.{by_book, by_entries, by_header, opening_of}
+use Rattle.ckr_desk.specs.Replay.{IsFound, IsReadTo, OpenCause}
 
 pub not_formatted : (image : List ℕ) (size : ℕ) (error : LayoutError) → error ≡ LayoutErrors.NotFormatted → Answers (header_of (take 512 image) size) (Err error)
     → opening_of image size ≡ Err OpenErrors.NotFormatted
@@ -28,43 +28,45 @@ pub bad_header : (image : List ℕ) (size offset : ℕ) (error : LayoutError) �
 unfolding opening_of
 bad_header image size offset error same is = ap (by_header image) (subst (λ (e : LayoutError). Answers (header_of (take 512 image) size) (Err e)) same is)
 
--- a header that is well formed leaves it to the book
-pub by_its_book : (image : List ℕ) (size : ℕ) (layout : Layout) → header_of (take 512 image) size ≡ Ok layout → opening_of image size ≡ by_book layout (part 512 layout.book image)
+-- a header that is well formed leaves it to the book and the entries
+pub by_its_book : (image : List ℕ) (size : ℕ) (layout : Layout) → header_of (take 512 image) size ≡ Ok layout → opening_of image size ≡ by_entries image (by_book layout (part 512 layout.book image))
 unfolding opening_of
 by_its_book image size layout is = ap (by_header image) is
 
-pub found_so : (image : List ℕ) (size : ℕ) (layout : Layout) (tables : TablesModel) (end : ℕ) → header_of (take 512 image) size ≡ Ok layout
-    → IsReplayedTo layout (part 512 layout.book image) tables end → IsFound image size layout tables end
-found_so image size layout tables end header replayed = record {
+found_so : (image : List ℕ) (size : ℕ) (layout : Layout) (tables : TablesModel) (end : ℕ) → header_of (take 512 image) size ≡ Ok layout
+    → IsReadTo layout image tables end → IsFound image size layout tables end
+found_so image size layout tables end header read = record {
   header = header;
-  opens = by_its_book image size layout header ∙ replayed.opens;
-  is_end = replayed.is_end;
-  closed = replayed.closed;
+  opens = by_its_book image size layout header ∙ read.opens;
+  is_end = read.is_end;
+  closed = read.closed;
 }
 
-pub book_cause : (rose before told : Type 0) (image : List ℕ) (size : ℕ) (layout : Layout) (error : OpenError) → (rose → before) → (told → header_of (take 512 image) size ≡ Ok layout)
-    → ReplayCause rose told layout (part 512 layout.book image) error → OpenCause before told (opening_of image size) error
+book_cause : (rose before told : Type 0) (image : List ℕ) (size : ℕ) (layout : Layout) (error : OpenError) → (rose → before) → (told → header_of (take 512 image) size ≡ Ok layout)
+    → OpenCause rose told (by_entries image (by_book layout (part 512 layout.book image))) error → OpenCause before told (opening_of image size) error
 book_cause rose before told image size layout OpenErrors.NoMemory earlier header cause = tt
 book_cause rose before told image size layout OpenErrors.Fault earlier header cause = earlier cause
 book_cause rose before told image size layout OpenErrors.NotFormatted earlier header cause = λ is. by_its_book image size layout (header is) ∙ cause is
 book_cause rose before told image size layout (OpenErrors.Version version) earlier header cause = λ is. by_its_book image size layout (header is) ∙ cause is
 book_cause rose before told image size layout (OpenErrors.BadHeader offset) earlier header cause = λ is. by_its_book image size layout (header is) ∙ cause is
 book_cause rose before told image size layout (OpenErrors.BadBook offset) earlier header cause = λ is. by_its_book image size layout (header is) ∙ cause is
+book_cause rose before told image size layout (OpenErrors.BadEntry job offset) earlier header cause = λ is. by_its_book image size layout (header is) ∙ cause is
 
 -- the disk was read on between the header and the events
 pub found_behind : (image image' image'' : List ℕ) (size size'' : ℕ) (layout : Layout) (tables : TablesModel) (end : ℕ) → header_of (take 512 image) size ≡ Ok layout
-    → image' ≡ image → image'' ≡ image' → size'' ≡ size → IsReplayedTo layout (part 512 layout.book image') tables end → IsFound image'' size'' layout tables end
-found_behind image image' image'' size size'' layout tables end header same same' same_size replayed =
+    → image' ≡ image → image'' ≡ image' → size'' ≡ size → IsReadTo layout image' tables end → IsFound image'' size'' layout tables end
+found_behind image image' image'' size size'' layout tables end header same same' same_size read =
     subst (λ (i : List ℕ). IsFound i size'' layout tables end) (sym same')
     (subst (λ (n : ℕ). IsFound image' n layout tables end) (sym same_size)
-    (found_so image' size layout tables end (ap (λ (i : List ℕ). header_of (take 512 i) size) same ∙ header) replayed))
+    (found_so image' size layout tables end (ap (λ (i : List ℕ). header_of (take 512 i) size) same ∙ header) read))
 
 pub book_cause_behind : (before later told : Type 0) (image image' image'' : List ℕ) (size : ℕ) (layout : Layout) (error : OpenError) → (later → before)
     → (told → header_of (take 512 image') size ≡ Ok layout) → image' ≡ image → image'' ≡ image'
-    → ReplayCause later told layout (part 512 layout.book image'') error → OpenCause before told (opening_of image size) error
+    → OpenCause later told (by_entries image'' (by_book layout (part 512 layout.book image''))) error → OpenCause before told (opening_of image size) error
 book_cause_behind before later told image image' image'' size layout error earlier header same same' cause =
     subst (λ (i : List ℕ). OpenCause before told (opening_of i size) error) same
-    (book_cause later before told image' size layout error earlier header (subst (λ (i : List ℕ). ReplayCause later told layout (part 512 layout.book i) error) same' cause))
+    (book_cause later before told image' size layout error earlier header
+    (subst (λ (i : List ℕ). OpenCause later told (by_entries i (by_book layout (part 512 layout.book i))) error) same' cause))
 
 pub rose_before : (a b c : ℕ) → a ≤ b → Rose b c → Rose a c
 rose_before a b c le rose = ⊎_elim (λ less. inl (omega (arith, less, le))) (λ most. inr most) rose

@@ -1,5 +1,5 @@
 -- A disk that was formatted is sound: it opens without events.
-use Rattle.std.proofs.Common.{◌≡◌, ◌-◌, ℕ, Bool, false, List, [], take, drop, cond, Option, None, Result, Ok, Err, sym, ap, subst, ◌∙◌, arith}
+use Rattle.std.proofs.Common.{◌≡◌, ◌-◌, ℕ, Bool, false, List, [], take, drop, cond, Option, None, Result, Ok, Err, refl, sym, ap, subst, ◌∙◌, arith}
 use Rattle.std.proofs.lemmas.Option.{none-some}
 use Rattle.ckr_book.specs.Next.{NoneAt}
 use Rattle.ckr_book.specs.Records.{starts_open}
@@ -8,11 +8,13 @@ use Rattle.ckr_outside.specs.Disk.{part}
 use Rattle.ckr_points.specs.Events.{AreSound}
 use Rattle.ckr_points.specs.Office.{Office, no_office, office}
 use Rattle.ckr_points.specs.Rows.{no_tables}
+use Rattle.ckr_desk_refines.specs.Entries.{HasEntries}
 use Rattle.ckr_desk_refines.specs.RewriteRecord.{HasCommittedAgain, HasLast, last_event}
 use Rattle.ckr_desk_store.specs.OpenImages.{event_records}
 use Rattle.ckr_desk.specs.declared.error.OpenError.{OpenError}
 use Rattle.ckr_desk.specs.declared.error.OpenError.TheVariants.{BadBook}
-use Rattle.ckr_desk.specs.Opening.{behind_records, by_book, by_end, by_header, opened_at, opening_of}
+use Rattle.ckr_desk.specs.Entries.{bad_entry}
+use Rattle.ckr_desk.specs.Opening.{behind_records, by_book, by_end, by_entries, by_header, opened_at, opening_of, refused_or}
 use Rattle.ckr_desk.specs.Soundness.{Sound, events_in, last_on, office_on}
 use Rattle.ckr_desk.specs.State.{Opened}
 use Rattle.ckr_volumes.specs.declared.layout.Layout.{Layout}
@@ -33,10 +35,17 @@ fresh_book layout bytes none =
     ∙ ap (gate_or layout) none.gate
     ∙ ap (λ (n : ℕ). Ok (opened_at layout no_tables n)) (omega arith)
 
+-- no entry is refused
+none-kept : (layout : Layout) (image : List ℕ) → bad_entry layout no_tables image ≡ None
+unfolding bad_entry
+none-kept layout image = refl
+
 fresh_opening : (layout : Layout) (image : List ℕ) (size : ℕ) → header_of (take 512 image) size ≡ Ok layout → NoneAt (part 512 layout.book image) false
     → opening_of image size ≡ Ok (opened_at layout no_tables layout.book)
 unfolding opening_of
-fresh_opening layout image size header none = ap (by_header image) header ∙ fresh_book layout (part 512 layout.book image) none
+fresh_opening layout image size header none =
+    ap (by_header image) header ∙ ap (by_entries image) (fresh_book layout (part 512 layout.book image) none)
+    ∙ ap (refused_or (opened_at layout no_tables layout.book)) (none-kept layout image)
 
 -- ---- it has no events
 
@@ -60,6 +69,7 @@ fresh_sound layout image size header none =
           (λ name table found plain. absurd (none-some table found));
       last = subst (λ (e : Option Event). HasLast (office_on layout image) e) (sym (fresh_last layout image none.records))
           (λ rewrite told. absurd (none-some rewrite told));
+      entries = subst (λ (o : Office). HasEntries layout o.tables image) back (λ name table found. absurd (none-some table found));
     }
 
 -- each image of a disk that was formatted is what it reads

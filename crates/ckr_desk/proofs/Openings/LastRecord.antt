@@ -1,9 +1,10 @@
 -- The record that the last event tells, written again at opening.
 use Rattle.std.proofs.Common.{◌≡◌, ◌≤◌, ◌<◌, ◌==◌, ◌&&◌, ℕ, Bool, true, false, cond, IsTrue, List, length, Option, Some, None, refl, sym, ap, ◌∙◌, subst, slice_set, nat_lt, arith}
 use Rattle.std.specs.Option.{option_map_or}
-use Rattle.std.proofs.lemmas.Bool.{false≢true}
+use Rattle.std.proofs.lemmas.Bool.{and_from, false≢true}
 use Rattle.std.proofs.lemmas.Bool.Decides.{nat_tests}
 use Rattle.std.proofs.lemmas.Option.{same_Some}
+use Rattle.ckr_base.proofs.Bools.{and-first}
 use Rattle.ckr_base.proofs.Numbers.{equal-itself}
 use Rattle.ckr_base.proofs.Options.{some-not-none}
 use Rattle.ckr_base.proofs.Sequences.{set-again}
@@ -12,11 +13,13 @@ use Rattle.ckr_events.specs.declared.event.Event.{Event}
 use Rattle.ckr_events.specs.declared.event.Event.TheVariants.{Rewritten}
 use Rattle.ckr_desk_memory.specs.Rewrite.{updated_by}
 use Rattle.ckr_desk_refines.specs.Commits.{HasCommitted}
-use Rattle.ckr_library.specs.declared.sets.Content.TheVariants.{Plain}
+use Rattle.ckr_library.specs.declared.sets.Content.{Content}
+use Rattle.ckr_library.specs.declared.sets.Content.TheVariants.{Checkpoints, Plain}
 use Rattle.ckr_library.specs.declared.sets.DataSet.{DataSet}
 use Rattle.ckr_library.specs.NameMaps.{Name, entry_at, same_name}
 use Rattle.ckr_library.proofs.Named.{each-at, name-equivalence, name-same}
 use Rattle.ckr_points.specs.Office.{Office, model_records}
+use Rattle.ckr_points.specs.RuleCases.{is_plain}
 use Rattle.ckr_points.specs.Rows.{RunRow, TableSet, TablesModel, run_of}
 use Rattle.ckr_points_invariant.specs.Invariant.{IsKept}
 use Rattle.ckr_desk_refines.specs.RewriteRecord.{HasCommittedAgain, HasLast, RewriteRecord, again, any_rewrite, rewrite_of}
@@ -29,12 +32,17 @@ use Rattle.ckr_desk.proofs.Openings.Lengths.{HaveLengths, record-fits}
 use Rattle.ckr_desk.specs.Replay.{fits_name, fits_row, fits_set, has_record}
 use Rattle.ckr_desk.specs.Rewrite.{IsWrittenBy, LacksAtMost}
 
--- a record that the tables have
+plain-from : (content : Content) → is_plain content ≡ true → content ≡ Plain
+plain-from Plain is = refl
+plain-from Checkpoints is = absurd (false≢true is)
+
+-- a record that the tables have, in a data set that holds records
 pub record IsDue (tables : TablesModel) (event : Event) : Type 0 where
   pub its : RewriteRecord
   pub told : rewrite_of tables event ≡ Some its
   pub table : TableSet
   pub at : entry_at tables.sets its.name ≡ Some table
+  pub plain : table.set.content ≡ Plain
   pub written : (layout : Layout) (before after : List ℕ) → IsWrittenBy layout tables event before after → IsWritten layout table.set its.place its.image before after
   pub lacks : (layout : Layout) (before image : List ℕ) → LacksAtMost layout tables event before image → DiffersAt layout table.set its.place before image
 
@@ -42,18 +50,24 @@ module _ (tables : TablesModel) (job taken writes : ℕ) (lengths : ArrayVec ℕ
   abbrev its_event : Event
   its_event = Rewritten job taken writes lengths place image
 
-  due-table : (row : RunRow) (name : Name) → run_of tables job ≡ Some row → updated_by row ≡ Some name → (entry : Option TableSet) → entry_at tables.sets name ≡ entry
-      → option_map_or (fits_set place image) entry false ≡ true → IsDue tables its_event
-  due-table row name run updated None at fits = absurd (false≢true fits)
-  due-table row name run updated (Some table) at fits = record {
+  -- by its run, and by the data set that the run's step updates
+  pub due-so : (row : RunRow) (name : Name) (table : TableSet) → run_of tables job ≡ Some row → updated_by row ≡ Some name → entry_at tables.sets name ≡ Some table → table.set.content ≡ Plain → IsDue tables its_event
+  due-so row name table run updated at plain = record {
     its = record { name = name; place = place; image = image };
     told = ap (λ o. option_map_or (λ row. option_map_or (λ name. Some (record { name = name; place = place; image = image })) (updated_by row) None) o None) run
         ∙ ap (λ o. option_map_or (λ name. Some (record { name = name; place = place; image = image })) o None) updated;
     table = table;
     at = at;
+    plain = plain;
     written = λ layout before after by. by row name table run updated at;
     lacks = λ layout before after by. by row name table run updated at;
   }
+
+  due-table : (row : RunRow) (name : Name) → run_of tables job ≡ Some row → updated_by row ≡ Some name → (entry : Option TableSet) → entry_at tables.sets name ≡ entry
+      → option_map_or (fits_set place image) entry false ≡ true → IsDue tables its_event
+  due-table row name run updated None at fits = absurd (false≢true fits)
+  due-table row name run updated (Some table) at fits =
+      due-so row name table run updated at (plain-from table.set.content (and-first (is_plain table.set.content) (nat_lt place table.set.space && (length image == table.set.lrecl)) fits))
 
   due-name : (row : RunRow) → run_of tables job ≡ Some row → (name : Option Name) → updated_by row ≡ name → option_map_or (fits_name tables place image) name false ≡ true → IsDue tables its_event
   due-name row run None updated fits = absurd (false≢true fits)
@@ -86,9 +100,10 @@ told-fits : (tables : TablesModel) (event : Event) (its : RewriteRecord) (table 
 told-fits tables (Rewritten job taken writes lengths place image) its table is at = told-row tables job taken writes lengths place image its table at (run_of tables job) is
 told-fits tables _ its table is at = absurd (some-not-none its (sym is))
 
-fits-so : (place : ℕ) (image : List ℕ) (table : TableSet) → place < table.set.space → length image ≡ table.set.lrecl → fits_set place image table ≡ true
-fits-so place image table within long =
-    ap (λ b. b && (length image == table.set.lrecl)) (below place table.set.space within) ∙ ap (λ n. n == table.set.lrecl) long ∙ equal-itself table.set.lrecl
+fits-so : (place : ℕ) (image : List ℕ) (table : TableSet) → table.set.content ≡ Plain → place < table.set.space → length image ≡ table.set.lrecl → fits_set place image table ≡ true
+fits-so place image table plain within long =
+    and_from (is_plain table.set.content) _ (ap is_plain plain)
+    (ap (λ b. b && (length image == table.set.lrecl)) (below place table.set.space within) ∙ ap (λ n. n == table.set.lrecl) long ∙ equal-itself table.set.lrecl)
   where
     below : (one other : ℕ) → one < other → nat_lt one other ≡ true
     below one other less = grind (arith, nat_tests, less)
@@ -165,7 +180,7 @@ module _ (layout : Layout) (office : Office) (content : List ℕ) (kept : IsKept
       not-there name table at plain its told same =
           let here : entry_at office.tables.sets its.name ≡ Some table = ap (entry_at office.tables.sets) (sym (name-same name its.name same)) ∙ at in
           let fits = record-fits layout office its.name table its.place its.image kept have here plain (there its told) in
-          false≢true (sym (at-none its table last refl told here) ∙ fits-so its.place its.image table fits.0 fits.1)
+          false≢true (sym (at-none its table last refl told here) ∙ fits-so its.place its.image table plain fits.0 fits.1)
 
       by : (name : Name) (table : TableSet) → entry_at office.tables.sets name ≡ Some table → table.set.content ≡ Plain → (rewrite : Option RewriteRecord) → any_rewrite office.tables last ≡ rewrite
           → again (any_rewrite office.tables last) name (records_on content layout table.set table.set.length) ≡ model_records office name

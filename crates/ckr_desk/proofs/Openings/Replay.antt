@@ -158,6 +158,7 @@ replay_cause rose told layout book tables place OpenErrors.Fault cause = cause
 replay_cause rose told layout book tables place OpenErrors.NotFormatted cause = absurd cause
 replay_cause rose told layout book tables place (OpenErrors.Version version) cause = absurd cause
 replay_cause rose told layout book tables place (OpenErrors.BadHeader offset) cause = absurd cause
+replay_cause rose told layout book tables place (OpenErrors.BadEntry job offset) cause = absurd cause
 replay_cause rose told layout book tables place (OpenErrors.BadBook offset) cause =
     λ both. bad_there layout book tables place both.1 (cause.1 both.0) ∙ ap bad_book (sym cause.0)
 

@@ -1,17 +1,20 @@
 -- Records that bring about tables spell events of what the desk runs.
-use Rattle.std.proofs.Common.{◌≡◌, ◌+◌, ℕ, Bool, true, false, cond, List, [], ◌∷◌, ◌++◌, length, refl, sym, ap, ◌∙◌, subst, Option, Some, None, Result, Ok, Err}
-use Rattle.std.proofs.lemmas.Bool.{false≢true}
+use Rattle.std.proofs.Common.{◌≡◌, ◌+◌, ℕ, zero, suc, Bool, true, false, not, cond, List, [], ◌∷◌, ◌++◌, length, refl, sym, ap, ◌∙◌, subst, Option, Some, None, Result, Ok, Err, arith}
+use Rattle.std.proofs.lemmas.Bool.{and_from, false≢true}
 use Rattle.ckr_base.proofs.Bools.{and-first, and-second}
+use Rattle.ckr_base.proofs.Numbers.{equal-true}
 use Rattle.ckr_base.proofs.Options.{option-cases}
 use Rattle.ckr_events.specs.declared.event.Event.{Event}
-use Rattle.ckr_events.specs.declared.event.Event.TheVariants.{Cancelled, Ended, Purged, Rewritten, Selected, Started, StepEnded, Submitted}
+use Rattle.ckr_events.specs.declared.event.Event.TheVariants.{Cancelled, Ended, Purged, Restarted, Rewritten, Selected, Started, StepEnded, Submitted, Checkpointed}
 use Rattle.ckr_events.specs.Event.{event_of}
 use Rattle.ckr_desk_memory.specs.Replay.{deck_of, goes_on, is_run_as, is_run_by, replayed}
 use Rattle.ckr_desk_turn.specs.RunEvents.{AreRunEvents, IsRunDeck, IsRunEvent}
-use Rattle.ckr_points.specs.Restart.{after_event}
+use Rattle.ckr_jcl.specs.declared.deck.Job.{Job}
+use Rattle.ckr_points.specs.Restart.{Decked, after_event}
 use Rattle.ckr_points.specs.Rows.{TablesModel}
 use Rattle.ckr_points_decks.specs.Cards.{kept_deck}
 use Rattle.ckr_points_decks.specs.Form.{is_run}
+use Rattle.ckr_points_invariant.specs.Continuations.{NoneGoesBack, goes_back}
 use Rattle.ckr_points_tables.specs.Invariant.{is_plain_event}
 use Rattle.ckr_volumes.specs.declared.layout.Layout.{Layout}
 use Rattle.ckr_desk.specs.Opening.{behind_read, behind_record, behind_records, or_bad}
@@ -29,15 +32,27 @@ run-event (Submitted job cards) plain runs = run-deck job cards runs
 run-event (Selected job initiator earlier step id) plain runs = plain
 run-event (Started job step items) plain runs = tt
 run-event (Rewritten job taken writes lengths place image) plain runs = tt
+run-event (Checkpointed job id taken writes lengths place bytes) plain runs = tt
 run-event (Cancelled job) plain runs = tt
 run-event (StepEnded job step rc writes lengths) plain runs = tt
 run-event (Ended job ending) plain runs = tt
 run-event (Purged job) plain runs = tt
 run-event _ plain runs = absurd (false≢true plain)
 
-went-on : (layout : Layout) (tables : TablesModel) (event : Event) → goes_on layout tables event (deck_of event) ≡ true → IsRunEvent event (deck_of event)
+pub went-on : (layout : Layout) (tables : TablesModel) (event : Event) → goes_on layout tables event (deck_of event) ≡ true → IsRunEvent event (deck_of event)
 went-on layout tables event goes =
     run-event event (and-first (is_plain_event event) _ goes) (and-first (is_run_by event (deck_of event)) _ (and-second (is_plain_event event) _ goes))
+
+-- by none of them a run goes back
+pub never-back : (event : Event) (deck : Option Job) → IsRunEvent event deck → goes_back event ≡ false
+never-back (Selected job initiator zero step id) deck is = refl
+never-back (Selected job initiator (suc before) step id) deck is = let same : suc before ≡ 0 = equal-true (suc before) 0 is in absurd (let none : ⊥ = omega (arith, same) in none)
+never-back (Restarted job initiator code checkpoint) deck is = absurd is
+never-back _ deck is = refl
+
+pub none-back : (events : List Decked) → AreRunEvents events → NoneGoesBack events
+none-back [] run = refl
+none-back (event ∷ rest) run = and_from (not (goes_back event.0)) _ (ap not (never-back event.0 event.1 run.0)) (none-back rest run.1)
 
 abbrev or_none : Bool → Layout → TablesModel → Event → Option TablesModel
 or_none goes layout tables event = cond goes (Some (after_event event (deck_of event) tables)) None

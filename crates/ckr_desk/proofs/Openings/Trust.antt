@@ -12,7 +12,9 @@ use Rattle.ckr_desk_turn.proofs.Opening.{opened-is}
 use Rattle.ckr_desk_turn.proofs.Runs.Lists.{events-kept, events-run}
 use Rattle.ckr_desk_turn.specs.Invariant.{HasRuns, IsDesk}
 use Rattle.ckr_desk_turn.specs.RunEvents.{AreRunEvents}
+use Rattle.ckr_desk_refines.proofs.Entries.There.{has-then}
 use Rattle.ckr_desk_refines.specs.Commits.{HasCommitted}
+use Rattle.ckr_desk_refines.specs.Entries.{HasEntries, OnlyCheckSetsKeep, SameKept}
 use Rattle.ckr_outside.specs.Disk.{EachSince, Only, part}
 use Rattle.ckr_outside.specs.Moments.{and_then}
 use Rattle.ckr_points.specs.Events.{AreSound}
@@ -29,7 +31,9 @@ use Rattle.ckr_volumes.specs.declared.header.HeaderError.TheVariants as HeaderEr
 use Rattle.ckr_volumes.specs.declared.layout.Layout.{Layout}
 use Rattle.ckr_volumes.specs.Header.{header_of}
 use Rattle.ckr_desk.proofs.Images.NextEvent.{office-same}
+use Rattle.ckr_desk.proofs.Images.Entries.{are-within, checks-keep, none-bad-on}
 use Rattle.ckr_desk.proofs.Images.Soundness.{sound-at}
+use Rattle.ckr_desk.proofs.Images.WrittenRecord.{same-again, same-lacking}
 use Rattle.ckr_desk.proofs.Openings.LastRecord.{IsDue, again-lacking, committed-already, committed-written, due}
 use Rattle.ckr_desk.proofs.Openings.Answers.{by_its_book}
 use Rattle.ckr_desk.proofs.Openings.Lengths.{HaveLengths, office-lengths}
@@ -39,7 +43,8 @@ use Rattle.ckr_desk.specs.FirstSync.{FromSync}
 use Rattle.ckr_desk.specs.declared.error.OpenError.{OpenError}
 use Rattle.ckr_desk.specs.declared.error.OpenError.TheVariants.{BadBook}
 use Rattle.ckr_desk.specs.declared.error.OpenError.TheVariants as OpenErrors
-use Rattle.ckr_desk.specs.Opening.{behind_records, by_end, by_header, opened_at, opening_of}
+use Rattle.ckr_desk.specs.Entries.{bad_entry}
+use Rattle.ckr_desk.specs.Opening.{behind_records, by_book, by_end, by_entries, by_header, opened_at, opening_of, refused_or}
 use Rattle.ckr_desk.specs.Replay.{IsLackingAgain, IsWrittenAgain, IsWrittenIf, LacksLast, OpenCause, has_record}
 use Rattle.ckr_desk.specs.Soundness.{HasKept, IsTrusted, Sound, desk_of_opened, desk_opening, events_in, last_on, office_on, state_of}
 use Rattle.ckr_desk.specs.State.{Opened, RoomyDesk, DeskView, opened_of}
@@ -67,11 +72,21 @@ end-behind layout image opened (Ok tables) brings is =
     let bytes = part 512 layout.book image in
     gate-behind layout image tables opened (end_from 0 bytes) (layout.book - end_from 0 bytes) brings (starts_open (drop (end_from 0 bytes) bytes)) is
 
+-- where no entry is refused, the book opens to the same
+accepted : (image : List ℕ) (opened : Opened) (read : Result Opened OpenError) → by_entries image read ≡ Ok opened → read ≡ Ok opened
+accepted image opened (Err error) is = absurd (err-not-ok error opened is)
+accepted image opened (Ok its) is = by (bad_entry its.layout its.tables image) is
+  where
+    by : (refused : Option (ℕ × ℕ)) → refused_or its refused ≡ Ok opened → ◌≡◌ {A = Result Opened OpenError} (Ok its) (Ok opened)
+    by None is = is
+    by (Some at) is = absurd (err-not-ok (OpenErrors.BadEntry at.0 at.1) opened is)
+
 header-behind : (image : List ℕ) (opened : Opened) (head : Result Layout HeaderError) → by_header image head ≡ Ok opened → GivesTables image opened
 header-behind image opened (Err HeaderErrors.NotFormatted) is = absurd (err-not-ok OpenErrors.NotFormatted opened is)
 header-behind image opened (Err (HeaderErrors.Version version)) is = absurd (err-not-ok (OpenErrors.Version version) opened is)
 header-behind image opened (Err (HeaderErrors.BadHeader offset)) is = absurd (err-not-ok (OpenErrors.BadHeader offset) opened is)
-header-behind image opened (Ok layout) is = end-behind layout image opened (behind_records layout no_tables 0 (event_records layout image)) refl is
+header-behind image opened (Ok layout) is =
+    end-behind layout image opened (behind_records layout no_tables 0 (event_records layout image)) refl (accepted image opened (by_book layout (part 512 layout.book image)) is)
 
 gives-tables : (image : List ℕ) (size : ℕ) (opened : Opened) → opening_of image size ≡ Ok opened → GivesTables image opened
 unfolding opening_of
@@ -86,6 +101,7 @@ desk-cause rose told image size OpenErrors.NotFormatted cause = λ is. ap (desk_
 desk-cause rose told image size (OpenErrors.Version version) cause = λ is. ap (desk_of_opened image) (cause is)
 desk-cause rose told image size (OpenErrors.BadHeader offset) cause = λ is. ap (desk_of_opened image) (cause is)
 desk-cause rose told image size (OpenErrors.BadBook offset) cause = λ is. ap (desk_of_opened image) (cause is)
+desk-cause rose told image size (OpenErrors.BadEntry job offset) cause = λ is. ap (desk_of_opened image) (cause is)
 
 last-same : (layout : Layout) (old new : List ℕ) → event_records layout new ≡ event_records layout old → last_on layout new ≡ last_on layout old
 unfolding last_on
@@ -124,6 +140,20 @@ module _ (image : List ℕ) (size : ℕ) (opened : Opened) (sound : Sound size i
 
   last-there : HasLast (office_on opened.layout image) (last_on opened.layout image)
   last-there = subst (λ l. HasLast (office_on l image) (last_on l image)) layout-same sound.last
+
+  entries-there : HasEntries opened.layout (office_on opened.layout image).tables image
+  entries-there = subst (λ l. HasEntries l (office_on l image).tables image) layout-same sound.entries
+
+  -- another image has the entries with the same records of the data sets that keep any
+  entries-then : (other : List ℕ) → SameKept opened.layout (office_on opened.layout image).tables.sets image other → HasEntries opened.layout (office_on opened.layout image).tables other
+  unfolding office_on
+  entries-then other same =
+      has-then opened.layout (office_on opened.layout image).tables image other
+      (are-within opened.layout (event_records opened.layout image) opened.tables events-so (gives-tables image size opened opens)) same entries-there
+
+  checks-so : OnlyCheckSetsKeep (office_on opened.layout image).tables.sets
+  unfolding office_on
+  checks-so = checks-keep opened.layout (event_records opened.layout image) opened.tables events-so (gives-tables image size opened opens)
 
   tables-so : (office_on opened.layout image).tables ≡ opened.tables
   tables-so = subst (λ l. (office_on l image).tables ≡ opened.tables) layout-same (ap (λ (o : Opened). o.tables) same-opened)
@@ -180,6 +210,15 @@ module _ {D : Type 0} (told : Type 0) (content : D → List ℕ) (may_leave : D 
         (subst (λ l. HasCommittedAgain new.store.layout here l (content disk)) is.last_is (again-there (content disk) (size disk) (opened_of new) sound is.opens))
         (subst (λ t. IsWrittenAgain new.store.layout t last (content disk) (content new.store.disk)) (sym tables-here) is.written)
 
+    entries-new : HasEntries new.store.layout here.tables (content new.store.disk)
+    entries-new =
+        entries-then (content disk) (size disk) (opened_of new) sound is.opens (content new.store.disk)
+        (same-again new.store.layout here.tables (kept-so (content disk) (size disk) (opened_of new) sound is.opens).events.extents (checks-so (content disk) (size disk) (opened_of new) sound is.opens)
+        last (content disk) (content new.store.disk) (subst (λ t. IsWrittenAgain new.store.layout t last (content disk) (content new.store.disk)) (sym tables-here) is.written))
+
+    entries-now : HasEntries new.store.layout (office_on new.store.layout (content new.store.disk)).tables (content new.store.disk)
+    entries-now = subst (λ (o : Office). HasEntries new.store.layout o.tables (content new.store.disk)) (sym office-new) entries-new
+
     state-so : state_with new.store.layout here [] (failed_in here.tables) (room_of new.store.book) ≡ state_of content new
     state-so =
         ap (λ (t : TablesModel). state_with new.store.layout here [] (failed_in t) (room_of new.store.book)) tables-here
@@ -203,11 +242,14 @@ module _ {D : Type 0} (told : Type 0) (content : D → List ℕ) (may_leave : D 
     committed-now : HasCommitted new.store.layout (office_on new.store.layout (content new.store.disk)) (content new.store.disk)
     committed-now = subst (λ o. HasCommitted new.store.layout o (content new.store.disk)) (sym office-new) committed-new
 
+    events-new : AreSound new.store.layout (events_in (event_records new.store.layout (content new.store.disk)))
+    events-new = subst (λ records. AreSound new.store.layout (events_in records)) (sym is.events) (events-so (content disk) (size disk) (opened_of new) sound is.opens)
+
     pub trusted-opened : IsTrusted told content may_leave new
     trusted-opened = record {
       tells = tells;
       opens = brings-new;
-      events = subst (λ records. AreSound new.store.layout (events_in records)) (sym is.events) (events-so (content disk) (size disk) (opened_of new) sound is.opens);
+      events = events-new;
       stands = record {
         layout_is = refl;
         is_desk = desk-new;
@@ -220,7 +262,14 @@ module _ {D : Type 0} (told : Type 0) (content : D → List ℕ) (may_leave : D 
       last = subst (λ o. HasLast o (last_on new.store.layout (content new.store.disk))) (sym office-new)
           (subst (HasLast here) (sym last-new) (last-there (content disk) (size disk) (opened_of new) sound is.opens));
       committed = λ image may. subst (HasCommitted new.store.layout (office_on new.store.layout (content new.store.disk))) (sym (is.settled image may)) committed-now;
+      entries = entries-now;
+      entries_left = λ image may. subst (HasEntries new.store.layout (office_on new.store.layout (content new.store.disk)).tables) (sym (is.settled image may)) entries-now;
     }
+
+    none-bad-new : bad_entry new.store.layout new.jobs.tables.desk (content new.store.disk) ≡ None
+    none-bad-new =
+        subst (λ (t : TablesModel). bad_entry new.store.layout t (content new.store.disk) ≡ None) (ap (λ (o : Office). o.tables) office-new ∙ tables-here)
+        (none-bad-on new.store.layout (content new.store.disk) new.jobs.tables.desk events-new brings-new entries-now)
 
     opening-new : opening_of (content new.store.disk) (size disk) ≡ Ok (opened_of new)
     opening-new =
@@ -232,9 +281,10 @@ module _ {D : Type 0} (told : Type 0) (content : D → List ℕ) (may_leave : D 
         let same : part book.start book.size image ≡ bytes = ap (λ n. part n book.size image) is.sound.start ∙ ap (λ n. part 512 n image) is.sound.length in
         let end : end_from 0 bytes ≡ book.end = ap (end_from 0) (sym same) ∙ on.end in
         let closed : ends_closed bytes = ap (λ n. starts_open (drop n bytes)) end ∙ ap (λ b. starts_open (drop book.end b)) (sym same) ∙ on.closed in
+        let its : Opened = opened_at new.store.layout tables (new.store.layout.book - end_from 0 bytes) in
         by_its_book image (size disk) new.store.layout (ap (header_of (take 512 image)) (sym is.same_size) ∙ is.sound.heads is.is_open image reads)
-        ∙ ap (by_end new.store.layout bytes) brings-new
-        ∙ ap (gate_or (end_from 0 bytes) (opened_at new.store.layout tables (new.store.layout.book - end_from 0 bytes))) closed
+        ∙ ap (by_entries image) (ap (by_end new.store.layout bytes) brings-new ∙ ap (gate_or (end_from 0 bytes) its) closed)
+        ∙ ap (refused_or its) none-bad-new
         ∙ ap (λ n. Ok (opened_at new.store.layout tables (new.store.layout.book - n))) end
         ∙ ap (λ n. Ok (opened_at new.store.layout tables (n - book.end))) (sym is.sound.length)
         ∙ ap (λ failed. Ok (record { layout = new.store.layout; tables = tables; failed = failed; room = room_of book })) (sym is.failed)
@@ -271,15 +321,29 @@ module _ {D : Type 0} (told : Type 0) (content : D → List ℕ) (may_leave : D 
     again-mid : HasCommittedAgain mid.store.layout office-mid last (content disk)
     again-mid = subst (λ l. HasCommittedAgain mid.store.layout office-mid l (content disk)) is.last_is (again-there (content disk) (size disk) (opened_of mid) sound is.opens)
 
+    lacks-here : (image : List ℕ) → LacksLast mid.store.layout mid.jobs.tables.desk last (content mid.store.disk) image → LacksLast mid.store.layout office-mid.tables last (content disk) image
+    lacks-here image lacks =
+        subst (λ bytes. LacksLast mid.store.layout office-mid.tables last bytes image) is.same
+        (subst (λ t. LacksLast mid.store.layout t last (content mid.store.disk) image) (sym (tables-so (content disk) (size disk) (opened_of mid) sound is.opens)) lacks)
+
     committed-lacking : (image : List ℕ) → (image ≡ content mid.store.disk) ⊎ LacksLast mid.store.layout mid.jobs.tables.desk last (content mid.store.disk) image
         → HasCommittedAgain mid.store.layout office-mid last image
     committed-lacking image either =
         ⊎_elim
         (λ same. subst (HasCommittedAgain mid.store.layout office-mid last) (sym (same ∙ is.same)) again-mid)
         (λ lacks.
-        lacking-again last image again-mid
-        (subst (λ bytes. LacksLast mid.store.layout office-mid.tables last bytes image) is.same
-        (subst (λ t. LacksLast mid.store.layout t last (content mid.store.disk) image) (sym (tables-so (content disk) (size disk) (opened_of mid) sound is.opens)) lacks)))
+        lacking-again last image again-mid (lacks-here image lacks))
+        either
+
+    entries-lacking : (image : List ℕ) → (image ≡ content mid.store.disk) ⊎ LacksLast mid.store.layout mid.jobs.tables.desk last (content mid.store.disk) image
+        → HasEntries mid.store.layout office-mid.tables image
+    entries-lacking image either =
+        ⊎_elim
+        (λ same. subst (HasEntries mid.store.layout office-mid.tables) (sym (same ∙ is.same)) (entries-there (content disk) (size disk) (opened_of mid) sound is.opens))
+        (λ lacks.
+        entries-then (content disk) (size disk) (opened_of mid) sound is.opens image
+        (same-lacking mid.store.layout office-mid.tables (kept-so (content disk) (size disk) (opened_of mid) sound is.opens).events.extents (checks-so (content disk) (size disk) (opened_of mid) sound is.opens)
+        last (content disk) image (lacks-here image lacks)))
         either
 
     abbrev Keeps : List ℕ → Type 0
@@ -306,7 +370,8 @@ module _ {D : Type 0} (told : Type 0) (content : D → List ℕ) (may_leave : D 
               ∙ ap (λ (t : TablesModel). Ok t) (sym (tables-so (content disk) (size disk) (opened_of mid) sound is.opens)))
               (subst (λ records. AreSound mid.store.layout (events_in records)) (sym listed) (events-so (content disk) (size disk) (opened_of mid) sound is.opens))
               (subst (λ l. HasCommittedAgain mid.store.layout office-mid l image) (sym lasts) (committed-lacking image left.1))
-              (subst (HasLast office-mid) (sym (last-same mid.store.layout (content disk) image listed)) (last-there (content disk) (size disk) (opened_of mid) sound is.opens));
+              (subst (HasLast office-mid) (sym (last-same mid.store.layout (content disk) image listed)) (last-there (content disk) (size disk) (opened_of mid) sound is.opens))
+              (entries-lacking image left.1);
           front = [];
           more = [];
           split = refl;

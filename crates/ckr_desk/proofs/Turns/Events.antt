@@ -1,10 +1,10 @@
 -- A turn that tells an event without a unit: the desk behind it, and what a stop leaves.
 use Rattle.std.proofs.Common.{◌≡◌, ◌+◌, ◌-◌, ℕ, List, [], ◌∷◌, Bool, true, false, length, refl, ap, sym, ◌∙◌, subst, ⊎_elim, arith, Some, None}
-use Rattle.std.proofs.lemmas.Bool.{and_from, le-leb}
+use Rattle.std.proofs.lemmas.Bool.{and_from, false≢true, le-leb}
 use Rattle.ckr_base.proofs.Options.{some-not-none}
 use Rattle.ckr_book.specs.Book.{IsBeforeOrAfter, room_of}
 use Rattle.ckr_events.specs.declared.event.Event.{Event}
-use Rattle.ckr_events.specs.declared.event.Event.TheVariants.{Submitted, Rewritten}
+use Rattle.ckr_events.specs.declared.event.Event.TheVariants.{Checkpointed, Submitted, Rewritten}
 use Rattle.ckr_events.specs.Event.{IsSmall, spelling}
 use Rattle.ckr_desk_memory.specs.Replay.{deck_of, goes_on, is_run_by}
 use Rattle.ckr_desk_memory.specs.View.{jobs_of}
@@ -14,23 +14,26 @@ use Rattle.ckr_desk_turn.specs.Invariant.{IsDesk, IsTurnOf}
 use Rattle.ckr_points.specs.Events.{IsNext}
 use Rattle.ckr_points.specs.Office.{office_after}
 use Rattle.ckr_points.specs.Restart.{after_event}
+use Rattle.ckr_points.specs.Rows.{TablesModel}
 use Rattle.ckr_desk_refines.proofs.Standing.Plans.{plans-so}
+use Rattle.ckr_desk_refines.specs.Entries.{HasEntries}
 use Rattle.ckr_desk_refines.specs.RewriteRecord.{RewriteRecord, rewrite_of}
 use Rattle.ckr_desk_refines.specs.Moves.{HasSameRecords}
 use Rattle.ckr_desk_store.specs.OpenImages.{Opens, event_records}
 use Rattle.ckr_points_tables.specs.Invariant.{is_plain_event}
-use Rattle.ckr_desk_refines.proofs.Events.Commits.{committed-moves}
 use Rattle.ckr_desk_refines.proofs.Events.Turns.{told-committed, told-stands}
 use Rattle.ckr_desk_turn.specs.declared.plan.Plan.{Plan}
 use Rattle.ckr_desk_turn.specs.declared.plan.Plan.TheVariants.{Tell}
 use Rattle.ckr_desk_turn.specs.declared.reply.Reply.{Reply}
 use Rattle.ckr_desk_turn.specs.declared.reply.Turn.{Turn}
-use Rattle.ckr_desk_turn.specs.Desk.{DeskModel, TurnDone, behind, carried_out, turn_of, jobs_of as jobs_of_desk}
+use Rattle.ckr_desk_turn.specs.Desk.{DeskModel, TurnDone, behind, jobs_of as jobs_of_desk}
+use Rattle.ckr_desk_turn.specs.Turns.{carried_out, turn_of}
 use Rattle.ckr_desk_turn.specs.Plans.{plan_of}
 use Rattle.ckr_desk_turn.specs.Spelling.{IsSpelled}
 use Rattle.ckr_volumes.specs.declared.layout.Layout.{Layout}
 use Rattle.ckr_desk.proofs.Images.NextEvent.{deck-none}
-use Rattle.ckr_desk.proofs.Images.Soundness.{again-so, kept-before, kept-behind}
+use Rattle.ckr_desk.proofs.Images.Entries.{HasNewOne, behind-same}
+use Rattle.ckr_desk.proofs.Images.Soundness.{again-so, kept-behind, kept-left, kept-same}
 use Rattle.ckr_desk.proofs.Turns.PlainEvents.{IsQuietPlan, is_quiet, plan-quiet, quiet-plain}
 use Rattle.ckr_desk.proofs.Trust.Events.{IsBehind, IsComing, desk-behind}
 use Rattle.ckr_desk.specs.Requests.{has_room, room_behind}
@@ -53,6 +56,10 @@ quiet-written _ quiet layout tables before after is = is
 quiet-lacks : (event : Event) → is_quiet event ≡ true → (layout : Layout) (tables : _) (before after : List ℕ) → LacksAtMost layout tables event before after → ⊥
 quiet-lacks (Rewritten job taken writes lengths place image) quiet layout tables before after lacks = absurd (subst (λ (b : Bool). elim b as (λ _. Type 0) [ true ↦ ⊥ | false ↦ Unit {0} ]) quiet tt)
 quiet-lacks _ quiet layout tables before after lacks = lacks
+
+quiet-takes : (event : Event) → is_quiet event ≡ true → (layout : Layout) (tables : TablesModel) (image : List ℕ) → HasNewOne layout tables event image
+quiet-takes (Checkpointed job id taken writes lengths place bytes) quiet layout tables image = absurd (false≢true quiet)
+quiet-takes _ quiet layout tables image = tt
 
 -- one of a plain run runs no deck
 pub small-runs : (event : Event) → IsSmall event → is_run_by event None ≡ true
@@ -107,17 +114,24 @@ module _ {D : Type 0} (told : Type 0) (content : D → List ℕ) (may_leave : D 
       last = λ rewrite is. absurd (rewrites-none (behind event None desk).office.tables rewrite is);
     }
 
+    -- an image with the same records has the entries behind it
+    entries-so : may_keep event None old ≡ true → (image : List ℕ) → HasSameRecords layout (content old.store.disk) image → HasEntries layout (behind event None desk).office.tables image
+    entries-so might image same =
+        behind-same told content may_leave old trusted event (behind event None desk) (coming-turn might) (content old.store.disk) image
+        (quiet-takes event quiet-so layout desk.office.tables (content old.store.disk)) trusted.entries same
+
     pub behind-turn-so : (new : DeskView D) → new.store.layout ≡ layout → told → HasGoneBehind told content (Some event) old new → IsSettledBehind content may_leave (Some event) new
         → IsBehind told content may_leave event old new (behind event None desk)
     behind-turn-so new same tells gone settled =
         let written : HasWrittenBehind content event old new = gone.1 tells in
         let same_bytes : content new.store.disk ≡ written.told_on = quiet-written event quiet-so layout new.jobs.tables.desk written.told_on (content new.store.disk) written.written in
+        let same_records : HasSameRecords layout (content old.store.disk) (content new.store.disk) = subst (λ bytes. HasSameRecords layout (content old.store.disk) bytes) (sym same_bytes) written.same in
         record {
           layout = same;
           events = written.events;
           tables = gone.0.moved.tables ∙ ap (λ d. after_event event d old.jobs.tables.desk) (sym none);
-          stands = told-stands layout old.jobs new.jobs (content old.store.disk) (content new.store.disk) desk turn reply event trusted.stands its at-desk gone.0.moved
-              (subst (λ bytes. HasSameRecords layout (content old.store.disk) bytes) (sym same_bytes) written.same);
+          stands = told-stands layout old.jobs new.jobs (content old.store.disk) (content new.store.disk) desk turn reply event trusted.stands its at-desk gone.0.moved same_records;
+          entries = entries-so gone.0.might (content new.store.disk) same_records;
           settled = settled;
         }
 
@@ -149,14 +163,13 @@ module _ {D : Type 0} (told : Type 0) (content : D → List ℕ) (may_leave : D 
         → HasKept layout (size old.store.disk) (event_records layout (content old.store.disk)) (spelling event ∷ []) image
     image-kept image left = ⊎_elim
         (λ (by : IsLeftBy content may_leave size event None old image). ⊎_elim
-        (λ (was : OpensSame content size old image × may_leave old.store.disk image). kept-before told content may_leave size old trusted (spelling event ∷ []) image was.0 (trusted.committed image was.1))
+        (λ (was : OpensSame content size old image × may_leave old.store.disk image). kept-left told content may_leave size old trusted (spelling event ∷ []) image was.0 was.1)
         (λ (now : (may_keep event None old ≡ true) × Opens layout (size old.store.disk) (IsBeforeOrAfter (event_records layout (content old.store.disk)) (spelling event)) image × HasSameRecords layout (content old.store.disk) image).
         ⊎_elim
-        (λ same. kept-before told content may_leave size old trusted (spelling event ∷ []) image (record { head = now.1.head; list = same; closed = now.1.closed })
-        (committed-moves layout (office_on layout (content old.store.disk)) (content old.store.disk) image trusted.stands.is_desk.kept now.2 trusted.stands.committed))
+        (λ same. kept-same told content may_leave size old trusted (spelling event ∷ []) image (record { head = now.1.head; list = same; closed = now.1.closed }) now.2)
         (λ more. kept-behind told content may_leave size old trusted event (behind event None desk) (coming-turn now.0) image (record { head = now.1.head; list = more; closed = now.1.closed })
         (again-so layout (behind event None desk).office (Some event) image (coming-turn now.0).last
-        (told-committed layout old.jobs (content old.store.disk) desk turn reply event trusted.stands its at-desk image now.2)))
+        (told-committed layout old.jobs (content old.store.disk) desk turn reply event trusted.stands its at-desk image now.2)) (entries-so now.0 image now.2))
         now.1.list)
         by)
         (λ lacks. absurd (quiet-lacks event quiet-so layout _ lacks.told_on image lacks.lacks))

@@ -1,36 +1,40 @@
 -- What a turn tells is a plain event.
-use Rattle.std.proofs.Common.{◌≡◌, ℕ, Bool, true, false, List, refl, subst, sym, Option, Some, None, Result, Ok, Err}
+use Rattle.std.proofs.Common.{◌≡◌, ℕ, Bool, true, false, cond, List, refl, subst, sym, Option, Some, None, Result, Ok, Err}
+use Rattle.std.proofs.lemmas.Bool.{false≢true}
 use Rattle.std.specs.Option.{option_map_or}
 use Rattle.ckr_points_library.specs.declared.cause.Refusal.{Refusal}
 use Rattle.ckr_base.specs.declared.code.Code.{Code}
 use Rattle.ckr_base.specs.declared.programs.NextDue.{NextDue}
 use Rattle.ckr_base.specs.declared.programs.NextDue.TheVariants.{Unit as OneUnit, Checkpoint, Cancel, Finished}
 use Rattle.ckr_events.specs.declared.event.Event.{Event}
-use Rattle.ckr_events.specs.declared.event.Event.TheVariants.{Submitted, Rewritten}
+use Rattle.ckr_events.specs.declared.event.Event.TheVariants.{Checkpointed, Submitted, Rewritten}
 use Rattle.ckr_events.specs.declared.event.Made.{Made}
 use Rattle.ckr_desk_memory.specs.Plans.{told_by}
 use Rattle.ckr_meaning.specs.EffectiveJob.{OwnedStep}
 use Rattle.ckr_meaning.specs.declared.place.Place.{Place}
 use Rattle.ckr_meaning.specs.declared.place.Place.TheVariants.{Before, Opened, Within}
 use Rattle.ckr_points.specs.Restart.{place_of}
+use Rattle.ckr_points.specs.RuleCases.{rd_in_effect}
 use Rattle.ckr_points.specs.Rows.{RunRow, step_of_run}
+use Rattle.ckr_rules.specs.RuleTables.{suppresses}
 use Rattle.ckr_steps.specs.declared.step_run.Worked.{Worked}
 use Rattle.ckr_steps.specs.declared.step_run.Worked.TheVariants.{Went, Rewrite, Abend}
 use Rattle.ckr_points_tables.specs.Invariant.{is_plain_event}
 use Rattle.ckr_desk_turn.specs.declared.plan.Plan.{Plan}
-use Rattle.ckr_desk_turn.specs.declared.plan.Plan.TheVariants.{Rest, Tell, Work, Pass}
+use Rattle.ckr_desk_turn.specs.declared.plan.Plan.TheVariants.{Rest, Tell, Work, Pass, Take}
 use Rattle.ckr_desk_turn.specs.declared.reply.Turn.{Turn}
 use Rattle.ckr_desk_turn.specs.Allocation.{allocation_of}
 use Rattle.ckr_desk_turn.specs.Select.{next_run, run_on_initiator}
 use Rattle.ckr_desk_turn.specs.Jobs.{TurnJobs, TurnStep, is_failed, running_in}
-use Rattle.ckr_desk_turn.specs.Plans.{between_plan, chosen_plan, due_plan, fail_plan, free_plan, is_within, placed_plan, plan_of, run_plan, running_plan, start_plan}
+use Rattle.ckr_desk_turn.specs.Plans.{between_plan, chosen_plan, due_plan, fail_plan, free_plan, is_within, placed_plan, plan_of, run_plan, running_plan, start_plan, suppressed_plan}
 use Rattle.ckr_volumes.specs.declared.layout.Layout.{Layout}
 use Rattle.ckr_desk.specs.Units.{IsPlainPlan}
 
--- the event of a plan, if it has one, is plain and rewrites nothing
+-- the event of a plan, if it has one, is plain, rewrites nothing and takes no checkpoint
 abbrev pub is_quiet : Event → Bool
 is_quiet (Rewritten job taken writes lengths place image) = false
 is_quiet (Submitted job cards) = false
+is_quiet (Checkpointed job id taken writes lengths place bytes) = false
 is_quiet event = is_plain_event event
 
 abbrev pub IsQuietPlan : Plan → Type 0
@@ -38,6 +42,7 @@ IsQuietPlan (Rest reply) = Unit {0}
 IsQuietPlan (Tell reply event) = is_quiet event ≡ true
 IsQuietPlan (Work job) = Unit {0}
 IsQuietPlan (Pass job reply) = Unit {0}
+IsQuietPlan (Take job) = Unit {0}
 
 either-quiet : (r : Result (List Made) Refusal) (f : Refusal → Plan) (g : List Made → Plan) → ((x : Refusal) → IsQuietPlan (f x)) → ((x : List Made) → IsQuietPlan (g x))
     → IsQuietPlan (elim r as (λ _. Plan) [ Err refusal ↦ f refusal | Ok items ↦ g items ])
@@ -56,6 +61,10 @@ if-quiet : (b : Bool) (one two : Plan) → IsQuietPlan one → IsQuietPlan two �
 if-quiet true one two first second = first
 if-quiet false one two first second = second
 
+cond-quiet : (b : Bool) (one two : Plan) → IsQuietPlan one → IsQuietPlan two → IsQuietPlan (cond b one two)
+cond-quiet true one two first second = first
+cond-quiet false one two first second = second
+
 module _ (layout : Layout) (jobs : TurnJobs) where
   start-quiet : (row : RunRow) (owned : OwnedStep) (number : ℕ) → IsQuietPlan (start_plan layout jobs row owned number)
   start-quiet row owned number = either-quiet (allocation_of layout row owned number jobs.tables) _ _ (λ refusal. refl) (λ items. refl)
@@ -65,7 +74,7 @@ module _ (layout : Layout) (jobs : TurnJobs) where
 
   due-quiet : (row : RunRow) (number : ℕ) (step : TurnStep) (due : NextDue) → IsQuietPlan (due_plan row number step due)
   due-quiet row number step OneUnit = tt
-  due-quiet row number step Checkpoint = tt
+  due-quiet row number step Checkpoint = cond-quiet (suppresses (rd_in_effect row number)) (suppressed_plan row) (Take row.number) tt tt
   due-quiet row number step Cancel = refl
   due-quiet row number step (Finished rc) = refl
 
@@ -99,6 +108,7 @@ module _ (layout : Layout) (jobs : TurnJobs) where
 pub quiet-plain : (event : Event) → is_quiet event ≡ true → is_plain_event event ≡ true
 quiet-plain (Submitted job cards) quiet = refl
 quiet-plain (Rewritten job taken writes lengths place image) quiet = refl
+quiet-plain (Checkpointed job id taken writes lengths place bytes) quiet = absurd (false≢true quiet)
 quiet-plain _ quiet = quiet
 
 plain-by : (plan : Plan) → IsQuietPlan plan → IsPlainPlan plan
@@ -106,6 +116,7 @@ plain-by (Rest reply) quiet = tt
 plain-by (Tell reply event) quiet = quiet-plain event quiet
 plain-by (Work job) quiet = tt
 plain-by (Pass job reply) quiet = tt
+plain-by (Take job) quiet = tt
 
 pub plan-plain : (layout : Layout) (jobs : TurnJobs) (turn : Turn) (plan : Plan) → plan ≡ plan_of layout jobs turn → IsPlainPlan plan
 plan-plain layout jobs turn plan is = plain-by plan (subst IsQuietPlan (sym is) (plan-quiet layout jobs turn))

@@ -14,12 +14,12 @@ use Rattle.ckr_desk_turn.specs.Jobs.{TurnJobs}
 use Rattle.ckr_desk_turn.specs.Plans.{plan_of}
 use Rattle.ckr_volumes.specs.declared.layout.Layout.{Layout}
 use Rattle.ckr_desk_turn.specs.Invariant.{IsTurnOf}
-use Rattle.ckr_desk.proofs.Images.Soundness.{kept-before}
+use Rattle.ckr_desk.proofs.Images.Soundness.{kept-left}
 use Rattle.ckr_desk.proofs.Trust.Sameness.{AreSame, IsAsBefore, state-same, trusted-same}
 use Rattle.ckr_desk.specs.Requests.{FailsBy, came_by, spelled}
 use Rattle.ckr_desk.specs.Calls.{HasSameJobs}
 use Rattle.ckr_desk.specs.declared.error.DeskError.{DeskError}
-use Rattle.ckr_desk.specs.declared.error.DeskError.TheVariants.{NoMemory, DiskFault, BookFull, Stopped, Misread}
+use Rattle.ckr_desk.specs.declared.error.DeskError.TheVariants.{NoMemory, DiskFault, BookFull, Stopped}
 use Rattle.ckr_desk.specs.Rewrite.{OpensSame}
 use Rattle.ckr_desk.specs.Soundness.{HasKept, IsTrusted, KeepsWithin, state_of}
 use Rattle.ckr_desk.specs.State.{DeskView, RoomyDesk}
@@ -104,7 +104,7 @@ module _ {D : Type 0} (told : Type 0) (content : D → List ℕ) (may_leave : D 
     same = state-same told content may_leave old mid is
 
     read-kept : (its : List (List ℕ)) (image : List ℕ) → OpensSame content size old image × may_leave old.store.disk image → HasKept old.store.layout (size old.store.disk) before its image
-    read-kept its image left = kept-before told content may_leave size old trusted its image left.0 (trusted.committed image left.1)
+    read-kept its image left = kept-left told content may_leave size old trusted its image left.0 left.1
 
     later-kept : (result : Result Reply DeskError) (image : List ℕ)
         → HasKept mid.store.layout (size mid.store.disk) (event_records mid.store.layout (content mid.store.disk)) (came_by result (spelled (event_of_turn (state_of content mid) turn))) image
@@ -126,7 +126,7 @@ module _ {D : Type 0} (told : Type 0) (content : D → List ℕ) (may_leave : D 
           (subst (λ (bytes : List ℕ). OnOk result (event_records old.store.layout (content new.store.disk) ≡ event_records old.store.layout bytes ++ spelled (event_of_turn (state_of content mid) turn))) is.reads
           (subst (λ (l : Layout). OnOk result (event_records l (content new.store.disk) ≡ event_records l (content mid.store.disk) ++ spelled (event_of_turn (state_of content mid) turn))) is.layout done.events));
       cause = subst (λ (s : RoomyDesk). IfErr result (FailsBy s.room (event_of_turn s turn))) same done.cause;
-      takes = subst (λ (s : RoomyDesk). IfErr result (TakesBy (event_of_turn s turn))) same done.takes;
+      takes = subst (λ (s : RoomyDesk). IfErr result (TakesBy (reply_of s turn) (event_of_turn s turn))) same done.takes;
       kept = and_then moment left_since old.store.disk mid.store.disk new.store.disk (λ image. OpensSame content size old image × may_leave old.store.disk image)
           (HasKept mid.store.layout (size mid.store.disk) (event_records mid.store.layout (content mid.store.disk)) (came_by result (spelled (event_of_turn (state_of content mid) turn))))
           (HasKept old.store.layout (size old.store.disk) before (came_by result came)) since done.kept (read-kept (came_by result came)) (later-kept result);
@@ -136,7 +136,7 @@ module _ {D : Type 0} (told : Type 0) (content : D → List ℕ) (may_leave : D 
     its_came error = came_by {T = Reply} (Err error) came
 
     -- it wasn't
-    pub turned-not : (error : DeskError) → FailsBy (state_of content old).room (event_of_turn (state_of content old) turn) error → TakesBy (event_of_turn (state_of content old) turn) error
+    pub turned-not : (error : DeskError) → FailsBy (state_of content old).room (event_of_turn (state_of content old) turn) error → TakesBy (reply_of (state_of content old) turn) (event_of_turn (state_of content old) turn) error
         → HasTurned told content may_leave moment left_since size turn old mid (Err error)
     turned-not error cause takes = record {
       reply = tt;
@@ -158,4 +158,3 @@ came-of-disk content moment left_since size old new its (Err NoMemory) is kept =
 came-of-disk content moment left_since size old new its (Err DiskFault) is kept = kept
 came-of-disk content moment left_since size old new its (Err (BookFull need room)) is kept = absurd is
 came-of-disk content moment left_since size old new its (Err (Stopped fault)) is kept = absurd is
-came-of-disk content moment left_since size old new its (Err Misread) is kept = kept

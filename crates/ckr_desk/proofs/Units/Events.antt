@@ -1,7 +1,8 @@
 -- What the event of a unit brings about, where its step ends with a code or rewrites a record.
-use Rattle.std.proofs.Common.{◌≡◌, ◌≤◌, ◌<◌, ℕ, List, refl, ap, sym, ◌∙◌, subst, slice_set, Option, Some, None}
+use Rattle.std.proofs.Common.{◌≡◌, ◌≤◌, ◌<◌, ℕ, List, cond, refl, ap, sym, ◌∙◌, subst, slice_set, Option, Some, None}
 use Rattle.std.specs.Prelude.{IsTrue}
-use Rattle.std.specs.Option.{option_map_or}
+use Rattle.std.specs.Option.{option_map, option_map_or}
+use Rattle.std.proofs.lemmas.Option.{same_Some}
 use Rattle.arrayvec.specs.ArrayVec.{ArrayVec}
 use Rattle.ckr_base.specs.declared.code.Code.{Code}
 use Rattle.ckr_base.proofs.Options.{some-not-none}
@@ -14,23 +15,29 @@ use Rattle.ckr_desk_turn.proofs.Units.AnyUnit.{work-keeps}
 use Rattle.ckr_desk_turn.specs.NextEvents.{Comes, EventComes}
 use Rattle.ckr_desk_turn.specs.Invariant.{IsDesk}
 use Rattle.ckr_desk_refines.specs.Commits.{HasCommitted}
+use Rattle.ckr_library.specs.declared.sets.Content.TheVariants.{Plain}
 use Rattle.ckr_library.specs.declared.sets.DataSet.{DataSet}
-use Rattle.ckr_library.specs.NameMaps.{Name}
+use Rattle.ckr_library.specs.NameMaps.{Name, entry_at}
+use Rattle.ckr_library.proofs.Named.{at-with_changed, name-equivalence}
 use Rattle.ckr_meaning.specs.EffectiveJob.{Effective, OwnedStep}
+use Rattle.ckr_meaning.specs.LibrarySet.{LibrarySet}
+use Rattle.ckr_meaning.specs.StepRun.{StepStart, rewritten, within_at}
 use Rattle.ckr_outside.specs.Disk.{part}
 use Rattle.ckr_points.specs.Payload.{writes_in}
 use Rattle.ckr_points.specs.Office.{Office, office_after}
 use Rattle.ckr_points.specs.Restart.{after_event, place_of}
 use Rattle.ckr_points.specs.Rows.{RunRow, TableSet, TablesModel, run_of}
 use Rattle.ckr_desk_refines.proofs.Rewrites.LastRecord.{again-then, record-then}
-use Rattle.ckr_desk_refines.proofs.Rewrites.Requests.{IsAsked, event as event_told, event-is, is-asked, office-is, then, work-is}
-use Rattle.ckr_desk_refines.proofs.Rewrites.Office.{IsThere, IsTheirs, next, next-at, own-table}
-use Rattle.ckr_desk_refines.proofs.Rewrites.OwnStep.{goes-in-place, same-job, updated-shown}
+use Rattle.ckr_desk_refines.proofs.Rewrites.Requests.{IsAsked, event as event_told, event-is, is-asked, kept-then as kept-office, office-is, then, work-is}
+use Rattle.ckr_desk_refines.proofs.Rewrites.Office.{IsThere, IsTheirs, lengths_now, next, next-at, own-table, running-then}
+use Rattle.ckr_desk_refines.proofs.Rewrites.OwnStep.{goes-in-place, same-job, updated-among, updated-plain, updated-shown}
+use Rattle.ckr_desk_refines.proofs.Rewrites.Unit.{one-more}
 use Rattle.ckr_desk_refines.proofs.Rewrites.Desk.{stands-then}
 use Rattle.ckr_desk_memory.proofs.Masters.{by-role}
 use Rattle.ckr_desk_refines.specs.Rewrite.{AsksToRewrite}
-use Rattle.ckr_points_invariant.proofs.Steps.Commits.{formed_step}
-use Rattle.ckr_points_invariant.specs.Invariant.{step_now}
+use Rattle.ckr_points_invariant.proofs.Stamps.Tables.{alike_set}
+use Rattle.ckr_points_invariant.proofs.Steps.Commits.{alike_within, formed_step, in_reach, its_start}
+use Rattle.ckr_points_invariant.specs.Invariant.{IsKept, Shape, step_now, table_shape}
 use Rattle.ckr_desk_refines.specs.RewriteRecord.{HasCommittedAgain, HasLast}
 use Rattle.ckr_desk_refines.specs.Moves.{DiffersAt, HasSameRecords, HaveMoved, IsWritten}
 use Rattle.ckr_desk_refines.specs.Standing.{StandsForDesk}
@@ -50,7 +57,10 @@ use Rattle.ckr_volumes.specs.Layouts.{lie_apart, lists_apart}
 use Rattle.ckr_desk_refines.proofs.Units.Desk.{pair, progress-at, unclosed, work-kept}
 use Rattle.ckr_desk_refines.proofs.Units.Codes.{coded-behind, coded-but, coded-within}
 use Rattle.ckr_desk_refines.specs.Unit.{IsPutBack, StandsBehindUnit}
+use Rattle.ckr_desk.proofs.Images.Entries.{HasNewOne}
 use Rattle.ckr_desk.proofs.Images.Soundness.{again-so}
+use Rattle.ckr_desk.proofs.Images.WrittenRecord.{TellsRecord}
+use Rattle.ckr_desk.proofs.Openings.LastRecord.{IsDue, due-so}
 use Rattle.ckr_desk.specs.Rewrite.{IsWrittenBy, LacksAtMost}
 
 -- the event of a unit may come; the desk behind it, the jobs in memory that stand for it, and what an image of a stop has
@@ -60,6 +70,8 @@ pub record Ensues (put : JobsView) (after : List ℕ) (desk : DeskModel) (run : 
   pub layout_is : (work_of run desk).desk.layout ≡ desk.layout
   pub office : (work_of run desk).desk.office ≡ office_after (event, None) desk.office
   pub last : HasLast (work_of run desk).desk.office (Some event)
+  pub takes : (layout : Layout) (tables : TablesModel) (image : List ℕ) → HasNewOne layout tables event image
+  pub record_told : TellsRecord (after_event event None desk.office.tables) event
   pub stands : (later : JobsView) → HaveMoved event None put later → (told written : List ℕ) → HasSameRecords desk.layout after told
       → IsWrittenBy desk.layout (after_event event None desk.office.tables) event told written → StandsForDesk desk.layout later written (work_of run desk).desk
   pub same : (stopped : List ℕ) → HasSameRecords desk.layout after stopped → HasCommittedAgain desk.layout (work_of run desk).desk.office (Some event) stopped
@@ -156,6 +168,8 @@ module _ (old : JobsView) (before after : List ℕ) (desk : DeskModel) (turn : T
       layout_is = ap (λ (d : DeskModel). d.layout) desk-then;
       office = ap (λ (d : DeskModel). d.office) desk-then;
       last = last-then;
+      takes = λ layout tables image. tt;
+      record_told = tt;
       stands = stands-so;
       same = same-so;
       lacking = λ told stopped same never. absurd never;
@@ -213,6 +227,39 @@ module _ (old : JobsView) (before after : List ℕ) (desk : DeskModel) (turn : T
   abbrev table : TableSet
   table = table-there.0
 
+  abbrev start_then : StepStart
+  start_then = its_start asked.led.leg asked.led.owned (step_now asked.led.row)
+
+  -- what the job has of it behind the rewrite
+  abbrev made : LibrarySet
+  made = rewritten asked.led.owned.owner (step_now asked.led.row) place asked.rewrite.write.image asked.rewrite.rewritten
+
+  made-at : entry_at (within_at start_then moved.step.writes) name ≡ Some made
+  made-at =
+      ap (λ library. entry_at library name) (one-more (Unit {0}) after desk.layout start_then asked.step.progress.taken taken place image on.step moved.step moved.sets asked.rewrite)
+      ∙ at-with_changed name name (rewritten asked.led.owned.owner (step_now asked.led.row) place asked.rewrite.write.image) (within_at start_then on.step.writes)
+      ∙ ap (λ b. cond b (option_map (rewritten asked.led.owned.owner (step_now asked.led.row) place asked.rewrite.write.image) (entry_at (within_at start_then on.step.writes) name)) (entry_at (within_at start_then on.step.writes) name))
+      (name-equivalence.refl name)
+      ∙ ap (option_map (rewritten asked.led.owned.owner (step_now asked.led.row) place asked.rewrite.write.image)) asked.rewrite.stood
+
+  -- it holds records
+  table-plain : table.set.content ≡ Plain
+  table-plain =
+      let kept : IsKept desk.layout office_then = kept-office before after desk is_desk run on moved place image taken asked in
+      let running = running-then desk before on asked.step asked.led moved.step.writes moved.sets asked.same in
+      let among = updated-among desk is_desk before on asked.step asked.led after moved taken place image asked.rewrite asked.same asked.stood in
+      let reach = in_reach desk.layout office_then asked.step.run row_then asked.led.leg asked.led.owned (step_now asked.led.row) moved.step.writes kept.events running name among in
+      let its = alike_set table (entry_at (within_at start_then moved.step.writes) name)
+      (ap (option_map table_shape) (sym table-there.1) ∙ alike_within desk.layout office_then asked.step.run row_then asked.led.leg asked.led.owned (step_now asked.led.row) moved.step.writes kept.events running name reach) in
+      ap (λ (shape : Shape). shape.content) its.2
+      ∙ ap (λ (set : LibrarySet). set.content) (same_Some its.0 made (sym its.1 ∙ made-at))
+      ∙ updated-plain desk is_desk before on asked.step asked.led after moved taken place image asked.rewrite asked.same asked.stood
+
+  due-then : IsDue office_then.tables event_then
+  due-then =
+      due-so office_then.tables asked.led.row.number taken moved.step.writes (record { items = lengths_now desk before on asked.step asked.led moved.step.writes moved.sets asked.same }) place image
+      row_then name table row-at updates-so table-there.1 table-plain
+
   -- ---- by the tables behind the event
 
   written-then : (told written : List ℕ) → IsWrittenBy desk.layout office_then.tables event_then told written → IsWritten desk.layout shown.set place image told written
@@ -234,6 +281,9 @@ module _ (old : JobsView) (before after : List ℕ) (desk : DeskModel) (turn : T
     by-event : (P : Event → TablesModel → Type 0) → P event (after_event event None desk.office.tables) → P event_then office_then.tables
     by-event P holds = subst (P event_then) tables-so (subst (λ (e : Event). P e (after_event e None desk.office.tables)) (sym event-so) holds)
 
+    of-event : (P : Event → TablesModel → Type 0) → P event_then office_then.tables → P event (after_event event None desk.office.tables)
+    of-event P holds = subst (λ (e : Event). P e (after_event e None desk.office.tables)) event-so (subst (P event_then) (sym tables-so) holds)
+
     pub rewrite-ensues : Ensues put after desk run event
     rewrite-ensues = record {
       comes = comes-so old before after desk turn run on moved (Rewrite place image taken) unit event is;
@@ -241,6 +291,8 @@ module _ (old : JobsView) (before after : List ℕ) (desk : DeskModel) (turn : T
       layout_is = ap (λ (d : TurnDone). d.desk.layout) (work-is before after desk is_desk run on moved place image taken asked);
       office = ap (λ (d : TurnDone). d.desk.office) (work-is before after desk is_desk run on moved place image taken asked) ∙ ap (λ (e : Event). office_after (e, None) desk.office) event-so;
       last = λ rewrite told. record-then old before after desk turn run on moved place image taken asks event is rewrite told;
+      takes = λ layout tables left. subst (λ (e : Event). HasNewOne layout tables e left) event-so tt;
+      record_told = of-event (λ e tables. TellsRecord tables e) due-then;
       stands = λ later goes told written same wrote.
           stands-then desk.layout old before after desk turn run on moved place image taken asks put later
           (record { tables = back.tables; failed = back.failed; running = back.running }) event is goes told written same name shown.set first-is shown.is

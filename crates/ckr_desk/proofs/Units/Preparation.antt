@@ -1,5 +1,5 @@
 -- A turn that works, once its unit was looked at: what is ready for it, and why it wasn't done.
-use Rattle.std.proofs.Common.{◌≡◌, ◌<◌, ℕ, List, [], ◌∷◌, find, refl, ap, sym, ◌∙◌, subst, arith, Option, Some, None, Result, Ok, Err, IsErrAnd, IsSome}
+use Rattle.std.proofs.Common.{◌≡◌, ◌<◌, ℕ, List, [], ◌∷◌, find, refl, ap, sym, ◌∙◌, subst, arith, Option, Some, None, Result, Ok, Err, IsErrAnd, IsSome, inl}
 use Rattle.std.proofs.lemmas.Option.{same_Some}
 use Rattle.ckr_book.specs.Book.{room_of}
 use Rattle.ckr_events.specs.declared.event.Event.{Event}
@@ -30,13 +30,13 @@ use Rattle.ckr_desk.proofs.Trust.Sameness.{IsAsBefore, state-same}
 use Rattle.ckr_desk.specs.Requests.{FailsBy, IsFull}
 use Rattle.ckr_desk.specs.Calls.{HasSameJobs}
 use Rattle.ckr_desk.specs.declared.error.DeskError.{DeskError}
-use Rattle.ckr_desk.specs.declared.error.DeskError.TheVariants.{NoMemory, DiskFault, BookFull, Stopped, Misread}
+use Rattle.ckr_desk.specs.declared.error.DeskError.TheVariants.{NoMemory, DiskFault, BookFull, Stopped}
 use Rattle.ckr_desk.specs.declared.preparation.Ready.{Ready}
 use Rattle.ckr_desk.specs.Preparation.{IsAhead, IsLookedAhead, IsReadyFor, IsWorkedOut, NotLooked, NotReadyFor}
 use Rattle.ckr_desk.specs.Soundness.{state_of}
 use Rattle.ckr_desk.specs.State.{DeskView, RoomyDesk, need_of}
 use Rattle.ckr_desk.specs.NoChange.{StaysBy}
-use Rattle.ckr_desk.specs.Turn.{event_of_turn}
+use Rattle.ckr_desk.specs.Turn.{event_of_turn, reply_of}
 use Rattle.ckr_desk.specs.Units.{IsPlanned, IsToldOf, TakesBy}
 
 -- an error that is handed on is the answer
@@ -101,7 +101,6 @@ module _ {D : Type 0} (told : Type 0) (content : D → List ℕ) (faults : D →
       let less : room < need = not.2 in
       (stored, record { ahead = record { unit = unit; plan = plan; looked = looked; event = event; is = is }; needed = needed; left = left ∙ sym there_is; full = omega (arith, there_is, needed, left, less) })
   by-event (Some event) is (Stopped fault) not = absurd not
-  by-event (Some event) is Misread not = absurd not
 
   pub not-ready : (error : DeskError) → NotReadyFor (event_in plan) mid new error → NotLooked told content faults run old new error
   not-ready error not = by-event (event_in plan) refl error not
@@ -117,25 +116,22 @@ module _ {D : Type 0} (told : Type 0) (content : D → List ℕ) (may_leave : D 
       subst (λ (s : RoomyDesk). IsFull s.room (event_of_turn s turn) need room) (state-same told content may_leave old new is)
       (full-ahead told content may_leave moment left_since size new later.trusted turn run later.planned not.1.ahead.unit not.1.ahead.plan not.1.ahead.looked not.1.ahead.event not.1.ahead.is need room not.1.needed not.1.left not.1.full)
   look-cause turn p later is (Stopped fault) not = absurd not
-  look-cause turn p later is Misread not = absurd not
 
   -- there is no memory only for what the turn tells
   pub look-takes : (turn : Turn) → IsPlanned told content may_leave new turn (Work run) → IsAsBefore told content may_leave old new → (error : DeskError) → NotLooked told content faults run old new error
-      → TakesBy (event_of_turn (state_of content old) turn) error
+      → TakesBy (reply_of (state_of content old) turn) (event_of_turn (state_of content old) turn) error
   look-takes turn later is NoMemory not =
-      subst (λ (s : RoomyDesk). IsSome (event_of_turn s turn)) (state-same told content may_leave old new is)
-      (told-ahead told content may_leave moment left_since size new later.trusted turn run later.planned not.1.unit not.1.plan not.1.looked not.1.event not.1.is)
+      inl (subst (λ (s : RoomyDesk). IsSome (event_of_turn s turn)) (state-same told content may_leave old new is)
+      (told-ahead told content may_leave moment left_since size new later.trusted turn run later.planned not.1.unit not.1.plan not.1.looked not.1.event not.1.is))
   look-takes turn later is DiskFault not = tt
   look-takes turn later is (BookFull need room) not = tt
   look-takes turn later is (Stopped fault) not = tt
-  look-takes turn later is Misread not = absurd not
 
   pub look-stays : HasSameJobs old new → OnlyReads content may_leave moment left_since old.store.disk new.store.disk → (error : DeskError) → NotLooked told content faults run old new error → StaysBy content may_leave faults old new error
   look-stays jobs reads NoMemory not = read-unchanged content may_leave old new moment left_since jobs not.0 reads
   look-stays jobs reads DiskFault not = ap (λ (s : StoreView D). s.fault) not.1
   look-stays jobs reads (BookFull need room) not = read-unchanged content may_leave old new moment left_since jobs not.0 reads
   look-stays jobs reads (Stopped fault) not = absurd not
-  look-stays jobs reads Misread not = absurd not
 
 -- ---- behind the unit
 

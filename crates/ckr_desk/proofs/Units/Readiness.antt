@@ -17,7 +17,7 @@ use Rattle.ckr_points_tables.specs.Invariant.{HasRoom, is_plain_event}
 use Rattle.ckr_points_tables.specs.View.{RoomyTables}
 use Rattle.ckr_desk_refines.specs.Moves.{event_in}
 use Rattle.ckr_desk_turn.specs.declared.plan.Plan.{Plan}
-use Rattle.ckr_desk_turn.specs.declared.plan.Plan.TheVariants.{Rest, Tell, Work, Pass}
+use Rattle.ckr_desk_turn.specs.declared.plan.Plan.TheVariants.{Rest, Tell, Work, Pass, Take}
 use Rattle.ckr_desk.specs.declared.preparation.Ready.{Ready}
 use Rattle.ckr_desk.specs.Preparation.{IsReady, IsReadyFor}
 use Rattle.ckr_desk.specs.State.{DeskView, need_of}
@@ -34,6 +34,7 @@ plain-so (Rest reply) shape = tt
 plain-so (Tell reply event) shape = plain-event event shape
 plain-so (Work job) shape = absurd shape
 plain-so (Pass job reply) shape = absurd shape
+plain-so (Take job) shape = absurd shape
 
 -- and it ends no step of a run that was running when the system failed
 leaves-so : (failed : List ℕ) (event : Event) → is_unit_event event ≡ true → LeavesLeft event failed
@@ -46,6 +47,7 @@ unit-leaves failed (Rest reply) shape = tt
 unit-leaves failed (Tell reply event) shape = leaves-so failed event shape
 unit-leaves failed (Work job) shape = tt
 unit-leaves failed (Pass job reply) shape = tt
+unit-leaves failed (Take job) shape = tt
 
 -- what the unit's step commits, it commits behind the unit with steps of other runs beside it
 pub commits-beside : (tables : TablesModel) (run : ℕ) (plan : Plan) (seen moved : RunningStepView) (others : List RunningStepView) → PlanIsOf run plan → moved.run ≡ seen.run → moved.sets.sets ≡ seen.sets.sets
@@ -55,6 +57,7 @@ commits-beside tables run (Tell reply event) seen moved others of_run same sets 
     others-commit tables event seen moved others same sets (subst (λ n. AllByRecursion (IsOfOther n) others) (sym of_run) apart) commits
 commits-beside tables run (Work job) seen moved others of_run same sets apart commits = tt
 commits-beside tables run (Pass job reply) seen moved others of_run same sets apart commits = tt
+commits-beside tables run (Take job) seen moved others of_run same sets apart commits = tt
 
 module _ {D : Type 0} (old mid : DeskView D) (tables : mid.jobs.tables ≡ old.jobs.tables) (book : room_of mid.store.book ≡ room_of old.store.book) where
   still-prepared : (event : Event) → is_unit_event event ≡ true → (prepared : Prepared) → IsPrepared old.jobs event None prepared → IsPrepared mid.jobs event None prepared
@@ -87,3 +90,4 @@ module _ {D : Type 0} (old mid : DeskView D) (tables : mid.jobs.tables ≡ old.j
   ready-behind (Tell reply event) shape (Some ready) is = still-ready event shape ready is
   ready-behind (Work job) shape ready is = absurd shape
   ready-behind (Pass job reply) shape ready is = absurd shape
+  ready-behind (Take job) shape ready is = absurd shape

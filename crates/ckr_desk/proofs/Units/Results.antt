@@ -9,7 +9,7 @@ use Rattle.ckr_desk_refines.specs.Moves.{event_in, reply_in}
 use Rattle.ckr_desk_store.specs.OpenImages.{event_records}
 use Rattle.ckr_desk_store.specs.State.{StoreView}
 use Rattle.ckr_desk_turn.specs.declared.plan.Plan.{Plan}
-use Rattle.ckr_desk_turn.specs.declared.plan.Plan.TheVariants.{Rest, Tell, Work, Pass}
+use Rattle.ckr_desk_turn.specs.declared.plan.Plan.TheVariants.{Rest, Tell, Work, Pass, Take}
 use Rattle.ckr_desk_turn.specs.declared.reply.Reply.{Reply}
 use Rattle.ckr_desk_turn.specs.declared.reply.Turn.{Turn}
 use Rattle.ckr_desk_turn.specs.Plans.{plan_of}
@@ -20,7 +20,7 @@ use Rattle.ckr_desk.specs.Requests.{FailsBy, has_room, spelled}
 use Rattle.ckr_desk.specs.Rewrite.{IsFault}
 use Rattle.ckr_desk.specs.Calls.{IsSettledBehind}
 use Rattle.ckr_desk.specs.declared.error.DeskError.{DeskError}
-use Rattle.ckr_desk.specs.declared.error.DeskError.TheVariants.{NoMemory, DiskFault, BookFull, Stopped, Misread}
+use Rattle.ckr_desk.specs.declared.error.DeskError.TheVariants.{NoMemory, DiskFault, BookFull, Stopped}
 use Rattle.ckr_desk.specs.Soundness.{HasKept, IsTrusted, KeepsWithin, state_of}
 use Rattle.ckr_desk.specs.State.{RoomyDesk, DeskView}
 use Rattle.ckr_desk.specs.Turn.{behind_turn, event_of_turn, reply_of, turn_fits}
@@ -42,14 +42,12 @@ module _ {D : Type 0} (told : Type 0) (content : D → List ℕ) (may_leave : D 
   unit-cause faulted now room event DiskFault not = tt
   unit-cause faulted now room event (BookFull need left) not = absurd not
   unit-cause faulted now room event (Stopped fault) not = absurd not
-  unit-cause faulted now room event Misread not = absurd not
 
-  pub unit-takes : (faulted now : ℕ) (event : Option Event) (error : DeskError) → IsFault faulted now error → TakesBy event error
-  unit-takes faulted now event NoMemory not = absurd not
-  unit-takes faulted now event DiskFault not = tt
-  unit-takes faulted now event (BookFull need room) not = tt
-  unit-takes faulted now event (Stopped fault) not = tt
-  unit-takes faulted now event Misread not = tt
+  pub unit-takes : (faulted now : ℕ) (answer : Reply) (event : Option Event) (error : DeskError) → IsFault faulted now error → TakesBy answer event error
+  unit-takes faulted now answer event NoMemory not = absurd not
+  unit-takes faulted now answer event DiskFault not = tt
+  unit-takes faulted now answer event (BookFull need room) not = tt
+  unit-takes faulted now answer event (Stopped fault) not = tt
 
   -- what a stop within it leaves
   pub unit-keeps : (came : List (List ℕ)) (new : DeskView D) → EachSince moment left_since old.store.disk new.store.disk (IsLeftByUnit content may_leave size run old) → KeepsWithin content moment left_since size old new came
@@ -127,13 +125,13 @@ module _ {D : Type 0} (told : Type 0) (content : D → List ℕ) (may_leave : D 
     tell-cause reply event is faults new DiskFault not = tt
     tell-cause reply event is faults new (BookFull need room) not = absurd not
     tell-cause reply event is faults new (Stopped fault) not = absurd not
-    tell-cause reply event is faults new Misread not = absurd not
 
     cause-by : (by : Plan) → plan ≡ by → (faults : D → ℕ) (new : DeskView D) (error : DeskError) → NotBehind faults by mid new error → FailsBy state.room (event_of_turn state turn) error
     cause-by (Rest reply) is faults new error not = absurd not
     cause-by (Tell reply event) is faults new error not = tell-cause reply event is faults new error not
     cause-by (Work job) is faults new error not = absurd not
     cause-by (Pass job reply) is faults new error not = absurd not
+    cause-by (Take job) is faults new error not = absurd not
 
     pub done-cause : (faults : D → ℕ) (new : DeskView D) (error : DeskError) → NotBehind faults plan mid new error → FailsBy state.room (event_of_turn state turn) error
     done-cause faults new error not = cause-by plan refl faults new error not

@@ -1,5 +1,5 @@
 -- A turn that works: the unit of its running step, the desk behind it, and what a stop leaves.
-use Rattle.std.proofs.Common.{◌≡◌, ◌≤◌, ◌+◌, ◌-◌, ◌++◌, ◌&&◌, ℕ, List, [], ◌∷◌, true, length, take, refl, ap, sym, ◌∙◌, subst, ⊎_elim, arith, Option, Some, None, Ok}
+use Rattle.std.proofs.Common.{◌≡◌, ◌≤◌, ◌+◌, ◌-◌, ◌++◌, ◌&&◌, ℕ, List, [], ◌∷◌, true, length, take, find, refl, ap, sym, ◌∙◌, subst, ⊎_elim, arith, Option, Some, None, Ok}
 use Rattle.std.proofs.lemmas.Bool.{and_from, le-leb}
 use Rattle.std.proofs.lemmas.Option.{same_Some}
 use Rattle.ckr_base.proofs.Options.{some-not-none}
@@ -11,11 +11,14 @@ use Rattle.ckr_events.specs.declared.event.Event.TheVariants.{Ended}
 use Rattle.ckr_events.specs.Event.{spelling}
 use Rattle.ckr_desk_memory.specs.Model.RewriteCounts.{may_count}
 use Rattle.ckr_jcl.specs.declared.deck.Job.{Job}
+use Rattle.ckr_desk_memory.specs.EventChanges.{is_of_run}
 use Rattle.ckr_desk_memory.specs.Plans.{IsSpelledPlan, told_by}
 use Rattle.ckr_desk_memory.specs.Replay.{deck_of, goes_on, is_run_by}
 use Rattle.ckr_desk_memory.specs.View.{RunningStepView, jobs_of, running_of}
 use Rattle.ckr_desk_refines.proofs.Durable.Units.{committed-kept}
+use Rattle.ckr_desk_refines.proofs.Entries.Images.{keeping-kept}
 use Rattle.ckr_desk_refines.specs.Commits.{HasCommitted}
+use Rattle.ckr_desk_refines.specs.Entries.{HasEntries, OnlyCheckSetsKeep, SameKept}
 use Rattle.ckr_meaning.specs.EffectiveJob.{OwnedStep, names_of}
 use Rattle.ckr_outside.specs.Disk.{part}
 use Rattle.ckr_points.specs.Events.{AreSound, IsNext}
@@ -23,6 +26,7 @@ use Rattle.ckr_points.specs.Follows.{follows}
 use Rattle.ckr_points.specs.Office.{Office, office_after}
 use Rattle.ckr_points.specs.Restart.{after_event, place_of, step_in}
 use Rattle.ckr_points.specs.Rows.{RunRow, TablesModel, no_tables, run_of, step_of_run}
+use Rattle.ckr_points.specs.Soundness.{AreLaidOut}
 use Rattle.ckr_rules.specs.RuleTables.{rule_number}
 use Rattle.ckr_desk_refines.proofs.Standing.Plans.{plans-so}
 use Rattle.ckr_desk_refines.proofs.Standing.DeskView.{desk-so}
@@ -31,15 +35,17 @@ use Rattle.ckr_desk_refines.specs.Moves.{HasSameRecords, event_in, reply_in}
 use Rattle.ckr_desk_refines.specs.Standing.{StandsForDesk, desk_seen}
 use Rattle.ckr_steps.specs.declared.step_run.Worked.{Worked}
 use Rattle.ckr_steps.specs.declared.step_run.Worked.TheVariants.{Abend, Rewrite, Went}
+use Rattle.ckr_steps.specs.Writes.{Keeps}
 use Rattle.ckr_desk_store.specs.OpenImages.{Opens, event_records}
 use Rattle.ckr_desk_store.specs.State.{StoreView}
 use Rattle.ckr_points_tables.specs.Invariant.{is_plain_event}
 use Rattle.ckr_desk_refines.proofs.Events.Commits.{committed-moves}
 use Rattle.ckr_desk_turn.specs.Codes.{rule_for}
 use Rattle.ckr_desk_turn.specs.declared.plan.Plan.{Plan}
-use Rattle.ckr_desk_turn.specs.declared.plan.Plan.TheVariants.{Rest, Tell, Work, Pass}
+use Rattle.ckr_desk_turn.specs.declared.plan.Plan.TheVariants.{Rest, Tell, Work, Pass, Take}
 use Rattle.ckr_desk_turn.specs.declared.reply.Turn.{Turn}
-use Rattle.ckr_desk_turn.specs.Desk.{DeskModel, TurnDone, carried_out, turn_of, work_of, jobs_of as jobs_of_desk}
+use Rattle.ckr_desk_turn.specs.Desk.{DeskModel, TurnDone, work_of, jobs_of as jobs_of_desk}
+use Rattle.ckr_desk_turn.specs.Turns.{carried_out, turn_of}
 use Rattle.ckr_desk_turn.specs.Plans.{plan_of}
 use Rattle.ckr_desk_turn.specs.Spelling.{IsSpelled}
 use Rattle.ckr_volumes.specs.declared.layout.Layout.{Layout}
@@ -51,7 +57,9 @@ use Rattle.ckr_desk_refines.proofs.Units.Turns.{within-so}
 use Rattle.ckr_desk_refines.specs.Unit.{IsPutBack, StandsBehindUnit}
 use Rattle.ckr_desk.proofs.Units.Events.{Ensues, ended-ensues, rewrite-ensues}
 use Rattle.ckr_desk.proofs.Images.NextEvent.{deck-none, office-same}
+use Rattle.ckr_desk.proofs.Images.Entries.{behind-kept as entries-behind, behind-same as entries-behind-same, checks-then, kept-has, laid-then, same-has, tables-behind}
 use Rattle.ckr_desk.proofs.Images.Soundness.{kept-before, kept-behind}
+use Rattle.ckr_desk.proofs.Images.WrittenRecord.{TellsRecord, told-lacking, told-written}
 use Rattle.ckr_desk.proofs.Turns.PlainEvents.{told-plain}
 use Rattle.ckr_desk.proofs.Trust.Events.{IsBehind, IsComing, desk-behind, trusted-behind}
 use Rattle.ckr_desk.proofs.Turns.Events.{small-runs}
@@ -71,12 +79,14 @@ plain-in (Rest reply) plain event is = absurd (some-not-none event (sym is))
 plain-in (Tell reply told) plain event is = ap is_plain_event (sym (same_Some told event is)) ∙ plain
 plain-in (Work job) plain event is = absurd (some-not-none event (sym is))
 plain-in (Pass job reply) plain event is = absurd (some-not-none event (sym is))
+plain-in (Take job) plain event is = absurd (some-not-none event (sym is))
 
 spelled-in : (plan : Plan) → IsSpelledPlan plan → (event : Event) → event_in plan ≡ Some event → IsSpelled event
 spelled-in (Rest reply) shape event is = absurd (some-not-none event (sym is))
 spelled-in (Tell reply told) shape event is = subst IsSpelled (same_Some told event is) shape.0
 spelled-in (Work job) shape event is = absurd (some-not-none event (sym is))
 spelled-in (Pass job reply) shape event is = absurd (some-not-none event (sym is))
+spelled-in (Take job) shape event is = absurd (some-not-none event (sym is))
 
 module _ {D : Type 0} (told : Type 0) (content : D → List ℕ) (may_leave : D → List ℕ → Type 0) (moment : D → ℕ) (left_since : D → ℕ → List ℕ → Type 0) (size : D → ℕ)
     (old : DeskView D) (trusted : IsTrusted told content may_leave old) (turn : Turn) (run : ℕ)
@@ -120,11 +130,23 @@ module _ {D : Type 0} (told : Type 0) (content : D → List ℕ) (may_leave : D 
       committed-kept layout office.tables.sets (names_of pair.stands.start.root pair.stands.start.owned) on.sets trusted.stands.is_desk.kept.events.extents pair.stands.sets from left stems.2.2 office refl
       (trusted.committed from stems.2.1)
 
+  -- a unit keeps the entries: they stand within what its step has
+  keeps-entries : (on : RunningStepView) → find (is_of_run run) old.jobs.running ≡ Some on → (from left : List ℕ) → Keeps layout on.sets from left → HasEntries layout office.tables from → HasEntries layout office.tables left
+  keeps-entries on found from left keeps has =
+      let pair : IsPair layout office image run on desk.running = pair-of layout office image run on old.jobs.running desk.running trusted.stands.running trusted.stands.is_desk.going found in
+      kept-has told content may_leave old trusted from left has
+      (keeping-kept layout office.tables.sets trusted.stands.is_desk.kept.events.extents from left (names_of pair.stands.start.root pair.stands.start.owned) on.sets pair.stands.sets keeps)
+
+  left-entries : (left : List ℕ) → IsLeftByUnit content may_leave size run old left → HasEntries layout office.tables left
+  left-entries left by = ⊎_elim
+      (λ (may : may_leave old.store.disk left). trusted.entries_left left may)
+      (λ (stems : StemsFromUnit may_leave run old left). keeps-entries stems.0 stems.1 stems.2.0 left stems.2.2 (trusted.entries_left stems.2.0 stems.2.1)) by.1
+
   left-committed : (left : List ℕ) → IsLeftByUnit content may_leave size run old left → HasCommitted layout office left
   left-committed left by = ⊎_elim (λ (may : may_leave old.store.disk left). trusted.committed left may) (λ (stems : StemsFromUnit may_leave run old left). stems-committed left stems) by.1
 
   pub unit-kept : (came : List (List ℕ)) (left : List ℕ) → IsLeftByUnit content may_leave size run old left → HasKept layout (size old.store.disk) (event_records layout image) came left
-  unit-kept came left by = kept-before told content may_leave size old trusted came left by.0 (left-committed left by)
+  unit-kept came left by = kept-before told content may_leave size old trusted came left by.0 (left-committed left by) (left-entries left by)
 
   module _ (mid : DeskView D) (plan : Plan) (done : HasDoneUnit told content may_leave moment left_since run old mid plan)
       (events : event_records old.store.layout (content mid.store.disk) ≡ event_records old.store.layout (content old.store.disk)) (shape : IsSpelledPlan plan)
@@ -151,6 +173,9 @@ module _ {D : Type 0} (told : Type 0) (content : D → List ℕ) (may_leave : D 
           (done.goes trusted.tells start taken stood (shows-in told trusted.tells image layout _ _ on.sets shows));
       keeps = done.keeps.reads trusted.tells;
     }
+
+    entries-after : HasEntries layout office.tables after
+    entries-after = keeps-entries on done.found image after unit-done.keeps trusted.entries
 
     put-back : IsPutBack run moved old.jobs mid.jobs
     put-back = record { tables = done.tables; failed = done.failed; running = done.running }
@@ -221,6 +246,11 @@ module _ {D : Type 0} (told : Type 0) (content : D → List ℕ) (may_leave : D 
           ∙ ap (λ (o : Office). desk_seen layout o mid.jobs) (rest-office ∙ sym office-after)
           ∙ ap (λ (l : Layout). desk_seen l (office_on l after) mid.jobs) (sym layout-same)
 
+      entries-rest : (left : List ℕ) → HasEntries layout office.tables left → HasEntries mid.store.layout (office_on mid.store.layout after).tables left
+      entries-rest left has =
+          subst (λ (l : Layout). HasEntries l (office_on l after).tables left) (sym layout-same)
+          (subst (λ (o : Office). HasEntries layout o.tables left) (sym office-after) has)
+
       pub rest-trusted : IsTrusted told content may_leave mid
       rest-trusted = record {
         tells = trusted.tells;
@@ -234,6 +264,8 @@ module _ {D : Type 0} (told : Type 0) (content : D → List ℕ) (may_leave : D 
         committed = λ left may.
             subst (λ (l : Layout). HasCommitted l (office_on l after) left) (sym layout-same)
             (subst (λ (o : Office). HasCommitted layout o left) (sym office-after) (left-committed left (stems left may)));
+        entries = entries-rest after entries-after;
+        entries_left = λ left may. entries-rest left (left-entries left (stems left may));
       }
 
       pub rest-state : state_of content mid ≡ behind_turn (state_of content old) turn
@@ -316,17 +348,50 @@ module _ {D : Type 0} (told : Type 0) (content : D → List ℕ) (may_leave : D 
         last = ensues.last;
       }
 
+      -- the entries of an image that has the records of the unit, behind the event
+      tables-then : after_event event None office.tables ≡ then.office.tables
+      tables-then = sym (ap (λ (o : Office). o.tables) ensues.office ∙ tables-behind office event None)
+
+      entries-told : (told_on : List ℕ) → HasSameRecords layout after told_on → HasEntries layout office.tables told_on
+      entries-told told_on same = same-has told content may_leave old trusted after told_on entries-after same
+
+      entries-same : may_keep event None mid ≡ true → (left : List ℕ) → HasSameRecords layout after left → HasEntries layout then.office.tables left
+      entries-same might left same = entries-behind-same told content may_leave old trusted event then (coming might) after left (ensues.takes layout office.tables after) entries-after same
+
+      -- and where the record that the event tells is written, or lacks at most
+      entries-changed : may_keep event None mid ≡ true → (told_on left : List ℕ) → HasSameRecords layout after told_on
+          → ((tables : TablesModel) → AreLaidOut layout tables.sets → OnlyCheckSetsKeep tables.sets → after_event event None office.tables ≡ tables → SameKept layout tables.sets told_on left)
+          → HasEntries layout then.office.tables left
+      entries-changed might told_on left same changes =
+          entries-behind told content may_leave old trusted event then (coming might) told_on left (ensues.takes layout office.tables told_on) (entries-told told_on same)
+          (changes then.office.tables (laid-then told content may_leave old trusted event then (coming might)) (checks-then told content may_leave old trusted event then (coming might)) tables-then)
+
+      entries-written : may_keep event None mid ≡ true → (told_on left : List ℕ) → HasSameRecords layout after told_on → IsWrittenBy layout (after_event event None office.tables) event told_on left → HasEntries layout then.office.tables left
+      entries-written might told_on left same written =
+          entries-changed might told_on left same
+          (λ tables laid checks is.
+          told-written layout tables laid checks event (subst (λ (t : TablesModel). TellsRecord t event) is ensues.record_told) told_on left (subst (λ (t : TablesModel). IsWrittenBy layout t event told_on left) is written))
+
+      entries-lacking : may_keep event None mid ≡ true → (told_on left : List ℕ) → HasSameRecords layout after told_on → LacksAtMost layout (after_event event None office.tables) event told_on left → HasEntries layout then.office.tables left
+      entries-lacking might told_on left same lacks =
+          entries-changed might told_on left same
+          (λ tables laid checks is.
+          told-lacking layout tables laid checks event (subst (λ (t : TablesModel). TellsRecord t event) is ensues.record_told) told_on left (subst (λ (t : TablesModel). LacksAtMost layout t event told_on left) is lacks))
+
       module _ (new : DeskView D) (same : new.store.layout ≡ old.store.layout) (gone : HasGoneBehind told content (Some event) mid new) (settled : IsSettledBehind content may_leave (Some event) new) where
         behind-so : IsBehind told content may_leave event old new then
         behind-so =
             let written : HasWrittenBehind content event mid new = gone.1 trusted.tells in
+            let same_records : HasSameRecords layout after written.told_on = subst (λ (l : Layout). HasSameRecords l after written.told_on) layout-same written.same in
+            let written_by : IsWrittenBy layout (after_event event None office.tables) event written.told_on (content new.store.disk) =
+            subst (λ (l : Layout). IsWrittenBy l (after_event event None office.tables) event written.told_on (content new.store.disk)) layout-same
+            (subst (λ (tables : TablesModel). IsWrittenBy mid.store.layout tables event written.told_on (content new.store.disk)) (gone.0.moved.tables ∙ ap (after_event event None) tables-mid) written.written) in
             record {
               layout = same;
               events = subst (λ (l : Layout). event_records l (content new.store.disk) ≡ event_records l after ++ spelling event ∷ []) layout-same written.events ∙ ap (λ records. records ++ spelling event ∷ []) events;
               tables = gone.0.moved.tables ∙ ap (after_event event None) done.tables ∙ ap (λ (d : Option Job). after_event event d old.jobs.tables.desk) (sym none-decked);
-              stands = ensues.stands new.jobs gone.0.moved written.told_on (content new.store.disk) (subst (λ (l : Layout). HasSameRecords l after written.told_on) layout-same written.same)
-                  (subst (λ (l : Layout). IsWrittenBy l (after_event event None office.tables) event written.told_on (content new.store.disk)) layout-same
-                  (subst (λ (tables : TablesModel). IsWrittenBy mid.store.layout tables event written.told_on (content new.store.disk)) (gone.0.moved.tables ∙ ap (after_event event None) tables-mid) written.written));
+              stands = ensues.stands new.jobs gone.0.moved written.told_on (content new.store.disk) same_records written_by;
+              entries = entries-written gone.0.might written.told_on (content new.store.disk) same_records written_by;
               settled = settled;
             }
 
@@ -359,8 +424,9 @@ module _ {D : Type 0} (told : Type 0) (content : D → List ℕ) (may_leave : D 
       committed-after = committed-so layout old.jobs image after desk turn run on moved done.worked unit-done image after trusted.stands.committed unit-done.keeps
 
       -- the event before, on an image that may lack its record
-      again-kept : may_keep event None mid ≡ true → (left : List ℕ) → Opens layout (size old.store.disk) (λ records. records ≡ before ++ came) left → HasCommittedAgain layout then.office (Some event) left → LeftBehind left
-      again-kept might left opens committed = kept-behind told content may_leave size old trusted event then (coming might) left opens committed
+      again-kept : may_keep event None mid ≡ true → (left : List ℕ) → Opens layout (size old.store.disk) (λ records. records ≡ before ++ came) left → HasCommittedAgain layout then.office (Some event) left
+          → HasEntries layout then.office.tables left → LeftBehind left
+      again-kept might left opens committed entries = kept-behind told content may_leave size old trusted event then (coming might) left opens committed entries
 
       module _ (sized : size mid.store.disk ≡ size old.store.disk) where
         head-so : (left : List ℕ) → header_of (take 512 left) (size mid.store.disk) ≡ Ok mid.store.layout → header_of (take 512 left) (size old.store.disk) ≡ Ok layout
@@ -380,17 +446,23 @@ module _ {D : Type 0} (told : Type 0) (content : D → List ℕ) (may_leave : D 
             (λ (was : event_records mid.store.layout left ≡ event_records mid.store.layout after).
             kept-before told content may_leave size old trusted came left
             (record { head = head-so left opens.head; list = subst (λ (l : Layout). event_records l left ≡ event_records l after) layout-same was ∙ events; closed = closed-so left opens.closed })
-            (committed-moves layout office after left trusted.stands.is_desk.kept same committed-after))
+            (committed-moves layout office after left trusted.stands.is_desk.kept same committed-after) (entries-told left same))
             (λ (now : event_records mid.store.layout left ≡ event_records mid.store.layout after ++ came).
-            again-kept might left (record { head = head-so left opens.head; list = records-so left came now; closed = closed-so left opens.closed }) (ensues.same left same))
+            again-kept might left (record { head = head-so left opens.head; list = records-so left came now; closed = closed-so left opens.closed }) (ensues.same left same) (entries-same might left same))
             opens.list
 
         lacking-kept : (left : List ℕ) → IsLeftRewriting content size event mid left → LeftBehind left
         lacking-kept left lacks =
             again-kept lacks.might left (record { head = head-so left lacks.opens.head; list = records-so left came lacks.opens.list; closed = closed-so left lacks.opens.closed })
-            (ensues.lacking lacks.told_on left (subst (λ (l : Layout). HasSameRecords l after lacks.told_on) layout-same lacks.same)
-            (subst (λ (l : Layout). LacksAtMost l (after_event event None office.tables) event lacks.told_on left) layout-same
-            (subst (λ (tables : TablesModel). LacksAtMost mid.store.layout (after_event event None tables) event lacks.told_on left) tables-mid lacks.lacks)))
+            (ensues.lacking lacks.told_on left same_records lacks_most) (entries-lacking lacks.might lacks.told_on left same_records lacks_most)
+          where
+            same_records : HasSameRecords layout after lacks.told_on
+            same_records = subst (λ (l : Layout). HasSameRecords l after lacks.told_on) layout-same lacks.same
+
+            lacks_most : LacksAtMost layout (after_event event None office.tables) event lacks.told_on left
+            lacks_most =
+                subst (λ (l : Layout). LacksAtMost l (after_event event None office.tables) event lacks.told_on left) layout-same
+                (subst (λ (tables : TablesModel). LacksAtMost mid.store.layout (after_event event None tables) event lacks.told_on left) tables-mid lacks.lacks)
 
         pub behind-kept : (left : List ℕ) → IsLeftBehind content may_leave size (Some event) mid left → LeftBehind left
         behind-kept left by = ⊎_elim

@@ -1,5 +1,5 @@
 -- By each event that follows the row of its run alone changes, and what the run's job names: so the holders stay apart.
-use Rattle.std.proofs.Common.{arith, ◌≡◌, ◌≢◌, ◌==◌, ℕ, zero, suc, Bool, true, false, ◌&&◌, ◌||◌, not, List, [], ◌∷◌, ◌++◌, length, refl, ap, sym, ◌∙◌, subst, Option, Some, None}
+use Rattle.std.proofs.Common.{arith, ◌≡◌, ◌≢◌, ◌==◌, ◌+◌, ℕ, zero, suc, Bool, true, false, ◌&&◌, ◌||◌, not, List, [], ◌∷◌, ◌++◌, length, refl, ap, sym, ◌∙◌, subst, Option, Some, None}
 use Rattle.std.specs.Prelude.{slice_get}
 use Rattle.std.specs.List.{AllByRecursion}
 use Rattle.std.specs.Option.{is_some, option_map_or}
@@ -12,10 +12,13 @@ use Rattle.ckr_events.specs.Jobs.{job_of}
 use Rattle.ckr_events.specs.declared.event.Ending.{Ending}
 use Rattle.ckr_events.specs.declared.event.Ending.TheVariants.{Allocation, Coded, Completed}
 use Rattle.ckr_events.specs.declared.event.Event.{Event}
-use Rattle.ckr_events.specs.declared.event.Event.TheVariants.{Cancelled, Ended, Purged, Rewritten, Selected, Started, StepEnded, Submitted}
+use Rattle.ckr_events.specs.declared.event.Event.TheVariants.{Cancelled, Checkpointed, Ended, Purged, Rewritten, Selected, Started, StepEnded, Submitted}
 use Rattle.ckr_events.specs.declared.event.Made.{Made}
 use Rattle.ckr_jcl.specs.declared.deck.Job.{Job}
+use Rattle.ckr_library.proofs.Named.{at-with_changed-other}
+use Rattle.ckr_library.specs.Catalog.{records_of}
 use Rattle.ckr_library.specs.NameMaps.{Name, Named, entry_at}
+use Rattle.ckr_library.specs.declared.sets.Kept.{Kept}
 use Rattle.ckr_meaning.specs.Dispositions.{Stock, passed_ended}
 use Rattle.ckr_meaning.specs.EffectiveJob.{Effective, OwnedStep, flaws_in, is_among, names_of, names_of_job, placed_in}
 use Rattle.ckr_meaning.specs.declared.place.Place.{Place}
@@ -23,19 +26,20 @@ use Rattle.ckr_meaning.specs.declared.place.Place.TheVariants.{Before, Opened, W
 use Rattle.ckr_base.proofs.Sequences.{get-inside}
 use Rattle.ckr_points.specs.declared.run.RunState.{RunState}
 use Rattle.ckr_points.specs.declared.run.RunState.TheVariants.{Queued, On, Held as HeldRun, Released as ReleasedRun, Ended as EndedRun, Denied as DeniedRun, Purged as PurgedRun}
-use Rattle.ckr_points.specs.Follows.{follows, is_empty, is_free, is_in_state, is_rewrite, is_running, is_update, is_within, lengths_follow, may_hold, may_start, of_step, own_step, selected_follows, started_follows, state_number, ended_follows}
+use Rattle.ckr_points.specs.Follows.{follows, is_checkpoint, is_empty, is_free, is_in_state, is_length_of, is_rewrite, is_running, is_update, is_within, lengths_follow, may_hold, may_start, of_step, own_step, selected_follows, started_follows, state_number, ended_follows}
 use Rattle.ckr_points.specs.Office.{is_holder, passed_made}
 use Rattle.ckr_points.specs.Restart.{after_abnormal, after_chosen, after_coded, after_ended, after_event, after_passed_ended, by_step, place_of, step_in}
 use Rattle.ckr_points.specs.Rows.{RunRow, TableSet, TablesModel, no_tables, run_of, standing_of, step_of_run, table_ways, with_run}
-use Rattle.ckr_points.specs.Tables.{after_submitted, after_cancelled, after_commit, after_dispositions, after_rewritten, after_started, after_step_ended, committed, is_updates, name_with_role, queued_run, row_rewritten, table_rewritten}
+use Rattle.ckr_points.specs.Tables.{after_submitted, after_cancelled, after_checkpointed, after_commit, after_dispositions, after_rewritten, after_started, after_step_ended, committed, fresh_effect, is_checkpoints, is_updates, name_with_role, queued_run, row_rewritten, table_rewritten}
 use Rattle.ckr_points_invariant.proofs.Library.PassedList.{ended-leaves}
 use Rattle.ckr_points_invariant.proofs.Steps.Events.{on-holds}
 use Rattle.ckr_points_invariant.proofs.WaitingRuns.{tested-run}
 use Rattle.ckr_points_library.specs.Commit.{output_names}
 use Rattle.ckr_points_tables.specs.Invariant.{is_plain_event, is_submission}
 use Rattle.ckr_volumes.specs.declared.layout.Layout.{Layout}
+use Rattle.ckr_desk_memory.proofs.Holders.CheckSets.{length-among, not-among}
 use Rattle.ckr_desk_memory.proofs.Holders.Moves.{RowGoesOn, HasRow, by-own, by-row, holders-go, row-accepted, row-as_is, row-next, row-number}
-use Rattle.ckr_desk_memory.proofs.Holders.Names.{changed-named, names-outside, step-formed}
+use Rattle.ckr_desk_memory.proofs.Holders.Names.{changed-named, names-outside, outputs-changed, step-formed}
 use Rattle.ckr_desk_memory.proofs.Holders.Sets.{committed-outside, disposed-outside, passed-outside, started-outside, there-changed, there-committed, there-started, updated-outside}
 use Rattle.ckr_desk_memory.specs.Invariant.{IsAcceptedRow}
 use Rattle.ckr_desk_turn.specs.Queue.{AreNumbered}
@@ -196,6 +200,34 @@ module _ (tables : TablesModel) (rows : AllByRecursion IsAcceptedRow tables.runs
           ∙ has other name holding (and-second (is_in_state On row) (is_within (place_of row)) runs) its among;
     }
 
+    checkpointed : (kept : Kept) (place bytes taken writes : ℕ) (id : Name) (lengths : List ℕ) → is_running row ≡ true → is_checkpoint tables id lengths place bytes row owned ≡ true
+        → Goes (after_checkpointed row owned (step_in (place_of row)) kept taken writes lengths tables)
+    checkpointed kept place bytes taken writes id lengths runs checks =
+        let set : Name = name_with_role row.job.root owned is_checkpoints in
+        let output : is_among (output_names row.job.root owned) set ≡ true =
+        length-among set (place + records_of bytes) (output_names row.job.root owned) lengths
+        (and-second _ (is_length_of set (place + records_of bytes) (output_names row.job.root owned) lengths) checks) in
+        record {
+          row = row;
+          next = record row { count = suc row.count; in_effect = Some (fresh_effect (name_with_role row.job.root owned is_checkpoints) kept); place = Some (Within (step_in (place_of row)) writes) };
+          row_at = at;
+          rows = row-next tables tables job row _ (after_checkpointed row owned (step_in (place_of row)) kept taken writes lengths tables).sets (row-as_is tables job row at) mine;
+          number = refl;
+          deck = refl;
+          job_is = refl;
+          begins = λ was now. absurd (false≢true (sym was ∙ now));
+          passed = λ own. own;
+          still = λ was name. absurd (false≢true (sym was ∙ running-holds row runs));
+          outside = λ own name out.
+              at-with_changed-other set name _ (committed (output_names row.job.root owned) lengths tables.sets)
+              (not-among (names_of row.job.root owned) name set (not_of_step name out) (changed-named row.job.root owned set (outputs-changed row.job.root owned set output)))
+              ∙ behind_outside lengths name out;
+          changed = λ has other name holding within its among.
+              there-changed set name _ (committed (output_names row.job.root owned) lengths tables.sets)
+              ∙ there-committed (output_names row.job.root owned) lengths tables.sets name
+              ∙ has other name holding (and-second (is_in_state On row) (is_within (place_of row)) runs) its among;
+        }
+
     step_ended : (rc writes : ℕ) (lengths : List ℕ) → is_running row ≡ true → Goes (after_step_ended row owned (step_in (place_of row)) rc writes lengths tables)
     step_ended rc writes lengths runs =
         let done : TablesModel = behind writes lengths in
@@ -297,6 +329,15 @@ goes-in layout tables rows numbered (Rewritten job taken writes lengths place im
     by-row (λ after. RowGoesOn tables after job) tables job (λ row. by_step (λ owned step. after_rewritten row owned step writes lengths.items tables) row tables) row at
     (by-own (λ after. RowGoesOn tables after job) tables (λ owned step. after_rewritten row owned step writes lengths.items tables) row owned found
     (rewritten tables rows numbered job row at owned found place image writes lengths.items (and-first (is_running row) _ (and-first (is_running row && lengths_follow tables row lengths.items) _ passes)) rewrites))))
+goes-in layout tables rows numbered (Checkpointed job id taken writes lengths place bytes) deck plain other follow =
+    tested-run tables job (λ row. is_running row && lengths_follow tables row lengths.items && of_step row (is_checkpoint tables id lengths.items place bytes row)) follow
+    (λ row at passes.
+    tested (own_step row) (is_checkpoint tables id lengths.items place bytes row) (and-second (is_running row && lengths_follow tables row lengths.items) _ passes)
+    (λ owned found checks.
+    let kept : Kept = record { id = id; run = job; place = place; bytes = bytes } in
+    by-row (λ after. RowGoesOn tables after job) tables job (λ row. by_step (λ owned step. after_checkpointed row owned step kept taken writes lengths.items tables) row tables) row at
+    (by-own (λ after. RowGoesOn tables after job) tables (λ owned step. after_checkpointed row owned step kept taken writes lengths.items tables) row owned found
+    (checkpointed tables rows numbered job row at owned found kept place bytes taken writes id lengths.items (and-first (is_running row) _ (and-first (is_running row && lengths_follow tables row lengths.items) _ passes)) checks))))
 goes-in layout tables rows numbered (Cancelled job) deck plain other follow =
     tested-run tables job is_running follow
     (λ row at passes. by-row (λ after. RowGoesOn tables after job) tables job (λ row. after_cancelled row tables) row at (cancelled tables rows numbered job row at))

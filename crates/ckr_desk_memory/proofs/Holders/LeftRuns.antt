@@ -9,15 +9,16 @@ use Rattle.ckr_base.proofs.Options.{some-one}
 use Rattle.ckr_base.proofs.Sequences.{each-implies}
 use Rattle.ckr_events.specs.Jobs.{job_of}
 use Rattle.ckr_events.specs.declared.event.Event.{Event}
-use Rattle.ckr_events.specs.declared.event.Event.TheVariants.{Cancelled, Ended, Purged, Rewritten, Selected, Started, StepEnded, Submitted}
+use Rattle.ckr_events.specs.declared.event.Event.TheVariants.{Cancelled, Checkpointed, Ended, Purged, Rewritten, Selected, Started, StepEnded, Submitted}
 use Rattle.ckr_events.specs.declared.event.Made.{Made}
 use Rattle.ckr_jcl.specs.declared.deck.Job.{Job}
+use Rattle.ckr_library.specs.declared.sets.Kept.{Kept}
 use Rattle.ckr_points.specs.declared.run.RunState.{RunState}
 use Rattle.ckr_points.specs.declared.run.RunState.TheVariants.{Queued, On, Held as HeldRun, Released as ReleasedRun, Ended as EndedRun, Denied as DeniedRun, Purged as PurgedRun}
-use Rattle.ckr_points.specs.Follows.{follows, is_free, is_in_state, is_rewrite, is_running, is_within, lengths_follow, may_hold, of_step, own_step, selected_follows, started_follows, state_number}
+use Rattle.ckr_points.specs.Follows.{follows, is_checkpoint, is_free, is_in_state, is_rewrite, is_running, is_within, lengths_follow, may_hold, of_step, own_step, selected_follows, started_follows, state_number}
 use Rattle.ckr_points.specs.Restart.{after_event, by_step, place_of, step_in}
 use Rattle.ckr_points.specs.Rows.{RunRow, TablesModel, run_of, step_of_run}
-use Rattle.ckr_points.specs.Tables.{after_cancelled, after_rewritten, after_started, after_submitted}
+use Rattle.ckr_points.specs.Tables.{after_cancelled, after_checkpointed, after_rewritten, after_started, after_submitted}
 use Rattle.ckr_points_invariant.proofs.WaitingRuns.{tested-run}
 use Rattle.ckr_points_tables.specs.Invariant.{is_plain_event, is_submission}
 use Rattle.ckr_volumes.specs.declared.layout.Layout.{Layout}
@@ -102,6 +103,21 @@ module _ (layout : Layout) (tables : TablesModel) (rows : AllByRecursion IsAccep
       (by-own (λ after. IsLeft after job) tables (λ owned step. after_rewritten row owned step writes lengths.items tables) row owned found (
         _,
         (row-next tables tables job row _ (after_rewritten row owned (step_in (place_of row)) writes lengths.items tables).sets (row-as_is tables job row at) (row-number tables job row numbered at)).now,
+        and_from (is_in_state On row) true (and-first (is_in_state On row) (is_within (place_of row)) (on_of job row at left)) refl,
+      )))))) all
+  left_on (Checkpointed job id taken writes lengths place bytes) deck failed plain follow leaves all =
+      each-implies (IsLeft tables) (IsLeft (after_event (Checkpointed job id taken writes lengths place bytes) deck tables)) failed
+      (one_left (Checkpointed job id taken writes lengths place bytes) deck plain refl follow
+      (λ left.
+      tested-run tables job (λ row. is_running row && lengths_follow tables row lengths.items && of_step row (is_checkpoint tables id lengths.items place bytes row)) follow
+      (λ row at passes.
+      tested (own_step row) (is_checkpoint tables id lengths.items place bytes row) (and-second (is_running row && lengths_follow tables row lengths.items) _ passes)
+      (λ owned found checks.
+      let kept : Kept = record { id = id; run = job; place = place; bytes = bytes } in
+      by-row (λ after. IsLeft after job) tables job (λ row. by_step (λ owned step. after_checkpointed row owned step kept taken writes lengths.items tables) row tables) row at
+      (by-own (λ after. IsLeft after job) tables (λ owned step. after_checkpointed row owned step kept taken writes lengths.items tables) row owned found (
+        _,
+        (row-next tables tables job row _ (after_checkpointed row owned (step_in (place_of row)) kept taken writes lengths.items tables).sets (row-as_is tables job row at) (row-number tables job row numbered at)).now,
         and_from (is_in_state On row) true (and-first (is_in_state On row) (is_within (place_of row)) (on_of job row at left)) refl,
       )))))) all
   left_on (Cancelled job) deck failed plain follow leaves all =

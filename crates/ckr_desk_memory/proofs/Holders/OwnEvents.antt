@@ -57,7 +57,7 @@ use Rattle.ckr_desk_memory.specs.OwnSets.{AreCopies, AreEven, AreUpTo, IsCommitt
 -- ---- lengths
 
 -- a length of the step's own fits the data set of the tables
-own-length : (entry : Option TableSet) (held : Option Holding) → AreCopies entry (option_map (λ (h : Holding). h.set) held) → ((one : Holding) → held ≡ Some one → one.set.length ≤ one.set.space)
+pub own-length : (entry : Option TableSet) (held : Option Holding) → AreCopies entry (option_map (λ (h : Holding). h.set) held) → ((one : Holding) → held ≡ Some one → one.set.length ≤ one.set.space)
     → option_map_or (λ table. nat_le table.set.length (option_map_or (λ (h : Holding). h.set.length) held 0) && nat_le (option_map_or (λ (h : Holding). h.set.length) held 0) table.set.space) entry false ≡ true
 own-length None held are fits = absurd are
 own-length (Some table) None are fits = absurd are

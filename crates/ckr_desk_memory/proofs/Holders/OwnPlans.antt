@@ -10,7 +10,7 @@ use Rattle.ckr_base.proofs.Numbers.{equal-false, equal-true}
 use Rattle.ckr_base.proofs.Options.{is_some-true, option-cases, some-not-none, some-one}
 use Rattle.ckr_base.proofs.Sequences.{find-holds, find-passes}
 use Rattle.ckr_events.specs.declared.event.Event.{Event}
-use Rattle.ckr_events.specs.declared.event.Event.TheVariants.{Ended, Rewritten, StepEnded}
+use Rattle.ckr_events.specs.declared.event.Event.TheVariants.{Checkpointed, Ended, Rewritten, StepEnded}
 use Rattle.ckr_events.specs.declared.event.Ending.TheVariants.{Coded}
 use Rattle.ckr_meaning.specs.EffectiveJob.{OwnedStep}
 use Rattle.ckr_meaning.specs.declared.place.Place.{Place}
@@ -23,7 +23,7 @@ use Rattle.ckr_points.specs.Rows.{RunRow, TablesModel, run_of}
 use Rattle.ckr_volumes.specs.declared.layout.Layout.{Layout}
 use Rattle.ckr_rules.specs.RuleTables.{rule_number}
 use Rattle.ckr_desk_turn.specs.declared.plan.Plan.{Plan}
-use Rattle.ckr_desk_turn.specs.declared.plan.Plan.TheVariants.{Rest, Tell, Work, Pass}
+use Rattle.ckr_desk_turn.specs.declared.plan.Plan.TheVariants.{Rest, Tell, Work, Pass, Take}
 use Rattle.ckr_desk_turn.specs.declared.reply.Turn.{Turn}
 use Rattle.ckr_desk_turn.specs.Codes.{code_plan, kept_reached, reached_by, rule_for, running_reached}
 use Rattle.ckr_desk_turn.specs.Invariant.{IsTurnOf}
@@ -38,14 +38,13 @@ use Rattle.ckr_desk_memory.proofs.Holders.PlanCases.{PlanCases, plan-cases}
 use Rattle.ckr_desk_memory.proofs.Holders.Rooms.{stored-fit}
 use Rattle.ckr_desk_memory.proofs.Plans.{within-there}
 use Rattle.ckr_desk_memory.proofs.Starts.Steps.{row-among}
-use Rattle.ckr_desk_memory.proofs.TurnEvents.{plan-follows}
+use Rattle.ckr_desk_memory.proofs.TurnEvents.{FollowsBetween, is_of_step, plan-follows}
 use Rattle.ckr_desk_memory.specs.EventChanges.{is_of_run}
 use Rattle.ckr_desk_memory.specs.Invariant.{AreJobs, IsPlacedRow, IsRunnable}
 use Rattle.ckr_desk_memory.specs.OwnEvents.{HasOwnLengths, IsOwnEvent}
 use Rattle.ckr_desk_memory.specs.OwnSets.{CommitsItsOwn, IsRunningOf}
 use Rattle.ckr_desk_memory.specs.OwnSteps.{AreLeft, HoldTheirOwn, IsLeft, IsOther, LeavesLeft, PlanCommits, PlanFollows, PlanLeaves}
 use Rattle.ckr_desk_memory.specs.Plans.{next_step}
-use Rattle.ckr_desk_memory.specs.TurnEvents.{FollowsBetween, is_of_step}
 use Rattle.ckr_desk_memory.specs.View.{JobsView, RunningStepView, jobs_of, lengths_of_row, running_of}
 
 -- ---- runs that were running when the system failed
@@ -72,12 +71,14 @@ FollowsWithin layout tables (Rest reply) = Unit {0}
 FollowsWithin layout tables (Tell reply event) = is_of_step event ≡ true → follows layout tables event None ≡ true
 FollowsWithin layout tables (Work job) = Unit {0}
 FollowsWithin layout tables (Pass job reply) = Unit {0}
+FollowsWithin layout tables (Take job) = Unit {0}
 
 follows_both : (layout : Layout) (tables : TablesModel) (plan : Plan) → FollowsBetween layout tables plan → FollowsWithin layout tables plan → PlanFollows layout tables plan
 follows_both layout tables (Rest reply) between within = tt
 follows_both layout tables (Tell reply event) between within = bool-cases (is_of_step event) within between
 follows_both layout tables (Work job) between within = tt
 follows_both layout tables (Pass job reply) between within = tt
+follows_both layout tables (Take job) between within = tt
 
 not_next : (place : Place) → is_within place ≡ true → next_step false None place ≡ None
 not_next (Before number) within = absurd (false≢true within)
@@ -161,6 +162,7 @@ module _ (layout : Layout) (jobs : JobsView) (numbered : AreNumbered 1 jobs.tabl
     rest = λ reply. tt;
     work = λ job. tt;
     pass = λ job reply. tt;
+    take = λ job. tt;
     between = λ reply event out it. absurd (true≢false (sym it ∙ out));
     ended = λ row found sound number writes is step there rc.
         option-cases (find (is_of_run row.number) jobs.running)
@@ -189,6 +191,7 @@ plan-own layout jobs turn numbered are its own left =
 
 between_commits : (now : TablesModel) (running : List RunningStepView) (event : Event) → is_of_step event ≡ false → CommitsItsOwn event now running
 between_commits now running (Rewritten job taken writes lengths place image) out = absurd (true≢false out)
+between_commits now running (Checkpointed job id taken writes lengths place bytes) out = absurd (true≢false out)
 between_commits now running _ out = tt
 
 -- it tells no rewrite
@@ -198,6 +201,7 @@ plan-commits layout jobs turn running =
       rest = λ reply. tt;
       work = λ job. tt;
       pass = λ job reply. tt;
+      take = λ job. tt;
       between = λ reply event out. between_commits jobs.tables.desk running event out;
       ended = λ row found sound number writes is step there rc. tt;
       failed = λ row found failed. tt;
@@ -217,6 +221,7 @@ plan-leaves layout jobs turn =
       rest = λ reply. tt;
       work = λ job. tt;
       pass = λ job reply. tt;
+      take = λ job. tt;
       between = λ reply event out. between_leaves jobs.failed event out;
       ended = λ row found sound number writes is step there rc. none_left row.number jobs.failed sound;
       failed = λ row found failed. tt;

@@ -48,7 +48,7 @@ use Rattle.ckr_desk_memory.specs.OwnSets.{AreCopies, AreEven, AreUpTo, IsCopy, I
 
 module _ (own : Option DataSet) where
   -- by a change under a name, where under that name it leaves a copy
-  copies-changed : (other name : Name) (change : TableSet → TableSet) (sets : Named TableSet) → (same_name name other ≡ true → (table : TableSet) (set : DataSet) → own ≡ Some set → IsCopy table.set set → IsCopy (change table).set set)
+  pub copies-changed : (other name : Name) (change : TableSet → TableSet) (sets : Named TableSet) → (same_name name other ≡ true → (table : TableSet) (set : DataSet) → own ≡ Some set → IsCopy table.set set → IsCopy (change table).set set)
       → AreCopies (entry_at sets name) own → AreCopies (entry_at (with_changed other change sets) name) own
   copies-changed other name change sets keeps are =
       subst (λ entry. AreCopies entry own) (sym (at-with_changed other name change sets))
@@ -60,7 +60,7 @@ module _ (own : Option DataSet) where
       by true (Some table) (Some set) keeps are = keeps refl table set refl are
       by false entry o keeps are = are
 
-  copies-committed : (names : List Name) (lengths : List ℕ) (owns : Named Holding) (sets : Named TableSet) (name : Name) → AreUpTo owns names lengths → own ≡ option_map (λ (h : Holding). h.set) (entry_at owns name)
+  pub copies-committed : (names : List Name) (lengths : List ℕ) (owns : Named Holding) (sets : Named TableSet) (name : Name) → AreUpTo owns names lengths → own ≡ option_map (λ (h : Holding). h.set) (entry_at owns name)
       → AreCopies (entry_at sets name) own → AreCopies (entry_at (committed names lengths sets) name) own
   copies-committed [] lengths owns sets name up is are = are
   copies-committed (first ∷ names) [] owns sets name up is are = are
@@ -77,9 +77,9 @@ module _ (own : Option DataSet) where
       long None set is at_most = absurd (some-not-none set (sym is))
       long (Some held) set is at_most = subst (λ (s : DataSet). most ≤ s.length) (same_Some held.set set is) at_most
 
-  even-changed : (name : Name) (change : TableSet → TableSet) (sets : Named TableSet) → ((table : TableSet) → (change table).set.length ≡ table.set.length) → AreEven (entry_at sets name) own → AreEven (entry_at (with_changed name change sets) name) own
-  even-changed name change sets keeps are =
-      subst (λ entry. AreEven entry own) (sym (at-with_changed name name change sets)) (by (same_name name name) (entry_at sets name) own are)
+  pub even-changed : (other name : Name) (change : TableSet → TableSet) (sets : Named TableSet) → ((table : TableSet) → (change table).set.length ≡ table.set.length) → AreEven (entry_at sets name) own → AreEven (entry_at (with_changed other change sets) name) own
+  even-changed other name change sets keeps are =
+      subst (λ entry. AreEven entry own) (sym (at-with_changed other name change sets)) (by (same_name name other) (entry_at sets name) own are)
     where
       by : (b : Bool) (entry : Option TableSet) (o : Option DataSet) → AreEven entry o → AreEven (cond b (option_map change entry) entry) o
       by true None o are = are
@@ -146,18 +146,18 @@ running-same tables after on is next at state place job sets = record {
     stands : place_of next ≡ place_of is.row
     stands = ap (λ (o : Option Place). option_map_or (λ place. place) o (Before 1)) place
 
-served_program : (parm : Parm) (state : State) → program_of (served_of parm false state) ≡ program_of state
+pub served-program : (parm : Parm) (written : Bool) (state : State) → program_of (served_of parm written state) ≡ program_of state
 unfolding served_of
-served_program parm (Plain state) = by (plain.due_in parm state)
+served-program parm written (Plain state) = by (plain.due_in parm state)
   where
-    by : (due : NextDue) → (plain.served_state due false state).kind ≡ state.kind
+    by : (due : NextDue) → (plain.served_state due written state).kind ≡ state.kind
     by Checkpoint = refl
     by Cancel = refl
     by Unit = refl
     by (Finished rc) = refl
-served_program parm (Matched state) = by (matched.due_in parm state)
+served-program parm written (Matched state) = by (matched.due_in parm state)
   where
-    by : (due : NextDue) → (matched.served_state due false state).kind ≡ state.kind
+    by : (due : NextDue) → (matched.served_state due written state).kind ≡ state.kind
     by Checkpoint = refl
     by Cancel = refl
     by Unit = refl
@@ -172,7 +172,7 @@ running-served tables on is = record {
   state = is.state;
   within = is.within;
   found = is.found;
-  program = served_program on.step.parm on.step.state ∙ is.program;
+  program = served-program on.step.parm false on.step.state ∙ is.program;
   parm = is.parm;
   files = is.files;
   changed = is.changed;
@@ -196,7 +196,7 @@ running-rewritten tables on is writes lengths rows number up = record {
       (λ same table set its copy. record { lrecl = copy.lrecl; space = copy.space; length = copy.length })
       (copies-committed (set_of on.sets name) outputs lengths on.sets.sets tables.sets name up refl (is.changed name among));
   updated = λ updates.
-      even-changed (set_of on.sets updated) updated (table_rewritten is.owned.owner step) (committed outputs lengths tables.sets) (λ table. refl)
+      even-changed (set_of on.sets updated) updated updated (table_rewritten is.owned.owner step) (committed outputs lengths tables.sets) (λ table. refl)
       (subst (λ entry. AreEven entry (set_of on.sets updated))
       (sym (committed-other outputs lengths tables.sets updated (updated-not_output is.row.job.root is.owned (step-formed is.row step is.owned (row-accepted tables on.run is.row rows is.row_at) is.found) updates)))
       (is.updated updates));

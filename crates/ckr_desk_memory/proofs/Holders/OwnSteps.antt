@@ -1,5 +1,5 @@
 -- The jobs in memory go on to hold their own.
-use Rattle.std.proofs.Common.{◌≡◌, ◌==◌, ℕ, Bool, true, false, cond, not, List, [], ◌∷◌, find, refl, ap, sym, subst, Option, Some, None}
+use Rattle.std.proofs.Common.{◌≡◌, ◌+◌, ◌==◌, ℕ, Bool, true, false, cond, not, List, [], ◌∷◌, find, refl, ap, sym, ◌∙◌, subst, Option, Some, None}
 use Rattle.std.specs.List.{AllByRecursion}
 use Rattle.std.specs.Option.{option_map, option_map_or}
 use Rattle.std.specs.Prelude.{IfSome}
@@ -8,9 +8,11 @@ use Rattle.ckr_base.proofs.Bools.{and-second}
 use Rattle.ckr_base.proofs.Numbers.{equal-false, equal-true}
 use Rattle.ckr_base.proofs.Sequences.{find-holds, find-passes}
 use Rattle.ckr_events.specs.declared.event.Event.{Event}
-use Rattle.ckr_events.specs.declared.event.Event.TheVariants.{Cancelled, Ended, Purged, Rewritten, Selected, Started, StepEnded, Submitted}
+use Rattle.ckr_events.specs.declared.event.Event.TheVariants.{Cancelled, Checkpointed, Ended, Purged, Rewritten, Selected, Started, StepEnded, Submitted}
 use Rattle.ckr_events.specs.declared.event.Made.{Made}
 use Rattle.ckr_jcl.specs.declared.deck.Job.{Job}
+use Rattle.ckr_library.specs.Catalog.{records_of}
+use Rattle.ckr_library.specs.NameMaps.{Name}
 use Rattle.ckr_points.specs.declared.run.RunState.TheVariants.{On}
 use Rattle.ckr_points.specs.Follows.{follows, is_in_state, started_follows}
 use Rattle.ckr_points.specs.Restart.{after_event}
@@ -27,7 +29,7 @@ use Rattle.ckr_desk_memory.proofs.Holders.RunningSteps.{running-stay}
 use Rattle.ckr_desk_memory.proofs.Replays.{goes-on-with}
 use Rattle.ckr_desk_memory.proofs.RunningSteps.First.{all-without}
 use Rattle.ckr_desk_memory.specs.declared.jobs.RunningStep.{RunningStep}
-use Rattle.ckr_desk_memory.specs.EventChanges.{is_of_run, served_in, served_step, without_first, without_run}
+use Rattle.ckr_desk_memory.specs.EventChanges.{FirstEnters, HasEntered, check_name_in, is_of_run, served_in, served_step, without_first, without_run}
 use Rattle.ckr_desk_memory.specs.Holders.{AreHolders}
 use Rattle.ckr_desk_memory.specs.Invariant.{AreJobs, IsAcceptedRow}
 use Rattle.ckr_desk_memory.specs.OwnSets.{CommitsItsOwn, IsRunningOf}
@@ -92,6 +94,17 @@ single-served run running single = by (find (is_of_run run) running) refl
       single-first run running single,
     )
 
+single-entered : (run : ℕ) (check : Option Name) (most : ℕ) (old new : List RunningStepView) → AreSingle old → HasEntered run check most old new → AreSingle new
+single-entered run check most old new single goes = by (find (is_of_run run) old) refl goes
+  where
+    by : (first : Option RunningStepView) → find (is_of_run run) old ≡ first → FirstEnters first run check most old new → AreSingle new
+    by None e same = subst AreSingle (sym same) single
+    by (Some on) e goes =
+        subst AreSingle (sym goes.1) (
+          subst (λ n. AllByRecursion (IsOfOther n) (without_first run old)) (sym (goes.2.run ∙ equal-true on.run run (find-passes (is_of_run run) old on e))) (others-first run old single),
+          single-first run old single,
+        )
+
 -- ---- each event
 
 module _ (layout : Layout) (tables : TablesModel) (rows : AllByRecursion IsAcceptedRow tables.runs) (numbered : AreNumbered 1 tables.runs) where
@@ -117,6 +130,8 @@ module _ (layout : Layout) (tables : TablesModel) (rows : AllByRecursion IsAccep
       (λ row at passes.
       by-row (StartsAlone job step old new) tables job (λ row. option_map_or (λ owned. after_started row owned step items.items tables) (step_of_run row step) tables) row at
       (started job step items.items old new row single at passes) goes)
+  single_on (Checkpointed job id taken writes lengths place bytes) deck old new plain follow single goes =
+      single-entered job (check_name_in (after_event (Checkpointed job id taken writes lengths place bytes) deck tables) job) (place + records_of bytes) old new single goes
   single_on (Cancelled job) deck old new plain follow single goes = subst AreSingle (sym goes) (single-served job old single)
   single_on (StepEnded job step rc writes lengths) deck old new plain follow single goes = subst AreSingle (sym goes) (single-left job old single)
   single_on (Ended job ending) deck old new plain follow single goes = subst AreSingle (sym goes) (single-left job old single)

@@ -1,19 +1,21 @@
 -- What a turn tells of a unit of a running step follows on any disk, and commits what the step has behind it.
-use Rattle.std.proofs.Common.{◌≡◌, ℕ, true, List, [], ◌∷◌, refl, ap, sym, ◌∙◌, subst, Option, Some, None}
+use Rattle.std.proofs.Common.{◌≡◌, ◌+◌, ℕ, Bool, true, false, cond, List, [], ◌∷◌, refl, ap, sym, ◌∙◌, subst, Option, Some, None}
 use Rattle.std.specs.List.{AllByRecursion}
 use Rattle.std.specs.Option.{option_map_or}
 use Rattle.std.proofs.lemmas.Bool.{false≢true}
 use Rattle.ckr_base.specs.declared.programs.Heads.{Heads}
+use Rattle.ckr_base.proofs.Numbers.{equal-false}
 use Rattle.ckr_events.specs.Jobs.{job_of}
 use Rattle.ckr_events.specs.declared.event.Ending.TheVariants.{Coded}
 use Rattle.ckr_events.specs.declared.event.Event.{Event}
-use Rattle.ckr_events.specs.declared.event.Event.TheVariants.{Ended, Rewritten, StepEnded}
-use Rattle.ckr_library.specs.Catalog.{Holding}
+use Rattle.ckr_events.specs.declared.event.Event.TheVariants.{Checkpointed, Ended, Rewritten, StepEnded}
+use Rattle.ckr_library.specs.Catalog.{Holding, records_of}
 use Rattle.ckr_library.specs.NameMaps.{Named}
 use Rattle.ckr_meaning.specs.EffectiveJob.{OwnedStep}
 use Rattle.ckr_points.specs.Restart.{place_of, step_in}
 use Rattle.ckr_points.specs.Rows.{RunRow, TablesModel, run_of, step_of_run}
 use Rattle.ckr_points_library.specs.Commit.{output_names}
+use Rattle.ckr_points_tables.specs.Checkpoint.{checkpoint_name}
 use Rattle.ckr_rules.specs.RuleTables.{rule_number}
 use Rattle.ckr_steps.specs.Inputs.{AreThere}
 use Rattle.ckr_steps.specs.StepUnit.{HasDone, IsUnitFor}
@@ -23,7 +25,7 @@ use Rattle.ckr_steps.specs.declared.step_run.Worked.TheVariants.{Abend, Rewrite,
 use Rattle.ckr_steps.specs.declared.unit_ahead.UnitAhead.{UnitAhead}
 use Rattle.ckr_volumes.specs.declared.layout.Layout.{Layout}
 use Rattle.ckr_desk_turn.specs.declared.plan.Plan.{Plan}
-use Rattle.ckr_desk_turn.specs.declared.plan.Plan.TheVariants.{Pass, Rest, Tell, Work}
+use Rattle.ckr_desk_turn.specs.declared.plan.Plan.TheVariants.{Pass, Rest, Take, Tell, Work}
 use Rattle.ckr_desk_turn.specs.Codes.{rule_for}
 use Rattle.ckr_desk_turn.specs.Queue.{AreNumbered}
 use Rattle.ckr_desk_memory.proofs.Holders.Moves.{row-number}
@@ -31,9 +33,11 @@ use Rattle.ckr_desk_memory.proofs.Holders.OwnEvents.{own-committed, own-follows}
 use Rattle.ckr_desk_memory.proofs.Holders.Rewrites.{nothing-before}
 use Rattle.ckr_desk_memory.proofs.Holders.Rooms.{unit-fits}
 use Rattle.ckr_desk_memory.proofs.Holders.Units.{running-unit}
+use Rattle.ckr_desk_memory.proofs.RunningSteps.First.{all-without}
+use Rattle.ckr_desk_memory.specs.EventChanges.{is_of_run, with_entry_end, without_first}
 use Rattle.ckr_desk_memory.specs.Invariant.{IsAcceptedRow}
 use Rattle.ckr_desk_memory.specs.OwnEvents.{HasOwnLengths}
-use Rattle.ckr_desk_memory.specs.OwnSets.{AreUpTo, CommitsItsOwn, IsCommitted, IsRunningOf}
+use Rattle.ckr_desk_memory.specs.OwnSets.{AreUpTo, CommitsItsOwn, IsCommitted, IsCommittedWith, IsRunningOf}
 use Rattle.ckr_desk_memory.specs.OwnSteps.{IsOfOther, LeavesLeft, PlanCommits, PlanFollows, PlanIsOf, PlanLeaves}
 use Rattle.ckr_desk_memory.specs.Plans.{IsUnitPlan, behind_unit, is_unit_event, told_by}
 use Rattle.ckr_desk_memory.specs.Start.{AllFit}
@@ -45,12 +49,33 @@ others_committed : (tables : TablesModel) (job : ℕ) (lengths : List ℕ) (othe
 others_committed tables job lengths [] apart = tt
 others_committed tables job lengths (on ∷ rest) apart = (λ same. absurd (apart.0 same), others_committed tables job lengths rest apart.1)
 
+others_entered : (tables : TablesModel) (most job : ℕ) (lengths : List ℕ) (others : List RunningStepView) → AllByRecursion (IsOfOther job) others → AllByRecursion (IsCommittedWith most job lengths tables) others
+others_entered tables most job lengths [] apart = tt
+others_entered tables most job lengths (on ∷ rest) apart = (λ same. absurd (apart.0 same), others_entered tables most job lengths rest apart.1)
+
+-- a step with others beside it, none of which is of the run, is the only one of it
+alone_first : (job : ℕ) (on : RunningStepView) (others : List RunningStepView) → AllByRecursion (IsOfOther job) others → AllByRecursion (IsOfOther job) (without_first job (on ∷ others))
+alone_first job on others apart = by (is_of_run job on) refl
+  where
+    by : (b : Bool) → is_of_run job on ≡ b → AllByRecursion (IsOfOther job) (cond b others (on ∷ without_first job others))
+    by true e = apart
+    by false e = (equal-false on.run job e, all-without (IsOfOther job) job others apart)
+
 -- what a running step commits of its own, it commits with steps of other runs beside it
 pub others-commit : (tables : TablesModel) (event : Event) (seen moved : RunningStepView) (others : List RunningStepView) → moved.run ≡ seen.run → moved.sets.sets ≡ seen.sets.sets → AllByRecursion (IsOfOther (job_of event)) others
     → CommitsItsOwn event tables (seen ∷ []) → CommitsItsOwn event tables (moved ∷ others)
 others-commit tables (Rewritten job taken writes lengths place image) seen moved others run sets apart commits = (
   λ same row owned at found. subst (λ (s : Named Holding). AreUpTo s (output_names row.job.root owned) lengths.items) (sym sets) (commits.0 (sym run ∙ same) row owned at found),
   others_committed tables job lengths.items others apart,
+)
+others-commit tables (Checkpointed job id taken writes lengths place bytes) seen moved others run sets apart commits = (
+  (
+    λ same row owned at found.
+        subst (λ (s : Named Holding). AreUpTo (with_entry_end (checkpoint_name row.job.root owned) (place + records_of bytes) s) (output_names row.job.root owned) lengths.items) (sym sets)
+        (commits.0.0 (sym run ∙ same) row owned at found),
+    others_entered tables (place + records_of bytes) job lengths.items others apart,
+  ),
+  alone_first job moved others apart,
 )
 others-commit tables _ seen moved others run sets apart commits = tt
 
@@ -124,3 +149,4 @@ told-leaves failed (Tell reply event) is = by event is
     by _ is = tt
 told-leaves failed (Work job) is = tt
 told-leaves failed (Pass job reply) is = tt
+told-leaves failed (Take job) is = tt

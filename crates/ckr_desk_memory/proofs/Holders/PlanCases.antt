@@ -1,5 +1,6 @@
 -- What a turn comes to, by its cases: between the steps of a run, where a step ends, and where a run ends by a code.
 use Rattle.std.proofs.Common.{◌≡◌, ℕ, Bool, true, false, List, refl, Option, Some, None, Result, Ok, Err}
+use Rattle.std.specs.Prelude.{if◌then◌else◌}
 use Rattle.std.specs.Option.{option_map_or}
 use Rattle.ckr_base.specs.declared.code.Code.{Code}
 use Rattle.ckr_base.specs.declared.programs.NextDue.{NextDue}
@@ -10,18 +11,20 @@ use Rattle.ckr_meaning.specs.declared.place.Place.{Place}
 use Rattle.ckr_meaning.specs.declared.place.Place.TheVariants.{Before, Opened, Within}
 use Rattle.ckr_points.specs.Restart.{place_of}
 use Rattle.ckr_points.specs.Rows.{RunRow, step_of_run}
+use Rattle.ckr_points.specs.RuleCases.{rd_in_effect}
+use Rattle.ckr_rules.specs.RuleTables.{suppresses}
 use Rattle.ckr_points_library.specs.declared.cause.Refusal.{Refusal}
 use Rattle.ckr_desk_turn.specs.declared.plan.Plan.{Plan}
-use Rattle.ckr_desk_turn.specs.declared.plan.Plan.TheVariants.{Rest, Tell, Work, Pass}
+use Rattle.ckr_desk_turn.specs.declared.plan.Plan.TheVariants.{Rest, Tell, Work, Pass, Take}
 use Rattle.ckr_desk_turn.specs.declared.reply.Reply.{Reply}
 use Rattle.ckr_desk_turn.specs.declared.reply.Turn.{Turn}
 use Rattle.ckr_desk_turn.specs.Allocation.{allocation_of}
 use Rattle.ckr_desk_turn.specs.Codes.{code_plan, reached_by}
 use Rattle.ckr_desk_turn.specs.Jobs.{TurnJobs, TurnStep, is_failed, running_in}
-use Rattle.ckr_desk_turn.specs.Plans.{between_plan, chosen_plan, due_plan, fail_plan, finished_plan, free_plan, is_within, placed_plan, plan_of, run_plan, running_plan, system_failure}
+use Rattle.ckr_desk_turn.specs.Plans.{between_plan, checkpoint_plan, chosen_plan, due_plan, fail_plan, finished_plan, free_plan, is_within, placed_plan, plan_of, run_plan, running_plan, suppressed_plan, system_failure}
 use Rattle.ckr_desk_turn.specs.Select.{next_run, run_on_initiator}
 use Rattle.ckr_volumes.specs.declared.layout.Layout.{Layout}
-use Rattle.ckr_desk_memory.specs.TurnEvents.{is_of_step}
+use Rattle.ckr_desk_memory.proofs.TurnEvents.{is_of_step}
 
 -- ---- a plan by a choice
 
@@ -42,12 +45,21 @@ module _ (Q : Plan → Type 0) where
   by-test true one two first second = first refl
   by-test false one two first second = second refl
 
+  -- a checkpoint that is due
+  by-rule : (row : RunRow) (number : ℕ) → Q (suppressed_plan row) → Q (Take row.number) → Q (checkpoint_plan row number)
+  by-rule row number pass take = by (suppresses (rd_in_effect row number))
+    where
+      by : (b : Bool) → Q (if b then suppressed_plan row else Take row.number)
+      by true = pass
+      by false = take
+
 -- ---- the cases
 
 pub record PlanCases (layout : Layout) (seen : TurnJobs) (initiator : ℕ) (Q : Plan → Type 0) : Type 0 where
   pub rest : (reply : Reply) → Q (Rest reply)
   pub work : (job : ℕ) → Q (Work job)
   pub pass : (job : ℕ) (reply : Reply) → Q (Pass job reply)
+  pub take : (job : ℕ) → Q (Take job)
   pub between : (reply : Reply) (event : Event) → is_of_step event ≡ false → Q (Tell reply event)
   pub ended : (row : RunRow) → run_on_initiator seen.tables initiator ≡ Some row → is_failed seen row.number ≡ false → (number writes : ℕ) → place_of row ≡ Within number writes
       → (step : TurnStep) → running_in seen row.number ≡ Some step → (rc : ℕ) → Q (finished_plan row number step rc)
@@ -64,7 +76,7 @@ module _ (layout : Layout) (seen : TurnJobs) (initiator : ℕ) (Q : Plan → Typ
   module _ (row : RunRow) (found : run_on_initiator seen.tables initiator ≡ Some row) where
     due_case : is_failed seen row.number ≡ false → (number writes : ℕ) → place_of row ≡ Within number writes → (step : TurnStep) → running_in seen row.number ≡ Some step → (due : NextDue) → Q (due_plan row number step due)
     due_case sound number writes is step there OneUnit = cases.work row.number
-    due_case sound number writes is step there Checkpoint = cases.pass row.number _
+    due_case sound number writes is step there Checkpoint = by-rule Q row number (cases.pass row.number _) (cases.take row.number)
     due_case sound number writes is step there Cancel = cases.between _ _ refl
     due_case sound number writes is step there (Finished rc) = cases.ended row found sound number writes is step there rc
 

@@ -1,41 +1,49 @@
 -- The running steps stay those of their runs by each event that follows.
-use Rattle.std.proofs.Common.{◌≡◌, ◌≢◌, ◌==◌, ℕ, Bool, true, false, cond, not, ◌&&◌, List, [], ◌∷◌, refl, ap, sym, ◌∙◌, subst, Option, Some, None}
+use Rattle.std.proofs.Common.{arith, ◌≡◌, ◌≢◌, ◌≤◌, ◌+◌, ◌==◌, ℕ, Bool, true, false, cond, not, ◌&&◌, List, [], ◌∷◌, refl, ap, sym, ◌∙◌, subst, Option, Some, None}
 use Rattle.std.specs.Prelude.{find}
 use Rattle.std.specs.List.{AllByRecursion}
-use Rattle.std.specs.Option.{option_map_or}
+use Rattle.std.specs.Option.{is_none, option_map_or}
 use Rattle.std.proofs.lemmas.Bool.{false≢true}
 use Rattle.arrayvec.specs.ArrayVec.{ArrayVec}
 use Rattle.ckr_base.specs.declared.record.Rec.{Rec}
 use Rattle.ckr_base.proofs.Bools.{and-first, and-second}
-use Rattle.ckr_base.proofs.Numbers.{equal-false, number-cases}
+use Rattle.ckr_base.proofs.Numbers.{equal-false, equal-true, number-cases}
 use Rattle.ckr_base.proofs.Options.{some-one}
-use Rattle.ckr_base.proofs.Sequences.{each-implies, find-holds}
+use Rattle.ckr_base.proofs.Sequences.{each-implies, find-holds, find-passes}
 use Rattle.ckr_events.specs.Jobs.{job_of}
 use Rattle.ckr_events.specs.declared.event.Event.{Event}
-use Rattle.ckr_events.specs.declared.event.Event.TheVariants.{Cancelled, Ended, Purged, Rewritten, Selected, Started, StepEnded, Submitted}
+use Rattle.ckr_events.specs.declared.event.Event.TheVariants.{Cancelled, Checkpointed, Ended, Purged, Rewritten, Selected, Started, StepEnded, Submitted}
 use Rattle.ckr_events.specs.declared.event.Made.{Made}
 use Rattle.ckr_jcl.specs.declared.deck.Job.{Job}
+use Rattle.ckr_library.specs.Catalog.{records_of}
+use Rattle.ckr_library.specs.NameMaps.{Name, entry_at}
+use Rattle.ckr_library.specs.declared.sets.Kept.{Kept}
 use Rattle.ckr_meaning.specs.EffectiveJob.{Effective}
 use Rattle.ckr_points.specs.declared.run.RunState.{RunState}
 use Rattle.ckr_points.specs.declared.run.RunState.TheVariants.{Queued, On, Held as HeldRun, Released as ReleasedRun, Ended as EndedRun, Denied as DeniedRun, Purged as PurgedRun}
-use Rattle.ckr_points.specs.Follows.{follows, is_free, is_in_state, may_hold, selected_follows, started_follows, state_number}
-use Rattle.ckr_points.specs.Restart.{after_event, by_step}
-use Rattle.ckr_points.specs.Rows.{RunRow, TablesModel, run_of, step_of_run}
-use Rattle.ckr_points.specs.Tables.{after_cancelled, after_rewritten, after_started, after_submitted}
+use Rattle.ckr_points.specs.Follows.{follows, is_checkpoint, is_free, is_in_state, is_length_of, is_running, lengths_follow, may_hold, of_step, own_step, selected_follows, started_follows, state_number}
+use Rattle.ckr_points.specs.Restart.{after_event, by_step, kept_at, place_of, step_in}
+use Rattle.ckr_points.specs.Rows.{RunRow, TableSet, TablesModel, run_of, step_of_run}
+use Rattle.ckr_points.specs.Tables.{after_cancelled, after_checkpointed, after_rewritten, after_started, after_submitted, is_checkpoints, name_with_role}
 use Rattle.ckr_points_invariant.proofs.WaitingRuns.{tested-run}
+use Rattle.ckr_points_library.specs.Commit.{output_names}
+use Rattle.ckr_points_tables.specs.Checkpoint.{checkpoint_name}
 use Rattle.ckr_points_tables.specs.Invariant.{is_plain_event, is_submission}
 use Rattle.ckr_volumes.specs.declared.layout.Layout.{Layout}
+use Rattle.ckr_desk_memory.proofs.Extents.{tested as tested-of, tested-step}
+use Rattle.ckr_desk_memory.proofs.Holders.Checkpoints.{check-behind, running-entered}
 use Rattle.ckr_desk_memory.proofs.Holders.Events.{by-some, goes-on, holders-stay, row-more, tested}
 use Rattle.ckr_desk_memory.proofs.Holders.Moves.{by-own, by-row, row-accepted, row-as_is, row-next, row-number}
 use Rattle.ckr_desk_memory.proofs.Holders.OwnSets.{running-new, running-other, running-rewritten, running-same, running-served}
-use Rattle.ckr_desk_memory.specs.EventChanges.{is_of_run, served_in, served_step, without_first, without_run}
+use Rattle.ckr_desk_memory.proofs.RunningSteps.Served.{without-none}
+use Rattle.ckr_desk_memory.specs.EventChanges.{FirstEnters, HasEntered, IsEntered, check_name_in, is_of_run, served_in, served_step, with_entry_end, without_first, without_run}
 use Rattle.ckr_desk_memory.specs.Invariant.{IsAcceptedRow}
 use Rattle.ckr_desk_memory.specs.RunningSteps.{GoesOn, StepStarts}
 use Rattle.ckr_desk_memory.specs.Start.{HasNew}
 use Rattle.ckr_desk_memory.specs.View.{RunningStepView}
 use Rattle.ckr_desk_turn.specs.Queue.{AreNumbered}
 use Rattle.ckr_desk_memory.specs.Holders.{AreHolders}
-use Rattle.ckr_desk_memory.specs.OwnSets.{CommitsItsOwn, IsCommitted, IsRunningOf}
+use Rattle.ckr_desk_memory.specs.OwnSets.{AreUpTo, CommitsItsOwn, IsCommitted, IsCommittedWith, IsOfOther, IsRunningOf}
 
 -- ---- lists of running steps
 
@@ -145,6 +153,83 @@ module _ (layout : Layout) (tables : TablesModel) (are : AreHolders tables) (row
       (by-own (λ after. IsRunningOf after on) tables (λ owned step. after_rewritten is.row owned step writes lengths.items tables) is.row is.owned is.found
       (running-rewritten tables on is writes lengths.items rows (row-number tables on.run is.row numbered is.row_at) (commits here is.row is.owned (its_row job on here is) is.found)))
 
+  -- ---- a checkpoint
+
+  module _ (job taken writes place bytes : ℕ) (id : Name) (lengths : ArrayVec ℕ) (deck : Option Job) (follow : follows layout tables (Checkpointed job id taken writes lengths place bytes) deck ≡ true) where
+    abbrev event : Event
+    event = Checkpointed job id taken writes lengths place bytes
+
+    abbrev after : TablesModel
+    after = after_event event deck tables
+
+    abbrev most : ℕ
+    most = place + records_of bytes
+
+    abbrev kept : Kept
+    kept = record { id = id; run = job; place = place; bytes = bytes }
+
+    module _ (on new : RunningStepView) (here : on.run ≡ job) (is : IsRunningOf tables on) (commits : IsCommittedWith (place + records_of bytes) job lengths.items tables on) where
+      abbrev set : Name
+      set = name_with_role is.row.job.root is.owned is_checkpoints
+
+      abbrev behind : TablesModel
+      behind = after_checkpointed is.row is.owned (step_in (place_of is.row)) kept taken writes lengths.items tables
+
+      abbrev Enters : TablesModel → Type 0
+      Enters now = IsEntered (check_name_in now job) most on new → IsRunningOf now new
+
+      at : run_of tables job ≡ Some is.row
+      at = its_row job on here is
+
+      number : is.row.number ≡ on.run
+      number = row-number tables on.run is.row numbered is.row_at
+
+      checks : is_checkpoint tables id lengths.items place bytes is.row is.owned ≡ true
+      checks =
+          tested-step (own_step is.row) (is_checkpoint tables id lengths.items place bytes is.row)
+          (and-second (is_running is.row && lengths_follow tables is.row lengths.items) _
+          (tested-of tables job (λ row. is_running row && lengths_follow tables row lengths.items && of_step row (is_checkpoint tables id lengths.items place bytes row)) follow is.row at))
+          is.owned is.found
+
+      -- the entry begins where its data set ends
+      low : (table : TableSet) → entry_at tables.sets set ≡ Some table → table.set.length ≤ most
+      low table found =
+          let stands = and-first _ (is_length_of set most (output_names is.row.job.root is.owned) lengths.items) checks in
+          let its : (place == table.set.length && is_none (kept_at tables.sets set id)) ≡ true =
+          sym (ap (λ (o : Option TableSet). option_map_or (λ table. place == table.set.length && is_none (kept_at tables.sets set id)) o false) found) ∙ stands in
+          let same : place ≡ table.set.length = equal-true place table.set.length (and-first (place == table.set.length) _ its) in
+          subst (λ n. n ≤ most) same (let k : place ≤ place + records_of bytes = omega arith in k)
+
+      up : AreUpTo (with_entry_end (checkpoint_name is.row.job.root is.owned) most on.sets.sets) (output_names is.row.job.root is.owned) lengths.items
+      up = commits here is.row is.owned at is.found
+
+      entered_one : IsEntered (check_name_in after job) most on new → IsRunningOf after new
+      entered_one =
+          by-row Enters tables job (λ row. by_step (λ owned step. after_checkpointed row owned step kept taken writes lengths.items tables) row tables) is.row at
+          (by-own Enters tables (λ owned step. after_checkpointed is.row owned step kept taken writes lengths.items tables) is.row is.owned is.found
+          (λ entered.
+          running-entered tables on new is rows number kept taken writes most lengths.items low up
+          (subst (λ check. IsEntered check most on new) (ap (check_name_in behind) (sym here) ∙ check-behind tables on new is rows number kept taken writes most lengths.items low up) entered)))
+
+    module _ (old : List RunningStepView) (all : AllByRecursion (IsRunningOf tables) old) (commits : AllByRecursion (IsCommittedWith (place + records_of bytes) job lengths.items tables) old)
+        (others : AllByRecursion (IsOfOther job) (without_first job old)) where
+      rest : AllByRecursion (IsRunningOf after) (without_first job old)
+      rest =
+          each-both (IsRunningOf tables) (IsRunningOf after) (IsOfOther job) (without_first job old) (λ on is apart. other-steps event deck refl refl follow on apart is)
+          (each-without_first (IsRunningOf tables) job old all) others
+
+      entered : (new : List RunningStepView) → HasEntered job (check_name_in after job) most old new → AllByRecursion (IsRunningOf after) new
+      entered new = by (find (is_of_run job) old) refl
+        where
+          by : (first : Option RunningStepView) → find (is_of_run job) old ≡ first → FirstEnters first job (check_name_in after job) most old new → AllByRecursion (IsRunningOf after) new
+          by None e same = subst (AllByRecursion (IsRunningOf after)) (without-none job old e ∙ sym same) rest
+          by (Some on) e goes =
+              subst (AllByRecursion (IsRunningOf after)) (sym goes.1) (
+                entered_one on goes.0 (equal-true on.run job (find-passes (is_of_run job) old on e))
+                    (find-holds (IsRunningOf tables) (is_of_run job) old on all e) (find-holds (IsCommittedWith most job lengths.items tables) (is_of_run job) old on commits e) goes.2,
+                rest,
+              )
+
   stay : (event : Event) (deck : Option Job) (old new : List RunningStepView) → is_plain_event event ≡ true → follows layout tables event deck ≡ true → AreHolders (after_event event deck tables) → AllByRecursion (IsRunningOf tables) old
       → CommitsItsOwn event tables old → GoesOn event (after_event event deck tables) old new → AllByRecursion (IsRunningOf (after_event event deck tables)) new
   stay (Submitted job cards) None old new plain follow holders all commits goes = subst (AllByRecursion (IsRunningOf tables)) (sym goes) all
@@ -172,6 +257,7 @@ module _ (layout : Layout) (tables : TablesModel) (are : AreHolders tables) (row
       number-cases on.run job
       (λ here. rewritten job taken writes lengths place image deck follow on here is up)
       (λ apart. other-steps (Rewritten job taken writes lengths place image) deck plain refl follow on apart is)) all commits)
+  stay (Checkpointed job id taken writes lengths place bytes) deck old new plain follow holders all commits goes = entered job taken writes place bytes id lengths deck follow old all commits.0 commits.1 new goes
   stay (Cancelled job) deck old new plain follow holders all commits goes =
       subst (AllByRecursion (IsRunningOf (after_event (Cancelled job) deck tables))) (sym goes) (served job deck old follow all)
   stay (StepEnded job step rc writes lengths) deck old new plain follow holders all commits goes =

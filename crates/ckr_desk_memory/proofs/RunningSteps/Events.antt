@@ -1,5 +1,5 @@
 -- The running steps go on by an event.
-use Rattle.std.proofs.Common.{◌≡◌, ◌≤◌, ◌<◌, ◌&&◌, ℕ, zero, suc, true, List, map, length, refl, ap, sym, ◌∙◌, subst, Option, None, Some, arith, slice_get}
+use Rattle.std.proofs.Common.{◌≡◌, ◌≤◌, ◌<◌, ◌+◌, ◌&&◌, ℕ, zero, suc, true, List, map, length, refl, ap, sym, ◌∙◌, subst, Option, None, Some, arith, slice_get}
 use Rattle.std.proofs.lemmas.Option.{same_Some, slice_get-map, slice_get_within}
 use Rattle.std.specs.List.{AllByRecursion}
 use Rattle.std.specs.Option.{option_map}
@@ -7,9 +7,11 @@ use Rattle.ckr_base.proofs.Bools.{and-second}
 use Rattle.ckr_base.proofs.Options.{some-not-none}
 use Rattle.arrayvec.specs.ArrayVec.{ArrayVec}
 use Rattle.ckr_events.specs.declared.event.Event.{Event}
-use Rattle.ckr_events.specs.declared.event.Event.TheVariants.{Started, Cancelled, StepEnded, Ended}
+use Rattle.ckr_events.specs.declared.event.Event.TheVariants.{Started, Checkpointed, Cancelled, StepEnded, Ended}
 use Rattle.ckr_events.specs.declared.event.Made.{Made}
 use Rattle.ckr_jcl.specs.declared.deck.Job.{Job}
+use Rattle.ckr_library.specs.Catalog.{records_of}
+use Rattle.ckr_library.specs.NameMaps.{Name}
 use Rattle.ckr_meaning.specs.EffectiveJob.{OwnedStep, flaws_in, placed_in, stamp_of, step_at}
 use Rattle.ckr_volumes.specs.declared.layout.Layout.{Layout}
 use Rattle.ckr_points.specs.declared.run.RunState.TheVariants.{On}
@@ -22,6 +24,7 @@ use Rattle.ckr_points_tables.specs.Invariant.{is_plain_event}
 use Rattle.ckr_points_tables.specs.View.{seen_by}
 use Rattle.ckr_desk_turn.specs.Queue.{AreNumbered}
 use Rattle.ckr_desk_memory.specs.declared.jobs.RunningStep.{RunningStep}
+use Rattle.ckr_desk_memory.specs.EventChanges.{check_name_in}
 use Rattle.ckr_desk_memory.specs.RunningSteps.{GoesOn, MayRun}
 use Rattle.ckr_desk_memory.specs.Invariant.{AreJobs, IsAcceptedRow, IsAnyAccepted, IsPlacedRow, IsRunnable}
 use Rattle.ckr_desk_memory.specs.Preparation.{HasStarted, HasStep}
@@ -29,8 +32,9 @@ use Rattle.ckr_desk_memory.specs.View.{JobsView, RunningStepView}
 use Rattle.ckr_desk_memory.proofs.Invariant.{accepted-behind, all-filtered, numbered-behind, placed-behind}
 use Rattle.ckr_desk_memory.proofs.Extents.{laid-behind}
 use Rattle.ckr_desk_memory.proofs.Queue.{run-there, step-there}
+use Rattle.ckr_desk_memory.proofs.RunningSteps.Entries.{entered-all}
 use Rattle.ckr_desk_memory.proofs.RunningSteps.Served.{served-runnable}
-use Rattle.ckr_desk_memory.proofs.Runs.{Kind, kind_of, runs-stay}
+use Rattle.ckr_desk_memory.proofs.Runs.{Kind, kind_of, long-stay, runs-stay}
 use Rattle.ckr_desk_memory.proofs.Starts.Sets.{is-runnable}
 use Rattle.ckr_desk_memory.proofs.SetCopies.{all-fit}
 
@@ -90,9 +94,19 @@ module _ (layout : Layout) (old : TablesModel) (numbered : AreNumbered 1 old.run
         some = some;
       }
 
+  checkpointed_may : (job taken writes place bytes : ℕ) (id : Name) (lengths : ArrayVec ℕ) (deck : Option Job) (begun : Option RunningStep) (room : ℕ) → follows layout old (Checkpointed job id taken writes lengths place bytes) deck ≡ true → length old.runs ≤ 9999999
+      → MayRun (Checkpointed job id taken writes lengths place bytes) (after_event (Checkpointed job id taken writes lengths place bytes) deck old) begun room
+  checkpointed_may job taken writes place bytes id lengths deck begun room follow few =
+      record {
+        few = subst (λ n. n ≤ 9999999) (sym (long-stay old.runs (after_event (Checkpointed job id taken writes lengths place bytes) deck old).runs (runs-stay old numbered (Checkpointed job id taken writes lengths place bytes) deck refl refl))) few;
+        rows = accepted-behind old (Checkpointed job id taken writes lengths place bytes) deck numbered refl tt rows;
+        numbered = numbered-behind layout old (Checkpointed job id taken writes lengths place bytes) deck refl follow numbered;
+      }
+
   may : (event : Event) (deck : Option Job) (begun : Option RunningStep) (jobs : JobsView) → jobs.tables.desk ≡ old → is_plain_event event ≡ true → follows layout old event deck ≡ true → length old.runs ≤ 9999999 → HasStarted event jobs begun → MayRun event (after_event event deck old) begun jobs.running_room
   may (Started job step items) deck begun jobs is plain follow few has =
       started_may job step items deck begun jobs.running_room follow few (subst (λ t. HasStep t job step begun) is has.step) has.room
+  may (Checkpointed job id taken writes lengths place bytes) deck begun jobs is plain follow few has = checkpointed_may job taken writes place bytes id lengths deck begun jobs.running_room follow few
   may _ deck begun jobs is plain follow few has = tt
 
   -- ---- the running steps behind it can go on
@@ -115,6 +129,8 @@ module _ (layout : Layout) (old : TablesModel) (numbered : AreNumbered 1 old.run
   runnable : (event : Event) (deck : Option Job) (begun : Option RunningStep) (jobs : JobsView) (before now : List RunningStepView) → jobs.tables.desk ≡ old → follows layout old event deck ≡ true → HasStarted event jobs begun
       → GoesOn event (after_event event deck old) before now → AllByRecursion (IsRunnable layout) before → AllByRecursion (IsRunnable layout) now
   runnable (Started job step items) deck begun jobs before now is follow has goes all = started_runnable job step items deck begun before now follow (subst (λ t. HasStep t job step begun) is has.step) goes all
+  runnable (Checkpointed job id taken writes lengths place bytes) deck begun jobs before now is follow has goes all =
+      entered-all layout job (check_name_in (after_event (Checkpointed job id taken writes lengths place bytes) deck old) job) (place + records_of bytes) before now goes all
   runnable (Cancelled job) deck begun jobs before now is follow has goes all = subst (AllByRecursion (IsRunnable layout)) (sym goes) (served-runnable layout job before all)
   runnable (StepEnded job step rc writes lengths) deck begun jobs before now is follow has goes all = subst (AllByRecursion (IsRunnable layout)) (sym goes) (all-filtered (IsRunnable layout) _ before all)
   runnable (Ended job ending) deck begun jobs before now is follow has goes all = subst (AllByRecursion (IsRunnable layout)) (sym goes) (all-filtered (IsRunnable layout) _ before all)

@@ -8,19 +8,20 @@ use Rattle.ckr_base.proofs.Numbers.{nat_le-true}
 use Rattle.ckr_base.proofs.Options.{option-cases, some-not-none}
 use Rattle.arrayvec.specs.ArrayVec.{ArrayVec}
 use Rattle.ckr_points_library.specs.Commit.{output_names}
-use Rattle.ckr_events.specs.declared.event.Event.TheVariants.{Rewritten}
+use Rattle.ckr_events.specs.declared.event.Event.TheVariants.{Checkpointed, Rewritten}
 use Rattle.ckr_jcl.specs.declared.deck.Job.{Job}
 use Rattle.ckr_library.specs.NameMaps.{Name, Named, same_name, entry_at, with_changed}
 use Rattle.ckr_library.proofs.Named.{at-with_changed, name-same}
-use Rattle.ckr_points.specs.Tables.{committed, is_updates, name_with_role, table_rewritten}
+use Rattle.ckr_points.specs.Tables.{committed, is_checkpoints, is_updates, name_with_role, table_rewritten, with_kept_entry}
 use Rattle.ckr_points.specs.Follows.{are_lengths}
 use Rattle.ckr_points.specs.Office.{Office, office_after}
-use Rattle.ckr_points.specs.Rows.{TableSet, cut_set}
+use Rattle.ckr_points.specs.Payload.{carries}
+use Rattle.ckr_points.specs.Rows.{KeptEntry, TableSet, cut_set}
 use Rattle.ckr_points.specs.Soundness.{may_come}
 use Rattle.ckr_points_invariant.specs.Invariant.{IsKept, step_now}
 use Rattle.ckr_volumes.specs.declared.layout.Layout.{Layout}
 use Rattle.ckr_desk_refines.specs.SharedSets.{LieStill, LiesStill}
-use Rattle.ckr_desk_refines.proofs.Durable.Office.{by-rewritten}
+use Rattle.ckr_desk_refines.proofs.Durable.Office.{by-checkpointed, by-rewritten}
 
 still-itself : (table : TableSet) → LiesStill table table
 still-itself table = record { places = record { parts = refl; lrecl = refl }; space = refl; content = refl; longer = omega arith }
@@ -30,6 +31,9 @@ still-cut now old table long lies = record { places = record { parts = lies.plac
 
 still-rewritten : (owner step : ℕ) (old table : TableSet) → LiesStill old table → LiesStill old (table_rewritten owner step table)
 still-rewritten owner step old table lies = record { places = record { parts = lies.places.parts; lrecl = lies.places.lrecl }; space = lies.space; content = lies.content; longer = lies.longer }
+
+still-entered : (entry : KeptEntry) (old table : TableSet) → LiesStill old table → LiesStill old (with_kept_entry entry table)
+still-entered entry old table lies = record { places = record { parts = lies.places.parts; lrecl = lies.places.lrecl }; space = lies.space; content = lies.content; longer = lies.longer }
 
 -- ---- under one name
 
@@ -107,3 +111,11 @@ rewritten-lie layout now job taken writes place lengths image deck kept may =
     (λ row leg owned rewrites.
     committed-lie (output_names row.job.root owned) lengths.items now.tables.sets (name_with_role row.job.root owned is_updates) (table_rewritten owned.owner (step_now row)) rewrites.are
     (λ old table lies. still-rewritten owned.owner (step_now row) old table lies))
+
+pub checkpointed-lie : (layout : Layout) (now : Office) (job taken writes place bytes : ℕ) (id : Name) (lengths : ArrayVec ℕ) (deck : Option Job) → IsKept layout now → may_come layout now (Checkpointed job id taken writes lengths place bytes, deck) ≡ true
+    → carries layout now (Checkpointed job id taken writes lengths place bytes) deck ≡ true → LieStill now.tables.sets (office_after (Checkpointed job id taken writes lengths place bytes, deck) now).tables.sets
+checkpointed-lie layout now job taken writes place bytes id lengths deck kept may carried =
+    by-checkpointed (λ (its : Office). LieStill now.tables.sets its.tables.sets) layout now job taken writes place bytes id lengths deck kept.events may carried
+    (λ row leg owned commits.
+    committed-lie (output_names row.job.root owned) lengths.items now.tables.sets (name_with_role row.job.root owned is_checkpoints) (with_kept_entry _) commits.are
+    (λ old table lies. still-entered _ old table lies))

@@ -6,17 +6,18 @@ use Rattle.arrayvec.specs.ArrayVec.{ArrayVec}
 use Rattle.ckr_points_library.specs.Commit.{output_names}
 use Rattle.ckr_base.specs.declared.code.Code.{Code}
 use Rattle.ckr_base.proofs.Bools.{and-first, and-second}
-use Rattle.ckr_events.specs.declared.event.Event.TheVariants.{Ended, Rewritten, StepEnded}
+use Rattle.ckr_events.specs.declared.event.Event.TheVariants.{Checkpointed, Ended, Rewritten, StepEnded}
 use Rattle.ckr_events.specs.declared.event.Ending.{Ending}
 use Rattle.ckr_events.specs.declared.event.Ending.TheVariants.{Coded}
 use Rattle.ckr_jcl.specs.declared.deck.Job.{Job}
+use Rattle.ckr_library.specs.NameMaps.{Name}
 use Rattle.ckr_meaning.specs.EffectiveJob.{OwnedStep}
 use Rattle.ckr_meaning.specs.declared.place.Place.TheVariants.{Within}
 use Rattle.ckr_meaning.specs.StepRun.{StepStart, work_at}
-use Rattle.ckr_points.specs.Tables.{after_commit, after_rewritten, after_step_ended}
-use Rattle.ckr_points.specs.Follows.{are_lengths, ended_follows, is_in_state, is_rewrite, is_running, is_update, is_within, lengths_follow, of_step}
+use Rattle.ckr_points.specs.Tables.{after_checkpointed, after_commit, after_rewritten, after_step_ended}
+use Rattle.ckr_points.specs.Follows.{are_lengths, ended_follows, is_checkpoint, is_in_state, is_rewrite, is_running, is_update, is_within, lengths_follow, of_step}
 use Rattle.ckr_points.specs.declared.run.RunState.TheVariants.{Released as ReleasedRun, On}
-use Rattle.ckr_points.specs.Payload.{carries, commits, is_returned, writes_in}
+use Rattle.ckr_points.specs.Payload.{carries, carries_taken, commits, is_returned, writes_in}
 use Rattle.ckr_points.specs.Office.{Leg, Office, library_after, office_after}
 use Rattle.ckr_points.specs.Restart.{after_abnormal, after_ended, by_step, place_of, step_in}
 use Rattle.ckr_points.specs.Rows.{RunRow, TablesModel, run_of}
@@ -115,5 +116,34 @@ by-rewritten Q layout office job taken writes place lengths bytes deck kept may 
     (each row leg owned (record {
       running = running-so layout office job row leg owned holder (and-second (is_in_state On row) (is_within (place_of row)) runs) found;
       updates = and-first (is_update owned.step.program) _ rewrite;
+      are = are;
+    })))))
+
+-- the office behind a checkpoint, by its row and its step
+abbrev pub behind_checkpoint : Office → ℕ → Name → ℕ → ℕ → List ℕ → ℕ → ℕ → RunRow → OwnedStep → Office
+behind_checkpoint office job id taken writes lengths place bytes row owned =
+    record office { tables = after_checkpointed row owned (step_now row) (record { id = id; run = job; place = place; bytes = bytes }) taken writes lengths office.tables }
+
+pub by-checkpointed : (Q : Office → Type 0) (layout : Layout) (office : Office) (job taken writes place bytes : ℕ) (id : Name) (lengths : ArrayVec ℕ) (deck : Option Job) → IsAgreed layout office → may_come layout office (Checkpointed job id taken writes lengths place bytes, deck) ≡ true
+    → carries layout office (Checkpointed job id taken writes lengths place bytes) deck ≡ true
+    → ((row : RunRow) (leg : Leg) (owned : OwnedStep) → CommitsNow office job row leg owned writes lengths.items → Q (behind_checkpoint office job id taken writes lengths.items place bytes row owned)) → Q (office_after (Checkpointed job id taken writes lengths place bytes, deck) office)
+by-checkpointed Q layout office job taken writes place bytes id lengths deck kept may carried each =
+    tested-run office.tables job (λ row. is_running row && lengths_follow office.tables row lengths.items && of_step row (is_checkpoint office.tables id lengths.items place bytes row)) (follows-of layout office (Checkpointed job id taken writes lengths place bytes) deck may)
+    (λ row e passes.
+    let early : (is_running row && lengths_follow office.tables row lengths.items) ≡ true = and-first (is_running row && lengths_follow office.tables row lengths.items) (of_step row (is_checkpoint office.tables id lengths.items place bytes row)) passes in
+    let runs : is_running row ≡ true = and-first (is_running row) (lengths_follow office.tables row lengths.items) early in
+    led-by layout office job row kept e (on-holds row.state (and-first (is_in_state On row) (is_within (place_of row)) runs))
+    (λ leg holder.
+    step-by office.tables row lengths.items (and-second (is_running row) (lengths_follow office.tables row lengths.items) early)
+    (λ owned found are.
+    let same : office_after (Checkpointed job id taken writes lengths place bytes, deck) office ≡ behind_checkpoint office job id taken writes lengths.items place bytes row owned =
+    ap (λ (o : Option RunRow). (let its : Office = record office { tables = option_map_or (λ row. by_step (λ owned step. after_checkpointed row owned step (record { id = id; run = job; place = place; bytes = bytes }) taken writes lengths.items office.tables) row office.tables) o office.tables } in its)) e
+    ∙ ap (λ (o : Option OwnedStep). (let its : Office = record office { tables = option_map_or (λ owned. after_checkpointed row owned (step_now row) (record { id = id; run = job; place = place; bytes = bytes }) taken writes lengths.items office.tables) o office.tables } in its)) found in
+    subst Q (sym same)
+    (each row leg owned (record {
+      running = running-so layout office job row leg owned holder (and-second (is_in_state On row) (is_within (place_of row)) runs) found;
+      carried =
+          and-first (commits office.tables.sets row writes lengths.items (its_start leg owned (step_now row))) (carries_taken taken writes (its_start leg owned (step_now row)))
+          (carried-of layout office job row leg owned (step_now row) (λ row start. commits office.tables.sets row writes lengths.items start && carries_taken taken writes start) kept holder refl found carried);
       are = are;
     })))))

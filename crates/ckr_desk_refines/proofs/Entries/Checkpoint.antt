@@ -69,7 +69,7 @@ committed-from (first ∷ names) (most ∷ lengths) those name new e =
     by mid from false entry found is = (mid, found ∙ is, from)
 
 -- and it has the length that is given for it, where no name stands twice
-committed-length : (names : List Name) (lengths : List ℕ) (those : Named TableSet) (name : Name) (most : ℕ) (new : TableSet) → are_distinct names ≡ true → is_length_of name most names lengths ≡ true → entry_at (committed names lengths those) name ≡ Some new → new.set.length ≡ most
+pub committed-length : (names : List Name) (lengths : List ℕ) (those : Named TableSet) (name : Name) (most : ℕ) (new : TableSet) → are_distinct names ≡ true → is_length_of name most names lengths ≡ true → entry_at (committed names lengths those) name ≡ Some new → new.set.length ≡ most
 committed-length [] lengths those name most new distinct has e = absurd (false≢true has)
 committed-length (first ∷ names) [] those name most new distinct has e = absurd (false≢true has)
 committed-length (first ∷ names) (now ∷ lengths) those name most new distinct has e =
@@ -108,7 +108,7 @@ module _ (root : ℕ) (owned : OwnedStep) where
       by false None e out later = later out
       by false (Some other) e out later = later (or_parts (same_name name other) (is_among (filter_map (name_of root owned) dds) name) out).1
 
-  outputs_distinct : (dds : List Dd) → are_distinct (filter_map (name_of root owned) dds) ≡ true → are_distinct (filter_map (name_of root owned) (filter (λ dd. is_output dd.role) dds)) ≡ true
+  pub outputs_distinct : (dds : List Dd) → are_distinct (filter_map (name_of root owned) dds) ≡ true → are_distinct (filter_map (name_of root owned) (filter (λ dd. is_output dd.role) dds)) ≡ true
   outputs_distinct [] distinct = refl
   outputs_distinct (dd ∷ dds) distinct = by (is_output dd.role) (name_of root owned dd) refl distinct (outputs_distinct dds)
     where

@@ -60,7 +60,7 @@ named-among root owned dds dd name any = any-filter_map (name_of root owned) (sa
 
 module _ (layout : Layout) (now : Office) (agreed : IsAgreed layout now) (job : ℕ) where
   -- what a run that runs is known by
-  running-by : {A : Type 0} (row : RunRow) (owned : OwnedStep) → run_of now.tables job ≡ Some row → own_step row ≡ Some owned → is_running row ≡ true → ((leg : Leg) → IsRunning now job row leg owned (step_now row) (writes_in (place_of row)) → A) → A
+  pub running-by : {A : Type 0} (row : RunRow) (owned : OwnedStep) → run_of now.tables job ≡ Some row → own_step row ≡ Some owned → is_running row ≡ true → ((leg : Leg) → IsRunning now job row leg owned (step_now row) (writes_in (place_of row)) → A) → A
   running-by row owned e found runs each =
       led-by layout now job row agreed e (on-holds row.state (and-first (is_in_state On row) (is_within (place_of row)) runs))
       (λ leg holder. each leg (running-so layout now job row leg owned holder (and-second (is_in_state On row) (is_within (place_of row)) runs) found))

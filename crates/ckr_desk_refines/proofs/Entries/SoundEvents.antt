@@ -91,7 +91,7 @@ module _ (layout : Layout) (now : Office) (kept : IsKept layout now) where
   within-event event deck on next within = within-next now.tables kept.events.numbered within event deck on refl
 
 -- the tables of the office behind an event
-tables-behind : (now : Office) (event : Event) (deck : Option Job) → (office_after (event, deck) now).tables ≡ after_event event deck now.tables
+pub tables-behind : (now : Office) (event : Event) (deck : Option Job) → (office_after (event, deck) now).tables ≡ after_event event deck now.tables
 tables-behind now (Selected job initiator earlier step id) deck = refl
 tables-behind now (Ended job ending) deck = refl
 tables-behind now event deck = refl

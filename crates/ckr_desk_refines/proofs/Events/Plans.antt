@@ -1,5 +1,5 @@
 -- What a turn tells of a desk that stands: each event with what the image has of its run.
-use Rattle.std.proofs.Common.{◌≡◌, ℕ, Bool, true, false, List, refl, ap, sym, ◌∙◌, subst, Option, Some, None, Result, Ok, Err}
+use Rattle.std.proofs.Common.{◌≡◌, ℕ, Bool, true, false, List, refl, ap, sym, ◌∙◌, subst, Option, Some, None, Result, Ok, Err, cond}
 use Rattle.std.specs.Prelude.{◌==◌}
 use Rattle.std.specs.Option.{option_map_or}
 use Rattle.std.proofs.lemmas.Bool.{and_from, false≢true}
@@ -30,11 +30,13 @@ use Rattle.ckr_points.specs.declared.run.RunState.{RunState}
 use Rattle.ckr_points.specs.declared.run.RunState.TheVariants.{On}
 use Rattle.ckr_points.specs.Follows.{is_in_state, is_within, state_number}
 use Rattle.ckr_points.specs.Restart.{place_of}
+use Rattle.ckr_points.specs.RuleCases.{rd_in_effect}
 use Rattle.ckr_points.specs.Rows.{RunRow, run_of, step_of_run}
 use Rattle.ckr_rules.specs.RuleTables.{rule_number}
 use Rattle.ckr_desk_refines.specs.Standing.{AllStand}
+use Rattle.ckr_rules.specs.RuleTables.{suppresses}
 use Rattle.ckr_desk_turn.specs.declared.plan.Plan.{Plan}
-use Rattle.ckr_desk_turn.specs.declared.plan.Plan.TheVariants.{Rest, Tell, Work, Pass}
+use Rattle.ckr_desk_turn.specs.declared.plan.Plan.TheVariants.{Rest, Tell, Work, Pass, Take}
 use Rattle.ckr_desk_turn.specs.declared.reply.How.TheVariants.{Completed as CompletedJob}
 use Rattle.ckr_desk_turn.specs.declared.reply.Reply.TheVariants.{Idle, JobEnded, NothingToFail, Selected as SelectedReply, Started as StartedReply}
 use Rattle.ckr_desk_turn.specs.declared.reply.Turn.{Turn}
@@ -43,7 +45,7 @@ use Rattle.ckr_desk_turn.specs.Select.{is_on, may_select, next_run, run_on_initi
 use Rattle.ckr_desk_turn.specs.Codes.{code_plan, reached_by, rule_for}
 use Rattle.ckr_desk_turn.specs.Desk.{DeskModel, jobs_of}
 use Rattle.ckr_desk_turn.specs.Jobs.{TurnStep, is_failed, running_in}
-use Rattle.ckr_desk_turn.specs.Plans.{allocation_ended, between_plan, chosen_plan, due_plan, fail_plan, free_plan, is_within as is_planned, placed_plan, plan_of, run_plan, running_plan, start_plan, system_failure}
+use Rattle.ckr_desk_turn.specs.Plans.{allocation_ended, between_plan, checkpoint_plan, chosen_plan, due_plan, fail_plan, free_plan, is_within as is_planned, placed_plan, plan_of, run_plan, running_plan, start_plan, suppressed_plan, system_failure}
 use Rattle.ckr_desk_refines.proofs.Events.Commits.{reached-written, running-written}
 
 -- what is shown of each event that a turn may tell
@@ -62,6 +64,7 @@ OfPlan Q (Rest reply) = Unit {0}
 OfPlan Q (Tell reply event) = Q event
 OfPlan Q (Work job) = Unit {0}
 OfPlan Q (Pass job reply) = Unit {0}
+OfPlan Q (Take job) = Unit {0}
 
 module _ (desk : DeskModel) (is : IsDesk desk) (image : List ℕ) (seen : List RunningStepView) (all : AllStand desk.layout desk.office image seen desk.running) (had : HasCommitted desk.layout desk.office image)
     (Q : Event → Type 0) (each : OfEach desk image Q) where
@@ -73,9 +76,16 @@ module _ (desk : DeskModel) (is : IsDesk desk) (image : List ℕ) (seen : List R
         each.coded row.number (rule_number (rule_for desk.layout row code)) (reached_by (jobs_of desk) row).writes code (record { items = (reached_by (jobs_of desk) row).lengths })
         (reached-written desk is image seen all had row.number row number committed start within)
 
+    checkpoint-tells : (number : ℕ) → OfPlan Q (checkpoint_plan row number)
+    checkpoint-tells number = by (suppresses (rd_in_effect row number))
+      where
+        by : (b : Bool) → OfPlan Q (cond b (suppressed_plan row) (Take row.number))
+        by true = tt
+        by false = tt
+
     due-tells : (step : TurnStep) (due : NextDue) → step.due ≡ due → running_in (jobs_of desk) row.number ≡ Some step → OfPlan Q (due_plan row number step due)
     due-tells step OneUnit is_due some = tt
-    due-tells step Checkpoint is_due some = tt
+    due-tells step Checkpoint is_due some = checkpoint-tells number
     due-tells step Cancel is_due some = each.cancelled row.number step some is_due
     due-tells step (Finished rc) is_due some =
         each.step_ended row.number number rc step.writes (record { items = step.lengths }) (running-written desk is image seen all row.number step some)

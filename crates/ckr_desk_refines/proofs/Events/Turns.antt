@@ -25,7 +25,8 @@ use Rattle.ckr_desk_turn.specs.declared.plan.Plan.{Plan}
 use Rattle.ckr_desk_turn.specs.declared.plan.Plan.TheVariants.{Tell}
 use Rattle.ckr_desk_turn.specs.declared.reply.Reply.{Reply}
 use Rattle.ckr_desk_turn.specs.declared.reply.Turn.{Turn}
-use Rattle.ckr_desk_turn.specs.Desk.{DeskModel, behind, carried_out, jobs_of, purged, submitted, turn_of}
+use Rattle.ckr_desk_turn.specs.Desk.{DeskModel, behind, jobs_of, purged, submitted}
+use Rattle.ckr_desk_turn.specs.Turns.{carried_out, turn_of}
 use Rattle.ckr_desk_turn.specs.Plans.{plan_of}
 use Rattle.ckr_volumes.specs.declared.layout.Layout.{Layout}
 use Rattle.ckr_desk_refines.proofs.Events.Desk.{BehindStands, IsCommitted, coded-committed, each-committed, each-stands, ended-stands, entered-stands}

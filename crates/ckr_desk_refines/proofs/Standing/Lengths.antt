@@ -32,7 +32,7 @@ use Rattle.std.proofs.lemmas.Option.{same_Some}
 use Rattle.ckr_base.proofs.Options.{some-not-none}
 
 -- the length of a data set that is there
-in-sets : (catalog : Catalog) (name : Name) (set : DataSet) → set_of catalog name ≡ Some set → length_in catalog.sets name ≡ set.length
+pub in-sets : (catalog : Catalog) (name : Name) (set : DataSet) → set_of catalog name ≡ Some set → length_in catalog.sets name ≡ set.length
 in-sets catalog name set is = by (entry_at catalog.sets name) is
   where
     by : (entry : Option Holding) → option_map (λ (h : Holding). h.set) entry ≡ Some set → option_map_or (λ (holding : Holding). holding.set.length) entry 0 ≡ set.length
@@ -55,7 +55,7 @@ module _ (layout : Layout) (office : Office) (number : ℕ) (row : RunRow) (leg 
   going : within_at start to ≡ written_all start (writes_between start from to) (within_at start from)
   going = ap (within_at start) (let e : to ≡ from + (to - from) = omega (arith, behind) in e) ∙ within_at-more start from (to - from)
 
-  each-length : (name : Name) → is_among (output_names leg.job.root owned) name ≡ true → length_in sets.sets name ≡ length_now (within_at start to) office.tables.sets name
+  pub each-length : (name : Name) → is_among (output_names leg.job.root owned) name ≡ true → length_in sets.sets name ≡ length_now (within_at start to) office.tables.sets name
   each-length name among =
       let named : is_among (names_of leg.job.root owned) name ≡ true = outputs-among leg.job.root owned name among in
       let output : IsOutput office.tables.sets (within_at start to) name = each_output layout office number row leg owned step from to kept running spaced behind fit plain name among in

@@ -4,9 +4,10 @@ use Rattle.std.proofs.lemmas.Option.{same_Some}
 use Rattle.ckr_base.specs.declared.programs.NextDue.TheVariants.{Checkpoint}
 use Rattle.ckr_desk_memory.specs.EventChanges.{is_of_run, served_step, without_first}
 use Rattle.ckr_desk_memory.specs.View.{JobsView, RunningStepView}
-use Rattle.ckr_desk_turn.specs.Desk.{DeskModel, DeskStep, carried_out, checkpoint_done, done_by, jobs_of, turn_of, with_change, without_run}
+use Rattle.ckr_desk_turn.specs.Desk.{DeskModel, DeskStep, checkpoint_done, done_by, jobs_of, with_change, without_run}
 use Rattle.ckr_desk_turn.specs.Invariant.{IsTurnOf, Keeps}
 use Rattle.ckr_desk_turn.specs.Plans.{plan_of}
+use Rattle.ckr_desk_turn.specs.Turns.{carried_out, turn_of}
 use Rattle.ckr_desk_turn.specs.declared.plan.Plan.{Plan}
 use Rattle.ckr_desk_turn.specs.declared.plan.Plan.TheVariants.{Pass}
 use Rattle.ckr_desk_turn.specs.declared.reply.Reply.{Reply}

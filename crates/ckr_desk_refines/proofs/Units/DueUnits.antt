@@ -22,7 +22,7 @@ use Rattle.ckr_desk_turn.specs.Plans.{plan_of}
 use Rattle.ckr_desk_turn.specs.Units.{StepProgress}
 use Rattle.ckr_desk_refines.proofs.Standing.StepViews.{place-due}
 use Rattle.ckr_desk_refines.proofs.Units.OtherSteps.{same-start}
-use Rattle.ckr_desk_refines.proofs.Units.Plans.{WorksAt, asked_in, works-at}
+use Rattle.ckr_desk_refines.proofs.Units.Plans.{WorksAt, asked_in, takes_in, works-at}
 
 -- the running step of a run, of which this is due
 pub record IsDue (desk : DeskModel) (run : ℕ) (due : NextDue) : Type 0 where
@@ -34,7 +34,7 @@ pub record IsDue (desk : DeskModel) (run : ℕ) (due : NextDue) : Type 0 where
 
 pub is-due : (desk : DeskModel) (turn : Turn) (run : ℕ) (due : NextDue) → IsDesk desk → asked_in (plan_of desk.layout (jobs_of desk) turn) ≡ Some (run, due) → IsDue desk run due
 is-due desk turn run due is planned =
-    let at : WorksAt desk run due = works-at desk turn run due is planned in
+    let at : WorksAt desk run due (takes_in (plan_of desk.layout (jobs_of desk) turn)) = works-at desk turn run due (takes_in (plan_of desk.layout (jobs_of desk) turn)) is planned refl in
     let found : FoundStep desk.office desk.running at.row.number at.works.step = found-step desk.office at.row.number desk.running at.works.step is.going at.works.step_at in
     record {
       step = found.on;
@@ -44,13 +44,13 @@ is-due desk turn run due is planned =
       is_due = sym (ap (λ (s : TurnStep). s.due) found.is) ∙ at.works.is_due;
     }
 
-abbrev has_finished : NextDue → Bool
+abbrev pub has_finished : NextDue → Bool
 has_finished OneUnit = false
 has_finished Checkpoint = false
 has_finished Cancel = false
 has_finished (Finished rc) = true
 
-open-yet : (start : StepStart) (progress : StepProgress) → has_finished (next_due start progress) ≡ false → progress.closed ≡ false
+pub open-yet : (start : StepStart) (progress : StepProgress) → has_finished (next_due start progress) ≡ false → progress.closed ≡ false
 open-yet start progress none = by progress.closed none
   where
     by : (b : Bool) → has_finished (next_due start (record progress { closed = b })) ≡ false → b ≡ false

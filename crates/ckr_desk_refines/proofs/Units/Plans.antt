@@ -1,11 +1,13 @@
 -- A turn that works, or passes a checkpoint, is that of a run within a step, of whose running step that is due.
-use Rattle.std.proofs.Common.{◌≡◌, ℕ, Bool, true, false, List, refl, ap, sym, ◌∙◌, Option, Some, None, Result, Ok, Err}
+use Rattle.std.proofs.Common.{◌≡◌, ℕ, Bool, true, false, cond, List, refl, ap, sym, ◌∙◌, subst, Option, Some, None, Result, Ok, Err}
 use Rattle.std.specs.Option.{option_map_or}
+use Rattle.std.proofs.lemmas.Bool.{false≢true}
 use Rattle.std.proofs.lemmas.Option.{same_Some}
 use Rattle.ckr_points_library.specs.declared.cause.Refusal.{Refusal}
 use Rattle.ckr_base.specs.declared.code.Code.{Code}
 use Rattle.ckr_base.specs.declared.programs.NextDue.{NextDue}
 use Rattle.ckr_base.specs.declared.programs.NextDue.TheVariants.{Unit as OneUnit, Checkpoint, Cancel, Finished}
+use Rattle.ckr_base.proofs.Bools.{bool-cases}
 use Rattle.ckr_base.proofs.Options.{option-cases, some-not-none}
 use Rattle.ckr_events.specs.declared.event.Event.TheVariants.{Started as StartedEvent, Ended as EndedEvent}
 use Rattle.ckr_events.specs.declared.event.Ending.TheVariants.{Completed as CompletedEnding}
@@ -16,18 +18,20 @@ use Rattle.ckr_meaning.specs.declared.place.Place.{Place}
 use Rattle.ckr_meaning.specs.declared.place.Place.TheVariants.{Before, Opened, Within}
 use Rattle.ckr_meaning.specs.EffectiveJob.{OwnedStep}
 use Rattle.ckr_points.specs.Restart.{place_of}
+use Rattle.ckr_points.specs.RuleCases.{rd_in_effect}
 use Rattle.ckr_points.specs.Rows.{RunRow, run_of, step_of_run}
+use Rattle.ckr_rules.specs.RuleTables.{suppresses}
 use Rattle.ckr_desk_turn.specs.Allocation.{allocation_of}
 use Rattle.ckr_desk_turn.specs.Select.{is_on, next_run, run_on_initiator}
 use Rattle.ckr_desk_turn.specs.Codes.{code_plan, reached_by}
 use Rattle.ckr_desk_turn.specs.declared.plan.Plan.{Plan}
-use Rattle.ckr_desk_turn.specs.declared.plan.Plan.TheVariants.{Rest, Tell, Work, Pass}
+use Rattle.ckr_desk_turn.specs.declared.plan.Plan.TheVariants.{Rest, Tell, Work, Pass, Take}
 use Rattle.ckr_desk_turn.specs.declared.reply.How.TheVariants.{Completed}
 use Rattle.ckr_desk_turn.specs.declared.reply.Reply.TheVariants.{Idle, JobEnded, NothingToFail, Started}
 use Rattle.ckr_desk_turn.specs.declared.reply.Turn.{Turn}
 use Rattle.ckr_desk_turn.specs.Desk.{DeskModel, jobs_of}
 use Rattle.ckr_desk_turn.specs.Jobs.{TurnJobs, TurnStep, is_failed, running_in}
-use Rattle.ckr_desk_turn.specs.Plans.{allocation_ended, between_plan, cancelled_plan, chosen_plan, due_plan, fail_plan, finished_plan, free_plan, is_within, placed_plan, plan_of, run_plan, running_plan, start_plan, system_failure}
+use Rattle.ckr_desk_turn.specs.Plans.{allocation_ended, between_plan, cancelled_plan, chosen_plan, due_plan, fail_plan, finished_plan, free_plan, is_within, placed_plan, plan_of, run_plan, running_plan, start_plan, suppressed_plan, system_failure}
 use Rattle.ckr_volumes.specs.declared.layout.Layout.{Layout}
 
 -- the run whose running step does what is due of it, and that, where the turn tells no event
@@ -36,9 +40,15 @@ asked_in (Rest reply) = None
 asked_in (Tell reply event) = None
 asked_in (Work run) = Some (run, OneUnit)
 asked_in (Pass run reply) = Some (run, Checkpoint)
+asked_in (Take run) = Some (run, Checkpoint)
+
+-- whether the turn takes a checkpoint
+abbrev pub takes_in : Plan → Bool
+takes_in (Take run) = true
+takes_in _ = false
 
 -- the running step of the run, of which this is due
-pub record Works (jobs : TurnJobs) (row : RunRow) (run : ℕ) (due : NextDue) : Type 0 where
+pub record Works (jobs : TurnJobs) (row : RunRow) (run : ℕ) (due : NextDue) (takes : Bool) : Type 0 where
   pub numbered : row.number ≡ run
   pub number : ℕ
   pub writes : ℕ
@@ -46,13 +56,15 @@ pub record Works (jobs : TurnJobs) (row : RunRow) (run : ℕ) (due : NextDue) : 
   pub step : TurnStep
   pub step_at : running_in jobs row.number ≡ Some step
   pub is_due : step.due ≡ due
+  -- RD suppresses no checkpoint that is taken
+  pub unless : takes ≡ true → suppresses (rd_in_effect row number) ≡ false
 
-module _ (layout : Layout) (jobs : TurnJobs) (run : ℕ) (due : NextDue) where
+module _ (layout : Layout) (jobs : TurnJobs) (run : ℕ) (due : NextDue) (takes : Bool) where
   abbrev Asks : Plan → Type 0
-  Asks plan = asked_in plan ≡ Some (run, due)
+  Asks plan = (asked_in plan ≡ Some (run, due)) × (takes_in plan ≡ takes)
 
   never : {A : Type 0} (plan : Plan) → asked_in plan ≡ None → Asks plan → A
-  never plan isnt e = absurd (some-not-none _ (sym e ∙ isnt))
+  never plan isnt e = absurd (some-not-none _ (sym e.0 ∙ isnt))
 
   chosen-none : (initiator : ℕ) (row : RunRow) → asked_in (chosen_plan layout jobs initiator row) ≡ None
   chosen-none initiator row = by row.code
@@ -90,16 +102,16 @@ module _ (layout : Layout) (jobs : TurnJobs) (run : ℕ) (due : NextDue) where
         by None = refl
         by (Some owned) = start-none owned number
 
-    placed-works : (place : Place) → place_of row ≡ place → Asks (placed_plan layout jobs row place) → Works jobs row run due
+    placed-works : (place : Place) → place_of row ≡ place → Asks (placed_plan layout jobs row place) → Works jobs row run due takes
     placed-works (Before number) at e = never (between_plan layout jobs row number) (between-none number) e
     placed-works (Opened number) at e = never (between_plan layout jobs row number) (between-none number) e
     placed-works (Within number writes) at e =
         option-cases (running_in jobs row.number)
-        (λ none. never (Rest Idle) refl (sym (ap (λ (o : Option TurnStep). asked_in (option_map_or (running_plan row number) o (Rest Idle))) none) ∙ e))
-        (λ step there. by step there (sym (ap (λ (o : Option TurnStep). asked_in (option_map_or (running_plan row number) o (Rest Idle))) there) ∙ e))
+        (λ none. never (Rest Idle) refl (subst (λ (o : Option TurnStep). Asks (option_map_or (running_plan row number) o (Rest Idle))) none e))
+        (λ step there. by step there (subst (λ (o : Option TurnStep). Asks (option_map_or (running_plan row number) o (Rest Idle))) there e))
       where
-        works : (step : TurnStep) (what : NextDue) → step.due ≡ what → running_in jobs row.number ≡ Some step → ◌≡◌ {A = ℕ × NextDue} (row.number, what) (run, due) → Works jobs row run due
-        works step what is there same = record {
+        works : (step : TurnStep) (what : NextDue) → step.due ≡ what → running_in jobs row.number ≡ Some step → ◌≡◌ {A = ℕ × NextDue} (row.number, what) (run, due) → (takes ≡ true → suppresses (rd_in_effect row number) ≡ false) → Works jobs row run due takes
+        works step what is there same rd = record {
           numbered = ap (λ (pair : ℕ × NextDue). pair.0) same;
           number = number;
           writes = writes;
@@ -107,18 +119,26 @@ module _ (layout : Layout) (jobs : TurnJobs) (run : ℕ) (due : NextDue) where
           step = step;
           step_at = there;
           is_due = is ∙ ap (λ (pair : ℕ × NextDue). pair.1) same;
+          unless = rd;
         }
 
-        by_due : (step : TurnStep) (what : NextDue) → step.due ≡ what → running_in jobs row.number ≡ Some step → Asks (due_plan row number step what) → Works jobs row run due
-        by_due step OneUnit is there e = works step OneUnit is there (same_Some _ _ e)
-        by_due step Checkpoint is there e = works step Checkpoint is there (same_Some _ _ e)
+        by_due : (step : TurnStep) (what : NextDue) → step.due ≡ what → running_in jobs row.number ≡ Some step → Asks (due_plan row number step what) → Works jobs row run due takes
+        by_due step OneUnit is there e = works step OneUnit is there (same_Some _ _ e.0) (λ so. absurd (false≢true (e.1 ∙ so)))
+        by_due step Checkpoint is there e =
+            bool-cases (suppresses (rd_in_effect row number))
+            (λ does.
+            let passes : Asks (suppressed_plan row) = subst (λ b. Asks (cond b (suppressed_plan row) (Take row.number))) does e in
+            works step Checkpoint is there (same_Some _ _ passes.0) (λ so. absurd (false≢true (passes.1 ∙ so))))
+            (λ isnt.
+            let took : Asks (Take row.number) = subst (λ b. Asks (cond b (suppressed_plan row) (Take row.number))) isnt e in
+            works step Checkpoint is there (same_Some _ _ took.0) (λ so. isnt))
         by_due step Cancel is there e = never (cancelled_plan row) refl e
         by_due step (Finished rc) is there e = never (finished_plan row number step rc) refl e
 
-        by : (step : TurnStep) → running_in jobs row.number ≡ Some step → Asks (running_plan row number step) → Works jobs row run due
+        by : (step : TurnStep) → running_in jobs row.number ≡ Some step → Asks (running_plan row number step) → Works jobs row run due takes
         by step there e = by_due step step.due refl there e
 
-    fail-works : (fail : Option Code) → Asks (fail_plan layout jobs row fail) → Works jobs row run due
+    fail-works : (fail : Option Code) → Asks (fail_plan layout jobs row fail) → Works jobs row run due takes
     fail-works None e = placed-works (place_of row) refl e
     fail-works (Some code) e = never (fail_plan layout jobs row (Some code)) (by (is_within (place_of row))) e
       where
@@ -126,32 +146,35 @@ module _ (layout : Layout) (jobs : TurnJobs) (run : ℕ) (due : NextDue) where
         by true = refl
         by false = refl
 
-    run-works : (fail : Option Code) → Asks (run_plan layout jobs fail row) → Works jobs row run due
+    run-works : (fail : Option Code) → Asks (run_plan layout jobs fail row) → Works jobs row run due takes
     run-works fail e = by (is_failed jobs row.number) e
       where
-        by : (b : Bool) → Asks (elim b as (λ _. Plan) [ true ↦ code_plan layout row system_failure (reached_by jobs row) | false ↦ fail_plan layout jobs row fail ]) → Works jobs row run due
+        by : (b : Bool) → Asks (elim b as (λ _. Plan) [ true ↦ code_plan layout row system_failure (reached_by jobs row) | false ↦ fail_plan layout jobs row fail ]) → Works jobs row run due takes
         by true e = never (code_plan layout row system_failure (reached_by jobs row)) refl e
         by false e = fail-works fail e
 
 -- the run of a turn that works
-pub record WorksAt (desk : DeskModel) (run : ℕ) (due : NextDue) : Type 0 where
+pub record WorksAt (desk : DeskModel) (run : ℕ) (due : NextDue) (takes : Bool) : Type 0 where
   pub row : RunRow
   pub row_at : run_of desk.office.tables run ≡ Some row
-  pub works : Works (jobs_of desk) row run due
+  pub works : Works (jobs_of desk) row run due takes
 
-pub works-at : (desk : DeskModel) (turn : Turn) (run : ℕ) (due : NextDue) → IsDesk desk → asked_in (plan_of desk.layout (jobs_of desk) turn) ≡ Some (run, due) → WorksAt desk run due
+pub works-at : (desk : DeskModel) (turn : Turn) (run : ℕ) (due : NextDue) (takes : Bool) → IsDesk desk → asked_in (plan_of desk.layout (jobs_of desk) turn) ≡ Some (run, due) → takes_in (plan_of desk.layout (jobs_of desk) turn) ≡ takes → WorksAt desk run due takes
 unfolding plan_of
-works-at desk turn run due is planned =
+works-at desk turn run due takes is planned taken =
     option-cases (run_on_initiator desk.office.tables turn.initiator)
     (λ free.
-    never desk.layout (jobs_of desk) run due (free_plan desk.layout (jobs_of desk) turn.initiator turn.fail) (free-none desk.layout (jobs_of desk) run due turn.initiator turn.fail)
-    (sym (ap (λ (o : Option RunRow). asked_in (option_map_or (run_plan desk.layout (jobs_of desk) turn.fail) o (free_plan desk.layout (jobs_of desk) turn.initiator turn.fail))) free) ∙ planned))
+    never desk.layout (jobs_of desk) run due takes (free_plan desk.layout (jobs_of desk) turn.initiator turn.fail) (free-none desk.layout (jobs_of desk) run due takes turn.initiator turn.fail)
+    (subst (λ (o : Option RunRow). AsksSo (option_map_or (run_plan desk.layout (jobs_of desk) turn.fail) o (free_plan desk.layout (jobs_of desk) turn.initiator turn.fail))) free (planned, taken)))
     (λ row found.
-    let works : Works (jobs_of desk) row run due =
-    run-works desk.layout (jobs_of desk) run due row turn.fail
-    (sym (ap (λ (o : Option RunRow). asked_in (option_map_or (run_plan desk.layout (jobs_of desk) turn.fail) o (free_plan desk.layout (jobs_of desk) turn.initiator turn.fail))) found) ∙ planned) in
+    let works : Works (jobs_of desk) row run due takes =
+    run-works desk.layout (jobs_of desk) run due takes row turn.fail
+    (subst (λ (o : Option RunRow). AsksSo (option_map_or (run_plan desk.layout (jobs_of desk) turn.fail) o (free_plan desk.layout (jobs_of desk) turn.initiator turn.fail))) found (planned, taken)) in
     record {
       row = row;
       row_at = ap (run_of desk.office.tables) (sym works.numbered) ∙ row_of_found desk.layout desk.office (λ other. is_on turn.initiator other.initiator) row is.kept found;
       works = works;
     })
+  where
+    AsksSo : Plan → Type 0
+    AsksSo plan = (asked_in plan ≡ Some (run, due)) × (takes_in plan ≡ takes)

@@ -20,7 +20,7 @@ use Rattle.ckr_steps.specs.declared.step_run.Worked.TheVariants.{Went}
 use Rattle.ckr_steps.specs.Places.{GoesTo, ShowsWithin}
 use Rattle.ckr_desk_turn.specs.Desk.{DeskModel, TurnDone, done_by, jobs_of, seen, seen_from, unit_done, with_progress, work_of}
 use Rattle.ckr_desk_turn.specs.declared.plan.Plan.{Plan}
-use Rattle.ckr_desk_turn.specs.declared.plan.Plan.TheVariants.{Rest, Tell, Work, Pass}
+use Rattle.ckr_desk_turn.specs.declared.plan.Plan.TheVariants.{Rest, Tell, Work, Pass, Take}
 use Rattle.ckr_desk_turn.specs.declared.reply.Reply.TheVariants.{Worked as WorkedReply}
 use Rattle.ckr_desk_turn.specs.declared.reply.Turn.{Turn}
 use Rattle.ckr_desk_turn.specs.Jobs.{TurnStep, step_name_of}
@@ -38,12 +38,14 @@ reply-done (Rest reply) desk = refl
 reply-done (Tell reply event) desk = refl
 reply-done (Work job) desk = refl
 reply-done (Pass job reply) desk = refl
+reply-done (Take job) desk = refl
 
 event-done : (plan : Plan) (desk : DeskModel) → event_in plan ≡ (done_by plan desk).event
 event-done (Rest reply) desk = refl
 event-done (Tell reply event) desk = refl
 event-done (Work job) desk = refl
 event-done (Pass job reply) desk = refl
+event-done (Take job) desk = refl
 
 module _ (layout : Layout) (old : JobsView) (before after : List ℕ) (desk : DeskModel) (turn : Turn) (run : ℕ) (on moved : RunningStepView) (worked : Worked) (unit : StandsBehindUnit layout old before after desk turn run on moved worked) where
   abbrev p : IsPair desk.layout desk.office before run on desk.running

@@ -112,6 +112,31 @@ pub record IsTold (office : Office) (row : RunRow) (step : StepProgress) (start 
   pub checked : of_step row (is_checkpoint office.tables (next_id row start) (lengths_with office.tables.sets start step.writes (entry_end office.tables.sets row start step)) (entry_place office.tables.sets start) (entry_bytes office.tables.sets row start step) row) ≡ true
   pub carried : (commits office.tables.sets row step.writes (lengths_with office.tables.sets start step.writes (entry_end office.tables.sets row start step)) start && carries_taken step.taken step.writes start) ≡ true
 
+-- what stands under the name of its DD for checkpoints is a data set for checkpoints
+module _ (layout : Layout) (office : Office) (run : ℕ) (row : RunRow) (leg : Leg) (owned : OwnedStep) (number committed : ℕ) (kept : IsKept layout office) (running : IsRunning office run row leg owned number committed)
+    (set : Name) (table : TableSet) (is : check_set (its_start leg owned number) ≡ Some set) (found : entry_at office.tables.sets set ≡ Some table) where
+  abbrev begun : StepStart
+  begun = its_start leg owned number
+
+  its_dd : IsCheckDd begun set
+  its_dd = check-dd begun set is
+
+  keeps_so : KeepsCheckpoints (within_at begun committed) set
+  keeps_so =
+      within-keeps begun (formed_step layout office run row leg owned number committed kept.events running)
+      (under_way layout office run row leg owned number committed kept.events running).flawless
+      its_dd.dd set its_dd.at its_dd.has (checks begun set its_dd) committed
+
+  pub content-now : table.set.content ≡ Checkpoints
+  content-now = by (entry_at (within_at begun committed) set) refl
+      (sym (ap (option_map table_shape) found)
+      ∙ alike_within layout office run row leg owned number committed kept.events running set
+      (in_reach layout office run row leg owned number committed kept.events running set (outputs-among leg.job.root owned set (check-among begun set its_dd))))
+    where
+      by : (entry : Option LibrarySet) → entry_at (within_at begun committed) set ≡ entry → Some (table_shape table) ≡ option_map set_shape entry → table.set.content ≡ Checkpoints
+      by None at alike = absurd (some-not-none (table_shape table) alike)
+      by (Some other) at alike = ap (λ (s : Shape). s.content) (same_Some (table_shape table) (set_shape other) alike) ∙ keeps_so other at
+
 module _ (layout : Layout) (office : Office) (run : ℕ) (row : RunRow) (leg : Leg) (owned : OwnedStep) (number committed : ℕ) (step : StepProgress)
     (kept : IsKept layout office) (running : IsRunning office run row leg owned number committed) (spaced : AreWithinSpace leg.start)
     (behind : committed ≤ step.writes) (known : Premises office.tables.sets row committed step (its_start leg owned number)) where
@@ -134,22 +159,8 @@ module _ (layout : Layout) (office : Office) (run : ℕ) (row : RunRow) (leg : L
     its : IsCheckDd start set
     its = check-dd start set is
 
-    keeps_so : KeepsCheckpoints (within_at start committed) set
-    keeps_so =
-        within-keeps start (formed_step layout office run row leg owned number committed kept.events running)
-        (under_way layout office run row leg owned number committed kept.events running).flawless
-        its.dd set its.at its.has (checks start set its) committed
-
     content_so : table.set.content ≡ Checkpoints
-    content_so = by (entry_at (within_at start committed) set) refl
-        (sym (ap (option_map table_shape) found)
-        ∙ alike_within layout office run row leg owned number committed kept.events running set
-        (in_reach layout office run row leg owned number committed kept.events running set (outputs-among leg.job.root owned set (check-among start set its))))
-      where
-        by : (entry : Option LibrarySet) → entry_at (within_at start committed) set ≡ entry → Some (table_shape table) ≡ option_map set_shape entry → table.set.content ≡ Checkpoints
-        by None at alike = absurd (some-not-none (table_shape table) alike)
-        by (Some other) at alike =
-            ap (λ (s : Shape). s.content) (same_Some (table_shape table) (set_shape other) alike) ∙ keeps_so other at
+    content_so = content-now layout office run row leg owned number committed kept running set table is found
 
     place_is : entry_place sets start ≡ table.set.length
     place_is =

@@ -1,19 +1,14 @@
--- How a checkpoint of a running step is taken, and that the turn which is planned for one that RD suppresses takes it.
-use Rattle.std.proofs.Common.{◌≡◌, ℕ, zero, suc, cond, true, false, not, List, [], ◌∷◌, find, slice_get, refl, ap, sym, ◌∙◌, Option, Some, None}
-use Rattle.std.specs.Prelude.{◌==◌}
-use Rattle.std.specs.List.{list_all}
-use Rattle.std.specs.Option.{is_none, option_map, option_map_or, option_or}
-use Rattle.std.proofs.lemmas.Bool.{and_parts}
+-- How a checkpoint of a running step is taken, and that the turn which is planned for one that is due takes it, whatever its RD.
+use Rattle.std.proofs.Common.{◌≡◌, ℕ, zero, suc, Bool, cond, true, false, List, [], ◌∷◌, find, slice_get, refl, ap, sym, ◌∙◌, Option, Some, None}
+use Rattle.std.specs.Prelude.{◌==◌, if◌then◌else◌}
+use Rattle.std.specs.Option.{option_map, option_map_or}
 use Rattle.std.proofs.lemmas.Option.{same_Some, slice_get-map}
 use Rattle.ckr_base.specs.declared.programs.NextDue.TheVariants.{Checkpoint}
-use Rattle.ckr_base.proofs.Bools.{and-first}
+use Rattle.ckr_base.proofs.Bools.{bool-cases}
 use Rattle.ckr_base.proofs.Numbers.{equal-itself}
 use Rattle.ckr_base.proofs.Options.{option-cases, some-not-none}
-use Rattle.ckr_base.proofs.Sequences.{all-get}
 use Rattle.ckr_events.specs.declared.event.Event.TheVariants.{Cancelled as CancelledEvent}
 use Rattle.ckr_jcl.specs.declared.deck.Job.{Job}
-use Rattle.ckr_jcl.specs.declared.deck.Rd.{Rd}
-use Rattle.ckr_jcl.specs.declared.deck.Rd.TheVariants.{R, Rnc, Nr, Nc}
 use Rattle.ckr_jcl.specs.declared.deck.Step.{Step}
 use Rattle.ckr_library.specs.NameMaps.{Name}
 use Rattle.ckr_meaning.specs.EffectiveJob.{Effective, OwnedStep, owned_by, plain_job, step_at}
@@ -21,22 +16,21 @@ use Rattle.ckr_meaning.specs.StepRun.{StepStart}
 use Rattle.ckr_points.specs.Restart.{place_of, step_in}
 use Rattle.ckr_points.specs.RuleCases.{rd_in_effect}
 use Rattle.ckr_points.specs.Rows.{RunRow, step_of_run}
-use Rattle.ckr_points_decks.specs.Form.{is_run, is_run_step, is_run_under}
-use Rattle.ckr_programs.specs.Due.{is_checkpoint_count}
 use Rattle.ckr_rules.specs.RuleTables.{suppresses}
-use Rattle.ckr_desk_turn.specs.declared.plan.Plan.TheVariants.{Rest}
+use Rattle.ckr_desk_turn.specs.declared.plan.Plan.TheVariants.{Rest, Take}
 use Rattle.ckr_desk_turn.specs.declared.reply.Chkpt.TheVariants.{Suppressed}
 use Rattle.ckr_desk_turn.specs.declared.reply.Reply.TheVariants.{Checkpointed as CheckpointedReply, Idle}
 use Rattle.ckr_desk_turn.specs.Checkpoints.{ServedTurn, checkpoint_turn, checkpoint_unless}
-use Rattle.ckr_desk_turn.specs.Desk.{DeskModel, DeskStep, TurnDone, behind, cancel_done, carried_out, checkpoint_done, done_by, jobs_of, progress_of, seen_from, start_of, with_change, with_progress, without_run}
+use Rattle.ckr_desk_turn.specs.Desk.{DeskModel, DeskStep, TurnDone, behind, cancel_done, checkpoint_done, done_by, jobs_of, progress_of, seen_from, start_of, with_change, with_progress, without_run}
 use Rattle.ckr_desk_turn.specs.Due.{next_due}
 use Rattle.ckr_desk_turn.specs.Invariant.{IsDesk, IsGoing}
 use Rattle.ckr_desk_turn.specs.Jobs.{is_failed, step_name_of}
 use Rattle.ckr_desk_turn.specs.NextEvents.{IsWithinStep}
-use Rattle.ckr_desk_turn.specs.Plans.{due_plan, run_plan, suppressed_plan}
+use Rattle.ckr_desk_turn.specs.Plans.{checkpoint_plan, due_plan, run_plan, suppressed_plan}
 use Rattle.ckr_desk_turn.specs.Taken.{behind_entry, served_by, taken_of}
+use Rattle.ckr_desk_turn.specs.Turns.{carried_out}
 use Rattle.ckr_desk_turn.specs.Units.{StepProgress}
-use Rattle.ckr_desk_turn.proofs.Checkpoints.Due.{checkpoint-behind, checkpoint-only}
+use Rattle.ckr_desk_turn.proofs.Checkpoints.Due.{checkpoint-behind}
 use Rattle.ckr_desk_turn.proofs.NextEvents.BetweenSteps.{no_restart, plain_parts}
 use Rattle.ckr_desk_turn.proofs.NextEvents.WithinStep.{by-step}
 use Rattle.ckr_desk_turn.proofs.OtherRuns.{row-plain}
@@ -44,37 +38,6 @@ use Rattle.ckr_desk_turn.proofs.RunningSteps.{going-within}
 use Rattle.ckr_desk_turn.proofs.Turns.Due.{plan-due}
 use Rattle.ckr_desk_turn.proofs.Units.AnyUnit.{found-going}
 use Rattle.ckr_desk_turn.proofs.Units.Invariant.{with_change-found}
-
--- ---- the form of the decks
-
-under-suppresses : (rd : Option Rd) → is_run_under rd true ≡ true → suppresses rd ≡ true
-under-suppresses None e = e
-under-suppresses (Some R) e = e
-under-suppresses (Some Rnc) e = refl
-under-suppresses (Some Nr) e = e
-under-suppresses (Some Nc) e = refl
-
--- a step of a deck, by its step in the job
-pub record IsOwnStep (run : ℕ) (deck : Job) (number : ℕ) (owned : OwnedStep) : Type 0 where
-  pub before : ℕ
-  pub is : number ≡ suc before
-  pub step : Step
-  pub at : slice_get deck.steps before ≡ Some step
-  pub same : owned ≡ owned_by run deck step
-
-own-step : (run : ℕ) (deck : Job) (number : ℕ) (owned : OwnedStep) → step_at (plain_job run deck) number ≡ Some owned → IsOwnStep run deck number owned
-own-step run deck zero owned found = absurd (some-not-none owned (sym found))
-own-step run deck (suc before) owned found =
-    let mapped : option_map (owned_by run deck) (slice_get deck.steps before) ≡ Some owned = sym (slice_get-map (owned_by run deck) deck.steps before) ∙ found in
-    option-cases (slice_get deck.steps before)
-    (λ none. absurd (some-not-none owned (sym mapped ∙ ap (option_map (owned_by run deck)) none)))
-    (λ step at. record {
-      before = before;
-      is = refl;
-      step = step;
-      at = at;
-      same = same_Some _ _ (sym mapped ∙ ap (option_map (owned_by run deck)) at);
-    })
 
 -- ---- the running steps behind it
 
@@ -104,7 +67,7 @@ cancelled-behind desk run progress known =
 
 module _ (desk : DeskModel) (on : DeskStep) (going : IsGoing desk.office on) (is : IsDesk desk) where
   -- what is said of the step by the one of its deck
-  by-own : {A : Type 0} → ((own : IsOwnStep going.row.number going.row.deck going.number going.start.owned) → going.start.number ≡ going.number → step_of_run going.row (step_in (place_of going.row)) ≡ Some going.start.owned → A) → A
+  pub by-own : {A : Type 0} → (step_at (plain_job going.row.number going.row.deck) going.number ≡ Some going.start.owned → going.start.number ≡ going.number → step_of_run going.row (step_in (place_of going.row)) ≡ Some going.start.owned → A) → A
   by-own use_it =
       by-step desk is on.run going.row going.number going.committed going.start (going-within desk.office on going)
       (λ leg owned running same spaced.
@@ -113,7 +76,7 @@ module _ (desk : DeskModel) (on : DeskStep) (going : IsGoing desk.office on) (is
       (is.kept.events.uses on.run going.row leg running.holder).plain (no_restart going.row.deck (plain_parts going.row (row-plain desk is on.run going.row going.row_at)).runs) in
       let its : owned ≡ going.start.owned = ap (λ (s : StepStart). s.owned) (sym same) in
       use_it
-      (own-step going.row.number going.row.deck going.number going.start.owned (ap (λ (job : Effective). step_at job going.number) (sym plain) ∙ at_leg ∙ ap Some its))
+      (ap (λ (job : Effective). step_at job going.number) (sym plain) ∙ at_leg ∙ ap Some its)
       (ap (λ (s : StepStart). s.number) same)
       (ap (λ place. step_of_run going.row (step_in place)) running.stands ∙ running.found ∙ ap Some its))
 
@@ -121,20 +84,9 @@ module _ (desk : DeskModel) (on : DeskStep) (going : IsGoing desk.office on) (is
   pub names-step : step_name_of going.row ≡ going.start.owned.step.name
   names-step = by-own (λ own numbered found. ap (λ (o : Option OwnedStep). option_map_or (λ owned. owned.step.name) o []) found)
 
-  -- a checkpoint is due only in a step whose RD suppresses it
-  pub suppressed-each : next_due going.start on.progress ≡ Checkpoint → suppresses (rd_in_effect going.row going.start.number) ≡ true
-  suppressed-each comes =
-      by-own (λ own numbered found.
-      let runs : is_run going.row.deck ≡ true = (plain_parts going.row (row-plain desk is on.run going.row going.row_at)).runs in
-      let each : list_all (is_run_step going.row.deck.rd) going.row.deck.steps ≡ true = (and_parts _ _ (and_parts (is_none going.row.deck.restart) _ runs).1).1 in
-      let step : is_run_step going.row.deck.rd own.step ≡ true = all-get (is_run_step going.row.deck.rd) going.row.deck.steps own.before own.step each own.at in
-      let count : is_checkpoint_count going.start.owned.step.parm on.progress.taken ≡ true = (checkpoint-only going.start on.progress comes).count in
-      let takes : not (going.start.owned.step.parm.chk == 0) ≡ true = and-first (not (going.start.owned.step.parm.chk == 0)) _ (and-first _ _ count) in
-      let takes_own : not (own.step.parm.chk == 0) ≡ true = ap (λ (owned : OwnedStep). not (owned.step.parm.chk == 0)) (sym own.same) ∙ takes in
-      let rd : rd_in_effect going.row going.start.number ≡ option_or going.row.deck.rd own.step.rd =
-      ap (rd_in_effect going.row) (numbered ∙ own.is) ∙ ap (λ (o : Option Step). option_or going.row.deck.rd (option_map_or (λ own. own.rd) o None)) own.at in
-      ap suppresses rd
-      ∙ under-suppresses (option_or going.row.deck.rd own.step.rd) (ap (is_run_under (option_or going.row.deck.rd own.step.rd)) (sym takes_own) ∙ step))
+  -- and its number is that of its place
+  numbers-step : going.start.number ≡ going.number
+  numbers-step = by-own (λ own same found. same)
 
   numbered : going.row.number ≡ on.run
   numbered = is.kept.events.numbered on.run going.row going.row_at
@@ -158,6 +110,16 @@ module _ (desk : DeskModel) (on : DeskStep) (going : IsGoing desk.office on) (is
       passed_by : Name → List DeskStep → TurnDone
       passed_by name running = record { reply = CheckpointedReply going.row.number name Suppressed None; event = None; desk = record desk { running = running } }
 
+  -- the plan of one that is due, whether RD suppresses it or not
+  pub due-taken : progress_of desk on.run ≡ Some on.progress → carried_out (checkpoint_plan going.row going.number) desk ≡ taken_of on.run desk
+  due-taken known =
+      bool-cases (suppresses (rd_in_effect going.row going.number))
+      (λ suppressed. ap planned_by suppressed ∙ plan-taken known (ap (λ n. suppresses (rd_in_effect going.row n)) numbers-step ∙ suppressed))
+      (λ isnt. ap planned_by isnt ∙ ap (λ run. taken_of run desk) numbered)
+    where
+      planned_by : Bool → TurnDone
+      planned_by suppressed = carried_out (if suppressed then suppressed_plan going.row else Take going.row.number) desk
+
   -- behind a checkpoint that is taken it is done
   pub done-behind : progress_of desk on.run ≡ Some on.progress → progress_of (taken_of on.run desk).desk on.run ≡ Some (checkpoint_done on.progress)
   done-behind known =
@@ -175,8 +137,9 @@ turn-taken desk row number committed start progress is within isnt known comes =
     let going : IsGoing desk.office on = found-going desk.office row.number progress desk.running is.going known in
     let mine : going.row ≡ row = same_Some _ _ (sym going.row_at ∙ within.row_at) in
     let begun : going.start ≡ start = same_Some _ _ (sym going.start_at ∙ ap (start_of desk.office) mine ∙ within.start_at) in
+    let there : going.number ≡ number = ap step_in (sym (going-within desk.office on going).place ∙ ap place_of mine ∙ within.place) in
     ap (λ plan. carried_out plan desk)
     (plan-due desk row number committed start progress within isnt known
     ∙ ap (due_plan row number (seen_from desk.office row.number progress start)) comes
-    ∙ ap suppressed_plan (sym mine))
-    ∙ plan-taken desk on going is known (suppressed-each desk on going is (ap (λ (s : StepStart). next_due s progress) begun ∙ comes))
+    ∙ ap (checkpoint_plan row) (sym there) ∙ ap (λ (r : RunRow). checkpoint_plan r going.number) (sym mine))
+    ∙ due-taken desk on going is known

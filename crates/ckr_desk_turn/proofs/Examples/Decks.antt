@@ -192,11 +192,11 @@ passing =
     codes "//B DD DSN=X.B,DISP=OLD" ∷
     []
 
--- COPY of four cards under RD=NC, with these counts for checkpoints and their cancel
-abbrev pub suppressing : List ℕ → List (List ℕ)
-suppressing counts =
+-- COPY of four cards under this RD, with these counts for checkpoints and their cancel
+abbrev pub counting : List ℕ → List ℕ → List (List ℕ)
+counting rd counts =
     codes "//N JOB" ∷
-    (codes "//S1 EXEC PGM=COPY,RD=NC,PARM='" ++ (counts ++ codes "'")) ∷
+    (codes "//S1 EXEC PGM=COPY,RD=" ++ (rd ++ (codes ",PARM='" ++ (counts ++ codes "'")))) ∷
     codes "//SYSUT1 DD *" ∷
     codes "A" ∷
     codes "B" ∷

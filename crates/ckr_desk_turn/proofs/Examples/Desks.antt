@@ -13,7 +13,8 @@ use Rattle.ckr_points.specs.Rows.{TableSet}
 use Rattle.ckr_points.specs.Soundness.{may_come}
 use Rattle.ckr_desk_turn.specs.declared.reply.Reply.{Reply}
 use Rattle.ckr_desk_turn.specs.declared.reply.Turn.{Turn}
-use Rattle.ckr_desk_turn.specs.Desk.{DeskModel, opened, submitted, replies_of, desk_after, turn_of}
+use Rattle.ckr_desk_turn.specs.Desk.{DeskModel, opened, submitted}
+use Rattle.ckr_desk_turn.specs.Turns.{desk_after, replies_of, turn_of}
 
 abbrev pub layout : Layout
 layout = record {

@@ -1,19 +1,21 @@
 -- Worked decks on the desk: the replies to their turns, and what the desk has then.
-use Rattle.std.specs.Prelude.{◌≡◌, ℕ, true, false, List, [], ◌∷◌, map, codes, None, refl}
+use Rattle.std.specs.Prelude.{◌≡◌, ℕ, true, false, List, [], ◌∷◌, map, codes, None, Some, refl}
 use Rattle.ckr_base.specs.declared.code.Code.TheVariants.{System, User}
 use Rattle.ckr_jcl_decks.proofs.Definitions.{decks_open}
 use Rattle.ckr_jcl_decks.proofs.Examples.Rows.{payroll}
 use Rattle.ckr_meaning.proofs.Definitions.{jobs_open}
-use Rattle.ckr_desk_turn.proofs.Examples.Decks.{deck, copy, old_masters, merge, allocating, three_masters, passing, suppressing}
+use Rattle.ckr_desk_turn.proofs.Examples.Decks.{deck, copy, old_masters, merge, allocating, three_masters, passing, counting}
 use Rattle.ckr_base.specs.Columns.{fitted}
 use Rattle.ckr_points.specs.Office.{model_records}
 use Rattle.ckr_rules.specs.declared.cases.Rule.TheVariants.{A2}
 use Rattle.ckr_points_library.specs.declared.cause.Cause.TheVariants.{Exists}
-use Rattle.ckr_desk_turn.specs.declared.reply.Chkpt.TheVariants.{Suppressed}
+use Rattle.ckr_desk_turn.specs.declared.reply.Chkpt.TheVariants.{Done, Suppressed}
 use Rattle.ckr_desk_turn.specs.declared.reply.How.TheVariants.{Completed, Abended, Allocation}
 use Rattle.ckr_desk_turn.specs.declared.reply.Reply.{Reply}
 use Rattle.ckr_desk_turn.specs.declared.reply.Reply.TheVariants.{Idle, Selected, Started, Worked, Checkpointed, Cancelled, StepEnded, JobEnded}
-use Rattle.ckr_desk_turn.specs.Desk.{DeskModel, replies_of}
+use Rattle.ckr_desk_turn.specs.Desk.{DeskModel}
+use Rattle.ckr_desk_turn.specs.EntryStates.{checkpoint_state}
+use Rattle.ckr_desk_turn.specs.Turns.{replies_of}
 use Rattle.ckr_desk_turn.proofs.Definitions.{turns_open}
 use Rattle.ckr_desk_turn.proofs.Examples.Desks.{fresh, with_deck, replies, behind, reopened, turn_by, turns_by, listing, line, all_come}
 
@@ -150,7 +152,7 @@ updated_comes = refl
 -- under RD=NC the checkpoints are suppressed that are due at each second record, and the cancel comes behind the third, before the next
 -- unit: neither takes a record, and the checkpoints go on
 abbrev cancelled : DeskModel
-cancelled = with_deck (deck (suppressing (codes "CHK=2,CANCEL=3"))) fresh
+cancelled = with_deck (deck (counting (codes "NC") (codes "CHK=2,CANCEL=3"))) fresh
 
 abbrev on_s1 : ℕ → Reply
 on_s1 taken = Worked 1 (codes "S1") taken
@@ -175,10 +177,33 @@ unfolding decks_open jobs_open turns_open
 cancelled_listed = refl
 
 -- where both are due at one count the checkpoint comes first
-both_due : replies 8 (with_deck (deck (suppressing (codes "CHK=3,CANCEL=3"))) fresh)
+both_due : replies 8 (with_deck (deck (counting (codes "NC") (codes "CHK=3,CANCEL=3"))) fresh)
     ≡ Selected 1 ∷ Started 1 (codes "S1") ∷ on_s1 1 ∷ on_s1 2 ∷ on_s1 3 ∷ suppressed ∷ Cancelled 1 (codes "S1") ∷ on_s1 4 ∷ []
 unfolding decks_open jobs_open turns_open
 both_due = refl
+
+-- under RD=NR entries are written at the same counts, of a record each, also behind the cancel
+abbrev entered : DeskModel
+entered = with_deck (deck (counting (codes "NR") (codes "CHK=2,CANCEL=3"))) fresh
+
+abbrev written : List ℕ → Reply
+written id = Checkpointed 1 (codes "S1") Done (Some id)
+
+entered_replies : replies 13 entered
+    ≡ Selected 1 ∷ Started 1 (codes "S1") ∷ on_s1 1 ∷ on_s1 2 ∷ written (codes "C0000001") ∷ on_s1 3 ∷ Cancelled 1 (codes "S1") ∷ on_s1 4 ∷ written (codes "C0000002")
+    ∷ on_s1 4 ∷ StepEnded 1 (codes "S1") 0 ∷ JobEnded 1 Completed ∷ Idle ∷ []
+unfolding decks_open jobs_open turns_open checkpoint_state
+entered_replies = refl
+
+entered_comes : all_come (turns_by 1 13) entered ≡ true
+unfolding decks_open jobs_open turns_open checkpoint_state
+entered_comes = refl
+
+-- what was written at the last one is committed, also where the system fails behind it
+entered_listed : listing (behind 2 (reopened (behind 9 entered)))
+    ≡ line (codes "CHK.A") 0 true 256 2 4 (1, 1, 0) ∷ line (codes "OUT.A") 0 true 80 4 10 (1, 1, 0) ∷ []
+unfolding decks_open jobs_open turns_open checkpoint_state
+entered_listed = refl
 
 -- four data sets are passed on: what the job made and nobody received goes at its end, and what a later step received is kept
 passed_on : listing (behind 12 (with_deck (deck passing) (behind 6 (with_deck (deck (allocating (codes "DSN=X.D,DISP=(NEW,CATLG),SPACE=(80,1)"))) fresh))))

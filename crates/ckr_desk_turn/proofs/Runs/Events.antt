@@ -171,7 +171,7 @@ module _ (layout : Layout) (office : Office) (kept : IsAgreed layout office) (ha
       })
       has.spaced has.spaced_legs)))
 
-  -- an entry is written, which no deck that the desk runs by now asks for
+  -- an entry is written
   pub checkpointed-runs : (job taken writes place bytes : ℕ) (id : Name) (lengths : ArrayVec ℕ) (deck : Option Job) → may_come layout office (CheckpointedEvent job id taken writes lengths place bytes, deck) ≡ true → HasRuns (office_after (CheckpointedEvent job id taken writes lengths place bytes, deck) office)
   checkpointed-runs job taken writes place bytes id lengths deck may =
       tested-run office.tables job (λ row. is_running row && lengths_follow office.tables row lengths.items && of_step row (is_checkpoint office.tables id lengths.items place bytes row)) (follows-of layout office (CheckpointedEvent job id taken writes lengths place bytes) deck may)

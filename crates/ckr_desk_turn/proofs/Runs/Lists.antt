@@ -1,9 +1,8 @@
 -- Sound events of what the desk runs leave what a desk of its runs has.
 use Rattle.std.proofs.Common.{◌≡◌, ℕ, zero, suc, true, false, List, [], ◌∷◌, refl, arith, Option}
 use Rattle.std.specs.Prelude.{◌==◌}
-use Rattle.ckr_base.proofs.Numbers.{equal-true}
 use Rattle.ckr_events.specs.declared.event.Event.{Event}
-use Rattle.ckr_events.specs.declared.event.Event.TheVariants.{Cancelled, Ended, Purged, Restarted, Rewritten, Selected, Started, StepEnded, Submitted}
+use Rattle.ckr_events.specs.declared.event.Event.TheVariants.{Cancelled, Checkpointed, Ended, Purged, Restarted, Rewritten, Selected, Started, StepEnded, Submitted}
 use Rattle.ckr_events.specs.declared.event.Ending.TheVariants.{Allocation, Coded, Completed}
 use Rattle.ckr_jcl.specs.declared.deck.Job.{Job}
 use Rattle.ckr_volumes.specs.declared.layout.Layout.{Layout}
@@ -14,15 +13,14 @@ use Rattle.ckr_points_invariant.specs.Continuations.{goes_back}
 use Rattle.ckr_points_invariant.specs.Invariant.{IsKept}
 use Rattle.ckr_points_invariant.proofs.EventLaws.{no_events}
 use Rattle.ckr_points_invariant.proofs.SoundEvents.{kept-next}
+use Rattle.ckr_desk_turn.specs.CheckSets.{HaveCheckRecords}
 use Rattle.ckr_desk_turn.specs.Desk.{opened}
 use Rattle.ckr_desk_turn.specs.Invariant.{HasRuns, IsDesk}
 use Rattle.ckr_desk_turn.specs.RunEvents.{AreRunEvents, IsRunEvent}
+use Rattle.ckr_desk_turn.proofs.CheckSets.Events.{have-next, none-before}
 use Rattle.ckr_desk_turn.proofs.Opening.{opened-is}
 use Rattle.ckr_desk_turn.proofs.Runs.Ends.{coded-runs, completed-runs, refused-runs}
-use Rattle.ckr_desk_turn.proofs.Runs.Events.{cancelled-runs, purged-runs, rewritten-runs, selected-runs, started-runs, step_ended-runs, submitted-runs}
-
-none-before : (before : ℕ) → (suc before == 0) ≡ true → ⊥
-none-before before e = let same : suc before ≡ 0 = equal-true (suc before) 0 e in omega (arith, same)
+use Rattle.ckr_desk_turn.proofs.Runs.Events.{cancelled-runs, checkpointed-runs, purged-runs, rewritten-runs, selected-runs, started-runs, step_ended-runs, submitted-runs}
 
 -- no run goes back
 on-so : (event : Event) (deck : Option Job) → IsRunEvent event deck → goes_back event ≡ false
@@ -38,6 +36,7 @@ module _ (layout : Layout) (now : Office) (kept : IsKept layout now) (has : HasR
   runs-next (Selected job initiator (suc before) step id) deck is next = absurd (none-before before is)
   runs-next (Started job step items) deck is next = started-runs layout now kept.events has job step items deck next.may next.carried
   runs-next (Rewritten job taken writes lengths place image) deck is next = rewritten-runs layout now kept.events has job taken writes place lengths image deck next.may
+  runs-next (Checkpointed job id taken writes lengths place bytes) deck is next = checkpointed-runs layout now kept.events has job taken writes place bytes id lengths deck next.may
   runs-next (Cancelled job) deck is next = cancelled-runs layout now kept.events has job deck next.may
   runs-next (StepEnded job step rc writes lengths) deck is next = step_ended-runs layout now kept.events has job step rc writes lengths deck next.may
   runs-next (Ended job Completed) deck is next = completed-runs layout now kept.events has job deck next.may
@@ -50,24 +49,32 @@ module _ (layout : Layout) (now : Office) (kept : IsKept layout now) (has : HasR
 record AreLeft (layout : Layout) (office : Office) : Type 0 where
   pub kept : IsKept layout office
   pub has : HasRuns office
+  pub checks : HaveCheckRecords office.tables.sets
 
 left-from : (layout : Layout) (events : List Decked) (now : Office) → AreSoundFrom layout now events → AreRunEvents events → AreLeft layout now → AreLeft layout (office_from events now)
 left-from layout [] now are run left = left
 left-from layout (event ∷ rest) now are run left =
     let next : IsNext layout now (event.0, event.1) = record { may = are.0.may; carried = are.0.carried } in
     left-from layout rest (office_after event now) are.1 run.1
-    (record { kept = kept-next layout now event.0 event.1 (on-so event.0 event.1 run.0) left.kept next; has = runs-next layout now left.kept left.has event.0 event.1 run.0 next })
+    (record {
+      kept = kept-next layout now event.0 event.1 (on-so event.0 event.1 run.0) left.kept next;
+      has = runs-next layout now left.kept left.has event.0 event.1 run.0 next;
+      checks = have-next layout now left.kept left.has left.checks event.0 event.1 run.0 next;
+    })
 
 left-at : (layout : Layout) (events : List Decked) → AreSound layout events → AreRunEvents events → AreLeft layout (office events)
 left-at layout events are run =
     left-from layout events no_office are run
-    (record { kept = no_events layout; has = record { plain = refl; admitted = tt; stepped = refl; spaced = tt; spaced_legs = tt } })
+    (record { kept = no_events layout; has = record { plain = refl; admitted = tt; stepped = refl; spaced = tt; spaced_legs = tt }; checks = tt })
 
 pub events-kept : (layout : Layout) (events : List Decked) → AreSound layout events → AreRunEvents events → IsKept layout (office events)
 events-kept layout events are run = (left-at layout events are run).kept
 
 pub events-run : (layout : Layout) (events : List Decked) → AreSound layout events → AreRunEvents events → HasRuns (office events)
 events-run layout events are run = (left-at layout events are run).has
+
+pub events-checked : (layout : Layout) (events : List Decked) → AreSound layout events → AreRunEvents events → HaveCheckRecords (office events).tables.sets
+events-checked layout events are run = (left-at layout events are run).checks
 
 -- a desk that is opened on them
 pub events-opened : (layout : Layout) (events : List Decked) → AreSound layout events → AreRunEvents events → IsDesk (opened layout (office events))

@@ -23,9 +23,10 @@ use Rattle.ckr_meaning.specs.Dispositions.{Stock}
 use Rattle.ckr_meaning.specs.EffectiveJob.{OwnedStep, name_of, owned_by, placed_from, placed_one, plain_job, step_at}
 use Rattle.ckr_meaning.specs.JobRun.{StepCodes, is_bypassed}
 use Rattle.ckr_points_decks.proofs.AllocationNeeds.{all_fit}
+use Rattle.ckr_points_decks.proofs.CheckParts.{steps_checked}
 use Rattle.ckr_points_decks.proofs.DeckTests.{OfStep, steps_hold}
 use Rattle.ckr_points_decks.proofs.Texts.{IsReadFrom, read_from}
-use Rattle.ckr_points_decks.specs.DeckLimits.{FitsAllocation}
+use Rattle.ckr_points_decks.specs.DeckLimits.{FitsAllocation, HasCheckParts}
 use Rattle.ckr_desk_turn.proofs.Start.Items.{IsAsked, Rises}
 
 -- ---- tests of return codes
@@ -87,6 +88,12 @@ fits-allocation cards run deck number owned root accepted found =
     let from : IsOfDeck run deck owned = of-deck run deck number owned found in
     subst (λ (one : OwnedStep). list_all (fits_named (name_of root one)) one.step.dds ≡ true) from.is
     (each-get FitsAllocation deck.steps from.place from.step (all_fit cards deck accepted) from.at root run)
+
+-- and its checkpoints have what they are taken by
+pub check-parts : (cards : List ℕ) (run : ℕ) (deck : Job) (number : ℕ) (owned : OwnedStep) → stored_deck cards ≡ Ok deck → step_at (plain_job run deck) number ≡ Some owned → HasCheckParts owned.step
+check-parts cards run deck number owned accepted found =
+    let from : IsOfDeck run deck owned = of-deck run deck number owned found in
+    subst (λ (one : OwnedStep). HasCheckParts one.step) from.is (each-get HasCheckParts deck.steps from.place from.step (steps_checked cards deck accepted) from.at)
 
 -- ---- the DDs that have data sets
 

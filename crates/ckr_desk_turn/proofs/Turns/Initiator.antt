@@ -28,9 +28,10 @@ use Rattle.ckr_desk_turn.specs.declared.reply.Turn.{Turn}
 use Rattle.ckr_desk_turn.specs.Allocation.{allocation_of, cause_numbers, holdings, items_in}
 use Rattle.ckr_desk_turn.specs.Select.{is_on, may_select, next_run, run_on_initiator}
 use Rattle.ckr_desk_turn.specs.Codes.{code_plan, reached_by}
-use Rattle.ckr_desk_turn.specs.Desk.{DeskModel, jobs_of, turn_of}
+use Rattle.ckr_desk_turn.specs.Desk.{DeskModel, jobs_of}
 use Rattle.ckr_desk_turn.specs.Plans.{allocation_ended, between_plan, chosen_plan, fail_plan, free_plan, placed_plan, plan_of, run_plan, start_plan, system_failure}
 use Rattle.ckr_desk_turn.specs.Invariant.{IsDesk, Keeps, is_accounted}
+use Rattle.ckr_desk_turn.specs.Turns.{turn_of}
 use Rattle.ckr_desk_turn.proofs.NextEvents.BetweenSteps.{completed_comes, plain_found, plain_parts, refused_comes, row_of_found, selected_comes, state_on}
 use Rattle.ckr_desk_turn.proofs.RunEnd.{completed-kept, refused-inside, refused-kept}
 use Rattle.ckr_desk_turn.proofs.Select.{selected-keeps}

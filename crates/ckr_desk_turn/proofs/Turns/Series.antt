@@ -2,15 +2,19 @@
 use Rattle.std.proofs.Common.{◌≡◌, ℕ, List, [], ◌∷◌, refl, sym, ◌∙◌, subst, Option, Some, None}
 use Rattle.std.specs.List.{AllByRecursion}
 use Rattle.std.specs.Option.{option_map_or}
+use Rattle.ckr_events.specs.declared.event.Event.{Event}
 use Rattle.ckr_meaning.specs.StepRun.{StepStart}
 use Rattle.ckr_points.specs.Rows.{RunRow, run_of}
 use Rattle.ckr_points_invariant.specs.Invariant.{IsKept}
 use Rattle.ckr_desk_turn.specs.declared.plan.Plan.{Plan}
-use Rattle.ckr_desk_turn.specs.declared.plan.Plan.TheVariants.{Rest, Tell, Work, Pass}
+use Rattle.ckr_desk_turn.specs.declared.plan.Plan.TheVariants.{Rest, Tell, Work, Pass, Take}
 use Rattle.ckr_desk_turn.specs.declared.reply.Reply.TheVariants.{Idle}
 use Rattle.ckr_desk_turn.specs.declared.reply.Turn.{Turn}
-use Rattle.ckr_desk_turn.specs.Desk.{DeskModel, carried_out, desk_after, done_by, jobs_of, progress_of, start_of, turn_of, unit_done, with_progress, work_of}
+use Rattle.ckr_desk_turn.specs.Checkpoints.{checkpoint_turn}
+use Rattle.ckr_desk_turn.specs.Desk.{DeskModel, done_by, jobs_of, progress_of, start_of, unit_done, with_progress, work_of}
 use Rattle.ckr_desk_turn.specs.Plans.{plan_of}
+use Rattle.ckr_desk_turn.specs.Taken.{behind_entry, served_by, taken_of}
+use Rattle.ckr_desk_turn.specs.Turns.{carried_out, desk_after, turn_of}
 use Rattle.ckr_desk_turn.specs.Units.{StepProgress, UnitEnd, unit_end}
 use Rattle.ckr_desk_turn.specs.Invariant.{IsDesk, IsTurnOf, Keeps}
 use Rattle.ckr_desk_turn.proofs.Turns.Initiator.{turn-keeps}
@@ -22,6 +26,7 @@ done-layout (Rest reply) desk = refl
 done-layout (Tell reply event) desk = refl
 done-layout (Work job) desk = refl
 done-layout (Pass job reply) desk = refl
+done-layout (Take job) desk = refl
 
 unit-layout : (row : RunRow) (end : UnitEnd) (desk : DeskModel) → (unit_done row end desk).desk.layout ≡ desk.layout
 unit-layout row end desk = done-layout _ (with_progress row.number end.progress desk)
@@ -41,11 +46,31 @@ work-layout run desk = by-row (run_of desk.office.tables run)
     by-row None = refl
     by-row (Some row) = by-start row (start_of desk.office row)
 
+entry-layout : (event : Option Event) (desk : DeskModel) → (behind_entry event desk).layout ≡ desk.layout
+entry-layout None desk = refl
+entry-layout (Some event) desk = refl
+
+taken-layout : (run : ℕ) (desk : DeskModel) → (taken_of run desk).desk.layout ≡ desk.layout
+taken-layout run desk = by-row (run_of desk.office.tables run)
+  where
+    by-progress : (row : RunRow) (start : StepStart) (progress : Option StepProgress) → (option_map_or (λ progress. served_by row (checkpoint_turn desk.office.tables row start progress) desk) progress (done_by (Rest Idle) desk)).desk.layout ≡ desk.layout
+    by-progress row start None = refl
+    by-progress row start (Some progress) = entry-layout (checkpoint_turn desk.office.tables row start progress).event desk
+
+    by-start : (row : RunRow) (start : Option StepStart) → (option_map_or (λ start. option_map_or (λ progress. served_by row (checkpoint_turn desk.office.tables row start progress) desk) (progress_of desk run) (done_by (Rest Idle) desk)) start (done_by (Rest Idle) desk)).desk.layout ≡ desk.layout
+    by-start row None = refl
+    by-start row (Some start) = by-progress row start (progress_of desk run)
+
+    by-row : (row : Option RunRow) → (option_map_or (λ row. option_map_or (λ start. option_map_or (λ progress. served_by row (checkpoint_turn desk.office.tables row start progress) desk) (progress_of desk run) (done_by (Rest Idle) desk)) (start_of desk.office row) (done_by (Rest Idle) desk)) row (done_by (Rest Idle) desk)).desk.layout ≡ desk.layout
+    by-row None = refl
+    by-row (Some row) = by-start row (start_of desk.office row)
+
 plan-layout : (plan : Plan) (desk : DeskModel) → (carried_out plan desk).desk.layout ≡ desk.layout
 plan-layout (Rest reply) desk = refl
 plan-layout (Tell reply event) desk = refl
 plan-layout (Work job) desk = work-layout job desk
 plan-layout (Pass job reply) desk = refl
+plan-layout (Take job) desk = taken-layout job desk
 
 turn-layout : (desk : DeskModel) (turn : Turn) → (turn_of desk turn).desk.layout ≡ desk.layout
 unfolding turn_of

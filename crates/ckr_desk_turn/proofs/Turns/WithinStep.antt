@@ -18,20 +18,23 @@ use Rattle.ckr_desk_turn.specs.declared.plan.Plan.{Plan}
 use Rattle.ckr_desk_turn.specs.declared.plan.Plan.TheVariants.{Rest}
 use Rattle.ckr_desk_turn.specs.declared.reply.Reply.TheVariants.{Idle, NothingToFail}
 use Rattle.ckr_desk_turn.specs.Codes.{code_plan, reached_by, rule_for}
-use Rattle.ckr_desk_turn.specs.Desk.{DeskModel, DeskStep, carried_out, jobs_of, seen_from, work_of}
+use Rattle.ckr_desk_turn.specs.Desk.{DeskModel, DeskStep, jobs_of, progress_of, seen_from, work_of}
 use Rattle.ckr_desk_turn.specs.Due.{next_due, rc_by}
 use Rattle.ckr_desk_turn.specs.Jobs.{TurnStep, is_failed, running_in}
-use Rattle.ckr_desk_turn.specs.Plans.{due_plan, fail_plan, finished_plan, is_within, placed_plan, run_plan, running_plan, system_failure}
+use Rattle.ckr_desk_turn.specs.Plans.{checkpoint_plan, due_plan, fail_plan, finished_plan, is_within, placed_plan, run_plan, running_plan, system_failure}
 use Rattle.ckr_desk_turn.specs.NextEvents.{Comes, IsWithinStep}
+use Rattle.ckr_desk_turn.specs.Taken.{taken_of}
+use Rattle.ckr_desk_turn.specs.Turns.{carried_out}
 use Rattle.ckr_desk_turn.specs.Invariant.{HasCome, IsClosed, IsDesk, IsGoing, Keeps, is_plain_row}
 use Rattle.ckr_desk_turn.proofs.StepEnd.{code-kept, step_end-kept}
 use Rattle.ckr_desk_turn.proofs.OtherRuns.{row-plain}
 use Rattle.ckr_desk_turn.proofs.RunningSteps.{FoundStep, found-step, going-within, reached-comes}
 use Rattle.ckr_desk_turn.proofs.NextEvents.WithinStep.{step_ended-comes}
 use Rattle.ckr_desk_turn.proofs.Cancel.{cancelled-comes, cancelled-kept}
-use Rattle.ckr_desk_turn.proofs.Checkpoints.Due.{IsFinished, finished-only, unit-only}
+use Rattle.ckr_desk_turn.proofs.Checkpoints.Due.{IsFinished, checkpoint-only, finished-only, unit-only}
+use Rattle.ckr_desk_turn.proofs.Checkpoints.Invariant.{taken-keeps}
+use Rattle.ckr_desk_turn.proofs.Checkpoints.Plans.{due-taken}
 use Rattle.ckr_desk_turn.proofs.Units.AnyUnit.{work-keeps}
-use Rattle.ckr_desk_turn.proofs.Units.Invariant.{passed-kept}
 
 -- what a plan comes to
 abbrev pub PlanKeeps : DeskModel → Plan → Type 0
@@ -65,8 +68,19 @@ module _ (desk : DeskModel) (is : IsDesk desk) (row : RunRow) (number committed 
     at_number : found.going.number ≡ number
     at_number = ap step_in (sym (going-within desk.office found.on found.going).place ∙ ap place_of its_row ∙ within.place)
 
+    known : progress_of desk row.number ≡ Some found.on.progress
+    known = ap (λ (o : Option DeskStep). option_map_or (λ (step : DeskStep). Some step.progress) o None) found.at
+
     goes_on : found.on.progress.closed ≡ false → Keeps desk (work_of row.number desk)
-    goes_on = work-keeps desk is row.number found.on.progress (ap (λ (o : Option DeskStep). option_map_or (λ (step : DeskStep). Some step.progress) o None) found.at)
+    goes_on = work-keeps desk is row.number found.on.progress known
+
+    -- a checkpoint that is due is taken, whatever RD is in effect
+    takes_it : found.on.progress.closed ≡ false → PlanKeeps desk (checkpoint_plan row number)
+    takes_it unclosed =
+        subst (Keeps desk)
+        (sym (ap (λ (r : RunRow). carried_out (checkpoint_plan r number) desk) (sym its_row) ∙ ap (λ n. carried_out (checkpoint_plan found.going.row n) desk) (sym at_number)
+        ∙ due-taken desk found.on found.going is (ap (progress_of desk) found.same ∙ known) ∙ ap (λ run. taken_of run desk) found.same))
+        (taken-keeps desk row.number found.on.progress is known unclosed)
 
     abbrev its_seen : TurnStep
     its_seen = seen_from desk.office found.on.run found.on.progress found.going.start
@@ -82,7 +96,7 @@ module _ (desk : DeskModel) (is : IsDesk desk) (row : RunRow) (number committed 
 
     by-due : (due : NextDue) → next_due found.going.start found.on.progress ≡ due → PlanKeeps desk (due_plan row number its_seen due)
     by-due OneUnit comes_now = goes_on (unit-only found.going.start found.on.progress comes_now)
-    by-due Checkpoint comes_now = record { comes = tt; kept = passed-kept desk is row.number found.on found.at found.going found.same }
+    by-due Checkpoint comes_now = takes_it (checkpoint-only found.going.start found.on.progress comes_now).unclosed
     by-due Cancel comes_now = record {
       comes = cancelled-comes desk is row number committed start within;
       kept = cancelled-kept desk is row number committed start within found.on found.at found.going found.same;

@@ -20,7 +20,7 @@ use Rattle.ckr_points.specs.Payload.{lengths_at, rewrites_nothing}
 use Rattle.ckr_points.specs.Rows.{RunRow, run_of}
 use Rattle.ckr_rules.specs.RuleTables.{rule_number}
 use Rattle.ckr_desk_turn.specs.Codes.{CodePlaceModel, code_plan, rule_for, running_reached}
-use Rattle.ckr_desk_turn.specs.Desk.{DeskModel, DeskStep, behind as desk_behind, checkpoint_done, done_by, unit_done, with_change, with_progress, without_run}
+use Rattle.ckr_desk_turn.specs.Desk.{DeskModel, DeskStep, behind as desk_behind, done_by, unit_done, with_change, with_progress, without_run}
 use Rattle.ckr_desk_turn.specs.Units.{StepProgress, went, abended}
 use Rattle.ckr_desk_turn.specs.NextEvents.{Comes, IsWithinStep}
 use Rattle.ckr_desk_turn.specs.Invariant.{HasCome, IsDesk, IsGoing, Keeps, is_accounted}
@@ -95,13 +95,6 @@ going-served office on checkpointed cancelled going = record {
 pub with_change-found : (run : ℕ) (change : StepProgress → StepProgress) (running : List DeskStep) (on : DeskStep) → find (λ (step : DeskStep). step.run == run) running ≡ Some on → with_change run change running ≡ record { run = run; progress = change on.progress } ∷ without_run run running
 with_change-found run change running on found =
     ap (λ (o : Option DeskStep). option_map_or (λ (step : DeskStep). let changed : DeskStep = record { run = run; progress = change step.progress } in changed ∷ without_run run running) o running) found
-
--- the desk behind a checkpoint that is done without an entry
-pub passed-kept : (desk : DeskModel) → IsDesk desk → (run : ℕ) (on : DeskStep) → find (λ (step : DeskStep). step.run == run) desk.running ≡ Some on → IsGoing desk.office on → on.run ≡ run → IsDesk (record desk { running = with_change run checkpoint_done desk.running })
-passed-kept desk is run on found going same =
-    subst (λ running. IsDesk (record desk { running = running })) (sym (with_change-found run checkpoint_done desk.running on found))
-    (moved-kept desk is run (checkpoint_done on.progress)
-    (subst (λ n. IsGoing desk.office (record { run = n; progress = checkpoint_done on.progress })) same (going-served desk.office on true on.progress.cancelled going)))
 
 -- a unit by which the step goes on, with no rewrite
 pub went-keeps : (desk : DeskModel) → IsDesk desk → (row : RunRow) (progress : StepProgress) → IsGoing desk.office (record { run = row.number; progress = progress }) → Keeps desk (unit_done row (record { unit = went None; progress = progress }) desk)

@@ -2,7 +2,7 @@ use Rattle.std.proofs.Common.{refl, subst}
 use Rattle.ckr_desk.specs.Model.Reply.{Reply}
 use Rattle.ckr_desk.proofs.Calls.FullBooks.{turn-fits, turn-full}
 use Rattle.ckr_desk.proofs.Calls.OneEvent.{turn-few}
-use Rattle.ckr_desk.specs.Requests.{FailsBy, spelled}
+use Rattle.ckr_desk.specs.Requests.{spelled}
 use Rattle.ckr_desk.specs.Soundness.{state_of}
 use Rattle.ckr_desk.specs.Turn.{event_of_turn}
 use Rattle.ckr_desk.specs.State.{disk_of}
@@ -59,6 +59,3 @@ returns-in-Ok-clause-events g c holds = (c.in-Ok.ensures.comes holds).events
 
 pub returns-in-Ok-clause-trusted : goal.returns-in-Ok-clause-trusted
 returns-in-Ok-clause-trusted g c holds = (c.in-Ok.ensures.comes holds).trusted
-
-pub returns-in-Err-Misread-clause-cause : goal.returns-in-Err-Misread-clause-cause
-returns-in-Err-Misread-clause-cause g c holds = subst (FailsBy _ _) c.in-Err-Misread.field-0-is (c.in-Err-Misread.ensures.comes holds).cause

@@ -14,18 +14,18 @@ use Rattle.ckr_desk.proofs.opening.read_disk.Goals as goal
 pub returns-clause-found : goal.returns-clause-found
 returns-clause-found g c = λ told.
     let d = g.D.Disk in
-    subst (λ (t : RoomyTables). IsFound (d.content c.replay.new.disk) (d.size c.replay.new.disk) c.in_ok-layout.layout t.desk c.in_ok-jobs.field-0.place) (sym c.open.ensures.tables)
-    (found_behind (d.content c.sync.new.self) (d.content c.layout_of.new.disk) (d.content c.replay.new.disk) (d.size c.sync.new.self) (d.size c.replay.new.disk)
+    subst (λ (t : RoomyTables). IsFound (d.content c.read_jobs.new.disk) (d.size c.read_jobs.new.disk) c.in_ok-layout.layout t.desk c.in_ok-jobs.field-0.place) (sym c.open.ensures.tables)
+    (found_behind (d.content c.sync.new.self) (d.content c.layout_of.new.disk) (d.content c.read_jobs.new.disk) (d.size c.sync.new.self) (d.size c.read_jobs.new.disk)
     c.in_ok-layout.layout c.in_ok-jobs.field-0.jobs.tables.desk c.in_ok-jobs.field-0.place (c.in_ok-layout.ensures.exact told)
-    c.in_ok-layout.ensures.only_reads.same c.in_ok-jobs.ensures.only_reads.same (c.in_ok-jobs.ensures.size ∙ c.in_ok-layout.ensures.size) (c.in_ok-jobs.ensures.replayed told))
+    c.in_ok-layout.ensures.only_reads.same c.in_ok-jobs.ensures.only_reads.same (c.in_ok-jobs.ensures.size ∙ c.in_ok-layout.ensures.size) (c.in_ok-jobs.ensures.read told))
 
 pub returns-in_err-jobs-clause-cause : goal.returns-in_err-jobs-clause-cause
 returns-in_err-jobs-clause-cause g c =
     let d = g.D.Disk in
     handed_on c.from_residual-in_err-jobs.result c.in_err-jobs.field-0.0 _ c.from_residual-in_err-jobs.ensures.1
-    (book_cause_behind (Rose (d.faults c.args.disk.now) (d.faults c.replay.new.disk)) (Rose (d.faults c.layout_of.new.disk) (d.faults c.replay.new.disk)) d.told
+    (book_cause_behind (Rose (d.faults c.args.disk.now) (d.faults c.read_jobs.new.disk)) (Rose (d.faults c.layout_of.new.disk) (d.faults c.read_jobs.new.disk)) d.told
     (d.content c.args.disk.now) (d.content c.sync.new.self) (d.content c.layout_of.new.disk) (d.size c.args.disk.now) c.in_ok-layout.layout c.in_err-jobs.field-0.0
-    (rose_before (d.faults c.args.disk.now) (d.faults c.layout_of.new.disk) (d.faults c.replay.new.disk) (omega (arith, c.in_ok-sync.ensures.cause.never_falls, c.in_ok-layout.ensures.faults)))
+    (rose_before (d.faults c.args.disk.now) (d.faults c.layout_of.new.disk) (d.faults c.read_jobs.new.disk) (omega (arith, c.in_ok-sync.ensures.cause.never_falls, c.in_ok-layout.ensures.faults)))
     (λ told. rw c.in_ok-sync.ensures.size at (c.in_ok-layout.ensures.exact told)) c.in_ok-sync.ensures.only_reads.same c.in_ok-layout.ensures.only_reads.same c.in_err-jobs.ensures.cause)
 
 pub returns-clause-last : goal.returns-clause-last
@@ -36,7 +36,7 @@ returns-clause-last g c = λ told.
 pub returns-clause-synced : goal.returns-clause-synced
 returns-clause-synced g c =
     let d = g.D.Disk in
-    reads-behind d.content d.may_leave d.moment d.left_since c.args.disk.now c.sync.new.self c.layout_of.new.disk c.replay.new.disk
+    reads-behind d.content d.may_leave d.moment d.left_since c.args.disk.now c.sync.new.self c.layout_of.new.disk c.read_jobs.new.disk
     c.in_ok-sync.ensures.only_reads c.in_ok-sync.ensures.durable c.in_ok-layout.ensures.only_reads c.in_ok-jobs.ensures.only_reads
 
 pub returns-clause-kept : goal.returns-clause-kept

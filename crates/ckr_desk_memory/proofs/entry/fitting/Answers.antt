@@ -1,4 +1,4 @@
-use Rattle.std.proofs.Common.{◌≡◌, ◌+◌, List, ℕ, ap, arith, length, sym, ◌∙◌, subst, true, Some}
+use Rattle.std.proofs.Common.{◌≡◌, ◌==◌, ◌+◌, List, ℕ, ap, arith, length, sym, ◌∙◌, subst, true, Some}
 use Rattle.std.specs.List.{list_any}
 use Rattle.std.specs.Option.{is_some}
 use Rattle.ckr_base.specs.Grammar.{is_check_id}
@@ -10,8 +10,15 @@ use Rattle.ckr_library.specs.NameMaps.{Name, same_name}
 use Rattle.ckr_points.specs.Restart.{kept_at}
 use Rattle.ckr_desk_memory.specs.Entries.{entry_end, entry_to, next_id, row_of_line}
 use Rattle.ckr_desk_memory.specs.Parts.{step_seen}
-use Rattle.ckr_desk_memory.proofs.EntryPoints.{absent-count, absent-kept, absent-passed, absent-range, absent-space, end-is, fits-there, kept-there}
+use Rattle.ckr_desk_memory.proofs.EntryPoints.{absent-count, absent-kept, absent-passed, absent-range, absent-records, absent-space, end-is, fits-there, kept-there}
 use Rattle.ckr_desk_memory.proofs.entry.fitting.Goals as goal
+
+pub returns-then-not-has_entry_records-clause-entry : goal.returns-then-not-has_entry_records-clause-entry
+returns-then-not-has_entry_records-clause-entry c line tables own table seen made there set_is =
+    let check = c.args.behind.now.check.now in
+    let row = row_of_line c.args.behind.now.on.now.run line c.args.behind.now.table.now in
+    let on = step_seen c.args.behind.now.on.now in
+    absent-records check table tables row own on (ap (λ (s : DataSet). s.lrecl == 256) (sym set_is) ∙ sym c.has_entry_records.ensures ∙ c.if-not-has_entry_records.true)
 
 pub returns-then-behind-ge9999999-clause-entry : goal.returns-then-behind-ge9999999-clause-entry
 returns-then-behind-ge9999999-clause-entry c line tables own table seen made there set_is =
@@ -80,5 +87,5 @@ returns-clause-entry c line tables own table seen made there set_is =
     end-is check table tables row own on c.args.set.now (entry_of c.in_ok-first.first.point) c.in_ok-first.first.bytes.items c.from.result c.records_of.result set_is first c.in_ok-first.ensures.bytes c.from.ensures
     (c.records_of.ensures ∙ ap (λ (bytes : List ℕ). records_of (length bytes)) c.as_slice-2.ensures.value) in
     let entry = c.in_ok-made.ensures.entry tables seen line own (record { step = made.step; owner = made.owner; id = made.id }) ∙ ap (λ n. entry_to (Some check) n tables row own on) end in
-    fits-there check table tables row own on (entry_of c.in_ok-made.made.point) entry (omega (arith, end, c.if-end-from.false, c.from-2.ensures, ap (λ (s : DataSet). s.space) set_is)) (kept ∙ c.if-has_id.false)
+    fits-there check table tables row own on (entry_of c.in_ok-made.made.point) entry (ap (λ (s : DataSet). s.lrecl == 256) (sym set_is) ∙ sym c.has_entry_records.ensures ∙ c.if-not-has_entry_records.false) (omega (arith, end, c.if-end-from.false, c.from-2.ensures, ap (λ (s : DataSet). s.space) set_is)) (kept ∙ c.if-has_id.false)
     (sym c.is_in_range.ensures ∙ c.if-not-is_in_range.false) (subst (λ (n : Name). is_check_id n ≡ true) made.id c.text-grammar.ensures.grammar) (omega (arith, c.if-as_slice-gt65535.false, ap length c.as_slice.ensures))

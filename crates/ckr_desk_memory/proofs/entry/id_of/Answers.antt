@@ -1,7 +1,7 @@
 use Rattle.std.proofs.Common.{◌≡◌, ◌+◌, List, ℕ, suc, ap, sym, ◌∙◌, add-one}
 use Rattle.ckr_jcl.specs.declared.deck.Step.{Step}
-use Rattle.ckr_desk_turn.specs.Checkpoints.{id_by}
-use Rattle.ckr_desk_memory.specs.Entries.{id_in, next_id}
+use Rattle.ckr_desk_turn.specs.Checkpoints.{id_by, id_in}
+use Rattle.ckr_desk_memory.specs.Entries.{next_id}
 use Rattle.ckr_desk_memory.specs.Plans.{row_for}
 use Rattle.ckr_desk_memory.proofs.EntryPoints.{read-so}
 use Rattle.ckr_desk_memory.proofs.entry.id_of.Goals as goal

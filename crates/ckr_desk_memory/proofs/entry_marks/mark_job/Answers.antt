@@ -29,8 +29,8 @@ loop-left-preserved c =
 none_left : (n : ℕ) → n ≤ 0 → n ≡ 0
 none_left n none = omega arith
 
-pub returns : goal.returns
-returns c =
+pub returns-clause-items : goal.returns-clause-items
+returns-clause-items c =
     let behind = c.args.behind.now in
     let own = owned_by behind.on.now.run c.args.job.now in
     onto-marks (mark_behind behind) (names_of_steps behind.on.now.run (map own c.args.job.now.steps)) c.loop-left.items.items

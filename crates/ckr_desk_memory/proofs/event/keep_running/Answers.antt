@@ -1,4 +1,6 @@
-use Rattle.std.proofs.Common.{ap, sym, ◌∙◌, map, arith, subst, ◌-◌, vec_len, vec_capacity}
+use Rattle.std.proofs.Common.{ap, sym, ◌∙◌, map, arith, subst, ◌+◌, ◌-◌, vec_len, vec_capacity}
+use Rattle.ckr_library.specs.Catalog.{records_of}
+use Rattle.ckr_desk_memory.specs.EventChanges.{HasEntered}
 use Rattle.ckr_desk_memory.specs.RunningSteps.{GoesOn, MayRun}
 use Rattle.ckr_desk_memory.specs.Parts.{step_seen}
 use Rattle.ckr_desk_memory.proofs.Invariant.{seen-without}
@@ -33,3 +35,16 @@ pub returns-in-Ended : goal.returns-in-Ended
 returns-in-Ended c =
     subst (λ event. GoesOn event c.args.tables.now.desk (map step_seen c.args.running.now.items) (map step_seen c.leave-in-Ended.new.running.items)) (sym c.in-Ended.is)
     (ap (map step_seen) c.leave-in-Ended.ensures.items ∙ seen-without c.in-Ended.job c.args.running.now.items)
+
+pub returns-in-Checkpointed : goal.returns-in-Checkpointed
+returns-in-Checkpointed c =
+    let job = c.in-Checkpointed.job in
+    let before = map step_seen c.args.running.now.items in
+    let after = map step_seen c.enter.new.running.items in
+    subst (λ event. GoesOn event c.args.tables.now.desk before after) (sym c.in-Checkpointed.is)
+    (subst (λ check. HasEntered job check (c.in-Checkpointed.place + records_of c.in-Checkpointed.bytes) before after) c.check_of.ensures
+    (subst (λ most. HasEntered job c.check_of.result most before after) c.end_of.ensures c.enter.ensures))
+
+pub check_of-requires : goal.check_of-requires
+check_of-requires c =
+    subst (λ event. MayRun event c.args.tables.now.desk c.args.begun (vec_capacity c.args.running.now - vec_len c.args.running.now)) c.in-Checkpointed.is c.requires.may

@@ -1,3 +1,4 @@
+use Rattle.ckr_desk_refines.proofs.Durable.Checkpoint.{checkpointed-stays}
 use Rattle.ckr_desk_refines.proofs.Durable.Events.{coded-stays, step-ended-stays}
 use Rattle.ckr_desk_refines.proofs.Durable.Rewrite.{rewritten-stays}
 use Rattle.ckr_desk_refines.proofs.durable_laws.events_commit_what_a_step_has_written.Goals as goal
@@ -11,3 +12,7 @@ returns-clause-ended c =
 
 pub returns-clause-rewritten : goal.returns-clause-rewritten
 returns-clause-rewritten c = rewritten-stays
+
+pub returns-clause-checkpointed : goal.returns-clause-checkpointed
+returns-clause-checkpointed c =
+    λ layout now image job taken writes place bytes id lengths deck kept may carried next had has. checkpointed-stays layout now image job taken writes place bytes id lengths deck kept may carried next had has

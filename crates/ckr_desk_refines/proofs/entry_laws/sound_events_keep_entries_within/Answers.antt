@@ -1,3 +1,4 @@
+use Rattle.ckr_desk_refines.proofs.Entries.CheckSets.{check-dd, sound-plain}
 use Rattle.ckr_desk_refines.proofs.Entries.SoundEvents.{reach-next, sound-entries}
 use Rattle.ckr_desk_refines.proofs.entry_laws.sound_events_keep_entries_within.Goals as goal
 
@@ -5,5 +6,7 @@ pub returns : goal.returns
 returns c = record {
   within = λ layout front more are on. (sound-entries layout front more are on).0;
   effect = λ layout front more are on. (sound-entries layout front more are on).1;
+  plain = sound-plain;
+  checks = λ layout now job taken writes place bytes id lengths deck kept has may. check-dd layout now kept has job taken writes place bytes id lengths deck may;
   others = λ layout now event deck on kept next. reach-next layout now kept event deck on next;
 }

@@ -1,7 +1,7 @@
 use Rattle.std.proofs.Common.{Bool, refl, subst}
 use Rattle.ckr_desk.proofs.Calls.FullBooks.{call-fits, call-full}
 use Rattle.ckr_desk.proofs.Calls.OneEvent.{call-few}
-use Rattle.ckr_desk.specs.Requests.{FailsBy, call_fits, event_in, spelled}
+use Rattle.ckr_desk.specs.Requests.{call_fits, event_in, spelled}
 use Rattle.ckr_desk.specs.Soundness.{state_of}
 use Rattle.ckr_desk.specs.Submit.{purge_call}
 use Rattle.ckr_desk.specs.State.{disk_of, tables_in_memory}
@@ -112,6 +112,3 @@ returns-in-Ok-false-clause-after g c holds = on_ok c.refuse_line.result _ (rw c.
 
 pub returns-in-Ok-false-clause-trusted : goal.returns-in-Ok-false-clause-trusted
 returns-in-Ok-false-clause-trusted g c = on_ok c.refuse_line.result _ (λ holds. rw c.refuse_line.ensures.desk (c.in-Ok-false.ensures.comes holds).trusted)
-
-pub returns-in-Err-Misread-clause-cause : goal.returns-in-Err-Misread-clause-cause
-returns-in-Err-Misread-clause-cause g c holds = subst (FailsBy _ _) c.in-Err-Misread.field-0-is (c.in-Err-Misread.ensures.comes holds).cause

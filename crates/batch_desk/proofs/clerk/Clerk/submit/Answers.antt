@@ -6,7 +6,7 @@ use Rattle.ckr_desk.proofs.Calls.FullBooks.{call-fits, call-full}
 use Rattle.ckr_desk.proofs.Calls.OneEvent.{call-few}
 use Rattle.ckr_desk.specs.Model.OpenImages.{event_records}
 use Rattle.batch_desk.specs.declared.stop.Halt.TheVariants as Halts
-use Rattle.ckr_desk.specs.Requests.{FailsBy, behind_call, call_fits, event_in, spelled}
+use Rattle.ckr_desk.specs.Requests.{behind_call, call_fits, event_in, spelled}
 use Rattle.ckr_desk.specs.Soundness.{IsTrusted, state_of}
 use Rattle.ckr_desk.specs.Submit.{submit_call}
 use Rattle.ckr_desk.specs.State.{disk_of, layout_of, tables_in_memory}
@@ -156,6 +156,3 @@ pub returns-in-Ok-Refused-clause-trusted : goal.returns-in-Ok-Refused-clause-tru
 returns-in-Ok-Refused-clause-trusted g c =
     let d = g.D.Disk in
     on_ok c.refuse_deck.result _ (λ holds. subst (λ (w : _). IsTrusted d.told d.content d.may_leave w) (sym c.refuse_deck.ensures.desk) (c.in-Ok-Refused.ensures.comes holds).trusted)
-
-pub returns-in-Err-Misread-clause-cause : goal.returns-in-Err-Misread-clause-cause
-returns-in-Err-Misread-clause-cause g c holds = subst (FailsBy _ _) c.in-Err-Misread.field-0-is (c.in-Err-Misread.ensures.comes holds).cause

@@ -18,7 +18,7 @@ use Rattle.ckr_desk.specs.Requests.{MayFail, TellsNumbers}
 use Rattle.ckr_desk.specs.Rewrite.{OpensSame}
 use Rattle.ckr_desk.specs.Soundness.{state_of}
 use Rattle.ckr_desk.specs.State.{DeskView}
-use Rattle.ckr_desk.specs.Turn.{event_of_turn}
+use Rattle.ckr_desk.specs.Turn.{event_of_turn, reply_of}
 use Rattle.ckr_desk.specs.NoChange.{StaysBy}
 use Rattle.ckr_desk.specs.Units.{HasTurned, IsPlanned}
 use Rattle.ckr_desk.proofs.desk.Desk.carry_out.Goals as goal
@@ -26,8 +26,11 @@ use Rattle.ckr_desk.proofs.desk.Desk.carry_out.Goals as goal
 pub work-requires-clause-due : goal.work-requires-clause-due
 work-requires-clause-due g c κs within = subst (HasDue c.args.self.now.jobs) c.in-Work.is c.requires.due
 
+pub checkpoint-requires-clause-due : goal.checkpoint-requires-clause-due
+checkpoint-requires-clause-due g c κs within = subst (HasDue c.args.self.now.jobs) c.in-Take.is c.requires.due
+
 pub go_on-requires-clause-plain : goal.go_on-requires-clause-plain
-go_on-requires-clause-plain g c κs within = plain-told c.args.plan c.requires.plain (rests-so c.args.plan c.in_default.not-Work c.in_default.not-Pass)
+go_on-requires-clause-plain g c κs within = plain-told c.args.plan c.requires.plain (rests-so c.args.plan c.in_default.not-Work c.in_default.not-Pass c.in_default.not-Take)
 
 pub go_on-requires-clause-follows : goal.go_on-requires-clause-follows
 go_on-requires-clause-follows g c κs within =
@@ -52,7 +55,7 @@ returns-in_err-ready-in_default g c =
     let mid = c.ready_for.new.self in
     let plan = c.args.plan in
     let shape = c.requires.spelled in
-    let rests = rests-so plan c.in_default.not-Work c.in_default.not-Pass in
+    let rests = rests-so plan c.in_default.not-Work c.in_default.not-Pass c.in_default.not-Take in
     let store = c.ready_for.ensures.store in
     let before = as-before d.content d.may_leave now mid d.told (same-unchanged d.content d.may_leave now mid c.ready_for.ensures.jobs store) in
     let sized = ap (λ (s : StoreView g.row.D.Denot). d.size s.disk) store in
@@ -87,7 +90,7 @@ returns-in_ok-ready-in_default g c =
     let mid = c.ready_for.new.self in
     let plan = c.args.plan in
     let shape = c.requires.spelled in
-    let rests = rests-so plan c.in_default.not-Work c.in_default.not-Pass in
+    let rests = rests-so plan c.in_default.not-Work c.in_default.not-Pass c.in_default.not-Take in
     let store = c.ready_for.ensures.store in
     let before = as-before d.content d.may_leave now mid d.told (same-unchanged d.content d.may_leave now mid c.ready_for.ensures.jobs store) in
     let sized = ap (λ (s : StoreView g.row.D.Denot). d.size s.disk) store in
@@ -109,7 +112,7 @@ returns-in_ok-ready-in_default g c =
             events = on-ok (go-told d.told d.content d.may_leave d.moment d.left_since d.size d.faults mid q.trusted turn q.its plan new q.planned shape rests) c.go_on.result c.go_on.ensures.gone;
             trusted = on-ok-both (go-trusted d.told d.content d.may_leave d.moment d.left_since d.size d.faults mid q.trusted turn q.its plan new q.planned shape rests c.go_on.ensures.layout) c.go_on.result c.go_on.ensures.gone c.go_on.ensures.settled;
             cause = if-err (λ error not. go-cause d.told d.content d.may_leave d.moment d.left_since d.size d.faults mid q.trusted turn q.its plan new error q.planned shape rests not) c.go_on.result c.go_on.ensures.cause;
-            takes = if-err (λ error not. behind-takes d.faults mid new plan (event_of_turn (state_of d.content mid) turn) error not) c.go_on.result c.go_on.ensures.cause;
+            takes = if-err (λ error not. behind-takes d.faults mid new plan (reply_of (state_of d.content mid) turn) (event_of_turn (state_of d.content mid) turn) error not) c.go_on.result c.go_on.ensures.cause;
             kept = came-of-disk d.content d.moment d.left_since d.size mid new _ c.go_on.result (if-err (go-of-disk d.faults mid new plan) c.go_on.result c.go_on.ensures.cause)
                 (go-kept d.told d.content d.may_leave d.moment d.left_since d.size d.faults mid q.trusted turn q.its plan new q.planned shape rests opens (c.go_on.ensures.left p.trusted.tells));
           });
@@ -135,8 +138,8 @@ returns-in-Pass g c =
     let since = now-left d.told d.content d.may_leave d.moment d.left_since d.size now sound c.requires.is_open (laws.only_now now.store.disk) in
     record {
       turned = λ turn p.
-          turned-past d.told d.content d.may_leave d.moment d.left_since d.size now turn c.in-Pass.job c.in-Pass.reply
-          (subst (IsPlanned d.told d.content d.may_leave now turn) c.in-Pass.is p) new.jobs c.pass.ensures.passed new.store store since;
+          turned-past d.told d.content d.may_leave d.moment d.left_since d.size now p.trusted turn c.in-Pass.job c.in-Pass.reply new.jobs c.pass.ensures.passed
+          (subst (IsPlanned d.told d.content d.may_leave now turn) c.in-Pass.is p) new.store store since;
       spelled = subst IsSpelledPlan c.in-Pass.is c.requires.spelled;
       is_open = ap (λ (s : StoreView g.row.D.Denot). s.fault) store ∙ c.requires.is_open;
       layout = ap (λ (s : StoreView g.row.D.Denot). s.layout) store;

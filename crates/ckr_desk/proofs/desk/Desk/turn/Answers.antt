@@ -1,4 +1,4 @@
-use Rattle.std.proofs.Common.{◌∙◌, IfErr, ap, refl, subst, sym}
+use Rattle.std.proofs.Common.{◌∙◌, IfErr, ap, inl, refl, subst, sym}
 use Rattle.ckr_desk_memory.specs.Plans.{Tells}
 use Rattle.ckr_desk_memory.specs.OwnSteps.{PlanFollows}
 use Rattle.ckr_desk_memory.specs.View.{jobs_of}
@@ -11,14 +11,14 @@ use Rattle.ckr_desk.proofs.Turns.Preparation.{planned-before, turned-before}
 use Rattle.ckr_desk.proofs.Turns.PlainEvents.{plan-plain}
 use Rattle.ckr_desk.proofs.Turns.Plans.{go-tells}
 use Rattle.ckr_desk.proofs.Units.Preparation.{err-is}
-use Rattle.ckr_desk.proofs.Images.Soundness.{kept-before}
+use Rattle.ckr_desk.proofs.Images.Soundness.{kept-left}
 use Rattle.ckr_desk.proofs.Calls.FullBooks.{turn-has_room}
 use Rattle.ckr_desk.proofs.Calls.Stops.{now-left, opens-so}
 use Rattle.ckr_desk.proofs.Trust.Sameness.{IsAsBefore}
 use Rattle.ckr_desk.specs.Requests.{came_by, spelled}
 use Rattle.ckr_desk.specs.Soundness.{HasKept, IsTrusted, state_of}
 use Rattle.ckr_desk.specs.State.{DeskView}
-use Rattle.ckr_desk.specs.Turn.{event_of_turn}
+use Rattle.ckr_desk.specs.Turn.{event_of_turn, reply_of}
 use Rattle.ckr_desk.specs.Units.{HasTurned, IsPlanned, TakesBy}
 use Rattle.ckr_desk.specs.declared.error.DeskError.TheVariants.{NoMemory}
 use Rattle.ckr_desk.proofs.desk.Desk.turn.Given.{Over}
@@ -34,9 +34,9 @@ returns-in_err-plan-clause-kept g c =
     (λ is_open trusted.
     started d.moment d.left_since old.store.disk (HasKept old.store.layout (d.size old.store.disk) (event_records old.store.layout (d.content old.store.disk)) came)
     (λ image left.
-    kept-before d.told d.content d.may_leave d.size old trusted came image
+    kept-left d.told d.content d.may_leave d.size old trusted came image
     (opens-so d.told d.content d.may_leave d.moment d.left_since d.size old c.layout-layout.ensures.sound is_open image (laws.only_now old.store.disk image left))
-    (trusted.committed image (laws.only_now old.store.disk image left))))
+    (laws.only_now old.store.disk image left)))
 
 pub returns-in_err-plan-clause-takes : goal.returns-in_err-plan-clause-takes
 returns-in_err-plan-clause-takes g c =
@@ -45,10 +45,10 @@ returns-in_err-plan-clause-takes g c =
     let turn = c.args.turn in
     rw (← c.self.view_is)
     (λ trusted.
-    subst (λ r. IfErr r (TakesBy (event_of_turn (state_of d.content old) turn))) (sym (err-is c.from_residual.result NoMemory c.from_residual.ensures.1))
-    (go-tells d.told d.content d.may_leave d.moment d.left_since d.size d.faults old trusted turn
+    subst (λ r. IfErr r (TakesBy (reply_of (state_of d.content old) turn) (event_of_turn (state_of d.content old) turn))) (sym (err-is c.from_residual.result NoMemory c.from_residual.ensures.1))
+    (inl (go-tells d.told d.content d.may_leave d.moment d.left_since d.size d.faults old trusted turn
     (subst (λ (s : DeskView g.row.D.Denot). IsTurnOf s.store.layout turn) (sym c.self.view_is) c.requires.initiator)
-    (subst (λ (l : Layout). Tells (plan_of l (jobs_of c.self.inside.jobs) turn)) c.layout.ensures.layout c.in_err-plan.ensures.tells)))
+    (subst (λ (l : Layout). Tells (plan_of l (jobs_of c.self.inside.jobs) turn)) c.layout.ensures.layout c.in_err-plan.ensures.tells))))
 
 pub carry_out-requires-clause-plain : goal.carry_out-requires-clause-plain
 carry_out-requires-clause-plain g c κs within = plan-plain _ _ c.args.turn c.in_ok-plan.plan c.in_ok-plan.ensures.plan

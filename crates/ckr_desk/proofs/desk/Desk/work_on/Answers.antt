@@ -16,7 +16,7 @@ use Rattle.ckr_desk.proofs.Units.Readiness.{plain-so, ready-behind, unit-leaves}
 use Rattle.ckr_desk.specs.Requests.{came_by, spelled}
 use Rattle.ckr_desk.specs.Soundness.{KeepsWithin, state_of}
 use Rattle.ckr_desk.specs.State.{DeskView}
-use Rattle.ckr_desk.specs.Turn.{event_of_turn}
+use Rattle.ckr_desk.specs.Turn.{event_of_turn, reply_of}
 use Rattle.ckr_desk.specs.Units.{HasTurned, IsLeftByUnit}
 use Rattle.ckr_desk.proofs.desk.Desk.work_on.Goals as goal
 
@@ -32,7 +32,7 @@ returns-in_err-done_unit-clause-turned g c turn p =
       events = tt;
       trusted = tt;
       cause = unit-cause d.told d.content d.may_leave d.moment d.left_since d.size now p.trusted turn c.args.run p.planned _ _ _ _ c.in_err-done_unit.field-0.0 c.in_err-done_unit.ensures.cause;
-      takes = unit-takes d.told d.content d.may_leave d.moment d.left_since d.size now p.trusted turn c.args.run p.planned _ _ (event_of_turn (state_of d.content now) turn) c.in_err-done_unit.field-0.0 c.in_err-done_unit.ensures.cause;
+      takes = unit-takes d.told d.content d.may_leave d.moment d.left_since d.size now p.trusted turn c.args.run p.planned _ _ (reply_of (state_of d.content now) turn) (event_of_turn (state_of d.content now) turn) c.in_err-done_unit.field-0.0 c.in_err-done_unit.ensures.cause;
       kept = unit-keeps d.told d.content d.may_leave d.moment d.left_since d.size now p.trusted turn c.args.run p.planned _ c.done_unit.new.self c.done_unit.ensures.left;
     })
 
@@ -114,7 +114,7 @@ returns-in-Err-clause-turned g c turn p =
       events = tt;
       trusted = tt;
       cause = done-cause d.told d.content d.may_leave d.moment d.left_since d.size now p.trusted turn c.args.run p.planned mid plan done events shape stems d.faults new c.in-Err.error c.in-Err.ensures.cause;
-      takes = behind-takes d.faults mid new plan (event_of_turn (state_of d.content now) turn) c.in-Err.error c.in-Err.ensures.cause;
+      takes = behind-takes d.faults mid new plan (reply_of (state_of d.content now) turn) (event_of_turn (state_of d.content now) turn) c.in-Err.error c.in-Err.ensures.cause;
       kept = subst (λ (s : DeskView g.row.D.Denot). KeepsWithin d.content d.moment d.left_since d.size now s (came_by (failed c.in-Err.error) (spelled (event_of_turn (state_of d.content now) turn)))) (sym c.self-2.view_is)
           (came-of-disk d.content d.moment d.left_since d.size now new (spelled (event_of_turn (state_of d.content now) turn)) (failed c.in-Err.error)
           (go-of-disk d.faults mid new plan c.in-Err.error c.in-Err.ensures.cause)

@@ -1,12 +1,8 @@
 use Rattle.std.proofs.Common.{◌≤◌, ap, length, subst}
-use Rattle.ckr_points_tables.proofs.KeptEvents.{kept-plain}
 use Rattle.ckr_desk_turn.specs.Queue.{AreNumbered}
 use Rattle.ckr_desk_memory.specs.View.{JobsView}
 use Rattle.ckr_desk_memory.proofs.Invariant.{follow-inside, may-go, queued-behind}
 use Rattle.ckr_desk_memory.proofs.jobs.Jobs.go_on.Goals as goal
-
-pub apply-requires-clause-kept : goal.apply-requires-clause-kept
-apply-requires-clause-kept c = kept-plain c.args.event.now c.requires.plain
 
 pub keep_queue-requires-clause-may : goal.keep_queue-requires-clause-may
 keep_queue-requires-clause-may c =

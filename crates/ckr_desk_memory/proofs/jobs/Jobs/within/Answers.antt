@@ -31,7 +31,7 @@ returns-in-Unit-clause-plan c =
 
 pub returns-in-Checkpoint-clause-plan : goal.returns-in-Checkpoint-clause-plan
 returns-in-Checkpoint-clause-plan c =
-    c.suppressed.ensures.plan
+    c.checkpoint_due.ensures.plan
     ∙ within-due c.args.self.now c.args.job c.args.table.now c.requires.known (step_in (place_of (row_for c.args.job c.args.table.now))) (step_seen c.in-Some.on.now) Checkpoint c.in-Some.ensures
     (sym c.in-Checkpoint.is ∙ c.due.ensures.due)
 

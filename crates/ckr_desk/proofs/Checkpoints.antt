@@ -1,0 +1,9 @@
+pub mod Steps
+pub mod Parts
+pub mod EntryForm
+pub mod Unfit
+pub mod Entry
+pub mod Event
+pub mod Results
+pub mod Causes
+pub mod Attempts

@@ -1,0 +1,97 @@
+-- The running step whose checkpoint a turn takes, on a trusted disk.
+use Rattle.std.proofs.Common.{◌≡◌, ℕ, suc, List, find, refl, ap, sym, ◌∙◌, Option, Some}
+use Rattle.std.proofs.lemmas.Option.{same_Some}
+use Rattle.ckr_events.specs.declared.event.Event.{Event}
+use Rattle.ckr_desk_memory.specs.Entries.{next_id, step_now}
+use Rattle.ckr_desk_memory.specs.EntryModels.{IsAsFar}
+use Rattle.ckr_desk_memory.specs.EventChanges.{is_of_run}
+use Rattle.ckr_desk_memory.specs.View.{RunningStepView, jobs_of}
+use Rattle.ckr_meaning.specs.EffectiveJob.{OwnedStep}
+use Rattle.ckr_meaning.specs.StepRun.{StepStart}
+use Rattle.ckr_points.specs.Office.{Office}
+use Rattle.ckr_points.specs.Restart.{place_of, step_in}
+use Rattle.ckr_points.specs.Rows.{RunRow, TablesModel, run_of, step_of_run}
+use Rattle.ckr_desk_refines.proofs.Checkpoints.Progress.{as-far}
+use Rattle.ckr_desk_refines.proofs.Checkpoints.Turn.{its-step, pair}
+use Rattle.ckr_desk_refines.proofs.Units.StepLists.{IsPair}
+use Rattle.ckr_desk_refines.specs.Checkpoints.{IsToTake}
+use Rattle.ckr_desk_turn.proofs.NextEvents.WithinStep.{by-step}
+use Rattle.ckr_desk_turn.proofs.RunningSteps.{going-within}
+use Rattle.ckr_desk_turn.specs.Checkpoints.{id_by, step_entries, id_in}
+use Rattle.ckr_desk_turn.specs.Checkpoints as model
+use Rattle.ckr_desk_turn.specs.declared.plan.Plan.TheVariants.{Take}
+use Rattle.ckr_desk_turn.specs.declared.reply.Chkpt.{Chkpt}
+use Rattle.ckr_desk_turn.specs.declared.reply.Reply.{Reply}
+use Rattle.ckr_desk_turn.specs.declared.reply.Reply.TheVariants.{Checkpointed}
+use Rattle.ckr_desk_turn.specs.declared.reply.Turn.{Turn}
+use Rattle.ckr_desk_turn.specs.Desk.{DeskModel, TurnDone}
+use Rattle.ckr_desk_turn.specs.Invariant.{IsTurnOf}
+use Rattle.ckr_desk_turn.specs.Plans.{plan_of}
+use Rattle.ckr_desk_turn.specs.Taken.{taken_of}
+use Rattle.ckr_desk_turn.specs.Turns.{turn_of}
+use Rattle.ckr_desk_turn.specs.Units.{StepProgress}
+use Rattle.ckr_volumes.specs.declared.layout.Layout.{Layout}
+use Rattle.ckr_desk.proofs.Turns.Events.{plans-desk, turned}
+use Rattle.ckr_desk.specs.Checkpoint.{IsReplyWith}
+use Rattle.ckr_desk.specs.Soundness.{IsTrusted, office_on, state_of}
+use Rattle.ckr_desk.specs.State.{DeskView}
+
+module _ {D : Type 0} (told : Type 0) (content : D → List ℕ) (may_leave : D → List ℕ → Type 0) (size : D → ℕ) (old : DeskView D) (trusted : IsTrusted told content may_leave old)
+    (turn : Turn) (its : IsTurnOf old.store.layout turn) (run : ℕ) (planned : plan_of old.store.layout (jobs_of old.jobs) turn ≡ Take run) where
+  abbrev layout : Layout
+  layout = old.store.layout
+
+  abbrev image : List ℕ
+  image = content old.store.disk
+
+  abbrev office : Office
+  office = office_on layout image
+
+  abbrev desk : DeskModel
+  desk = (state_of content old).desk
+
+  pub turned-take : turn_of desk turn ≡ taken_of run desk
+  turned-take = turned told content may_leave size old trusted turn its (Take run) planned
+
+  module _ (on : RunningStepView) (found : find (is_of_run run) old.jobs.running ≡ Some on) where
+    abbrev pub to-take : IsToTake layout old.jobs image desk turn run on
+    to-take = record { stands = trusted.stands; planned = sym (plans-desk told content may_leave size old trusted turn its) ∙ planned; found = found }
+
+    abbrev pub its_pair : IsPair desk.layout desk.office image run on desk.running
+    its_pair = pair layout old.jobs image desk turn run on to-take
+
+    abbrev row : RunRow
+    row = its_pair.going.row
+
+    abbrev start : StepStart
+    start = its_pair.going.start
+
+    pub far : IsAsFar office.tables row start on its_pair.step.progress
+    far = as-far desk trusted.stands.is_desk image on its_pair.step its_pair.going its_pair.stands
+
+    owned-at : step_of_run row (step_now row) ≡ Some start.owned
+    owned-at =
+        by-step desk trusted.stands.is_desk its_pair.step.run row its_pair.going.number its_pair.going.committed start (going-within desk.office its_pair.step its_pair.going)
+        (λ leg owned running starts spaced. ap (λ place. step_of_run row (step_in place)) running.stands ∙ running.found ∙ ap (λ (s : StepStart). Some s.owned) (sym starts))
+
+    -- what the tables and memory have of it
+    pub row-there : (other : RunRow) → run_of office.tables run ≡ Some other → other ≡ row
+    row-there other at = same_Some other row (sym at ∙ (its-step layout old.jobs image desk turn run on to-take).row_at)
+
+    pub row-is : (other : RunRow) → run_of old.jobs.tables.desk run ≡ Some other → other ≡ row
+    row-is other at = row-there other (ap (λ (t : TablesModel). run_of t run) (sym trusted.stands.tables) ∙ at)
+
+    pub own-is : (other : RunRow) (own : OwnedStep) → other ≡ row → step_of_run other (step_now other) ≡ Some own → own ≡ start.owned
+    own-is other own same at = same_Some own start.owned (sym at ∙ ap (λ (r : RunRow). step_of_run r (step_now r)) same ∙ owned-at)
+
+    abbrev reply_as : Chkpt → RunRow → OwnedStep → Option (List ℕ) → Reply
+    reply_as code its own id = Checkpointed its.number own.step.name code id
+
+    pub reply-for : (code : Chkpt) (reply : Reply) → IsReplyWith run old code reply → reply ≡ reply_as code row start.owned (id_in (model.next_id row start))
+    reply-for code reply with_it =
+        let row_same : with_it.row ≡ row = row-is with_it.row with_it.at.row_at in
+        let own_same : with_it.own ≡ start.owned = own-is with_it.row with_it.own row_same with_it.at.step_at in
+        with_it.is
+        ∙ ap (λ (r : RunRow). reply_as code r with_it.own (id_in (next_id r with_it.own))) row_same
+        ∙ ap (λ (o : OwnedStep). reply_as code row o (id_in (next_id row o))) own_same
+        ∙ ap (λ n. reply_as code row start.owned (id_in (id_by start.owned.step.parm.ids.items (suc row.count) (suc (step_entries row n))))) far.number

@@ -1,0 +1,202 @@
+-- The entries that the tables keep, in the images of a disk, and behind an event.
+use Rattle.std.proofs.Common.{◌≡◌, ◌≤◌, ◌+◌, ◌++◌, ℕ, suc, Bool, true, false, cond, IsTrue, List, [], ◌∷◌, find, slice_get, refl, ap, sym, ◌∙◌, subst, append-nil, Option, None, Some, option_and_then, Ok, arith}
+use Rattle.std.specs.Option.{option_map_or}
+use Rattle.ckr_base.proofs.Numbers.{nat_le-from, nat_le-true}
+use Rattle.ckr_base.proofs.Options.{some-not-none}
+use Rattle.ckr_base.proofs.Sequences.{find-holds}
+use Rattle.ckr_events.specs.declared.event.Event.{Event}
+use Rattle.ckr_events.specs.declared.event.Event.TheVariants.{Checkpointed, Selected, Submitted}
+use Rattle.ckr_events.specs.Event.{spelling}
+use Rattle.ckr_desk_memory.specs.Replay.{deck_of}
+use Rattle.ckr_desk_refines.proofs.Entries.Checkpoint.{has-taken}
+use Rattle.ckr_desk_refines.proofs.Entries.CheckSets.{sound-plain}
+use Rattle.ckr_desk_refines.proofs.Entries.Events.{has-next}
+use Rattle.ckr_desk_refines.proofs.Entries.Images.{moved-kept}
+use Rattle.ckr_desk_refines.proofs.Entries.SoundEvents.{sound-entries, sound-refused}
+use Rattle.ckr_desk_refines.proofs.Entries.There.{has-then}
+use Rattle.ckr_desk_refines.specs.Entries.{AreWithin, HasEntries, HasNewEntry, OnlyCheckSetsKeep, SameKept, takes_checkpoint}
+use Rattle.ckr_desk_refines.specs.EntryRefusal.{AreInEffect, IsInEffect, effect_fault, entry_refusal, first_fault, run_fault}
+use Rattle.ckr_desk_refines.specs.Moves.{HasSameRecords}
+use Rattle.ckr_desk_store.specs.OpenImages.{event_records}
+use Rattle.ckr_desk_turn.proofs.Runs.Lists.{events-kept}
+use Rattle.ckr_desk_turn.specs.Desk.{DeskModel}
+use Rattle.ckr_desk_turn.specs.RunEvents.{AreRunEvents, IsRunEvent}
+use Rattle.ckr_jcl.specs.declared.deck.Job.{Job}
+use Rattle.ckr_library.specs.Catalog.{ends_within, records_of}
+use Rattle.ckr_library.specs.NameMaps.{entry_at, same_name}
+use Rattle.ckr_library.specs.declared.sets.Kept.{Kept}
+use Rattle.ckr_library.proofs.Named.{each-at}
+use Rattle.ckr_points.specs.Events.{AreSound, AreSoundFrom, IsNext}
+use Rattle.ckr_points.specs.Office.{Office, is_holder, no_office, office, office_after, office_from}
+use Rattle.ckr_points.specs.Restart.{Decked, after_event}
+use Rattle.ckr_points.specs.Rows.{EffectPoint, KeptEntry, RunRow, TableSet, TablesModel, no_tables, run_of}
+use Rattle.ckr_points.specs.Soundness.{AreLaidOut}
+use Rattle.ckr_points_invariant.proofs.EventLaws.{no_events}
+use Rattle.ckr_points_invariant.proofs.EventList.{office-more}
+use Rattle.ckr_points_invariant.proofs.SoundEvents.{kept-next}
+use Rattle.ckr_points_invariant.specs.Continuations.{NoneGoesBack, goes_back}
+use Rattle.ckr_points_invariant.specs.Invariant.{IsKept}
+use Rattle.ckr_volumes.specs.Layouts.{StandsIn}
+use Rattle.ckr_volumes.specs.declared.layout.Layout.{Layout}
+use Rattle.ckr_desk.proofs.Images.NextEvent.{events-more, opens-grown, replayed-so, sound-grown}
+use Rattle.ckr_desk.proofs.Openings.RunRecords.{never-back, none-back, run-records, went-on}
+use Rattle.ckr_desk.proofs.Trust.Events.{IsComing}
+use Rattle.ckr_desk.specs.Entries.{ArePlaced, bad_entry, effect_refusal, has_places, is_placed, run_refusal}
+use Rattle.ckr_desk.specs.Opening.{behind_records}
+use Rattle.ckr_desk.specs.Soundness.{IsTrusted, events_in, office_on}
+use Rattle.ckr_desk.specs.State.{DeskView}
+
+-- ---- what is refused
+
+-- an entry that ends within the length of its data set has its places
+ends-more : (length space : ℕ) (kept : Kept) → length ≤ space → IsTrue (ends_within length kept) → ends_within space kept ≡ true
+ends-more length space kept fits ends = let end : kept.place + records_of kept.bytes ≤ length = nat_le-true _ _ ends in nat_le-from (kept.place + records_of kept.bytes) space (omega (arith, fits, end))
+
+effect-placed : (layout : Layout) (tables : TablesModel) → AreLaidOut layout tables.sets → AreWithin tables.sets → (row : RunRow) (effect : EffectPoint) → IsInEffect tables row effect → is_placed tables effect ≡ true
+effect-placed layout tables laid within row effect its = by (entry_at tables.sets effect.set) refl its.at
+  where
+    by : (found : Option TableSet) → entry_at tables.sets effect.set ≡ found → option_map_or (λ (table : TableSet). find (λ (entry : KeptEntry). same_name entry.kept.id effect.kept.id) table.entries) found None ≡ Some its.entry → option_map_or (has_places effect.kept) found true ≡ true
+    by None e at = refl
+    by (Some table) e at =
+        let ends : IsTrue (ends_within table.set.length its.entry.kept) =
+        find-holds (λ (entry : KeptEntry). IsTrue (ends_within table.set.length entry.kept)) (λ (entry : KeptEntry). same_name entry.kept.id effect.kept.id) table.entries its.entry (within effect.set table e) at in
+        let stands : StandsIn layout table.set = each-at (λ (table : TableSet). StandsIn layout table.set) tables.sets laid.stand effect.set table e in
+        subst (λ (kept : Kept). ends_within table.set.space kept ≡ true) its.kept (ends-more table.set.length table.set.space its.entry.kept stands.length_fits ends)
+
+run-same : (layout : Layout) (tables : TablesModel) (image : List ℕ) (row : RunRow) → ((effect : EffectPoint) → row.in_effect ≡ Some effect → is_placed tables effect ≡ true)
+    → run_refusal layout tables image row ≡ run_fault layout tables image row
+run-same layout tables image row placed = ap (λ (o : Option ℕ). cond (is_holder row.state) o None) (by row.in_effect placed)
+  where
+    by : (found : Option EffectPoint) → ((effect : EffectPoint) → found ≡ Some effect → is_placed tables effect ≡ true)
+        → option_and_then (effect_refusal layout tables image row) found ≡ option_and_then (effect_fault layout tables image row) found
+    by None placed = refl
+    by (Some effect) placed = ap (λ (b : Bool). cond b (effect_fault layout tables image row effect) (Some 0)) (placed effect refl)
+
+first-same : (one other : RunRow → Option ℕ) (rows : List RunRow) → ((place : ℕ) (row : RunRow) → slice_get rows place ≡ Some row → one row ≡ other row) → first_fault one rows ≡ first_fault other rows
+first-same one other [] same = refl
+first-same one other (row ∷ rows) same =
+    ap (λ (o : Option ℕ). option_map_or (λ offset. Some (row.number, offset)) o (first_fault one rows)) (same 0 row refl)
+    ∙ ap (λ (o : Option (ℕ × ℕ)). option_map_or (λ offset. Some (row.number, offset)) (other row) o) (first-same one other rows (λ place it at. same (suc place) it at))
+
+-- by its bytes alone, where each has its places
+pub placed-same : (layout : Layout) (tables : TablesModel) (image : List ℕ) → ArePlaced tables → bad_entry layout tables image ≡ entry_refusal layout tables image
+unfolding bad_entry
+placed-same layout tables image placed =
+    first-same (run_refusal layout tables image) (run_fault layout tables image) tables.runs (λ place row at. run-same layout tables image row (λ effect is. placed (suc place) row effect at is))
+
+-- the tables of the office behind an event
+pub tables-behind : (now : Office) (event : Event) (deck : Option Job) → (office_after (event, deck) now).tables ≡ after_event event deck now.tables
+tables-behind now (Submitted job cards) deck = refl
+tables-behind now _ deck = refl
+
+-- ---- records that bring about tables
+
+module _ (layout : Layout) (records : List (List ℕ)) (tables : TablesModel) (sound : AreSound layout (events_in records)) (brings : behind_records layout no_tables 0 records ≡ Ok tables) where
+  run : AreRunEvents (events_in records)
+  run = run-records layout no_tables 0 records tables brings
+
+  none-goes : NoneGoesBack (events_in records)
+  none-goes = none-back (events_in records) run
+
+  kept-within : AreWithin (office (events_in records)).tables.sets × AreInEffect (office (events_in records)).tables
+  kept-within = sound-entries layout (events_in records) [] (subst (AreSound layout) (sym (append-nil (events_in records))) sound) (subst NoneGoesBack (sym (append-nil (events_in records))) none-goes)
+
+  pub are-within : AreWithin (office (events_in records)).tables.sets
+  are-within = kept-within.0
+
+  pub checks-keep : OnlyCheckSetsKeep (office (events_in records)).tables.sets
+  checks-keep =
+      sound-plain layout (events_in records) [] (subst (AreSound layout) (sym (append-nil (events_in records))) sound) (subst AreRunEvents (sym (append-nil (events_in records))) run)
+
+  -- none of the entries is refused
+  pub none-bad : (image : List ℕ) → HasEntries layout (office (events_in records)).tables image → bad_entry layout (office (events_in records)).tables image ≡ None
+  none-bad image has =
+      placed-same layout (office (events_in records)).tables image
+      (λ number row effect at is.
+      effect-placed layout (office (events_in records)).tables (events-kept layout (events_in records) sound run).events.extents kept-within.0 row effect (kept-within.1 number row effect at is))
+      ∙ sound-refused layout (events_in records) image sound none-goes has
+
+-- so it is with an image that has these records
+pub none-bad-on : (layout : Layout) (image : List ℕ) (tables : TablesModel) → AreSound layout (events_in (event_records layout image)) → behind_records layout no_tables 0 (event_records layout image) ≡ Ok tables
+    → HasEntries layout (office_on layout image).tables image → bad_entry layout (office_on layout image).tables image ≡ None
+unfolding office_on
+none-bad-on layout image tables sound brings has = none-bad layout (event_records layout image) tables sound brings image has
+
+-- ---- an event
+
+-- one by which a checkpoint is taken needs its entry
+abbrev pub HasNewOne : Layout → TablesModel → Event → List ℕ → Type 0
+HasNewOne layout tables (Checkpointed job id taken writes lengths place bytes) image = HasNewEntry layout tables (record { id = id; run = job; place = place; bytes = bytes }) taken writes lengths.items image
+HasNewOne layout tables _ image = Unit {0}
+
+module _ (layout : Layout) (tables : TablesModel) (numbered : (number : ℕ) (row : RunRow) → run_of tables number ≡ Some row → row.number ≡ number) (image : List ℕ) (has : HasEntries layout tables image) where
+  has-behind : (event : Event) (deck : Option Job) → goes_back event ≡ false → HasNewOne layout tables event image → HasEntries layout (after_event event deck tables) image
+  has-behind (Checkpointed job id taken writes lengths place bytes) deck on new = has-taken tables numbered id job taken writes place bytes lengths deck layout image has new
+  has-behind (Selected job initiator earlier step id) deck on new = has-next layout tables numbered image has (Selected job initiator earlier step id) deck on refl
+  has-behind event deck on new = has-next layout tables numbered image has event deck on refl
+
+-- ---- a trusted disk
+
+module _ {D : Type 0} (told : Type 0) (content : D → List ℕ) (may_leave : D → List ℕ → Type 0) (old : DeskView D) (trusted : IsTrusted told content may_leave old) where
+  abbrev layout : Layout
+  layout = old.store.layout
+
+  abbrev before : List (List ℕ)
+  before = event_records old.store.layout (content old.store.disk)
+
+  abbrev office_now : Office
+  office_now = office_on old.store.layout (content old.store.disk)
+
+  pub within-now : AreWithin office_now.tables.sets
+  unfolding office_on
+  within-now = are-within layout before old.jobs.tables.desk trusted.events trusted.opens
+
+  -- an image with the same records of the data sets that keep entries
+  pub kept-has : (from image : List ℕ) → HasEntries layout office_now.tables from → SameKept layout office_now.tables.sets from image → HasEntries layout office_now.tables image
+  kept-has from image has same = has-then layout office_now.tables from image within-now same has
+
+  pub same-has : (from image : List ℕ) → HasEntries layout office_now.tables from → HasSameRecords layout from image → HasEntries layout office_now.tables image
+  same-has from image has same = kept-has from image has (moved-kept layout office_now.tables.sets trusted.stands.is_desk.kept.events.extents from image same)
+
+  module _ (event : Event) (desk : DeskModel) (coming : IsComing told content may_leave event old desk) where
+    abbrev grown : List (List ℕ)
+    grown = before ++ spelling event ∷ []
+
+    abbrev tables_then : TablesModel
+    tables_then = after_event event (deck_of event) old.jobs.tables.desk
+
+    sound-then : AreSound layout (events_in grown)
+    sound-then = sound-grown layout (content old.store.disk) event coming.is_event trusted.events coming.next
+
+    brings-then : behind_records layout no_tables 0 grown ≡ Ok tables_then
+    brings-then = opens-grown layout before old.jobs.tables.desk tables_then event trusted.opens coming.is_event (replayed-so layout old.jobs.tables.desk event coming.goes)
+
+    office-then : office (events_in grown) ≡ desk.office
+    unfolding office_on
+    office-then = ap office (events-more before event coming.is_event) ∙ office-more (events_in before) (event, deck_of event) ∙ sym coming.office
+
+    pub within-then : AreWithin desk.office.tables.sets
+    within-then = subst (λ (o : Office). AreWithin o.tables.sets) office-then (are-within layout grown tables_then sound-then brings-then)
+
+    pub checks-then : OnlyCheckSetsKeep desk.office.tables.sets
+    checks-then = subst (λ (o : Office). OnlyCheckSetsKeep o.tables.sets) office-then (checks-keep layout grown tables_then sound-then brings-then)
+
+    pub laid-then : AreLaidOut layout desk.office.tables.sets
+    laid-then = subst (λ (l : Layout). AreLaidOut l desk.office.tables.sets) coming.layout_is coming.is_desk.kept.events.extents
+
+    tables-are : after_event event (deck_of event) office_now.tables ≡ desk.office.tables
+    tables-are = sym (ap (λ (o : Office). o.tables) coming.office ∙ tables-behind office_now event (deck_of event))
+
+    -- an image that had the entries before has them behind it
+    behind-has : (image : List ℕ) → HasNewOne layout office_now.tables event image → HasEntries layout office_now.tables image → HasEntries layout desk.office.tables image
+    behind-has image new has =
+        subst (λ (t : TablesModel). HasEntries layout t image) tables-are
+        (has-behind layout office_now.tables trusted.stands.is_desk.kept.events.numbered image has event (deck_of event)
+        (never-back event (deck_of event) (went-on layout old.jobs.tables.desk event coming.goes)) new)
+
+    -- and so has another one with the same records of the data sets that keep entries then
+    pub behind-kept : (from image : List ℕ) → HasNewOne layout office_now.tables event from → HasEntries layout office_now.tables from → SameKept layout desk.office.tables.sets from image → HasEntries layout desk.office.tables image
+    behind-kept from image new has same = has-then layout desk.office.tables from image within-then same (behind-has from new has)
+
+    pub behind-same : (from image : List ℕ) → HasNewOne layout office_now.tables event from → HasEntries layout office_now.tables from → HasSameRecords layout from image → HasEntries layout desk.office.tables image
+    behind-same from image new has same = behind-kept from image new has (moved-kept layout desk.office.tables.sets laid-then from image same)

@@ -1,0 +1,161 @@
+-- Where the entry of a run's checkpoint in effect is refused, by what the tables in code have of the run.
+use Rattle.std.proofs.Common.{◌≡◌, ◌≤◌, ℕ, Bool, true, false, cond, IsTrue, List, refl, ap, sym, ◌∙◌, subst, Option, None, Some, Result, Ok, Err, IfOk, option_and_then}
+use Rattle.std.specs.Option.{option_map, option_map_or}
+use Rattle.std.proofs.lemmas.Option.{same_Some}
+use Rattle.ckr_base.proofs.Bools.{bool-cases}
+use Rattle.ckr_base.proofs.Options.{some-not-none}
+use Rattle.ckr_entry.specs.Entry.{entry_in}
+use Rattle.ckr_entry.specs.Parts.{Entry}
+use Rattle.ckr_library.specs.Catalog.{Catalog, Holding, ends_within, set_of}
+use Rattle.ckr_library.specs.NameMaps.{Name, Named, entry_at}
+use Rattle.ckr_library.specs.declared.sets.DataSet.{DataSet}
+use Rattle.ckr_library.proofs.Named.{at-viewed}
+use Rattle.ckr_desk_memory.specs.Plans.{row_for}
+use Rattle.ckr_points.specs.Office.{is_holder}
+use Rattle.ckr_points.specs.Rows.{EffectPoint, RunRow, TableSet, TablesModel, holding_of, run_of}
+use Rattle.ckr_points.specs.declared.run.Run.{Run}
+use Rattle.ckr_points_tables.specs.PlainRows.{IsPlainRow}
+use Rattle.ckr_points_tables.specs.View.{RunTableView, effect_of, facts_in, facts_of, line_of, row_with, seen_by}
+use Rattle.ckr_points_tables.specs.declared.run_table.InEffect.{InEffect}
+use Rattle.ckr_points_tables.specs.declared.run_table.RunTable.{RunTable}
+use Rattle.ckr_desk_refines.specs.EntryRefusal.{fault_in, is_of_run}
+use Rattle.ckr_steps.specs.EntryRecords.{bytes_on}
+use Rattle.ckr_volumes.specs.declared.layout.Layout.{Layout}
+use Rattle.ckr_desk.proofs.Images.Rewrite.{IsInTables, in-tables}
+use Rattle.ckr_desk.specs.declared.error.OpenError.{OpenError}
+use Rattle.ckr_desk.specs.Entries.{effect_refusal, has_places, run_refusal}
+
+-- what is judged by a test that answers the same
+fault-same : (one other : Entry → Bool) → ((entry : Entry) → one entry ≡ other entry) → (read : Result Entry ℕ) → fault_in one read ≡ fault_in other read
+fault-same one other same (Ok entry) = ap (λ (b : Bool). cond {A = Option ℕ} b None (Some 0)) (same entry)
+fault-same one other same (Err offset) = refl
+
+-- a name that the library hasn't, the tables haven't
+none-in-tables : (catalog : Catalog) (sets : Named TableSet) (name : Name) → catalog.sets ≡ seen_by holding_of sets → set_of catalog name ≡ None → entry_at sets name ≡ None
+none-in-tables catalog sets name seen is = by (entry_at sets name) refl
+  where
+    by : (entry : Option TableSet) → entry_at sets name ≡ entry → entry_at sets name ≡ None
+    by None at = at
+    by (Some table) at =
+        absurd (some-not-none table.set
+        (sym
+        (sym is
+        ∙ ap (λ all. option_map (λ (held : Holding). held.set) (entry_at all name)) seen
+        ∙ ap (option_map (λ (held : Holding). held.set)) (at-viewed holding_of sets name ∙ ap (option_map holding_of) at))))
+
+-- what the tables in code have of a run is that of its row
+pub none-known : (found : Option RunTable) (rows : Option RunRow) (row : RunRow) → option_map facts_of found ≡ option_map facts_in rows → rows ≡ Some row → found ≡ None → ⊥
+none-known found rows row same is none = some-not-none (facts_in row) (sym (ap (option_map facts_in) is) ∙ sym same ∙ ap (option_map facts_of) none)
+
+pub facts-known : (found : Option RunTable) (rows : Option RunRow) (row : RunRow) (table : RunTable) → option_map facts_of found ≡ option_map facts_in rows → rows ≡ Some row → found ≡ Some table → facts_of table ≡ facts_in row
+facts-known found rows row table same is some = same_Some (facts_of table) (facts_in row) (sym (ap (option_map facts_of) some) ∙ same ∙ ap (option_map facts_in) is)
+
+-- and its number has at most seven digits
+pub number-few : (tables : TablesModel) (number : ℕ) (found : Option RunTable) (table : RunTable) → option_map facts_of found ≡ option_map facts_in (run_of tables number) → found ≡ Some table
+    → ((job : ℕ) (row : RunRow) → run_of tables job ≡ Some row → IsPlainRow job row) → number ≤ 9999999
+number-few tables number found table same is plain = by (run_of tables number) refl
+  where
+    by : (rows : Option RunRow) → run_of tables number ≡ rows → number ≤ 9999999
+    by None at = absurd (some-not-none (facts_of table) (sym (ap (option_map facts_of) is) ∙ same ∙ ap (option_map facts_in) at))
+    by (Some row) at = (plain number row at).few
+
+module _ (layout : Layout) (tables : TablesModel) (image : List ℕ) (row : RunRow) where
+  -- a run that doesn't hold its names isn't judged
+  pub not-held : is_holder row.state ≡ false → None ≡ run_refusal layout tables image row
+  not-held held = sym (ap (λ (b : Bool). cond b (option_and_then (effect_refusal layout tables image row) row.in_effect) None) held)
+
+  module _ (table : RunTable) (plain : IsPlainRow row.number row) (facts : facts_of table ≡ facts_in row) (holds : is_holder row.state ≡ true) where
+    same-run : (entry : Entry) → is_of_run (row_for row.number table) entry ≡ is_of_run row entry
+    same-run entry = ap (λ (f : RunTableView). is_of_run (row_with (line_of row) f) entry) facts ∙ ap (λ (r : RunRow). is_of_run r entry) (sym plain.told)
+
+    judged : (effect : Option EffectPoint) → row.in_effect ≡ effect → option_and_then (effect_refusal layout tables image row) effect ≡ run_refusal layout tables image row
+    judged effect is =
+        ap (option_and_then (effect_refusal layout tables image row)) (sym is)
+        ∙ sym (ap (λ (b : Bool). cond b (option_and_then (effect_refusal layout tables image row) row.in_effect) None) holds)
+
+    effect-is : row.in_effect ≡ option_map effect_of table.in_effect
+    effect-is = sym (ap (λ (f : RunTableView). f.in_effect) facts)
+
+    pub no-effect : table.in_effect ≡ None → None ≡ run_refusal layout tables image row
+    no-effect none = judged None (effect-is ∙ ap (option_map effect_of) none)
+
+    module _ (effect : InEffect) (is : table.in_effect ≡ Some effect) (catalog : Catalog) (seen : catalog.sets ≡ seen_by holding_of tables.sets) where
+      abbrev its : EffectPoint
+      its = effect_of effect
+
+      judged-so : effect_refusal layout tables image row its ≡ run_refusal layout tables image row
+      judged-so = judged (Some its) (effect-is ∙ ap (option_map effect_of) is)
+
+      -- with this data set, or none
+      refused-by : (entry : Option TableSet) → entry_at tables.sets effect.set ≡ entry
+          → cond (option_map_or (has_places effect.kept) entry true)
+          (option_map_or (λ (t : TableSet). fault_in (is_of_run row) (entry_in (bytes_on image layout t.set effect.kept.place effect.kept.bytes))) entry (Some 0)) (Some 0)
+          ≡ run_refusal layout tables image row
+      refused-by entry at =
+          sym (ap (λ (e : Option TableSet). cond (option_map_or (has_places effect.kept) e true)
+          (option_map_or (λ (t : TableSet). fault_in (is_of_run row) (entry_in (bytes_on image layout t.set effect.kept.place effect.kept.bytes))) e (Some 0)) (Some 0)) at)
+          ∙ judged-so
+
+      pub no-set : set_of catalog effect.set ≡ None → Some 0 ≡ run_refusal layout tables image row
+      no-set none = refused-by None (none-in-tables catalog tables.sets effect.set seen none)
+
+      module _ (set : DataSet) (found : set_of catalog effect.set ≡ Some set) where
+        there : IsInTables tables.sets effect.set set
+        there = in-tables catalog tables.sets effect.set set seen found
+
+        abbrev read : DataSet → Option ℕ
+        read s = fault_in (is_of_run row) (entry_in (bytes_on image layout s effect.kept.place effect.kept.bytes))
+
+        by-places : cond (ends_within set.space effect.kept) (read set) (Some 0) ≡ run_refusal layout tables image row
+        by-places = ap (λ (s : DataSet). cond (ends_within s.space effect.kept) (read s) (Some 0)) there.same ∙ refused-by (Some there.table) there.at
+
+        pub unplaced : ends_within set.space effect.kept ≡ false → Some 0 ≡ run_refusal layout tables image row
+        unplaced beyond = sym (ap (λ (b : Bool). cond b (read set) (Some 0)) beyond) ∙ by-places
+
+        pub placed : IsTrue (ends_within set.space effect.kept)
+            → fault_in (is_of_run (row_for row.number table)) (entry_in (bytes_on image layout set effect.kept.place effect.kept.bytes)) ≡ run_refusal layout tables image row
+        placed within =
+            fault-same (is_of_run (row_for row.number table)) (is_of_run row) same-run (entry_in (bytes_on image layout set effect.kept.place effect.kept.bytes))
+            ∙ sym (ap (λ (b : Bool). cond b (read set) (Some 0)) within)
+            ∙ by-places
+
+-- ---- by a line of the runs
+
+-- what the tables in code have of a run of this line, whose checkpoint in effect this is
+pub record IsJudged (tables : TablesModel) (line : Run) (table : RunTable) (effect : InEffect) (catalog : Catalog) : Type 0 where
+  pub facts : option_map facts_of (Some table) ≡ option_map facts_in (run_of tables line.number)
+  pub plain : (job : ℕ) (row : RunRow) → run_of tables job ≡ Some row → IsPlainRow job row
+  pub holds : is_holder line.state ≡ true
+  pub effect_is : table.in_effect ≡ Some effect
+  pub seen : catalog.sets ≡ seen_by holding_of tables.sets
+
+module _ (layout : Layout) (tables : TablesModel) (image : List ℕ) (line : Run) (table : RunTable) (effect : InEffect) (catalog : Catalog) (is : IsJudged tables line table effect catalog)
+    (row : RunRow) (at : run_of tables row.number ≡ Some row) (line_is : line ≡ line_of row) where
+  facts-row : facts_of table ≡ facts_in row
+  facts-row = facts-known (Some table) (run_of tables line.number) row table is.facts (ap (λ (l : Run). run_of tables l.number) line_is ∙ at) refl
+
+  holds-row : is_holder row.state ≡ true
+  holds-row = ap (λ (l : Run). is_holder l.state) (sym line_is) ∙ is.holds
+
+  pub refused-without : set_of catalog effect.set ≡ None → Some 0 ≡ run_refusal layout tables image row
+  refused-without none = no-set layout tables image row table (is.plain row.number row at) facts-row holds-row effect is.effect_is catalog is.seen none
+
+  refused-beyond : (set : DataSet) → set_of catalog effect.set ≡ Some set → ends_within set.space effect.kept ≡ false → (found : Option ℕ) → found ≡ Some 0 → found ≡ run_refusal layout tables image row
+  refused-beyond set there beyond found same = same ∙ unplaced layout tables image row table (is.plain row.number row at) facts-row holds-row effect is.effect_is catalog is.seen set there beyond
+
+  refused-within : (set : DataSet) → set_of catalog effect.set ≡ Some set → IsTrue (ends_within set.space effect.kept) → (found : Option ℕ)
+      → found ≡ fault_in (is_of_run (row_for line.number table)) (entry_in (bytes_on image layout set effect.kept.place effect.kept.bytes)) → found ≡ run_refusal layout tables image row
+  refused-within set there within found same =
+      subst (λ (l : Run). found ≡ fault_in (is_of_run (row_for l.number table)) (entry_in (bytes_on image layout set effect.kept.place effect.kept.bytes))) line_is same
+      ∙ placed layout tables image row table (is.plain row.number row at) facts-row holds-row effect is.effect_is catalog is.seen set there within
+
+pub refused-so : (layout : Layout) (tables : TablesModel) (image : List ℕ) (line : Run) (table : RunTable) (effect : InEffect) (catalog : Catalog) → IsJudged tables line table effect catalog
+    → (set : DataSet) → set_of catalog effect.set ≡ Some set → (result : Result (Option ℕ) OpenError)
+    → (IsTrue (ends_within set.space effect.kept) → IfOk result (λ found. found ≡ fault_in (is_of_run (row_for line.number table)) (entry_in (bytes_on image layout set effect.kept.place effect.kept.bytes))))
+    → (ends_within set.space effect.kept ≡ false → IfOk result (λ found. found ≡ Some 0))
+    → IfOk result (λ found. (row : RunRow) → run_of tables row.number ≡ Some row → line ≡ line_of row → found ≡ run_refusal layout tables image row)
+refused-so layout tables image line table effect catalog is set held (Err error) within beyond = tt
+refused-so layout tables image line table effect catalog is set held (Ok found) within beyond = λ row at line_is.
+    bool-cases (ends_within set.space effect.kept)
+    (λ fits. refused-within layout tables image line table effect catalog is row at line_is set held fits found (within fits))
+    (λ past. refused-beyond layout tables image line table effect catalog is row at line_is set held past found (beyond past))

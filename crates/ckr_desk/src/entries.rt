@@ -1,0 +1,304 @@
+//! The entries of checkpoints in effect, which opening reads: a run could be restarted there.
+ghost use Rattle.std.specs.Prelude.{◌≡◌, ◌≤◌, ◌++◌, [], ℕ, IfErr, IfOk, IsTrue, List, None, Some, OnOk, false};
+ghost use Rattle.std.specs.List.{list_all};
+ghost use Rattle.std.specs.Option.{is_some, option_copied};
+ghost use Rattle.ckr_desk_memory.specs.Invariant.{AreJobs};
+ghost use Rattle.ckr_desk_memory.specs.Plans.{row_for};
+ghost use Rattle.ckr_desk_refines.specs.EntryRefusal.{entry_refusal, fault_in, is_of_run, is_of_step};
+ghost use Rattle.ckr_desk_turn.specs.Queue.{AreNumbered};
+ghost use Rattle.ckr_entry.specs.Entry.{entry_in};
+ghost use Rattle.ckr_entry.specs.Parts.{entry_of};
+ghost use Rattle.ckr_library.specs.Catalog.{ends_within, records_of};
+ghost use Rattle.ckr_outside.specs.Disk.{OnlyReads};
+ghost use Rattle.ckr_outside.specs.Faults.{Rose};
+ghost use Rattle.ckr_points.specs.Marks.{mark_at, present_at};
+ghost use Rattle.ckr_points.specs.Office.{is_holder};
+ghost use Rattle.ckr_points.specs.Rows.{RunRow, TablesModel, run_of};
+ghost use Rattle.ckr_points.specs.Statements.{kind_number};
+ghost use Rattle.ckr_points_library.specs.Holdings.{owned};
+ghost use Rattle.ckr_points_tables.specs.View.{line_of};
+ghost use Rattle.ckr_steps.specs.EntryRecords.{bytes_on};
+ghost use Rattle.ckr_steps.specs.Units.{program_of};
+ghost use Rattle.ckr_volumes.specs.Layouts.{StandsIn, disk_needed, is_laid_out};
+ghost use Rattle.ckr_volumes.specs.declared.layout.Layout.{Layout as LayoutOfDisk};
+ghost use Rattle.ckr_desk.specs.Entries.{ArePlaced, EntriesCause, EntryCause, bad_entry, is_dd_present, run_refusal};
+
+use crate::OpenError;
+use ckr_base::{DsName, NoMemory};
+use ckr_desk_memory::Jobs;
+use ckr_entry::{EntryError, Mark, Point, State, decode_entry};
+use ckr_jcl::{Dd, Kind, Step};
+use ckr_library::{DataSet, Kept};
+use ckr_outside::Disk;
+use ckr_points::{Run, RunState, step_in};
+use ckr_points_tables::{RunTable, place_now, step_at};
+use ckr_uses::library_name;
+use ckr_volumes::{Layout, read_record};
+use std::alloc::Global;
+
+/// Whether a run in this state holds its names: it is selected and not ended.
+fn is_holder(state: RunState) -> bool
+    ensures { result ≡ is_holder state }
+{
+    matches!(state, RunState::On | RunState::Held | RunState::Released)
+}
+
+/// Whether an entry, in records of 256 bytes, ends at this place of its data set or before.
+fn ends_within(kept: &Kept, end: u32) -> bool
+    ensures { result ≡ ends_within end kept.now }
+{
+    u64::from(kept.place) + u64::from(kept.bytes).div_ceil(256) <= u64::from(end)
+}
+
+/// How many records of 256 bytes so many bytes take.
+fn records_of(bytes: u32) -> u32
+    ensures { result ≡ records_of bytes }
+{
+    bytes.div_ceil(256)
+}
+
+/// Puts the bytes of a record behind the others.
+fn put(found: &mut Vec<u8>, record: &[u8]) -> Result<(), NoMemory>
+    ensures { OnOk result (found.new.items ≡ found.old.items ++ record.now) }
+{
+    found.extend_from_slice(record)?;
+    Ok(())
+}
+
+/// The bytes of an entry that has its places in a data set.
+#[tactic(auto, using(crate::proofs::Openings::EntryReads::pieces))]
+fn read_entry<D: Disk>(
+    alloc: Global,
+    disk: &mut D,
+    layout: &Layout,
+    set: &DataSet,
+    kept: &Kept,
+) -> Result<Vec<u8>, OpenError>
+    requires layout { IsTrue (is_laid_out layout.now) }
+    requires fits { disk_needed layout.now ≤ D.size disk.old }
+    requires stands { StandsIn layout.now set.now }
+    requires places { IsTrue (ends_within set.now.space kept.now) }
+    ensures read { D.told → IfOk result (λ found. found.items ≡ bytes_on (D.content disk.old) layout.now set.now kept.now.place kept.now.bytes) }
+    ensures only_reads { OnlyReads D.content D.may_leave D.moment D.left_since disk.old disk.new }
+    ensures size { D.size disk.new ≡ D.size disk.old }
+    ensures faults { D.faults disk.old ≤ D.faults disk.new }
+    ensures cause { IfErr result (EntryCause (Rose (D.faults disk.old) (D.faults disk.new))) }
+{
+    let mut found = Vec::new(alloc);
+    for place in 0..records_of(kept.bytes) {
+        let record = read_record(disk, layout, set, kept.place + place)?;
+        put(&mut found, record.bytes())?;
+    }
+    found.truncate(kept.bytes as usize);
+    Ok(found)
+}
+
+/// The mark of a name.
+fn mark_at<'a>(marks: &'a [Mark], name: &DsName) -> Option<&'a Mark>
+    ensures { option_copied result ≡ mark_at marks.now name.now }
+{
+    marks.iter().find(|mark| name.is_same(&mark.name))
+}
+
+/// Whether a name was there at a point.
+fn is_present(marks: &[Mark], name: &DsName) -> bool
+    ensures { result ≡ is_some (present_at marks.now name.now) }
+{
+    match mark_at(marks, name) {
+        Some(mark) => mark.present.is_some(),
+        None => false,
+    }
+}
+
+/// Whether the data set of a DD was there at a point, if the DD has one.
+fn is_dd_present(marks: &[Mark], run: u32, own: &Step, dd: &Dd) -> bool
+    requires { run ≤ 9999999 }
+    ensures { result ≡ is_dd_present marks.now run own.now dd.now }
+{
+    match library_name(dd, run, run, &own.name) {
+        Some(name) => is_present(marks, &name),
+        None => true,
+    }
+}
+
+/// Whether each data set of a step was there at a point.
+fn are_present(marks: &[Mark], run: u32, own: &Step) -> bool
+    requires { run ≤ 9999999 }
+    ensures { result ≡ list_all (is_dd_present marks.now run own.now) own.now.dds }
+{
+    own.dds
+        .as_slice()
+        .iter()
+        .all(|dd| is_dd_present(marks, run, own, dd))
+}
+
+/// The program of a state.
+fn program_of(state: &State) -> Kind
+    ensures { result ≡ program_of state.now }
+{
+    match state {
+        State::Plain(state) => state.kind,
+        State::Matched(state) => state.kind,
+    }
+}
+
+/// Programs by number, to be compared.
+fn kind_number(kind: Kind) -> u8
+    ensures { result ≡ kind_number kind }
+{
+    match kind {
+        Kind::Copy => 1,
+        Kind::Select => 2,
+        Kind::Merge => 3,
+        Kind::Master => 4,
+        Kind::Update => 5,
+        Kind::Print => 6,
+        Kind::Br14 => 7,
+    }
+}
+
+/// Whether a point is one of this step of a run that continues none.
+#[tactic(auto, using(crate::proofs::Openings::EntryReads::present))]
+fn is_of_step(point: &Point, run: u32, step: u8, own: &Step) -> bool
+    requires { run ≤ 9999999 }
+    ensures { result ≡ is_of_step run (owned own.now run []) step (entry_of point.now) }
+{
+    point.owner == run
+        && point.step == step
+        && kind_number(program_of(&point.state)) == kind_number(own.program)
+        && are_present(point.marks.as_slice(), run, own)
+}
+
+/// Whether a point is one of the step that a run is in, which continues none.
+fn is_of_run(point: &Point, run: u32, table: &RunTable) -> bool
+    requires { run ≤ 9999999 }
+    ensures { result ≡ is_of_run (row_for run table.now) (entry_of point.now) }
+{
+    let step = step_in(place_now(table));
+    match step_at(&table.job, step) {
+        Some(own) => is_of_step(point, run, step, own),
+        None => false,
+    }
+}
+
+/// Where bytes aren't the entry of a point of the step that a run is in: the decoder's offset, or 0 where they are another point.
+fn fault_of(
+    alloc: Global,
+    bytes: &[u8],
+    run: u32,
+    table: &RunTable,
+) -> Result<Option<u32>, NoMemory>
+    requires { run ≤ 9999999 }
+    ensures { IfOk result (λ found. found ≡ fault_in (is_of_run (row_for run table.now)) (entry_in bytes.now)) }
+{
+    match decode_entry(alloc, bytes) {
+        Ok(point) => {
+            if is_of_run(&point, run, table) {
+                return Ok(None);
+            }
+            Ok(Some(0))
+        }
+        Err(EntryError::NoMemory) => Err(NoMemory),
+        Err(EntryError::Bad { offset }) => Ok(Some(offset)),
+    }
+}
+
+/// Where the entry of the checkpoint in effect of a run is refused, in this data set.
+fn refusal_in<D: Disk>(
+    alloc: Global,
+    disk: &mut D,
+    layout: &Layout,
+    set: &DataSet,
+    kept: &Kept,
+    run: u32,
+    table: &RunTable,
+) -> Result<Option<u32>, OpenError>
+    requires layout { IsTrue (is_laid_out layout.now) }
+    requires fits { disk_needed layout.now ≤ D.size disk.old }
+    requires stands { StandsIn layout.now set.now }
+    requires run { run ≤ 9999999 }
+    ensures placed { D.told → IsTrue (ends_within set.now.space kept.now) → IfOk result (λ found. found ≡ fault_in (is_of_run (row_for run table.now))
+        (entry_in (bytes_on (D.content disk.old) layout.now set.now kept.now.place kept.now.bytes))) }
+    ensures unplaced { ends_within set.now.space kept.now ≡ false → IfOk result (λ found. found ≡ Some 0) }
+    ensures only_reads { OnlyReads D.content D.may_leave D.moment D.left_since disk.old disk.new }
+    ensures size { D.size disk.new ≡ D.size disk.old }
+    ensures faults { D.faults disk.old ≤ D.faults disk.new }
+    ensures cause { IfErr result (EntryCause (Rose (D.faults disk.old) (D.faults disk.new))) }
+{
+    if !ends_within(kept, set.space) {
+        return Ok(Some(0));
+    }
+    let bytes = read_entry(alloc, disk, layout, set, kept)?;
+    Ok(fault_of(alloc, bytes.as_slice(), run, table)?)
+}
+
+/// Where the entry of the checkpoint in effect of a run is refused. None where it isn't, the run has none, or it doesn't hold its names.
+fn refusal_of<D: Disk>(
+    alloc: Global,
+    disk: &mut D,
+    layout: &Layout,
+    jobs: &Jobs,
+    run: &Run,
+) -> Result<Option<u32>, OpenError>
+    requires layout { IsTrue (is_laid_out layout.now) }
+    requires fits { disk_needed layout.now ≤ D.size disk.old }
+    requires jobs { AreJobs layout.now jobs.now }
+    ensures refused { D.told → IfOk result (λ found. (row : RunRow) → run_of jobs.now.tables.desk row.number ≡ Some row → run.now ≡ line_of row
+        → found ≡ run_refusal layout.now jobs.now.tables.desk (D.content disk.old) row) }
+    ensures only_reads { OnlyReads D.content D.may_leave D.moment D.left_since disk.old disk.new }
+    ensures size { D.size disk.new ≡ D.size disk.old }
+    ensures faults { D.faults disk.old ≤ D.faults disk.new }
+    ensures cause { IfErr result (EntryCause (Rose (D.faults disk.old) (D.faults disk.new))) }
+{
+    let tables = jobs.tables();
+    let _lines = tables.runs();
+    if !is_holder(run.state) {
+        return Ok(None);
+    }
+    let Some(table) = tables.run(run.number) else {
+        return Ok(None);
+    };
+    let Some(effect) = &table.in_effect else {
+        return Ok(None);
+    };
+    let Some(set) = jobs.library().get(&effect.set) else {
+        return Ok(Some(0));
+    };
+    refusal_in(alloc, disk, layout, set, &effect.kept, run.number, table)
+}
+
+/// Reads the entry of each checkpoint in effect, those of ended runs aside.
+///
+/// `NoMemory`. `Fault`: only where the disk's faults rose in this call. `BadEntry`: exactly by the bytes that the disk reads, for the least
+/// run whose entry hasn't its places in its data set, isn't read, or is no point of the step that the run is in (IBM GC28-6708).
+pub(crate) fn check_entries<D: Disk>(
+    alloc: Global,
+    disk: &mut D,
+    layout: &Layout,
+    jobs: &Jobs,
+) -> Result<(), OpenError>
+    requires layout { IsTrue (is_laid_out layout.now) }
+    requires fits { disk_needed layout.now ≤ D.size disk.old }
+    requires jobs { AreJobs layout.now jobs.now }
+    requires numbered { AreNumbered 1 jobs.now.tables.desk.runs }
+    ensures none { D.told → OnOk result (bad_entry layout.now jobs.now.tables.desk (D.content disk.old) ≡ None) }
+    ensures only_reads { OnlyReads D.content D.may_leave D.moment D.left_since disk.old disk.new }
+    ensures size { D.size disk.new ≡ D.size disk.old }
+    ensures faults { D.faults disk.old ≤ D.faults disk.new }
+    ensures cause { IfErr result (EntriesCause (Rose (D.faults disk.old) (D.faults disk.new)) D.told (bad_entry layout.now jobs.now.tables.desk (D.content disk.old))) }
+{
+    for run in jobs.runs() {
+        if let Some(offset) = refusal_of(alloc, disk, layout, jobs, run)? {
+            return Err(OpenError::BadEntry {
+                job: run.number,
+                offset,
+            });
+        }
+    }
+    Ok(())
+}
+
+/// Where each checkpoint in effect has its places in its data set, an entry is refused exactly by its bytes.
+pub fn entries_are_refused_by_their_bytes()
+    ensures { (layout : LayoutOfDisk) (tables : TablesModel) (image : List ℕ) → ArePlaced tables → bad_entry layout tables image ≡ entry_refusal layout tables image }
+{}

@@ -1,0 +1,11 @@
+pub mod Turn
+pub mod Unwritten
+pub mod Progress
+pub mod Images
+pub mod Office
+pub mod OwnSets
+pub mod OwnStep
+pub mod Desk
+pub mod NextEvent
+pub mod Turns
+pub mod StateForm

@@ -1,0 +1,5 @@
+//! Tests of the desk on a disk in memory.
+#![tactic(auto)]
+
+#[cfg(test)]
+mod desk;

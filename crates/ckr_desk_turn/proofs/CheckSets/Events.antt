@@ -1,0 +1,132 @@
+-- Data sets for checkpoints have records of 256 bytes behind one more event of what the desk runs.
+use Rattle.std.proofs.Common.{◌≡◌, ℕ, zero, suc, Bool, true, false, List, ap, sym, ◌∙◌, Option, Some, None, arith}
+use Rattle.std.specs.Prelude.{◌==◌}
+use Rattle.std.specs.Option.{option_map_or}
+use Rattle.arrayvec.specs.ArrayVec.{ArrayVec}
+use Rattle.ckr_base.proofs.Numbers.{equal-true}
+use Rattle.ckr_events.specs.declared.event.Event.{Event}
+use Rattle.ckr_events.specs.declared.event.Event.TheVariants.{Cancelled, Checkpointed, Ended, Purged, Rewritten, Selected, Started, StepEnded, Submitted}
+use Rattle.ckr_events.specs.declared.event.Ending.{Ending}
+use Rattle.ckr_events.specs.declared.event.Ending.TheVariants.{Allocation, Coded, Completed}
+use Rattle.ckr_events.specs.declared.event.Made.{Made}
+use Rattle.ckr_jcl.specs.declared.deck.Job.{Job}
+use Rattle.ckr_library.specs.declared.sets.Kept.{Kept}
+use Rattle.ckr_library.proofs.Named.{each-with_changed}
+use Rattle.ckr_meaning.specs.Allotments.{DdAllotment, opened_all}
+use Rattle.ckr_meaning.specs.EffectiveJob.{Effective, OwnedStep, placed_in, plain_job, stamp_of, step_at}
+use Rattle.ckr_meaning.specs.declared.place.Place.{Place}
+use Rattle.ckr_meaning.specs.declared.place.Place.TheVariants.{Before, Opened, Within}
+use Rattle.ckr_points_library.specs.Commit.{output_names}
+use Rattle.ckr_points.specs.declared.run.RunState.TheVariants.{Purged as PurgedRun}
+use Rattle.ckr_points.specs.Events.{IsNext}
+use Rattle.ckr_points.specs.Office.{Leg, Office, office_after}
+use Rattle.ckr_points.specs.Restart.{after_abnormal, after_ended, after_passed_ended, by_step, place_of, step_in}
+use Rattle.ckr_points.specs.Rows.{RunRow, TablesModel, run_of, standing_of, step_of_run, table_ways, with_run}
+use Rattle.ckr_points.specs.Tables.{after_cancelled, after_checkpointed, after_commit, after_dispositions, after_rewritten, after_selected, after_step_ended, earlier_made, entry_point, is_checkpoints, is_updates, kept_entry, name_with_role, own_made, row_rewritten, run_disposals, table_rewritten, with_kept_entry}
+use Rattle.ckr_points_decks.specs.DeckLimits.{HasCheckParts}
+use Rattle.ckr_points_invariant.specs.Invariant.{IsHolder, IsKept}
+use Rattle.ckr_points_invariant.proofs.Start.Event.{by-start}
+use Rattle.ckr_volumes.specs.declared.layout.Layout.{Layout}
+use Rattle.ckr_desk_turn.specs.CheckSets.{HasCheckRecords, HaveCheckRecords}
+use Rattle.ckr_desk_turn.specs.Invariant.{HasRuns}
+use Rattle.ckr_desk_turn.specs.RunEvents.{IsRunEvent}
+use Rattle.ckr_desk_turn.proofs.CheckSets.Changes.{committed-have, disposed_all-have, made_all-have, opened_all-have, passed_ended-have, placed-right}
+use Rattle.ckr_desk_turn.proofs.NextEvents.BetweenSteps.{no_restart, plain_parts}
+use Rattle.ckr_desk_turn.proofs.Runs.Rows.{HasRow, has-row}
+use Rattle.ckr_desk_turn.proofs.Start.Decks.{check-parts}
+
+-- each data set for checkpoints of the tables
+abbrev Have : TablesModel → Type 0
+Have tables = HaveCheckRecords tables.sets
+
+by : {A : Type 0} (tables : TablesModel) (change : A → TablesModel) (given : Option A) → Have tables → ((its : A) → Have (change its)) → Have (option_map_or change given tables)
+by tables change None each more = each
+by tables change (Some its) each more = more its
+
+by-step : (tables : TablesModel) (job : ℕ) (change : RunRow → OwnedStep → ℕ → TablesModel) → Have tables → ((row : RunRow) (owned : OwnedStep) (step : ℕ) → Have (change row owned step)) → Have (option_map_or (λ row. by_step (λ owned step. change row owned step) row tables) (run_of tables job) tables)
+by-step tables job change each more =
+    by tables (λ row. by_step (λ owned step. change row owned step) row tables) (run_of tables job) each
+    (λ row. by tables (λ owned. change row owned (step_in (place_of row))) (step_of_run row (step_in (place_of row))) each (λ owned. more row owned (step_in (place_of row))))
+
+-- ---- the end of a step, and of a run
+
+commit-has : (tables : TablesModel) (row : RunRow) (owned : OwnedStep) (step writes : ℕ) (lengths : List ℕ) → Have tables → Have (after_commit row owned step writes lengths tables)
+commit-has tables row owned step writes lengths each = committed-have (output_names row.job.root owned) lengths tables.sets each
+
+disposed-have : (tables : TablesModel) (row : RunRow) (owned : OwnedStep) (step : ℕ) (abnormal : Bool) → Have tables → HaveCheckRecords (after_dispositions row owned step abnormal tables).sets
+disposed-have tables row owned step abnormal each = disposed_all-have (run_disposals row owned (own_made row owned step) (earlier_made tables row step) abnormal) (standing_of row tables) each
+
+passed-has : (tables : TablesModel) (row : RunRow) → Have tables → Have (after_passed_ended row tables)
+passed-has tables row each = passed_ended-have row.passed tables.sets each
+
+abnormal-has : (tables : TablesModel) (row : RunRow) (place : Place) → Have tables → Have (after_abnormal row place tables)
+abnormal-has tables row (Before step) each = passed-has tables row each
+abnormal-has tables row (Opened step) each = passed-has tables row each
+abnormal-has tables row (Within step writes) each =
+    by tables (λ owned. let done = after_dispositions row owned step true tables in after_passed_ended (record row { passed = done.passed }) (record tables { sets = done.sets })) (step_of_run row step) each
+    (λ owned. passed_ended-have (after_dispositions row owned step true tables).passed (after_dispositions row owned step true tables).sets (disposed-have tables row owned step true each))
+
+ended-has : (tables : TablesModel) (row : RunRow) (ending : Ending) → Have tables → Have (after_ended row ending tables)
+ended-has tables row Completed each = passed-has tables row each
+ended-has tables row (Coded code rule writes lengths) each =
+    by tables (λ owned. after_abnormal (record row { place = Some (Within (step_in (place_of row)) writes) }) (Within (step_in (place_of row)) writes) (after_commit row owned (step_in (place_of row)) writes lengths.items tables)) (step_of_run row (step_in (place_of row))) each
+    (λ owned.
+    abnormal-has (after_commit row owned (step_in (place_of row)) writes lengths.items tables) (record row { place = Some (Within (step_in (place_of row)) writes) }) (Within (step_in (place_of row)) writes)
+    (commit-has tables row owned (step_in (place_of row)) writes lengths.items each))
+ended-has tables row (Allocation dd cause first second) each = abnormal-has tables row (place_of row) each
+
+-- ---- one more event
+
+pub none-before : (before : ℕ) → (suc before == 0) ≡ true → ⊥
+none-before before e = let same : suc before ≡ 0 = equal-true (suc before) 0 e in omega (arith, same)
+
+module _ (layout : Layout) (now : Office) (kept : IsKept layout now) (has : HasRuns now) (each : Have now.tables) where
+  -- what an accepted deck gives to a step of a run
+  own-parts : (job : ℕ) (row : RunRow) (leg : Leg) (owned : OwnedStep) (step : ℕ) → IsHolder now job row leg → step_of_run row step ≡ Some owned → HasCheckParts owned.step
+  own-parts job row leg owned step holder found =
+      let was : HasRow row = has-row now has job row holder.row_at in
+      let plain : leg.job ≡ plain_job row.number row.deck = (kept.events.uses job row leg holder).plain (no_restart row.deck (plain_parts row was.plain).runs) in
+      let same : leg.job ≡ row.job = (kept.events.places job row leg holder).job in
+      check-parts was.admitted.cards row.number row.deck step owned was.admitted.accepted (ap (λ (job : Effective). step_at job step) (sym plain ∙ same) ∙ found)
+
+  started-has : (job step : ℕ) (items : ArrayVec Made) (deck : Option Job) → IsNext layout now (Started job step items, deck) → Have (office_after (Started job step items, deck) now).tables
+  started-has job step items deck next =
+      by-start (λ (office : Office). Have office.tables) layout now job step items deck kept.events next.may next.carried
+      (λ row leg owned starts.
+      let placed : List DdAllotment = placed_in table_ways (standing_of row now.tables) row.job.root owned in
+      made_all-have (stamp_of owned step) items.items placed (opened_all table_ways (stamp_of owned step) placed now.tables.sets)
+      (placed-right table_ways (standing_of row now.tables) row.job.root owned 1 owned.step.dds (own-parts job row leg owned step starts.holder starts.found).records)
+      (opened_all-have (stamp_of owned step) placed now.tables.sets each))
+
+  rewritten-has : (row : RunRow) (owned : OwnedStep) (step writes : ℕ) (lengths : List ℕ) → Have (after_rewritten row owned step writes lengths now.tables)
+  rewritten-has row owned step writes lengths =
+      let done : TablesModel = after_commit (row_rewritten step row) owned step writes lengths now.tables in
+      each-with_changed HasCheckRecords (name_with_role row.job.root owned is_updates) (table_rewritten owned.owner step) done.sets (λ table its. its)
+      (commit-has now.tables (row_rewritten step row) owned step writes lengths each)
+
+  taken-has : (row : RunRow) (owned : OwnedStep) (step : ℕ) (entry : Kept) (taken writes : ℕ) (lengths : List ℕ) → Have (after_checkpointed row owned step entry taken writes lengths now.tables)
+  taken-has row owned step entry taken writes lengths =
+      let done = committed-have (output_names row.job.root owned) lengths now.tables.sets each in
+      each-with_changed HasCheckRecords (name_with_role row.job.root owned is_checkpoints) _ _ (λ table its. its) done
+
+  step_ended-has : (row : RunRow) (owned : OwnedStep) (step rc writes : ℕ) (lengths : List ℕ) → Have (after_step_ended row owned step rc writes lengths now.tables)
+  step_ended-has row owned step rc writes lengths =
+      disposed-have (after_commit row owned step writes lengths now.tables) row owned step false (commit-has now.tables row owned step writes lengths each)
+
+  pub have-next : (event : Event) (deck : Option Job) → IsRunEvent event deck → IsNext layout now (event, deck) → Have (office_after (event, deck) now).tables
+  have-next (Submitted job cards) None is next = absurd is
+  have-next (Submitted job cards) (Some deck) is next = each
+  have-next (Selected job initiator zero step id) deck is next = by now.tables (λ (row : RunRow). after_selected row initiator now.tables) (run_of now.tables job) each (λ row. each)
+  have-next (Selected job initiator (suc before) step id) deck is next = absurd (none-before before is)
+  have-next (Started job step items) deck is next = started-has job step items deck next
+  have-next (Rewritten job taken writes lengths place image) deck is next =
+      by-step now.tables job (λ row owned step. after_rewritten row owned step writes lengths.items now.tables) each (λ row owned step. rewritten-has row owned step writes lengths.items)
+  have-next (Checkpointed job id taken writes lengths place bytes) deck is next =
+      let entry : Kept = record { id = id; run = job; place = place; bytes = bytes } in
+      by-step now.tables job (λ row owned step. after_checkpointed row owned step entry taken writes lengths.items now.tables) each (λ row owned step. taken-has row owned step entry taken writes lengths.items)
+  have-next (Cancelled job) deck is next = by now.tables (λ (row : RunRow). after_cancelled row now.tables) (run_of now.tables job) each (λ row. each)
+  have-next (StepEnded job step rc writes lengths) deck is next =
+      by-step now.tables job (λ row owned step. after_step_ended row owned step rc writes lengths.items now.tables) each (λ row owned step. step_ended-has row owned step rc writes lengths.items)
+  have-next (Ended job ending) deck is next = by now.tables (λ (row : RunRow). after_ended row ending now.tables) (run_of now.tables job) each (λ row. ended-has now.tables row ending each)
+  have-next (Purged job) deck is next = by now.tables (λ (row : RunRow). with_run (record row { state = PurgedRun }) now.tables) (run_of now.tables job) each (λ row. each)
+  have-next _ deck is next = absurd is

@@ -1,0 +1,5 @@
+use Rattle.ckr_desk_turn.proofs.Checkpoints.Plans.{names-step, plan-taken, turn-taken}
+use Rattle.ckr_desk_turn.proofs.checkpoint_laws.checkpoints_that_are_due_are_taken.Goals as goal
+
+pub returns : goal.returns
+returns c = record { turn = turn-taken; planned = plan-taken; named = names-step }
