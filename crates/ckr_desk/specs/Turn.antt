@@ -1,7 +1,6 @@
 -- What a turn comes to, from where the desk stands.
 use Rattle.std.specs.Prelude.{Bool, Option}
 use Rattle.ckr_events.specs.declared.event.Event.{Event}
-use Rattle.ckr_desk_turn.specs.Desk.{}
 use Rattle.ckr_desk_turn.specs.Turns.{turn_of}
 use Rattle.ckr_desk_turn.specs.declared.reply.Reply.{Reply}
 use Rattle.ckr_desk_turn.specs.declared.reply.Turn.{Turn}
