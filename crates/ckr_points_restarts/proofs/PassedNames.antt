@@ -1,0 +1,2 @@
+pub mod Dispositions
+pub mod Walks

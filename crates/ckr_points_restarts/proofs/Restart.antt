@@ -1,0 +1,4 @@
+pub mod Libraries
+pub mod Invariant
+pub mod Points
+pub mod Event

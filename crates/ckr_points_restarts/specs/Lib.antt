@@ -1,0 +1,3 @@
+pub mod Restorability
+pub mod PlainRuns
+pub mod Readiness
