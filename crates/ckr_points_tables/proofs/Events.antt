@@ -39,7 +39,7 @@ use Rattle.ckr_points_tables.specs.declared.tables.Spare.{Spare}
 use Rattle.ckr_points_tables.specs.RunChange.{Going, going, changed, check_writing, committed_by, desk_with, holding_kit, kept_by, place_now, table_kit, written_after}
 use Rattle.ckr_points_tables.specs.StepEnd.{HasLengths, MayRewriteIn}
 use Rattle.ckr_points.specs.Follows.{ended_follows, follows, is_checkpoint, is_length_of, is_rewrite, is_update, of_step, may_hold, may_restart, is_free, is_in_state, is_running, lengths_follow, of_run, selected_follows, started_follows}
-use Rattle.ckr_points_tables.specs.Invariant.{AreKept, HasKeptRoom, HasRoom, HasRoomIn, HasRoomUnder, IsRun, IsWide, MayCount, MayFollow, initiator_at, is_plain_event, is_submission, entries_at, put_at, room_at}
+use Rattle.ckr_points_tables.specs.Invariant.{AreKept, HasKeptRoom, HasRoom, HasRoomIn, HasRoomUnder, IsFilled, IsRun, IsWide, MayCount, MayFollow, initiator_at, is_plain_event, is_submission, entries_at, put_at, room_at}
 use Rattle.ckr_points_tables.specs.Checkpoint.{HasRoomNow, MayKeep, checkpoint_name}
 use Rattle.ckr_points_tables.specs.declared.run_table.WrittenEntry.{WrittenEntry}
 use Rattle.ckr_points_tables.specs.Needs.{MayChange}
@@ -55,7 +55,8 @@ use Rattle.ckr_points_tables.proofs.Initiators.{index_changed}
 use Rattle.ckr_points_tables.proofs.Runs.{at_false, length-rows, rows-at, rows-set, runs-at, runs-set}
 use Rattle.ckr_points_tables.proofs.RunIdentity.{IsSelecting, Stays, stays}
 use Rattle.ckr_points_tables.proofs.Steps.{few_of}
-use Rattle.ckr_points_tables.proofs.RecordWidths.{MayMakeBy, changed-wide}
+use Rattle.ckr_points_tables.proofs.EachSet.{MayMakeBy}
+use Rattle.ckr_points_tables.proofs.RecordWidths.{changed-filled, changed-wide}
 use Rattle.ckr_points_tables.proofs.SetViews.{Keeps, KeepsIn, changed_seen, going_viewed, table_view}
 
 -- ---- an event that follows is of a run that is there
@@ -158,7 +159,7 @@ restamps writings sets counts name = by (entry_at sets name) refl
     by (Some holding) there = each-at HasFewRewrites (seen_under (table_in writings) sets) counts name (table_in writings name holding) (at-viewed (table_in writings) sets name ∙ ap (option_map (table_in writings name)) there)
 
 -- no run on a free initiator
-none_on : (runs : List RunRow) (initiator : ℕ) → list_all (λ (row : RunRow). not (option_eq nat_eq row.initiator (Some initiator))) runs ≡ true → (place : ℕ) (row : RunRow) → slice_get runs place ≡ Some row → row.initiator ≡ Some initiator → ⊥
+pub none_on : (runs : List RunRow) (initiator : ℕ) → list_all (λ (row : RunRow). not (option_eq nat_eq row.initiator (Some initiator))) runs ≡ true → (place : ℕ) (row : RunRow) → slice_get runs place ≡ Some row → row.initiator ≡ Some initiator → ⊥
 none_on [] initiator all place row there on = some-not-none _ (sym there)
 none_on (one ∷ runs) initiator all zero row there on =
     at_false row.initiator initiator (ap (λ (r : RunRow). option_eq nat_eq r.initiator (Some initiator)) (sym (same_Some one row there)) ∙ not-true (option_eq nat_eq one.initiator (Some initiator)) (and-first (not (option_eq nat_eq one.initiator (Some initiator))) _ all)) on
@@ -215,8 +216,21 @@ module _ (library : Catalog) (lines : List Run) (tables : List RunTable) (index 
     makes_by (Started job step items) follows = (started-makes may.0 writings line facts library.sets (rows_of lines tables) step items.items (own_limits step) follows).0
     makes_by _ follows = tt
 
+    lengths_of : (ending : Ending) → ended_follows desk row ending ≡ true → HasLengths line.number ending library.sets (step_at (plain_job line.number table.job) (step_in (place_now facts)))
+    lengths_of Completed follows = tt
+    lengths_of (Coded code rule writes lengths) follows =
+        lengths_fit may.0 writings line facts library.sets (rows_of lines tables) lengths.items (and-second _ (lengths_follow desk row lengths.items) follows)
+    lengths_of (Allocation dd cause one more) follows = tt
+
     may_make : (one : Event) → RowFollows may.0 desk one row → MayMakeBy one now
     may_make (Started job step items) follows = (started-makes may.0 writings line facts library.sets (rows_of lines tables) step items.items (own_limits step) follows).1
+    may_make (Rewritten job taken writes lengths place image) follows =
+        lengths_fit may.0 writings line facts library.sets (rows_of lines tables) lengths.items (and-second (is_running row) (lengths_follow desk row lengths.items) (and-first _ (of_step row (is_rewrite desk place image row)) follows))
+    may_make (Checkpointed job id taken writes lengths at bytes) follows =
+        lengths_fit may.0 writings line facts library.sets (rows_of lines tables) lengths.items (and-second (is_running row) (lengths_follow desk row lengths.items) (and-first _ (of_step row (is_checkpoint desk id lengths.items at bytes row)) follows))
+    may_make (StepEnded job step rc writes lengths) follows =
+        lengths_fit may.0 writings line facts library.sets (rows_of lines tables) lengths.items (and-second _ (lengths_follow desk row lengths.items) follows)
+    may_make (Ended job ending) follows = lengths_of ending follows
     may_make _ follows = tt
 
     module _ (runs_room lines_room writings_room : ℕ) where
@@ -236,12 +250,6 @@ module _ (library : Catalog) (lines : List Run) (tables : List RunTable) (index 
 
       room_found : room_at room (job_of event) ≡ Some (room_of table)
       room_found = ap (room_at room) numbered ∙ slice_get-map room_of tables place ∙ ap (option_map room_of) tabled
-
-      lengths_of : (ending : Ending) → ended_follows desk row ending ≡ true → HasLengths line.number ending library.sets (step_at (plain_job line.number table.job) (step_in (place_now facts)))
-      lengths_of Completed follows = tt
-      lengths_of (Coded code rule writes lengths) follows =
-          lengths_fit may.0 writings line facts library.sets (rows_of lines tables) lengths.items (and-second _ (lengths_follow desk row lengths.items) follows)
-      lengths_of (Allocation dd cause one more) follows = tt
 
       master_of : (at : ℕ) (image : List ℕ) (there : Option OwnedStep) → step_at (plain_job line.number table.job) (step_in (place_now facts)) ≡ there → EachEntry HasFewRewrites desk.sets
           → option_map_or (is_rewrite desk at image row) there false ≡ true → MayRewriteIn line.number library.sets there
@@ -419,6 +427,7 @@ module _ (library : Catalog) (lines : List Run) (tables : List RunTable) (index 
           → AreKept sets (slice_set lines place new) (slice_set tables place after) (put_at new.initiator (suc place) (put_at line.initiator 0 index)) marks (slice_set entered place more)
       kept_after more marks spared fits = record {
         wide = subst (EachEntry IsWide) (ap (λ (all : Going Holding). all.sets) (sym goes)) (changed-wide event now (may_make event row_follows) kept.wide);
+        filled = subst (EachEntry IsFilled) (ap (λ (all : Going Holding). all.sets) (sym goes)) (changed-filled event now (may_make event row_follows) kept.filled);
         runs = runs-set 1 lines tables kept.runs place new after new_is;
         few = subst (λ n. n ≤ 9999999) (sym (length-set tables place after)) kept.few;
         indexed = index_changed lines index kept.indexed place line lined new fits only;

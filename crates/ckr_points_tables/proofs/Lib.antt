@@ -11,6 +11,7 @@ pub mod RunIdentity
 pub mod Calls
 pub mod RoomGrowth
 pub mod RewriteCounts
+pub mod EachSet
 pub mod RecordWidths
 pub mod Starts
 pub mod Allocations
@@ -18,3 +19,9 @@ pub mod CheckpointRuns
 pub mod Checkpoints
 pub mod NamedViews
 pub mod MeaningViews
+pub mod RunMoves
+pub mod Releases
+pub mod Holds
+pub mod PutBack
+pub mod Restarts
+pub mod PointOrder

@@ -1,5 +1,5 @@
 -- More room for a run changes nothing of the tables.
-use Rattle.std.proofs.Common.{◌≡◌, ℕ, zero, suc, ◌+◌, ◌<◌, ◌≤◌, IsSome, IsSomeAnd, IsTrue, List, [], ◌∷◌, length, map, slice_get, slice_set, refl, ap, sym, ◌∙◌, subst, arith, Option, None, Some}
+use Rattle.std.proofs.Common.{◌≡◌, ℕ, zero, suc, ◌+◌, ◌<◌, ◌≤◌, Bool, IsSome, IsSomeAnd, IsTrue, List, [], ◌∷◌, length, map, slice_get, slice_set, refl, ap, sym, ◌∙◌, subst, arith, Option, None, Some}
 use Rattle.std.specs.List.{list_all}
 use Rattle.std.specs.Option.{option_map}
 use Rattle.std.proofs.lemmas.Option.{same_Some, slice_get-map, slice_get_within}
@@ -19,8 +19,9 @@ use Rattle.ckr_points_tables.specs.declared.run_table.WrittenEntry.{WrittenEntry
 use Rattle.ckr_points_tables.specs.declared.tables.Spare.{Spare}
 use Rattle.ckr_points_tables.specs.RunChange.{place_now}
 use Rattle.ckr_points_tables.specs.StepEnd.{HasPassedRoom}
-use Rattle.ckr_points_tables.specs.Invariant.{AreKept, AreRuns, HasEndRoom, HasEntryRoom, HasKeptRoom, HasRoomUnder, HasStartRoom, IsRun, entries_at, room_at}
+use Rattle.ckr_points_tables.specs.Invariant.{AreKept, AreRuns, HasEndRoom, HasEntryRoom, HasKeptRoom, HasRestartRoom, HasRoomUnder, HasStartRoom, IsRun, entries_at, room_at}
 use Rattle.ckr_points.specs.Restart.{step_in}
+use Rattle.ckr_points_tables.specs.Restart.{HasPassedFor, passed_for}
 use Rattle.ckr_points_tables.specs.Rewrite.{has_master}
 use Rattle.ckr_points_tables.specs.Rooms.{EndsFit, EntryFits, HasNoLess, HasNoPlace, HasRoomFor, KeepsFit, StartsFit}
 use Rattle.ckr_points_tables.specs.Checkpoint.{checkpoint_name}
@@ -28,6 +29,7 @@ use Rattle.ckr_points_tables.specs.Needs.{step_now}
 use Rattle.ckr_points_tables.proofs.NamedViews.{at-viewed, viewed}
 use Rattle.ckr_points.specs.Rows.{RunRow, TablesModel, run_of}
 use Rattle.ckr_points_tables.specs.View.{RoomyTables, TablesRoom, RunTableView, RunRoom, Writings, facts_of, is_within_limits, kept_room, table_in, room_of, row_of, row_with, rows_of}
+use Rattle.ckr_points_tables.proofs.Restarts.Views.{passed-there}
 use Rattle.ckr_points_tables.proofs.Runs.{rows-at, runs-at, runs-set}
 
 -- a run has a line
@@ -86,6 +88,7 @@ module _ (lines : List Run) (tables : List RunTable) (are : AreRuns 1 lines tabl
     pub kept_there : (sets : Named Holding) (index : List ℕ) (marks : List Mark) (writings : List (Roomy WrittenEntry)) → AreKept sets lines tables index marks writings → AreKept sets lines (slice_set tables place new) index marks writings
     kept_there sets index marks writings kept = record {
       wide = kept.wide;
+      filled = kept.filled;
       runs = runs_there;
       few = subst (λ n. n ≤ 9999999) (sym (length-set tables place new)) kept.few;
       indexed = kept.indexed;
@@ -121,6 +124,14 @@ module _ (lines : List Run) (tables : List RunTable) (are : AreRuns 1 lines tabl
           passed = subst (λ (facts : RunTableView). HasPassedRoom new.passed.room (step_at (plain_job line_there.0.number facts.job) (step_in (place_now facts)))) (sym same) (fits.passed line_there.0.number);
           codes = fits.codes;
         }))
+
+    -- room for a restart
+    pub restart_there : (checkpoint : Bool) (writings : Writings) (sets : Named Holding) → HasPassedFor new.passed.room (passed_for checkpoint writings sets (facts_of old))
+        → (row : RunRow) (one : RunRoom) → slice_get (rows_of lines (slice_set tables place new)) place ≡ Some row → slice_get (map room_of (slice_set tables place new)) place ≡ Some one → HasRestartRoom checkpoint (viewed (table_in writings) sets) row one
+    restart_there checkpoint writings sets fits row one row_found one_found =
+        subst (λ r. HasRestartRoom checkpoint (viewed (table_in writings) sets) r one) (sym (row_there row row_found))
+        (subst (HasRestartRoom checkpoint (viewed (table_in writings) sets) (row_of line_there.0 new)) (sym (room_there one one_found))
+        (subst (HasPassedFor new.passed.room) (ap (passed_for checkpoint writings sets) (sym same) ∙ sym (passed-there writings line_there.0 (facts_of new) sets checkpoint)) fits))
 
   -- each run has no less room
   pub each_there : HasNoLess (room_of old) (room_of new) → (k : ℕ) (one two : RunRoom) → slice_get (map room_of tables) k ≡ Some one → slice_get (map room_of (slice_set tables place new)) k ≡ Some two → HasNoLess one two

@@ -69,7 +69,7 @@ among-filtered p (other ∷ names) name = by (p other) (same_name name other) re
     by false true passes same more = more ∙ ap (λ b. is_among names name && b) (ap p (name-same name other same) ∙ passes) ∙ and-false (is_among names name) ∙ sym (ap p (name-same name other same) ∙ passes)
     by false false passes same more = more
 
-among-both : (first second : List Name) (name : Name) → is_among (first ++ second) name ≡ (is_among first name || is_among second name)
+pub among-both : (first second : List Name) (name : Name) → is_among (first ++ second) name ≡ (is_among first name || is_among second name)
 among-both [] second name = refl
 among-both (other ∷ first) second name = ap (λ b. same_name name other || b) (among-both first second name) ∙ sym (join (same_name name other) (is_among first name) (is_among second name))
   where
@@ -177,7 +177,7 @@ module _ (desk : TablesModel) (line : Run) (facts : RunTableView) (found : run_o
   abbrev now : Going TableSet
   now = going line facts desk.sets
 
-  unchanged-in : desk ≡ desk_with now desk
+  pub unchanged-in : desk ≡ desk_with now desk
   unchanged-in = sym (with-same line.number run desk found)
 
   step_ended-in : (own : OwnedStep) (step rc writes : ℕ) (lengths : List ℕ) → after_step_ended run own step rc writes lengths desk ≡ desk_with (step_ended table_kit step rc lengths now own) desk
@@ -271,7 +271,7 @@ module _ (desk : TablesModel) (line : Run) (facts : RunTableView) (found : run_o
       ap (λ (sets : Named TableSet). desk_with (going line (record facts { place = Some (Within step 0); points = with_point (start_point run step opened) facts.points }) sets) desk) same
       ∙ ap (λ point. desk_with (going line (record facts { place = Some (Within step 0); points = with_point point facts.points }) (started table_kit step items now own).sets) desk) (point-same step opened)
 
-  run-in : (job : ℕ) (change : RunRow → TablesModel) → line.number ≡ job → by_run job desk change ≡ change run
+  pub run-in : (job : ℕ) (change : RunRow → TablesModel) → line.number ≡ job → by_run job desk change ≡ change run
   run-in job change same = ap (λ (one : Option RunRow). option_map_or change one desk) (ap (run_of desk) (sym same) ∙ found)
 
   -- an event of the run

@@ -52,7 +52,7 @@ abbrev pub going_viewed : {X Y : Type 0} → (Name → X → Y) → Going X → 
 going_viewed view now = going now.line now.facts (viewed view now.sets)
 
 module _ {X Y : Type 0} (view : Name → X → Y) (first : Kit X) (second : Kit Y) (is : IsKitView view first second) where
-  committed-seen : (names : List Name) (lengths : List ℕ) (sets : Named X) → viewed view (committed first.cut names lengths sets) ≡ committed second.cut names lengths (viewed view sets)
+  pub committed-seen : (names : List Name) (lengths : List ℕ) (sets : Named X) → viewed view (committed first.cut names lengths sets) ≡ committed second.cut names lengths (viewed view sets)
   committed-seen [] lengths sets = refl
   committed-seen (name ∷ names) [] sets = refl
   committed-seen (name ∷ names) (most ∷ lengths) sets =
@@ -146,7 +146,7 @@ module _ {X Y : Type 0} (view : Name → X → Y) (first : Kit X) (second : Kit 
       ended_in-seen step (within first step writes (committed_by first lengths own now)) own
       ∙ ap (λ after. ended_in second step (within second step writes after) own) (committed_by-seen lengths own now)
 
-  by_step-seen : (step : ℕ) (one : OwnedStep → Going X) (other : OwnedStep → Going Y) → ((own : OwnedStep) → going_viewed view (one own) ≡ other own) → (now : Going X) → going_viewed view (by_step_of step one now) ≡ by_step_of step other (going_viewed view now)
+  pub by_step-seen : (step : ℕ) (one : OwnedStep → Going X) (other : OwnedStep → Going Y) → ((own : OwnedStep) → going_viewed view (one own) ≡ other own) → (now : Going X) → going_viewed view (by_step_of step one now) ≡ by_step_of step other (going_viewed view now)
   by_step-seen step one other same now = by (step_of now step)
     where
       by : (found : Option OwnedStep) → going_viewed view (option_map_or one found now) ≡ option_map_or other found (going_viewed view now)

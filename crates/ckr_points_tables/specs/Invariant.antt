@@ -1,16 +1,17 @@
 -- What holds of the tables in code, and what an event needs of them.
 use Rattle.std.specs.Prelude.{◌≡◌, ◌≤◌, ◌<◌, ℕ, zero, suc, ◌==◌, Bool, true, false, ◌&&◌, nat_le, IsSome, IsTrue, List, [], ◌∷◌, length, slice_get, slice_set, slice_index, Option, None, Some}
-use Rattle.std.specs.Option.{option_and_then}
+use Rattle.std.specs.Option.{option_and_then, option_map}
 use Rattle.std.specs.List.{list_all}
 use Rattle.ckr_base.specs.RoomyLists.{Roomy}
 use Rattle.ckr_points_library.specs.Holdings.{owned}
 use Rattle.ckr_uses.specs.Uses.{are_distinct}
 use Rattle.ckr_events.specs.Jobs.{job_of}
 use Rattle.ckr_events.specs.declared.event.Event.{Event}
-use Rattle.ckr_events.specs.declared.event.Event.TheVariants.{Submitted, Selected, Started, Rewritten, Checkpointed, Cancelled, StepEnded, Ended, Purged}
+use Rattle.ckr_events.specs.declared.event.Event.TheVariants.{Submitted, Selected, Started, Rewritten, Checkpointed, Cancelled, StepEnded, Restarted, Ended, Purged}
 use Rattle.ckr_jcl.specs.declared.deck.Job.{Job}
 use Rattle.ckr_jcl.specs.declared.deck.Step.{Step}
 use Rattle.ckr_entry.specs.declared.point.Mark.{Mark}
+use Rattle.ckr_entry.specs.declared.point.Passed.{Passed}
 use Rattle.ckr_library.specs.Catalog.{Holding}
 use Rattle.ckr_library.specs.NameMaps.{EachEntry, Name, Named, entry_at}
 use Rattle.ckr_volumes.specs.declared.layout.Layout.{Layout}
@@ -23,9 +24,10 @@ use Rattle.ckr_points_tables.specs.declared.run_table.WrittenEntry.{WrittenEntry
 use Rattle.ckr_points_tables.specs.Checkpoint.{checkpoint_name}
 use Rattle.ckr_points_tables.specs.StepEnd.{HasPassedRoom}
 use Rattle.ckr_points.specs.Follows.{follows}
-use Rattle.ckr_points.specs.Rows.{TableSet, TablesModel, RunRow, run_of, step_of_run}
+use Rattle.ckr_points.specs.Rows.{EffectPoint, KeptEntry, TableSet, TablesModel, RunRow, run_of, step_of_run}
 use Rattle.ckr_points_tables.specs.Rewrite.{HasFewRewrites, has_master}
-use Rattle.ckr_points.specs.Restart.{place_of, step_in}
+use Rattle.ckr_points.specs.Restart.{kept_at, place_of, step_in}
+use Rattle.ckr_points_tables.specs.Restart.{HasPassedFor, passed_at_start}
 use Rattle.ckr_points_tables.specs.View.{RunRoom, TablesRoom, RoomyTables, is_within_limits, kept_room}
 
 -- ---- what holds of runs
@@ -69,8 +71,13 @@ pub record IsIndexOf (index : List ℕ) (lines : List Run) : Type 0 where
 abbrev pub IsWide : Holding → Type 0
 IsWide holding = 1 ≤ holding.set.lrecl
 
+-- no more records than have room
+abbrev pub IsFilled : Holding → Type 0
+IsFilled holding = holding.set.length ≤ holding.set.space
+
 pub record AreKept (sets : Named Holding) (lines : List Run) (tables : List RunTable) (index : List ℕ) (marks : List Mark) (writings : List (Roomy WrittenEntry)) : Type 0 where
   pub wide : EachEntry IsWide sets
+  pub filled : EachEntry IsFilled sets
   pub runs : AreRuns 1 lines tables
   pub few : length tables ≤ 9999999
   pub indexed : IsIndexOf index lines
@@ -148,6 +155,24 @@ pub record HasStartRoom (room : TablesRoom) (row : RunRow) (one : RunRoom) : Typ
 pub record HasEndRoom (row : RunRow) (one : RunRoom) : Type 0 where
   pub passed : HasPassedRoom one.passed (step_of_run row (step_in (place_of row)))
   pub codes : 0 < one.codes
+
+-- what was passed on at the point to which a restart goes back: the checkpoint in effect, or the start of the step
+abbrev pub passed_back_at : Bool → RunRow → Named TableSet → Option (List Passed)
+passed_back_at true row sets = option_and_then (λ (effect : EffectPoint). option_map (λ (entry : KeptEntry). entry.point.passed) (kept_at sets effect.set effect.kept.id)) row.in_effect
+passed_back_at false row sets = passed_at_start row.points (step_in (place_of row))
+
+-- room for a restart
+abbrev pub HasRestartRoom : Bool → Named TableSet → RunRow → RunRoom → Type 0
+HasRestartRoom checkpoint sets row one = HasPassedFor one.passed (passed_back_at checkpoint row sets)
+
+-- room for a restart of a run, if it is there
+abbrev pub CanRestart : RoomyTables → ℕ → Bool → Type 0
+CanRestart now job checkpoint = (row : RunRow) (one : RunRoom) → run_of now.desk job ≡ Some row → room_at now.room job ≡ Some one → HasRestartRoom checkpoint now.desk.sets row one
+
+-- room for the restart that an event is, if it is one
+abbrev pub HasRoomBack : RoomyTables → Event → Type 0
+HasRoomBack now (Restarted job initiator code checkpoint) = CanRestart now job checkpoint
+HasRoomBack now _ = Unit {0}
 
 -- room for the start of a step of a run, if it is there
 abbrev pub CanStart : RoomyTables → ℕ → Type 0

@@ -12,3 +12,8 @@ pub mod Rewrite
 pub mod Rooms
 pub mod View
 pub mod Start
+pub mod Hold
+pub mod PutBack
+pub mod Restart
+pub mod PointOrder
+pub mod Release

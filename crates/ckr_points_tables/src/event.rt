@@ -139,7 +139,7 @@ fn put<T: Drop>(items: &mut Vec<T>, item: T)
 }
 
 /// Writes a run's number into the index at an initiator, if there is one.
-fn put_at(index: &mut [u32; 256], initiator: Option<u8>, number: u32)
+pub(crate) fn put_at(index: &mut [u32; 256], initiator: Option<u8>, number: u32)
     ensures index { index.new ≡ put_at initiator number index.old }
     ensures fits { (i : ℕ) → initiator ≡ Some i → i < 256 }
 {

@@ -4,9 +4,13 @@
 mod allocation;
 mod checkpoint;
 mod event;
+mod hold;
 mod made_names;
 mod marks_in_order;
 mod new_sets;
+mod put_back;
+mod release;
+mod restart;
 mod rewrite;
 mod rooms;
 mod run_change;

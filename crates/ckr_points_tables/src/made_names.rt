@@ -18,14 +18,14 @@ use ckr_jcl::{Dd, Step};
 use ckr_uses::{has_set_named, library_name};
 
 /// A name's mark among marks.
-fn mark_at<'a>(marks: &'a [Mark], name: &DsName) -> Option<&'a Mark>
+pub(crate) fn mark_at<'a>(marks: &'a [Mark], name: &DsName) -> Option<&'a Mark>
     ensures { option_copied result ≡ mark_at marks.now name.now }
 {
     marks.iter().find(|mark| name.is_same(&mark.name))
 }
 
 /// Whether a point marks a name absent.
-fn is_marked_absent(marks: &[Mark], name: &DsName) -> bool
+pub(crate) fn is_marked_absent(marks: &[Mark], name: &DsName) -> bool
     ensures { result ≡ is_marked_absent marks.now name.now }
 {
     match mark_at(marks, name) {
@@ -54,7 +54,7 @@ pub(crate) fn is_any_named(run: u32, step: &Step, dds: &[Dd], name: &DsName) -> 
 }
 
 /// Whether a step has the name.
-fn has_name(run: u32, step: &Step, name: &DsName) -> bool
+pub(crate) fn has_name(run: u32, step: &Step, name: &DsName) -> bool
     requires { run ≤ 9999999 }
     ensures { result ≡ is_among (names_of run (owned step.now run [])) name.now }
 {

@@ -1,19 +1,21 @@
 //! Memory for an event, before it is written.
-ghost use Rattle.std.specs.Prelude.{◌≡◌, ℕ, suc, Some, None, ◌+◌, ◌*◌, ◌≤◌, ◌<◌, OnOk, IsTrue, length, vec_len, vec_capacity};
+ghost use Rattle.std.specs.Prelude.{◌≡◌, ℕ, suc, Some, None, ◌+◌, ◌*◌, ◌≤◌, ◌<◌, OnOk, IsTrue, length, map, vec_len, vec_capacity};
 ghost use Rattle.std.specs.Option.{option_and_then, option_map_or};
 ghost use Rattle.ckr_events.specs.declared.event.Event.{Event as EventOfDesk};
 ghost use Rattle.ckr_meaning.specs.EffectiveJob.{plain_job, step_at, OwnedStep};
 ghost use Rattle.ckr_points_tables.specs.StepEnd.{HasPassedRoom};
-ghost use Rattle.ckr_points_tables.specs.Invariant.{CanEnd, CanKeep, CanStart, HasRoom, HasRunRoom};
+ghost use Rattle.ckr_points_tables.specs.Invariant.{CanEnd, CanKeep, CanRestart, CanStart, HasRoom, HasRoomBack, HasRunRoom};
 ghost use Rattle.ckr_library.specs.Catalog.{KeepsEntryRoom};
 ghost use Rattle.ckr_points_tables.specs.Checkpoint.{checkpoint_name};
 ghost use Rattle.ckr_points_tables.specs.Needs.{step_now};
 ghost use Rattle.ckr_points_tables.specs.Rooms.{dds_of, HasNoPlace, AreRoomier, EndsFit, EntryFits, FitsPoint, HasNoLess, IsRoomier, KeepsFit, StartsFit};
-ghost use Rattle.ckr_points_tables.specs.View.{facts_of, is_within_limits, room_of};
+ghost use Rattle.ckr_points_tables.specs.Restart.{passed_at_entry, passed_at_start, passed_for, HasPassedFor};
+ghost use Rattle.ckr_points_tables.specs.View.{facts_of, is_within_limits, room_of, written_of};
 ghost use Rattle.ckr_points_tables.specs.Start.{HasPointRoom};
 
 use crate::checkpoint::checkpoint_name;
-use crate::start::step_at;
+use crate::restart::{entry_for, kept_under, passed_of};
+use crate::start::{point_at, step_at};
 use crate::step_end::step_now;
 use crate::tables::Spare;
 use crate::{RunTable, Tables, WrittenEntries};
@@ -30,6 +32,7 @@ impl Tables {
     pub fn make_room(&mut self, event: &Event) -> Result<(), NoMemory>
         ensures desk { self.new.desk ≡ self.old.desk }
         ensures ok { OnOk result (HasRoom self.new event.now) }
+        ensures restart { OnOk result (HasRoomBack self.new event.now) }
         ensures room { IsRoomier self.old.room self.new.room }
     {
         match event {
@@ -37,6 +40,11 @@ impl Tables {
             Event::Started { job, .. } => self.room_to_start(*job),
             Event::Checkpointed { job, .. } => self.room_to_keep(*job),
             Event::StepEnded { job, .. } | Event::Ended { job, .. } => self.room_to_end(*job),
+            Event::Restarted {
+                job,
+                checkpoint,
+                ..
+            } => self.room_to_restart(*job, *checkpoint),
             _ => Ok(()),
         }
     }
@@ -93,6 +101,23 @@ impl Tables {
     {
         match place_in(job, self.tables.as_slice()) {
             Some(place) => reserve_end(&mut self.tables[place]),
+            None => Ok(()),
+        }
+    }
+
+    /// Makes room for a restart of a run, if there is such a run.
+    fn room_to_restart(&mut self, job: u32, checkpoint: bool) -> Result<(), NoMemory>
+        ensures desk { self.new.desk ≡ self.old.desk }
+        ensures ok { OnOk result (CanRestart self.new job checkpoint) }
+        ensures room { IsRoomier self.old.room self.new.room }
+    {
+        match place_in(job, self.tables.as_slice()) {
+            Some(place) => reserve_restart(
+                checkpoint,
+                &mut self.tables[place],
+                &self.library,
+                self.writings.as_slice(),
+            ),
             None => Ok(()),
         }
     }
@@ -182,6 +207,52 @@ fn reserve_end(table: &mut RunTable) -> Result<(), NoMemory>
     let more = dds_now(table);
     table.passed.reserve(more)?;
     table.codes.reserve(1)?;
+    Ok(())
+}
+
+/// How many data sets were passed on at the start of the step that a run is before or in, and none without its step point.
+fn passed_at_start(table: &RunTable) -> usize
+    ensures { result ≡ option_map_or length (passed_at_start (facts_of table.now).points (step_now table.now)) 0 }
+{
+    match point_at(table.points.as_slice(), step_now(table)) {
+        Some(point) => point.passed.as_slice().len(),
+        None => 0,
+    }
+}
+
+/// How many data sets were passed on at the checkpoint in effect, and none where there is none or its entry isn't kept.
+fn passed_at_entry(table: &RunTable, library: &Library, writings: &[WrittenEntries]) -> usize
+    ensures { result ≡ option_map_or length (passed_at_entry (map written_of writings.now) library.now.sets (facts_of table.now).in_effect) 0 }
+{
+    let Some(effect) = &table.in_effect else {
+        return 0;
+    };
+    let Some(kept) = kept_under(library, &effect.set, &effect.kept.id) else {
+        return 0;
+    };
+    passed_of(entry_for(writings, &effect.set, kept)).len()
+}
+
+/// Makes room for what was passed on at the point to which a run goes back.
+fn reserve_restart(
+    checkpoint: bool,
+    table: &mut RunTable,
+    library: &Library,
+    writings: &[WrittenEntries],
+) -> Result<(), NoMemory>
+    ensures facts { facts_of table.new ≡ facts_of table.old }
+    ensures ok { OnOk result (HasPassedFor table.new.passed.room (passed_for checkpoint (map written_of writings.now) library.now.sets (facts_of table.old))) }
+    ensures run { HasNoLess (room_of table.old) (room_of table.new) }
+{
+    let count = if checkpoint {
+        passed_at_entry(table, library, writings)
+    } else {
+        passed_at_start(table)
+    };
+    let Ok(more) = u32::try_from(count) else {
+        return Err(NoMemory);
+    };
+    table.passed.reserve(more)?;
     Ok(())
 }
 

@@ -78,7 +78,7 @@ fn put_marks(items: &[Mark], marks: &mut Marks)
 }
 
 /// The same entry of a passed list.
-fn copy_of_passed(one: &Passed) -> Passed
+pub(crate) fn copy_of_passed(one: &Passed) -> Passed
     ensures { result ≡ one.now }
 {
     Passed {

@@ -1,8 +1,10 @@
 //! The step points of a run.
-ghost use Rattle.std.specs.Prelude.{◌≡◌, ◌+◌, ◌<◌, ◌≤◌, [], OnOk, IsOk, nat_lt, length, map, slice_get};
+ghost use Rattle.std.specs.Prelude.{◌≡◌, ◌+◌, ◌<◌, ◌≤◌, [], OnOk, IsOk, Some, nat_lt, length, map, slice_get};
 ghost use Rattle.ckr_library.specs.Places.{lead};
 ghost use Rattle.ckr_points.specs.Tables.{point_rewritten};
-ghost use Rattle.ckr_points.specs.Marks.{with_point};
+ghost use Rattle.ckr_points.specs.Marks.{point_at, with_point};
+ghost use Rattle.ckr_points.specs.Restart.{point_restarted};
+ghost use Rattle.ckr_points.specs.Rows.{StartPoint as StartOfStep};
 ghost use Rattle.ckr_points_tables.specs.View.{has_step, point_of};
 
 use crate::StepPoint;
@@ -24,6 +26,12 @@ impl Model for StepPoints {
     ghost Value = { Roomy StepPoint };
 
     ghost view = { λ a. record { items = a.items.items; room = vec_capacity a.items - vec_len a.items } };
+
+    ghost use Rattle.std.specs.Prelude.{◌≡◌, map, true};
+    ghost use Rattle.ckr_points_tables.specs.PointOrder.{are_in_order};
+    ghost use Rattle.ckr_points_tables.specs.View.{point_of};
+
+    ghost invariant = { λ a. are_in_order (map point_of a.items.items) ≡ true };
 }
 
 impl StepPoints {
@@ -81,6 +89,26 @@ impl StepPoints {
             rewrite_one(&mut self.items[place], step);
         }
     }
+
+    /// The run was restarted once more at the start of the step of this number.
+    pub fn restart(&mut self, step: u8)
+        requires few { (point : StartOfStep) → point_at (map point_of self.old.items) step ≡ Some point → point.restarts < 255 }
+        ensures points { (point : StartOfStep) → point_at (map point_of self.old.items) step ≡ Some point → map point_of self.new.items ≡ with_point (point_restarted point) (map point_of self.old.items) }
+        ensures room { self.new.room ≡ self.old.room }
+    {
+        let place = place_for(self.items.as_slice(), step);
+        if has_step(self.items.as_slice(), place, step) {
+            restart_one(&mut self.items[place]);
+        }
+    }
+}
+
+/// The run was restarted once more at a point.
+fn restart_one(point: &mut StepPoint)
+    requires { point.old.restarts < 255 }
+    ensures { point_of point.new ≡ point_restarted (point_of point.old) }
+{
+    point.restarts += 1;
 }
 
 /// The run rewrote a record in place in a step.

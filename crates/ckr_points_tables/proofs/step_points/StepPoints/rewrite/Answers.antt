@@ -1,10 +1,12 @@
-use Rattle.std.proofs.Common.{◌≡◌, ◌<◌, suc, ap, sym, ◌∙◌, arith, add-one, length, map, take, drop, slice_get, slice_set, Some}
+use Rattle.std.proofs.Common.{◌≡◌, ◌≤◌, subst, ◌<◌, suc, ap, sym, ◌∙◌, arith, add-one, length, map, take, drop, slice_get, slice_set, Some}
 use Rattle.std.specs.Option.{option_map}
-use Rattle.std.proofs.lemmas.List.{map-set}
+use Rattle.std.proofs.lemmas.List.{length-map, map-set}
 use Rattle.std.proofs.lemmas.Option.{slice_get-map}
-use Rattle.ckr_base.proofs.Sequences.{get-from}
+use Rattle.ckr_base.proofs.Sequences.{get-from, take-most}
 use Rattle.ckr_points.specs.Tables.{point_rewritten}
+use Rattle.ckr_points_tables.specs.PointOrder.{are_in_order}
 use Rattle.ckr_points_tables.specs.View.{point_of}
+use Rattle.ckr_points_tables.proofs.PointOrder.{order-rewritten}
 use Rattle.ckr_points_tables.proofs.Starts.Points.{changed_more}
 use Rattle.ckr_points_tables.proofs.step_points.StepPoints.rewrite.Goals as goal
 
@@ -25,3 +27,14 @@ loop-place-preserved c =
       long = c.loop-place.invariant.long;
       room = c.loop-place.invariant.room;
     }
+
+pub invariant_of-self : goal.invariant_of-self
+invariant_of-self c =
+    let after = map point_of c.loop-place.self-inside.items.items in
+    let before = map point_of c.self.inside.items.items in
+    let long : length c.loop-place.self-inside.items.items ≤ c.loop-place.place = omega (arith, c.loop-place-test.false, c.len-place-end.ensures, c.loop-place.invariant.long, c.loop-place.self-inside.items.ok.0) in
+    let long_before : length c.self.inside.items.items ≤ c.loop-place.place = omega (arith, c.loop-place-test.false, c.len-place-end.ensures, c.self.inside.items.ok.0) in
+    let all : after ≡ map (point_rewritten c.args.step) before =
+    sym (take-most c.loop-place.place after (subst (λ n. n ≤ c.loop-place.place) (sym (length-map c.loop-place.self-inside.items.items point_of)) long)) ∙ c.loop-place.invariant.done
+    ∙ ap (map (point_rewritten c.args.step)) (take-most c.loop-place.place before (subst (λ n. n ≤ c.loop-place.place) (sym (length-map c.self.inside.items.items point_of)) long_before)) in
+    ap are_in_order all ∙ order-rewritten c.args.step before ∙ c.self.invariant

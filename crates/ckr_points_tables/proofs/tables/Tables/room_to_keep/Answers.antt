@@ -9,7 +9,7 @@ use Rattle.ckr_base.proofs.Sequences.{get-from, get-set-same, set-same}
 use Rattle.ckr_library.specs.NameMaps.{EachEntry}
 use Rattle.ckr_points.specs.Rows.{TablesModel, run_of}
 use Rattle.ckr_points_tables.specs.Parts.{tables_seen}
-use Rattle.ckr_points_tables.specs.Invariant.{HasEntryRoom, IsWide, entries_at}
+use Rattle.ckr_points_tables.specs.Invariant.{HasEntryRoom, IsFilled, IsWide, entries_at}
 use Rattle.ckr_points_tables.specs.Rooms.{EntryFits, HasNoPlace, IsRoomier}
 use Rattle.ckr_points_tables.specs.View.{RoomyTables, TablesRoom, room_of, row_of, rows_of, seen_under, table_in, writing_of, written_of}
 use Rattle.ckr_points_tables.specs.declared.run_table.WrittenEntry.{WrittenEntry}
@@ -38,6 +38,7 @@ reserve_checkpoint-requires c =
 pub invariant_of-self : goal.invariant_of-self
 invariant_of-self c = record {
   wide = subst (EachEntry IsWide) (sym c.reserve_checkpoint.ensures.sets) c.self.invariant.wide;
+  filled = subst (EachEntry IsFilled) (sym c.reserve_checkpoint.ensures.sets) c.self.invariant.filled;
   runs = c.self.invariant.runs;
   few = c.self.invariant.few;
   indexed = c.self.invariant.indexed;

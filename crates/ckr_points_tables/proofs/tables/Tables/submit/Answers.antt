@@ -53,6 +53,7 @@ invariant_of-self c =
     } in
     record {
       wide = c.self.invariant.wide;
+      filled = c.self.invariant.filled;
       runs = subst (λ all. AreRuns 1 all c.put-2.new.items.items) (sym c.put.ensures) (subst (AreRuns 1 (lines ++ line ∷ [])) (sym c.put-2.ensures) (runs-more 1 lines tables c.self.invariant.runs line table is));
       few = omega (arith, ap length c.put-2.ensures, length-append tables (table ∷ []), next, (parts c.args.number c.args.job c.requires.deck).0);
       indexed = subst (IsIndexOf c.self.inside.index) (sym c.put.ensures) (index-more lines c.self.inside.index c.self.invariant.indexed line refl);
