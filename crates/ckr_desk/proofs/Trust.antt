@@ -1,3 +1,4 @@
 pub mod Events
 pub mod Sameness
 pub mod Conditions
+pub mod Counts

@@ -2,10 +2,9 @@
 use Rattle.std.specs.Prelude.{◌≡◌, ◌<◌, ℕ, false, true, List, find, length, None, Some}
 use Rattle.std.specs.Option.{is_some}
 use Rattle.ckr_book.specs.Book.{room_of}
-use Rattle.ckr_events.specs.declared.event.Event.{Event}
 use Rattle.ckr_desk_memory.specs.declared.checkpoint.Checkpoint.{Checkpoint}
 use Rattle.ckr_desk_memory.specs.Checkpoints.{HasEntrySpace, IsCheckpointOf}
-use Rattle.ckr_desk_memory.specs.Entries.{entry_end, entry_to, next_entry, next_id, step_now}
+use Rattle.ckr_desk_memory.specs.Entries.{next_entry, next_id, step_now}
 use Rattle.ckr_desk_turn.specs.Checkpoints.{id_in}
 use Rattle.ckr_desk_memory.specs.EventChanges.{is_of_run}
 use Rattle.ckr_desk_memory.specs.OwnSets.{CommitsItsOwn}
@@ -20,7 +19,6 @@ use Rattle.ckr_desk_turn.specs.declared.reply.Chkpt.{Chkpt}
 use Rattle.ckr_desk_turn.specs.declared.reply.Chkpt.TheVariants.{Done, NotWritten}
 use Rattle.ckr_desk_turn.specs.declared.reply.Reply.{Reply}
 use Rattle.ckr_desk_turn.specs.declared.reply.Reply.TheVariants.{Checkpointed}
-use Rattle.ckr_desk_turn.specs.EntryForms.{IsEntryForm, IsStateForm}
 use Rattle.ckr_desk_turn.specs.Spelling.{IsSpelled}
 use Rattle.ckr_desk.specs.declared.checkpoint.Attempt.{Attempt}
 use Rattle.ckr_desk.specs.declared.checkpoint.Attempt.TheVariants.{Fit, Unfit}

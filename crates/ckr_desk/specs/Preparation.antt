@@ -1,14 +1,14 @@
 -- What an event needs before it is told, and what a unit comes to before it is done.
-use Rattle.std.specs.Prelude.{◌≡◌, ◌≤◌, ◌<◌, ℕ, List, [], ◌∷◌, length, find, true, Option, Some, None}
+use Rattle.std.specs.Prelude.{◌≡◌, ◌≤◌, ◌<◌, ◌⊎◌, ℕ, List, [], ◌∷◌, length, find, true, false, Option, Some, None, Vec}
 use Rattle.ckr_book.specs.Book.{room_of}
 use Rattle.ckr_events.specs.declared.event.Event.{Event}
-use Rattle.ckr_events.specs.Event.{spelling}
+use Rattle.ckr_events.specs.Event.{IsSmall, spelling}
 use Rattle.ckr_desk_memory.specs.Model.RewriteCounts.{may_count}
 use Rattle.ckr_jcl.specs.declared.deck.Job.{Job}
 use Rattle.ckr_desk_memory.specs.EventChanges.{is_of_run}
 use Rattle.ckr_desk_memory.specs.OwnSteps.{PlanCommits, PlanFollows, PlanIsOf}
 use Rattle.ckr_desk_memory.specs.Plans.{IsSpelledPlan, IsUnitPlan, behind_unit}
-use Rattle.ckr_desk_memory.specs.Preparation.{IsPrepared}
+use Rattle.ckr_desk_memory.specs.Preparation.{IsPrepared, needs_room}
 use Rattle.ckr_desk_memory.specs.View.{RunningStepView}
 use Rattle.ckr_desk_refines.specs.Moves.{event_in}
 use Rattle.ckr_steps.specs.declared.unit_ahead.UnitAhead.{UnitAhead}
@@ -26,9 +26,14 @@ use Rattle.ckr_desk.specs.Units.{IsToldOf}
 
 -- ---- an event
 
--- its bytes are spelled and the book has room for them, its rewrites can be counted, and there is memory for the jobs to go on by it
+-- the bytes of one that submits a deck are spelled; another one is spelled when it is told
+abbrev pub IsSpelledIn : {A : Type 0} → Event → Option (Vec ℕ A) → Type 0
+IsSpelledIn event None = IsSmall event
+IsSpelledIn event (Some bytes) = bytes.items ≡ spelling event
+
+-- the book has room for its bytes, its rewrites can be counted, and there is memory for the jobs to go on by it
 pub record IsReady {D : Type 0} (event : Event) (deck : Option Job) (desk : DeskView D) (ready : Ready) : Type 0 where
-  pub spelled : ready.bytes.items ≡ spelling event
+  pub spelled : IsSpelledIn event ready.spelled
   pub small : length (spelling event) ≤ 4294967289
   pub fits : need_of event ≤ room_of desk.store.book
   pub counts : may_count event desk.jobs.tables.desk.sets ≡ true
@@ -40,9 +45,13 @@ IsReadyFor None desk ready = Unit {0}
 IsReadyFor (Some event) desk None = ⊥
 IsReadyFor (Some event) desk (Some ready) = IsReady event None desk ready
 
+-- there may be no memory for it: it needs some, or its rewrite can't be counted
+abbrev pub MayLack : {D : Type 0} → Event → DeskView D → Type 0
+MayLack event desk = (needs_room event ≡ true) ⊎ (may_count event desk.jobs.tables.desk.sets ≡ false)
+
 -- why an event isn't ready
 abbrev pub NotReady : {D : Type 0} → Event → DeskView D → DeskView D → DeskError → Type 0
-NotReady event old new NoMemory = IsSame old new
+NotReady event old new NoMemory = IsSame old new × MayLack event old
 NotReady event old new (BookFull need room) = (need ≡ need_of event) × (room ≡ room_of old.store.book) × (room < need) × IsSame old new
 NotReady event old new _ = ⊥
 
@@ -82,7 +91,12 @@ pub record HasEventAhead {D : Type 0} (told : Type 0) (content : D → List ℕ)
   pub event : Event
   pub is : event_in plan ≡ Some event
 
--- and the book has no room for it: what it needs, and the room that is left
+-- and there may be no memory for it
+pub record MayLackAhead {D : Type 0} (told : Type 0) (content : D → List ℕ) (run : ℕ) (desk : DeskView D) : Type 0 where
+  pub ahead : HasEventAhead told content run desk
+  pub lacks : MayLack ahead.event desk
+
+-- or the book has no room for it: what it needs, and the room that is left
 pub record HasNoRoomAhead {D : Type 0} (told : Type 0) (content : D → List ℕ) (run : ℕ) (desk : DeskView D) (need room : ℕ) : Type 0 where
   pub ahead : HasEventAhead told content run desk
   pub needed : need ≡ need_of ahead.event
@@ -91,7 +105,7 @@ pub record HasNoRoomAhead {D : Type 0} (told : Type 0) (content : D → List ℕ
 
 -- why a unit wasn't looked at, or what it tells isn't ready
 abbrev pub NotLooked : {D : Type 0} → Type 0 → (D → List ℕ) → (D → ℕ) → ℕ → DeskView D → DeskView D → DeskError → Type 0
-NotLooked told content faults run old new NoMemory = (new.store ≡ record old.store { disk = new.store.disk }) × HasEventAhead told content run new
+NotLooked told content faults run old new NoMemory = (new.store ≡ record old.store { disk = new.store.disk }) × MayLackAhead told content run new
 NotLooked told content faults run old new DiskFault = HasFailed faults old.store new.store
 NotLooked told content faults run old new (BookFull need room) = (new.store ≡ record old.store { disk = new.store.disk }) × HasNoRoomAhead told content run new need room
 NotLooked told content faults run old new (Stopped fault) = ⊥

@@ -1,9 +1,11 @@
 -- A unit of a running step, and what goes on behind what a turn comes to, on any disk.
-use Rattle.std.specs.Prelude.{◌≡◌, ◌⊎◌, ◌++◌, ◌∷◌, [], ℕ, true, false, List, find, IfErr, IfOk, IsSome, OnOk, Option, Some, None, Result}
+use Rattle.std.specs.Prelude.{◌≡◌, ◌⊎◌, ◌++◌, ◌∷◌, [], ℕ, Bool, true, false, List, find, IfErr, IfOk, OnOk, Option, Some, None, Result}
+use Rattle.std.specs.Option.{option_map_or}
 use Rattle.ckr_events.specs.declared.event.Event.{Event}
 use Rattle.ckr_events.specs.Event.{spelling}
 use Rattle.ckr_desk_memory.specs.EventChanges.{is_of_run, without_first}
 use Rattle.ckr_desk_memory.specs.Plans.{told_by}
+use Rattle.ckr_desk_memory.specs.Preparation.{needs_room}
 use Rattle.ckr_desk_memory.specs.View.{RunningStepView, jobs_of, running_of}
 use Rattle.ckr_meaning.specs.EffectiveJob.{OwnedStep}
 use Rattle.ckr_meaning.specs.StepRun.{StepStart}
@@ -140,9 +142,13 @@ abbrev pub IsTried : Reply → Type 0
 IsTried (Checkpointed job step code id) = IsTriedCode code
 IsTried _ = ⊥
 
--- there is no memory only where the turn tells an event or tries a checkpoint
+-- whether it tells an event that needs memory: one that submits a run, starts or ends a step, ends a run or keeps an entry
+abbrev pub needs_some : Option Event → Bool
+needs_some event = option_map_or needs_room event false
+
+-- there is no memory only where the turn tells such an event or tries a checkpoint
 abbrev pub TakesBy : Reply → Option Event → DeskError → Type 0
-TakesBy reply event NoMemory = IsSome event ⊎ IsTried reply
+TakesBy reply event NoMemory = (needs_some event ≡ true) ⊎ IsTried reply
 TakesBy reply event _ = Unit {0}
 
 -- the desk is trusted, and this is what the turn comes to

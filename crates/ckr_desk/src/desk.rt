@@ -17,6 +17,7 @@ ghost use Rattle.ckr_desk.specs.Soundness.{IsTrusted, KeepsWithin};
 ghost use Rattle.ckr_desk.specs.State.{IsOpen, disk_of, layout_of, tables_in_memory};
 
 use crate::DeskError;
+use crate::event_bytes::EventBytes;
 use crate::preparation::Ready;
 use ckr_desk_memory::Jobs;
 use ckr_desk_store::Store;
@@ -35,6 +36,7 @@ pub struct Desk<D: Disk> {
     pub(crate) alloc: Global,
     pub(crate) store: Store<D>,
     pub(crate) jobs: Jobs,
+    pub(crate) event_bytes: EventBytes,
 }
 
 impl<D: Disk> Model for Desk<D> {
@@ -110,9 +112,10 @@ impl<D: Disk> Desk<D> {
         ensures cause { IfErr result (NotEntered D.faults self.old self.new) }
     {
         let _layout = self.store.layout();
-        let Ready { bytes, prepared } = ready;
+        let Ready { spelled, prepared } = ready;
         self.store.sync()?;
-        self.store.append(&bytes)?;
+        let bytes = self.event_bytes.of(event, &spelled);
+        self.store.append(bytes)?;
         self.jobs.keep(event, deck, prepared);
         Ok(())
     }

@@ -58,10 +58,10 @@ fn records_of(bytes: u32) -> u32
 }
 
 /// Puts the bytes of a record behind the others.
-fn put(found: &mut Vec<u8>, record: &[u8]) -> Result<(), NoMemory>
-    ensures { OnOk result (found.new.items ≡ found.old.items ++ record.now) }
+fn put(found: &mut Vec<u8>, bytes: &[u8]) -> Result<(), NoMemory>
+    ensures { OnOk result (found.new.items ≡ found.old.items ++ bytes.now) }
 {
-    found.extend_from_slice(record)?;
+    found.extend_from_slice(bytes)?;
     Ok(())
 }
 

@@ -6,6 +6,7 @@ mod data_set;
 mod desk;
 mod entries;
 mod error;
+mod event_bytes;
 mod opening;
 mod plan;
 mod preparation;

@@ -23,6 +23,7 @@ ghost use Rattle.ckr_desk.specs.Soundness.{AllSound, HasKept, IsTrusted, desk_op
 ghost use Rattle.ckr_desk.specs.State.{AreKept, opened_of};
 
 use crate::entries::check_entries;
+use crate::event_bytes::EventBytes;
 use crate::{Desk, OpenError, Opening};
 use ckr_base::Rec;
 use ckr_desk_memory::Jobs;
@@ -172,6 +173,7 @@ struct Found {
     end: u32,
     /// The last event of the book.
     last: Option<Event>,
+    event_bytes: EventBytes,
 }
 
 /// Reads the disk. It begins with a sync.
@@ -199,11 +201,13 @@ fn read_disk<D: Disk>(alloc: Global, disk: &mut D) -> Result<Found, OpenError>
         last,
     } = read_jobs(alloc, disk, &layout)?;
     jobs.open()?;
+    let event_bytes = EventBytes::new(alloc)?;
     Ok(Found {
         layout,
         jobs,
         end: place,
         last,
+        event_bytes,
     })
 }
 
@@ -249,11 +253,17 @@ impl<D: Disk> Desk<D> {
                     jobs,
                     end,
                     last,
+                    event_bytes,
                 },
             ) => {
                 let store = Store::open(disk, layout, end);
                 Ok(Read {
-                    desk: Desk { alloc, store, jobs },
+                    desk: Desk {
+                        alloc,
+                        store,
+                        jobs,
+                        event_bytes,
+                    },
                     last,
                 })
             }

@@ -8,17 +8,18 @@ ghost use Rattle.ckr_points_tables.specs.Invariant.{MaySubmit};
 ghost use Rattle.ckr_desk.specs.Calls.{HasSameJobs};
 ghost use Rattle.ckr_desk.specs.Preparation.{IsReady, IsReadyFor, NotReady, NotReadyFor};
 
+use crate::event_bytes::spelled_deck;
 use crate::{Desk, DeskError};
 use ckr_desk_memory::{Prepared, may_count};
 use ckr_desk_turn::Plan;
-use ckr_events::{Event, encode};
+use ckr_events::Event;
 use ckr_jcl::Job;
 use ckr_outside::Disk;
 
-/// An event that may be told: its bytes, and the memory for the jobs to go on by it.
+/// An event that may be told: its bytes, where it submits a deck, and the memory for the jobs to go on by it.
 #[derive(Drop)]
 pub(crate) struct Ready {
-    pub bytes: Vec<u8>,
+    pub spelled: Option<Vec<u8>>,
     pub prepared: Prepared,
 }
 
@@ -26,8 +27,8 @@ impl<D: Disk> Desk<D> {
     /// Makes an event ready to be told: spells it, and takes the memory for it. A deck is given exactly where the event is Submitted and its
     /// cards are a deck, and it is that deck. What the jobs are and the disk stay as they are.
     ///
-    /// `NoMemory`, also where a count of rewrites is at its end. `BookFull`: exactly where the event needs more than the room of the
-    /// book, and there was memory to spell it (this project's profile).
+    /// `NoMemory`: only where the event needs some, or a count of rewrites is at its end. `BookFull`: exactly where the event needs more than the
+    /// room of the book, and there was memory to spell it (this project's profile).
     pub(crate) fn make_ready(
         &mut self,
         event: &Event,
@@ -45,14 +46,14 @@ impl<D: Disk> Desk<D> {
         if !may_count(self.jobs.tables(), event) {
             return Err(DeskError::NoMemory);
         }
-        let bytes = encode(self.alloc, event)?;
-        let need = bytes.len() as u32 + 6;
+        let spelled = spelled_deck(self.alloc, event)?;
+        let need = self.event_bytes.of(event, &spelled).len() as u32 + 6;
         let room = self.store.room();
         if room < need {
             return Err(DeskError::BookFull { need, room });
         }
         let prepared = self.jobs.prepare(event, deck)?;
-        Ok(Ready { bytes, prepared })
+        Ok(Ready { spelled, prepared })
     }
 
     /// Makes ready what a plan tells, if it tells an event. The errors are those of `make_ready`.

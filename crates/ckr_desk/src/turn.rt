@@ -17,9 +17,10 @@ impl<D: Disk> Desk<D> {
     /// One turn of an initiator, from 1 to the layout's number of them: one event of the desk, one unit of a running step, or one checkpoint
     /// of it (IBM GC28-6708; the order of what comes first is this project's profile).
     ///
-    /// `NoMemory`: on a trusted disk only where the turn tells an event or tries a checkpoint. `BookFull`: exactly where the event of the turn needs more than the
-    /// room of the book, and there was memory. Nothing has changed after these two: a unit is looked at before it is done. `DiskFault`: only
-    /// where the disk's faults rose in this call; then the desk has stopped. `Stopped`: exactly where it had stopped before.
+    /// `NoMemory`: on a trusted disk only where the turn starts or ends a step, ends a run or tries a checkpoint; a unit that works on finds its memory there, also one
+    /// that rewrites a record. `BookFull`: exactly where the event of the turn needs more than the room of the book, and there was memory. Nothing has changed
+    /// after these two: a unit is looked at before it is done. `DiskFault`: only where the disk's faults rose in this call; then the desk has stopped. `Stopped`:
+    /// exactly where it had stopped before.
     pub fn turn(&mut self, turn: Turn) -> Result<Reply, DeskError>
         requires initiator { IsTurnOf (layout_of self.old) turn }
         requires code { IsAnyCode turn.fail }

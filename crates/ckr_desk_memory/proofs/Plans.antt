@@ -48,7 +48,7 @@ use Rattle.ckr_desk_turn.proofs.Queue.Select.{selection_is_next}
 use Rattle.ckr_desk_turn.proofs.RunEnd.{refused-inside}
 use Rattle.ckr_volumes.specs.declared.layout.Layout.{Layout}
 use Rattle.ckr_desk_memory.specs.Invariant.{IsAcceptedRow, IsAnyPlaceOf, IsPlacedRow}
-use Rattle.ckr_desk_memory.specs.Plans.{next_step, row_for, IsKnown, Tells}
+use Rattle.ckr_desk_memory.specs.Plans.{next_step, row_for, IsKnown, NeedsRoom}
 use Rattle.ckr_desk_memory.specs.View.{JobsView, RunningStepView, jobs_of, lengths_of_row, running_of}
 use Rattle.ckr_desk_memory.proofs.Starts.Steps.{row-among, step-among}
 use Rattle.ckr_desk_memory.proofs.FoundRuns.{first-step, found-run, known-is, known-row, lengths-known, running-found}
@@ -323,23 +323,23 @@ on-run tables numbered initiator job is =
 pub on-none : (tables : TablesModel) (initiator : ℕ) → None ≡ run_on initiator tables → run_on_initiator tables initiator ≡ None
 on-none tables initiator is = none-numbered (run_on_initiator tables initiator) (is ∙ ap (option_map (λ (row : RunRow). row.number)) (on-same initiator tables.runs))
 
--- ---- what tells an event
+-- ---- what needs memory
 
-either-tells : (r : Result (List Made) Refusal) (f : Refusal → Plan) (g : List Made → Plan) → ((x : Refusal) → Tells (f x)) → ((x : List Made) → Tells (g x))
-    → Tells (elim r as (λ _. Plan) [ Err refusal ↦ f refusal | Ok items ↦ g items ])
-either-tells (Err refusal) f g first second = first refusal
-either-tells (Ok items) f g first second = second items
+either-needs : (r : Result (List Made) Refusal) (f : Refusal → Plan) (g : List Made → Plan) → ((x : Refusal) → NeedsRoom (f x)) → ((x : List Made) → NeedsRoom (g x))
+    → NeedsRoom (elim r as (λ _. Plan) [ Err refusal ↦ f refusal | Ok items ↦ g items ])
+either-needs (Err refusal) f g first second = first refusal
+either-needs (Ok items) f g first second = second items
 
-some-tells : (o : Option OwnedStep) (none : Plan) (f : OwnedStep → Plan) → Tells none → ((x : OwnedStep) → Tells (f x)) → Tells (elim o as (λ _. Plan) [ None ↦ none | Some x ↦ f x ])
-some-tells None none f first second = first
-some-tells (Some x) none f first second = second x
+some-needs : (o : Option OwnedStep) (none : Plan) (f : OwnedStep → Plan) → NeedsRoom none → ((x : OwnedStep) → NeedsRoom (f x)) → NeedsRoom (elim o as (λ _. Plan) [ None ↦ none | Some x ↦ f x ])
+some-needs None none f first second = first
+some-needs (Some x) none f first second = second x
 
--- a run that is between two steps always does
-pub between-tells : (layout : Layout) (jobs : TurnJobs) (row : RunRow) (number : ℕ) → Tells (between_plan layout jobs row number)
-between-tells layout jobs row number =
-    some-tells (step_of_run row number) _ _ tt (λ owned. either-tells (allocation_of layout row owned number jobs.tables) _ _ (λ refusal. tt) (λ items. tt))
+-- the turn of a run that is between two steps always does
+pub between-needs : (layout : Layout) (jobs : TurnJobs) (row : RunRow) (number : ℕ) → NeedsRoom (between_plan layout jobs row number)
+between-needs layout jobs row number =
+    some-needs (step_of_run row number) _ _ refl (λ owned. either-needs (allocation_of layout row owned number jobs.tables) _ _ (λ refusal. refl) (λ items. refl))
 
 -- so it does where there is no memory
-pub if-tells : {T E : Type 0} (result : Result T E) (plan : Plan) → Tells plan → IfErr result (λ _. Tells plan)
-if-tells (Ok x) plan tells = tt
-if-tells (Err error) plan tells = tells
+pub if-needs : {T E : Type 0} (result : Result T E) (plan : Plan) → NeedsRoom plan → IfErr result (λ _. NeedsRoom plan)
+if-needs (Ok x) plan needs = tt
+if-needs (Err error) plan needs = needs

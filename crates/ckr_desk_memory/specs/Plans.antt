@@ -21,8 +21,7 @@ use Rattle.ckr_steps.specs.Units.{due_of}
 use Rattle.ckr_steps.specs.Writes.{grown}
 use Rattle.ckr_points_decks.specs.DeckLimits.{FitsAllocation, IsWithinLimits}
 use Rattle.ckr_points_tables.specs.declared.run_table.RunTable.{RunTable}
-use Rattle.ckr_points_tables.specs.Invariant.{HasRoom}
-use Rattle.ckr_points_tables.specs.View.{RoomyTables, facts_in, facts_of, row_with}
+use Rattle.ckr_points_tables.specs.View.{facts_in, facts_of, row_with}
 use Rattle.ckr_desk_turn.specs.declared.plan.Plan.{Plan}
 use Rattle.ckr_desk_turn.specs.declared.plan.Plan.TheVariants.{Rest, Tell, Work, Pass, Take}
 use Rattle.ckr_desk_turn.specs.declared.reply.How.{How}
@@ -35,6 +34,7 @@ use Rattle.ckr_desk_turn.specs.Spelling.{IsCode, IsSpelled}
 use Rattle.ckr_volumes.specs.declared.layout.Layout.{Layout}
 use Rattle.ckr_desk_memory.specs.declared.run_code.CodePlace.{CodePlace}
 use Rattle.ckr_desk_memory.specs.EventChanges.{is_of_run}
+use Rattle.ckr_desk_memory.specs.Preparation.{needs_room}
 use Rattle.ckr_desk_memory.specs.View.{JobsView, RunningStepView}
 
 -- a run by its number and by what the tables keep of it; a plan asks no more of its line
@@ -98,14 +98,6 @@ IsSpelledPlan (Work job) = Unit {0}
 IsSpelledPlan (Pass job reply) = IsToldReply reply
 IsSpelledPlan (Take job) = Unit {0}
 
--- there is room for it
-abbrev pub HasPlanRoom : RoomyTables → Plan → Type 0
-HasPlanRoom tables (Rest reply) = Unit {0}
-HasPlanRoom tables (Tell reply event) = HasRoom tables event
-HasPlanRoom tables (Work job) = Unit {0}
-HasPlanRoom tables (Pass job reply) = Unit {0}
-HasPlanRoom tables (Take job) = Unit {0}
-
 -- the running step of a run is there, and this is due
 abbrev pub IsDue : JobsView → ℕ → NextDue → Type 0
 IsDue jobs job due = (on : RunningStepView) × (find (is_of_run job) jobs.running ≡ Some on) × (due_of on.step.parm on.step.state ≡ due)
@@ -118,13 +110,13 @@ HasDue jobs (Work job) = IsDue jobs job OneUnit
 HasDue jobs (Pass job reply) = IsDue jobs job Checkpoint
 HasDue jobs (Take job) = IsDue jobs job Checkpoint
 
--- it tells an event
-abbrev pub Tells : Plan → Type 0
-Tells (Rest reply) = ⊥
-Tells (Tell reply event) = Unit {0}
-Tells (Work job) = ⊥
-Tells (Pass job reply) = ⊥
-Tells (Take job) = ⊥
+-- it tells an event that needs memory
+abbrev pub NeedsRoom : Plan → Type 0
+NeedsRoom (Rest reply) = ⊥
+NeedsRoom (Tell reply event) = needs_room event ≡ true
+NeedsRoom (Work job) = ⊥
+NeedsRoom (Pass job reply) = ⊥
+NeedsRoom (Take job) = ⊥
 
 -- whether a run ends by a code
 abbrev pub is_coded : Ending → Bool

@@ -5,7 +5,7 @@ ghost use Rattle.std.specs.Option.{option_map_or};
 ghost use Rattle.ckr_events.specs.declared.event.Event.TheVariants.{StepEnded as StepEndedEvent};
 ghost use Rattle.ckr_desk_memory.specs.Invariant.{AreJobs, IsAcceptedRow};
 ghost use Rattle.ckr_desk_memory.specs.OwnSteps.{AreLeft, HoldTheirOwn, PlanCommits, PlanFollows, PlanLeaves};
-ghost use Rattle.ckr_desk_memory.specs.Plans.{next_step, row_for, HasCounts, HasDd, HasPlanRoom, HasDue, IsAnyCode, IsKnown, IsSpelledPlan, Tells};
+ghost use Rattle.ckr_desk_memory.specs.Plans.{next_step, row_for, HasCounts, HasDd, HasDue, IsAnyCode, IsKnown, IsSpelledPlan, NeedsRoom};
 ghost use Rattle.ckr_desk_memory.specs.View.{jobs_of, lengths_of_row};
 ghost use Rattle.ckr_meaning.specs.EffectiveJob.{OwnedStep};
 ghost use Rattle.ckr_points.specs.Follows.{own_step};
@@ -119,11 +119,10 @@ fn cancelled(run: u32, table: &RunTable) -> Plan
 }
 
 impl Jobs {
-    /// What a turn of an initiator comes to. Nothing has changed behind it, in either case, and there is room for the event that it
-    /// tells, if it tells one. A system failure comes first, then a code that is given, which is at most 4095 (IBM GC28-6708; the
-    /// order is this project's profile).
+    /// What a turn of an initiator comes to. Nothing has changed behind it, in either case. A system failure comes first, then a code that is
+    /// given, which is at most 4095 (IBM GC28-6708; the order is this project's profile).
     ///
-    /// `NoMemory`: there may be no room for the event, or none to find the place of what a step makes.
+    /// `NoMemory`: there may be none to find the place of what a step makes.
     pub fn plan(&mut self, layout: &Layout, turn: Turn) -> Result<Plan, NoMemory>
         requires few { length layout.now.volumes.items ≤ 32 }
         requires turn { IsTurnOf layout.now turn }
@@ -135,7 +134,6 @@ impl Jobs {
         ensures running { self.new.running ≡ self.old.running }
         ensures failed { self.new.failed ≡ self.old.failed }
         ensures jobs { AreJobs layout.now self.new }
-        ensures room { IfOk result (HasPlanRoom self.new.tables) }
 
         // What it tells follows, whatever the disk reads, where the jobs hold their own, and what it commits is its step's own.
         ensures own { HoldTheirOwn self.old → AreLeft self.old → IfOk result (PlanFollows layout.now self.new.tables.desk) }
@@ -145,29 +143,13 @@ impl Jobs {
         // A unit or a checkpoint is due where the turn comes to one.
         ensures due { IfOk result (HasDue self.new) }
 
-        // A turn that tells no event takes no memory.
-        ensures tells { IfErr result (λ _. Tells (plan_of layout.now (jobs_of self.old) turn)) }
+        // A turn that tells no event, or one that needs no memory, takes none.
+        ensures takes { IfErr result (λ _. NeedsRoom (plan_of layout.now (jobs_of self.old) turn)) }
     {
-        let plan = self.planned(layout, turn)?;
-        self.room_for(&plan)?;
-        Ok(plan)
+        self.planned(layout, turn)
     }
 
-    /// Takes the memory for the event of a plan, if it tells one.
-    fn room_for(&mut self, plan: &Plan) -> Result<(), NoMemory>
-        ensures tables { self.new.tables.desk ≡ self.old.tables.desk }
-        ensures running { self.new.running ≡ self.old.running }
-        ensures failed { self.new.failed ≡ self.old.failed }
-        ensures room { OnOk result (HasPlanRoom self.new.tables plan.now) }
-        ensures tells { IfErr result (λ _. Tells plan.now) }
-    {
-        match plan {
-            Plan::Tell { event, .. } => self.tables.make_room(event),
-            Plan::Rest(_) | Plan::Work { .. } | Plan::Pass { .. } | Plan::Take { .. } => Ok(()),
-        }
-    }
-
-    /// What a turn comes to, before there is room for its event.
+    /// What a turn comes to, by the run of its initiator.
     fn planned(&mut self, layout: &Layout, turn: Turn) -> Result<Plan, NoMemory>
         requires few { length layout.now.volumes.items ≤ 32 }
         requires code { IsAnyCode turn.fail }
@@ -178,7 +160,7 @@ impl Jobs {
         ensures tables { self.new.tables.desk ≡ self.old.tables.desk }
         ensures running { self.new.running ≡ self.old.running }
         ensures failed { self.new.failed ≡ self.old.failed }
-        ensures tells { IfErr result (λ _. Tells (plan_of layout.now (jobs_of self.old) turn)) }
+        ensures takes { IfErr result (λ _. NeedsRoom (plan_of layout.now (jobs_of self.old) turn)) }
     {
         match self.tables.on_initiator(turn.initiator) {
             Some(job) => self.run_plan(layout, job, turn.fail),
@@ -196,7 +178,7 @@ impl Jobs {
         ensures tables { self.new.tables.desk ≡ self.old.tables.desk }
         ensures running { self.new.running ≡ self.old.running }
         ensures failed { self.new.failed ≡ self.old.failed }
-        ensures tells { (row : RunRow) → run_of self.old.tables.desk job ≡ Some row → IfErr result (λ _. Tells (run_plan layout.now (jobs_of self.old) fail row)) }
+        ensures takes { (row : RunRow) → run_of self.old.tables.desk job ≡ Some row → IfErr result (λ _. NeedsRoom (run_plan layout.now (jobs_of self.old) fail row)) }
     {
         match self.next_step(job, fail) {
             Some(number) => self.between(layout, job, number),
@@ -296,7 +278,7 @@ impl Jobs {
         ensures tables { self.new.tables.desk ≡ self.old.tables.desk }
         ensures running { self.new.running ≡ self.old.running }
         ensures failed { self.new.failed ≡ self.old.failed }
-        ensures tells { (row : RunRow) → IfErr result (λ _. Tells (between_plan layout.now (jobs_of self.old) row number)) }
+        ensures takes { (row : RunRow) → IfErr result (λ _. NeedsRoom (between_plan layout.now (jobs_of self.old) row number)) }
     {
         let Some(name) = self.step_name(job, number) else {
             return Ok(Plan::Tell {

@@ -6,3 +6,4 @@ pub mod Events
 pub mod Units
 pub mod Entries
 pub mod Checkpoints
+pub mod Counts

@@ -14,3 +14,4 @@ pub mod Forecast
 pub mod Entries
 pub mod EntryRefusal
 pub mod Checkpoints
+pub mod Counts

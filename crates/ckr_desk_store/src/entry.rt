@@ -82,8 +82,12 @@ impl<D: Disk> Store<D> {
         if let Some(fault) = self.fault {
             return Err(StoreError::Stopped { fault });
         }
+        self.synced = false;
         match write_for_good(&mut self.disk, &self.layout, step, set, entry) {
-            Ok(place) => Ok(place),
+            Ok(place) => {
+                self.synced = true;
+                Ok(place)
+            }
             Err(_) => {
                 self.fault = Some(self.disk.faults());
                 Err(StoreError::DiskFault)

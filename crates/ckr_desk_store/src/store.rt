@@ -28,16 +28,18 @@ pub struct Store<D: Disk> {
     pub(crate) layout: Layout,
     book: Book,
     pub(crate) fault: Option<u64>,
+    /// Nothing was written since the last sync.
+    pub(crate) synced: bool,
 }
 
 impl<D: Disk> Model for Store<D> {
-    ghost use Rattle.ckr_desk_store.specs.State.{StoreView, IsSound};
+    ghost use Rattle.ckr_desk_store.specs.State.{StoreView, IsStored};
 
     ghost Value = { StoreView D };
 
     ghost view = { λ s. record { disk = s.disk; layout = s.layout; book = s.book; fault = s.fault } };
 
-    ghost invariant = { λ s. IsSound D.content D.may_leave D.size (record { disk = s.disk; layout = s.layout; book = s.book; fault = s.fault }) };
+    ghost invariant = { λ s. IsStored D.content D.may_leave D.size (record { disk = s.disk; layout = s.layout; book = s.book; fault = s.fault }) s.synced };
 }
 
 impl<D: Disk> Store<D> {
@@ -63,6 +65,7 @@ impl<D: Disk> Store<D> {
             layout,
             book,
             fault: None,
+            synced: true,
         }
     }
 
@@ -127,8 +130,12 @@ impl<D: Disk> Store<D> {
         if let Some(fault) = self.fault {
             return Err(StoreError::Stopped { fault });
         }
+        self.synced = false;
         match self.book.append(&mut self.disk, event) {
-            Ok(()) => Ok(()),
+            Ok(()) => {
+                self.synced = true;
+                Ok(())
+            }
             Err(BookError::Full { need, room }) => Err(StoreError::BookFull { need, room }),
             Err(BookError::Fault) => {
                 self.fault = Some(self.disk.faults());
@@ -138,7 +145,7 @@ impl<D: Disk> Store<D> {
         }
     }
 
-    /// After an `Ok` a stop leaves what a read gives.
+    /// After an `Ok` a stop leaves what a read gives. The disk is synced only where something was written since it was synced last.
     ///
     /// `DiskFault`: only where the disk's faults rose in this call; then the store has stopped. `Stopped`: exactly where
     /// it had stopped before.
@@ -160,8 +167,14 @@ impl<D: Disk> Store<D> {
         if let Some(fault) = self.fault {
             return Err(StoreError::Stopped { fault });
         }
+        if self.synced {
+            return Ok(());
+        }
         match self.disk.sync() {
-            Ok(()) => Ok(()),
+            Ok(()) => {
+                self.synced = true;
+                Ok(())
+            }
             Err(_) => {
                 self.fault = Some(self.disk.faults());
                 Err(StoreError::DiskFault)
@@ -245,6 +258,7 @@ impl<D: Disk> Store<D> {
         if let Some(fault) = self.fault {
             return Err(StoreError::Stopped { fault });
         }
+        self.synced = false;
         match write_record(&mut self.disk, &self.layout, set, place, image) {
             Ok(()) => Ok(()),
             Err(_) => {

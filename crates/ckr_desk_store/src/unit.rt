@@ -97,6 +97,7 @@ impl<D: Disk> Store<D> {
         if let Some(fault) = self.fault {
             return Err(StoreError::Stopped { fault });
         }
+        self.synced = false;
         match step.work(&mut self.disk, &self.layout, sets, ahead) {
             Ok(worked) => Ok(worked),
             Err(_) => {

@@ -1,6 +1,7 @@
 -- What a stop leaves within a call that keeps an event.
-use Rattle.std.proofs.Common.{◌≡◌, ◌&&◌, ℕ, List, IsTrue, Option, None, true, ⊎_elim, inl, inr, ap, subst, sym, ◌∙◌}
-use Rattle.ckr_book.specs.Book.{IsBeforeOrAfter}
+use Rattle.std.proofs.Common.{◌≡◌, ◌≤◌, ◌<◌, ◌&&◌, ℕ, List, IsTrue, Option, None, Some, true, ⊎_elim, inl, inr, ap, subst, sym, refl, arith, ◌∙◌}
+use Rattle.ckr_base.proofs.Options.{some-not-none}
+use Rattle.ckr_book.specs.Book.{IsBeforeOrAfter, room_of}
 use Rattle.ckr_events.specs.declared.event.Event.{Event}
 use Rattle.ckr_events.specs.Event.{spelling}
 use Rattle.ckr_desk_memory.specs.Model.RewriteCounts.{may_count}
@@ -15,12 +16,17 @@ use Rattle.ckr_points.specs.Restart.{after_event}
 use Rattle.ckr_points.specs.Rows.{TablesModel}
 use Rattle.ckr_desk_refines.specs.Moves.{HasSameRecords}
 use Rattle.ckr_desk_store.proofs.Soundness.{opens_now}
+use Rattle.ckr_desk_store.specs.Answers.{AppendCause, DiskCause}
 use Rattle.ckr_desk_store.specs.OpenImages.{event_records, Opens}
 use Rattle.ckr_desk_store.specs.State.{IsSound, StoreView}
+use Rattle.ckr_desk_store.specs.declared.error.StoreError.{StoreError}
+use Rattle.ckr_desk_store.specs.declared.error.StoreError.TheVariants as OfStore
 use Rattle.ckr_desk_turn.specs.Desk.{failed_behind}
 use Rattle.ckr_volumes.specs.declared.layout.Layout.{Layout}
 use Rattle.ckr_volumes.specs.Layouts.{is_laid_out}
 use Rattle.ckr_desk.proofs.Images.Records.{records-stay}
+use Rattle.ckr_desk.proofs.Openings.Answers.{rose_before}
+use Rattle.ckr_desk.specs.Errors.{of_store}
 use Rattle.ckr_desk.specs.declared.error.DeskError.{DeskError}
 use Rattle.ckr_desk.specs.declared.error.DeskError.TheVariants.{NoMemory, DiskFault, BookFull, Stopped}
 use Rattle.ckr_desk.specs.Calls.{HasGoneOn, HasSameJobs, IsLeftBy, IsSame, NotEntered, NotKept, may_keep}
@@ -141,10 +147,33 @@ module _ {D : Type 0} (event : Event) (deck : Option Job) (store : StoreView D) 
 
 -- an event that isn't ready isn't kept
 pub unready-cause : {D : Type 0} (event : Event) (deck : Option Job) (faults : D → ℕ) (old new : DeskView D) (error : DeskError) → NotReady event old new error → NotKept faults event deck old new error
-unready-cause event deck faults old new NoMemory cause = cause
+unready-cause event deck faults old new NoMemory cause = cause.0
 unready-cause event deck faults old new DiskFault cause = absurd cause
 unready-cause event deck faults old new (BookFull need room) cause = cause
 unready-cause event deck faults old new (Stopped fault) cause = absurd cause
+
+-- an event that is ready isn't kept where the disk doesn't sync, or doesn't take its bytes
+pub unsynced : {D : Type 0} (faults : D → ℕ) (old : DeskView D) (mid : StoreView D) (error : StoreError) → old.store.fault ≡ None → DiskCause faults old.store mid error → NotEntered faults old (record { store = mid; jobs = old.jobs }) (of_store error)
+unsynced faults old mid OfStore.DiskFault is_open cause = (cause, record { tables = refl; running = refl; failed = refl })
+unsynced faults old mid (OfStore.BookFull need room) is_open cause = absurd cause
+unsynced faults old mid (OfStore.Stopped fault) is_open cause = absurd (some-not-none fault (sym cause.0 ∙ is_open))
+
+pub unappended : {D : Type 0} (faults : D → ℕ) (old : DeskView D) (mid new : StoreView D) (needed : ℕ) (error : StoreError) → old.store.fault ≡ None → mid ≡ record old.store { disk = mid.disk } → faults old.store.disk ≤ faults mid.disk
+    → needed ≤ room_of old.store.book → AppendCause faults needed mid new error → NotEntered faults old (record { store = new; jobs = old.jobs }) (of_store error)
+unappended {D} faults old mid new needed OfStore.DiskFault is_open kept later fits cause = (
+  (
+    rose_before (faults old.store.disk) (faults mid.disk) (faults new.disk) later cause.0,
+    cause.1 ∙ ap (λ (s : StoreView D). let its : StoreView D = record s { disk = new.disk; fault = Some (faults new.disk) } in its) kept,
+  ),
+  record { tables = refl; running = refl; failed = refl },
+)
+unappended {D} faults old mid new needed (OfStore.BookFull need room) is_open kept later fits cause =
+    let same : room_of mid.book ≡ room_of old.store.book = ap (λ (s : StoreView D). room_of s.book) kept in
+    let told : need ≡ needed = cause.0 in
+    let left : room ≡ room_of mid.book = cause.1 in
+    let less : room < need = cause.2 in
+    omega (arith, same, told, left, less, fits)
+unappended {D} faults old mid new needed (OfStore.Stopped fault) is_open kept later fits cause = absurd (some-not-none fault (sym cause.0 ∙ ap (λ (s : StoreView D). s.fault) kept ∙ is_open))
 
 -- where the disk is the same, so is what a stop leaves
 pub same-left : {D : Type 0} (moment : D → ℕ) (left_since : D → ℕ → List ℕ → Type 0) (old new : StoreView D) (P : List ℕ → Type 0) → new ≡ old → EachSince moment left_since old.disk old.disk P → EachSince moment left_since old.disk new.disk P

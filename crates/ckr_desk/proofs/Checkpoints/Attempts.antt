@@ -3,7 +3,6 @@ use Rattle.std.proofs.Common.{◌≡◌, ◌<◌, ℕ, false, true, find, ap, sy
 use Rattle.std.specs.Option.{is_some}
 use Rattle.ckr_base.proofs.Numbers.{equal-true}
 use Rattle.ckr_base.proofs.Sequences.{find-passes}
-use Rattle.ckr_book.specs.Book.{room_of}
 use Rattle.ckr_desk_memory.specs.declared.checkpoint.Checkpoint.{Checkpoint}
 use Rattle.ckr_desk_memory.specs.Checkpoints.{HasEntrySpace, IsCheckpointOf}
 use Rattle.ckr_desk_memory.specs.Entries.{next_entry, next_id, step_now}
@@ -25,7 +24,7 @@ use Rattle.ckr_desk.specs.Checkpoint.{IsMade, IsReplyWith, IsUnfit, NotAttempted
 use Rattle.ckr_desk.specs.declared.error.DeskError.{DeskError}
 use Rattle.ckr_desk.specs.declared.error.DeskError.TheVariants.{NoMemory, DiskFault, BookFull, Stopped}
 use Rattle.ckr_desk.specs.Preparation.{NotReady}
-use Rattle.ckr_desk.specs.State.{DeskView, need_of}
+use Rattle.ckr_desk.specs.State.{DeskView}
 
 -- ---- the running step of the run, in memory
 
@@ -105,7 +104,7 @@ module _ {D : Type 0} (run : ℕ) (old new : DeskView D) where
 
   -- its event isn't ready
   pub not-ready : (made : Checkpoint) → IsMade run old made → (error : DeskError) → NotReady made.event old new error → NotAttempted run old new error
-  not-ready made its NoMemory not = not
+  not-ready made its NoMemory not = not.0
   not-ready made its DiskFault not = absurd not
   not-ready made its (BookFull need room) not = (
     record {

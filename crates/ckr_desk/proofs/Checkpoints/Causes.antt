@@ -1,19 +1,17 @@
 -- Why a checkpoint that is due wasn't worked out, and what stays then.
-use Rattle.std.proofs.Common.{◌≡◌, ◌<◌, ℕ, Bool, true, false, List, find, refl, ap, sym, ◌∙◌, subst, inr, arith, Some}
+use Rattle.std.proofs.Common.{◌≡◌, ◌<◌, ℕ, Bool, true, false, List, sym, subst, inr, arith, Some}
 use Rattle.ckr_base.proofs.Bools.{bool-cases}
 use Rattle.ckr_book.specs.Book.{room_of}
-use Rattle.ckr_events.specs.declared.event.Event.{Event}
-use Rattle.ckr_desk_memory.specs.EventChanges.{is_of_run}
 use Rattle.ckr_desk_memory.specs.Plans.{HasDue}
 use Rattle.ckr_desk_memory.specs.View.{RunningStepView, jobs_of}
 use Rattle.ckr_desk_refines.proofs.Checkpoints.Turn.{taken-by}
 use Rattle.ckr_desk_turn.specs.Checkpoints.{checkpoint_fits, checkpoint_try}
 use Rattle.ckr_desk_turn.specs.declared.plan.Plan.TheVariants.{Take}
 use Rattle.ckr_desk_turn.specs.declared.reply.Turn.{Turn}
-use Rattle.ckr_desk_turn.specs.Desk.{DeskModel, TurnDone}
+use Rattle.ckr_desk_turn.specs.Desk.{TurnDone}
 use Rattle.ckr_desk_turn.specs.Invariant.{IsTurnOf}
 use Rattle.ckr_desk_turn.specs.Plans.{plan_of}
-use Rattle.ckr_desk_turn.specs.Taken.{served_by, taken_of}
+use Rattle.ckr_desk_turn.specs.Taken.{taken_of}
 use Rattle.ckr_desk.proofs.Checkpoints.Event.{event-turn}
 use Rattle.ckr_desk.proofs.Checkpoints.Steps.{its_pair, to-take, turned-take}
 use Rattle.ckr_desk.proofs.Turns.Preparation.{same-unchanged}

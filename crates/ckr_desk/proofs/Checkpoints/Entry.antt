@@ -1,15 +1,13 @@
 -- The entry of a checkpoint is written, on a trusted disk: what the images of a stop have then.
-use Rattle.std.proofs.Common.{◌≡◌, ◌++◌, ℕ, true, List, length, refl, ap, sym, ◌∙◌, subst, Option, Some}
+use Rattle.std.proofs.Common.{◌≡◌, ℕ, List, length, refl, ap, sym, ◌∙◌, subst, Some}
 use Rattle.ckr_base.proofs.Numbers.{equal-true}
 use Rattle.ckr_base.proofs.Sequences.{find-passes}
 use Rattle.ckr_desk_memory.specs.EventChanges.{is_of_run}
 use Rattle.ckr_entry.specs.Entry.{IsEntry, spelling as bytes_of}
-use Rattle.ckr_events.specs.declared.event.Event.{Event}
 use Rattle.ckr_desk_memory.specs.declared.checkpoint.Checkpoint.{Checkpoint}
 use Rattle.ckr_desk_memory.specs.Checkpoints.{IsCheckpointOf}
 use Rattle.ckr_desk_memory.specs.View.{RunningStepView, jobs_of}
 use Rattle.ckr_library.specs.Catalog.{records_of}
-use Rattle.ckr_library.specs.NameMaps.{entry_at}
 use Rattle.ckr_library.specs.declared.sets.DataSet.{DataSet}
 use Rattle.ckr_meaning.specs.EffectiveJob.{OwnedStep}
 use Rattle.ckr_meaning.specs.StepRun.{StepStart}
@@ -39,7 +37,6 @@ use Rattle.ckr_desk.proofs.Checkpoints.Steps.{far, its_pair, own-is, row-there, 
 use Rattle.ckr_desk.proofs.Images.Entries.{within-now}
 use Rattle.ckr_desk.proofs.Images.Soundness.{kept-before}
 use Rattle.ckr_desk.specs.Checkpoint.{HasWrittenEntry, IsLeftByEntry, IsMade}
-use Rattle.ckr_desk.specs.Rewrite.{OpensSame}
 use Rattle.ckr_desk.specs.Soundness.{HasKept, IsTrusted, office_on, state_of}
 use Rattle.ckr_desk.specs.State.{DeskView}
 

@@ -1,5 +1,5 @@
 -- The entry of a checkpoint that is made for a running step has a spelling, on a trusted disk.
-use Rattle.std.proofs.Common.{◌≡◌, ◌≤◌, ◌&&◌, ℕ, zero, suc, Bool, true, false, List, refl, ap, sym, ◌∙◌, subst, Option, Some, arith}
+use Rattle.std.proofs.Common.{◌≡◌, ◌≤◌, ◌&&◌, ℕ, zero, suc, Bool, true, false, List, ap, sym, ◌∙◌, subst, Some, arith}
 use Rattle.std.specs.Prelude.{not, ◌==◌}
 use Rattle.std.proofs.lemmas.Bool.{false≢true}
 use Rattle.ckr_base.specs.declared.programs.NextDue.TheVariants.{Checkpoint as CheckpointDue}
@@ -11,7 +11,6 @@ use Rattle.ckr_desk_memory.specs.Entries.{entry_end, entry_to, fits_in, step_now
 use Rattle.ckr_desk_memory.specs.EntryModels.{IsAsFar}
 use Rattle.ckr_desk_memory.specs.View.{JobsView, RunningStepView}
 use Rattle.ckr_jcl.specs.declared.deck.Parm.{Parm}
-use Rattle.ckr_library.specs.NameMaps.{Name}
 use Rattle.ckr_meaning.specs.EffectiveJob.{OwnedStep}
 use Rattle.ckr_meaning.specs.StepRun.{StepStart, case_at}
 use Rattle.ckr_points.specs.Rows.{RunRow}

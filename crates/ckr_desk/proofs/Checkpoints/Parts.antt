@@ -1,11 +1,11 @@
 -- What accepted decks and sound events give to the next entry of a running step, on a trusted disk.
-use Rattle.std.proofs.Common.{◌≡◌, ◌<◌, arith, ◌&&◌, ◌^◌, ℕ, Bool, true, false, List, length, find, refl, ap, sym, ◌∙◌, Option, None, Some}
+use Rattle.std.proofs.Common.{◌≡◌, ◌<◌, arith, ◌&&◌, ◌^◌, ℕ, true, false, List, length, find, Option, None, Some}
 use Rattle.std.specs.Option.{is_none, option_map_or}
 use Rattle.std.specs.Prelude.{nat_le, nat_lt}
 use Rattle.std.proofs.lemmas.Bool.{and_from, false≢true}
 use Rattle.std.proofs.lemmas.Bool.Decides.{nat_tests}
 use Rattle.ckr_desk_turn.proofs.PassedLists.{passed-few}
-use Rattle.ckr_base.proofs.Bools.{and-first, and-second}
+use Rattle.ckr_base.proofs.Bools.{and-second}
 use Rattle.ckr_base.specs.Grammar.{is_check_id}
 use Rattle.ckr_desk_memory.specs.Entries.{is_written}
 use Rattle.ckr_desk_memory.specs.EntryModels.{HasCheckRecords}

@@ -1,6 +1,5 @@
 -- What a turn has done that takes a checkpoint, or why it wasn't taken.
-use Rattle.std.proofs.Common.{◌≡◌, ◌++◌, ◌<◌, ℕ, List, [], ◌∷◌, ap, sym, ◌∙◌, subst, Option, None, Some, Result, Ok, Err}
-use Rattle.ckr_book.specs.Book.{room_of}
+use Rattle.std.proofs.Common.{◌≡◌, ◌++◌, ℕ, List, [], ◌∷◌, None, Ok, Err}
 use Rattle.ckr_events.specs.Event.{spelling}
 use Rattle.ckr_desk_memory.specs.declared.checkpoint.Checkpoint.{Checkpoint}
 use Rattle.ckr_desk_memory.specs.View.{jobs_of}
@@ -14,17 +13,17 @@ use Rattle.ckr_desk_turn.specs.declared.reply.Turn.{Turn}
 use Rattle.ckr_desk_turn.specs.Invariant.{IsTurnOf}
 use Rattle.ckr_desk_turn.specs.Plans.{plan_of}
 use Rattle.ckr_desk.proofs.Checkpoints.Entry.{entry-kept}
-use Rattle.ckr_desk.proofs.Checkpoints.Event.{event-turn, taken-events, taken-fits, taken-kept-within, taken-state, taken-trusted}
+use Rattle.ckr_desk.proofs.Checkpoints.Event.{taken-events, taken-fits, taken-kept-within, taken-state, taken-trusted}
 use Rattle.ckr_desk.specs.Calls.{HasGoneOn, IsLeftBy, NotEntered}
 use Rattle.ckr_desk.specs.Checkpoint.{HasWrittenEntry, IsLeftByEntry, IsMade}
 use Rattle.ckr_desk.specs.declared.error.DeskError.{DeskError}
 use Rattle.ckr_desk.specs.declared.error.DeskError.TheVariants.{NoMemory, DiskFault, BookFull, Stopped}
-use Rattle.ckr_desk.specs.Requests.{FailsBy, came_by, spelled}
+use Rattle.ckr_desk.specs.Requests.{spelled}
 use Rattle.ckr_desk.specs.Rewrite.{IsFault}
 use Rattle.ckr_desk.specs.Soundness.{HasKept, IsTrusted, state_of}
 use Rattle.ckr_desk.specs.State.{DeskView, RoomyDesk}
 use Rattle.ckr_desk.specs.Turn.{event_of_turn, reply_of}
-use Rattle.ckr_desk.specs.Units.{HasTurned, TakesBy}
+use Rattle.ckr_desk.specs.Units.{HasTurned}
 
 module _ {D : Type 0} (told : Type 0) (content : D → List ℕ) (may_leave : D → List ℕ → Type 0) (moment : D → ℕ) (left_since : D → ℕ → List ℕ → Type 0) (size : D → ℕ)
     (old : DeskView D) (trusted : IsTrusted told content may_leave old) (turn : Turn) (its : IsTurnOf old.store.layout turn) (run : ℕ) (planned : plan_of old.store.layout (jobs_of old.jobs) turn ≡ Take run)

@@ -1,7 +1,6 @@
 -- The running step whose checkpoint a turn takes, on a trusted disk.
-use Rattle.std.proofs.Common.{◌≡◌, ℕ, suc, List, find, refl, ap, sym, ◌∙◌, Option, Some}
+use Rattle.std.proofs.Common.{◌≡◌, ℕ, suc, List, find, ap, sym, ◌∙◌, Option, Some}
 use Rattle.std.proofs.lemmas.Option.{same_Some}
-use Rattle.ckr_events.specs.declared.event.Event.{Event}
 use Rattle.ckr_desk_memory.specs.Entries.{next_id, step_now}
 use Rattle.ckr_desk_memory.specs.EntryModels.{IsAsFar}
 use Rattle.ckr_desk_memory.specs.EventChanges.{is_of_run}
@@ -9,7 +8,7 @@ use Rattle.ckr_desk_memory.specs.View.{RunningStepView, jobs_of}
 use Rattle.ckr_meaning.specs.EffectiveJob.{OwnedStep}
 use Rattle.ckr_meaning.specs.StepRun.{StepStart}
 use Rattle.ckr_points.specs.Office.{Office}
-use Rattle.ckr_points.specs.Restart.{place_of, step_in}
+use Rattle.ckr_points.specs.Restart.{step_in}
 use Rattle.ckr_points.specs.Rows.{RunRow, TablesModel, run_of, step_of_run}
 use Rattle.ckr_desk_refines.proofs.Checkpoints.Progress.{as-far}
 use Rattle.ckr_desk_refines.proofs.Checkpoints.Turn.{its-step, pair}
@@ -24,12 +23,11 @@ use Rattle.ckr_desk_turn.specs.declared.reply.Chkpt.{Chkpt}
 use Rattle.ckr_desk_turn.specs.declared.reply.Reply.{Reply}
 use Rattle.ckr_desk_turn.specs.declared.reply.Reply.TheVariants.{Checkpointed}
 use Rattle.ckr_desk_turn.specs.declared.reply.Turn.{Turn}
-use Rattle.ckr_desk_turn.specs.Desk.{DeskModel, TurnDone}
+use Rattle.ckr_desk_turn.specs.Desk.{DeskModel}
 use Rattle.ckr_desk_turn.specs.Invariant.{IsTurnOf}
 use Rattle.ckr_desk_turn.specs.Plans.{plan_of}
 use Rattle.ckr_desk_turn.specs.Taken.{taken_of}
 use Rattle.ckr_desk_turn.specs.Turns.{turn_of}
-use Rattle.ckr_desk_turn.specs.Units.{StepProgress}
 use Rattle.ckr_volumes.specs.declared.layout.Layout.{Layout}
 use Rattle.ckr_desk.proofs.Turns.Events.{plans-desk, turned}
 use Rattle.ckr_desk.specs.Checkpoint.{IsReplyWith}

@@ -1,9 +1,8 @@
 -- A turn whose checkpoint doesn't fit, on a trusted disk: nothing is written, and the step goes on.
-use Rattle.std.proofs.Common.{◌≡◌, ◌&&◌, ℕ, Bool, true, false, List, find, refl, ap, sym, ◌∙◌, subst, Option, None, Some, Ok}
+use Rattle.std.proofs.Common.{◌≡◌, ◌&&◌, ℕ, Bool, true, false, List, refl, ap, sym, ◌∙◌, None, Some, Ok}
 use Rattle.std.specs.Prelude.{if◌then◌else◌}
 use Rattle.std.specs.Option.{is_some}
 use Rattle.std.proofs.lemmas.Bool.{true≢false}
-use Rattle.ckr_base.proofs.Bools.{bool-cases}
 use Rattle.ckr_entry.specs.Parts.{Entry}
 use Rattle.ckr_desk_memory.proofs.EntryModels.{next-same}
 use Rattle.ckr_desk_memory.specs.Entries.{is_written, next_entry}
@@ -22,7 +21,6 @@ use Rattle.ckr_desk_turn.specs.Checkpoints as model
 use Rattle.ckr_desk_turn.specs.declared.plan.Plan.TheVariants.{Take}
 use Rattle.ckr_desk_turn.specs.declared.reply.Chkpt.TheVariants.{NotWritten}
 use Rattle.ckr_desk_turn.specs.declared.reply.Reply.{Reply}
-use Rattle.ckr_desk_turn.specs.declared.reply.Reply.TheVariants.{Checkpointed}
 use Rattle.ckr_desk_turn.specs.declared.reply.Turn.{Turn}
 use Rattle.ckr_desk_turn.specs.Desk.{DeskModel, TurnDone}
 use Rattle.ckr_desk_turn.specs.Invariant.{IsTurnOf}

@@ -2,7 +2,6 @@
 use Rattle.std.proofs.Common.{◌≡◌, ◌≤◌, ◌+◌, ◌++◌, ℕ, suc, Bool, true, false, cond, IsTrue, List, [], ◌∷◌, find, slice_get, refl, ap, sym, ◌∙◌, subst, append-nil, Option, None, Some, option_and_then, Ok, arith}
 use Rattle.std.specs.Option.{option_map_or}
 use Rattle.ckr_base.proofs.Numbers.{nat_le-from, nat_le-true}
-use Rattle.ckr_base.proofs.Options.{some-not-none}
 use Rattle.ckr_base.proofs.Sequences.{find-holds}
 use Rattle.ckr_events.specs.declared.event.Event.{Event}
 use Rattle.ckr_events.specs.declared.event.Event.TheVariants.{Checkpointed, Selected, Submitted}
@@ -14,28 +13,25 @@ use Rattle.ckr_desk_refines.proofs.Entries.Events.{has-next}
 use Rattle.ckr_desk_refines.proofs.Entries.Images.{moved-kept}
 use Rattle.ckr_desk_refines.proofs.Entries.SoundEvents.{sound-entries, sound-refused}
 use Rattle.ckr_desk_refines.proofs.Entries.There.{has-then}
-use Rattle.ckr_desk_refines.specs.Entries.{AreWithin, HasEntries, HasNewEntry, OnlyCheckSetsKeep, SameKept, takes_checkpoint}
+use Rattle.ckr_desk_refines.specs.Entries.{AreWithin, HasEntries, HasNewEntry, OnlyCheckSetsKeep, SameKept}
 use Rattle.ckr_desk_refines.specs.EntryRefusal.{AreInEffect, IsInEffect, effect_fault, entry_refusal, first_fault, run_fault}
 use Rattle.ckr_desk_refines.specs.Moves.{HasSameRecords}
 use Rattle.ckr_desk_store.specs.OpenImages.{event_records}
 use Rattle.ckr_desk_turn.proofs.Runs.Lists.{events-kept}
 use Rattle.ckr_desk_turn.specs.Desk.{DeskModel}
-use Rattle.ckr_desk_turn.specs.RunEvents.{AreRunEvents, IsRunEvent}
+use Rattle.ckr_desk_turn.specs.RunEvents.{AreRunEvents}
 use Rattle.ckr_jcl.specs.declared.deck.Job.{Job}
 use Rattle.ckr_library.specs.Catalog.{ends_within, records_of}
 use Rattle.ckr_library.specs.NameMaps.{entry_at, same_name}
 use Rattle.ckr_library.specs.declared.sets.Kept.{Kept}
 use Rattle.ckr_library.proofs.Named.{each-at}
-use Rattle.ckr_points.specs.Events.{AreSound, AreSoundFrom, IsNext}
-use Rattle.ckr_points.specs.Office.{Office, is_holder, no_office, office, office_after, office_from}
-use Rattle.ckr_points.specs.Restart.{Decked, after_event}
+use Rattle.ckr_points.specs.Events.{AreSound}
+use Rattle.ckr_points.specs.Office.{Office, is_holder, office, office_after}
+use Rattle.ckr_points.specs.Restart.{after_event}
 use Rattle.ckr_points.specs.Rows.{EffectPoint, KeptEntry, RunRow, TableSet, TablesModel, no_tables, run_of}
 use Rattle.ckr_points.specs.Soundness.{AreLaidOut}
-use Rattle.ckr_points_invariant.proofs.EventLaws.{no_events}
 use Rattle.ckr_points_invariant.proofs.EventList.{office-more}
-use Rattle.ckr_points_invariant.proofs.SoundEvents.{kept-next}
 use Rattle.ckr_points_invariant.specs.Continuations.{NoneGoesBack, goes_back}
-use Rattle.ckr_points_invariant.specs.Invariant.{IsKept}
 use Rattle.ckr_volumes.specs.Layouts.{StandsIn}
 use Rattle.ckr_volumes.specs.declared.layout.Layout.{Layout}
 use Rattle.ckr_desk.proofs.Images.NextEvent.{events-more, opens-grown, replayed-so, sound-grown}

@@ -1,5 +1,5 @@
 -- A book that was read, and the entries behind it.
-use Rattle.std.proofs.Common.{◌≡◌, ◌-◌, ℕ, List, ap, sym, ◌∙◌, Option, None, Ok}
+use Rattle.std.proofs.Common.{◌≡◌, ◌-◌, ℕ, List, ap, ◌∙◌, Option, None}
 use Rattle.ckr_outside.specs.Disk.{part}
 use Rattle.ckr_points.specs.Rows.{TablesModel}
 use Rattle.ckr_volumes.specs.declared.layout.Layout.{Layout}

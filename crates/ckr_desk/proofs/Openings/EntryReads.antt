@@ -1,5 +1,5 @@
 -- The entries that opening reads: their bytes, the points that they are, and the first one that is refused.
-use Rattle.std.proofs.Common.{◌≡◌, ◌≤◌, ◌+◌, ◌++◌, ◌&&◌, ℕ, zero, suc, Bool, true, false, cond, List, [], ◌∷◌, drop, take, length, slice_get, map, refl, ap, sym, ◌∙◌, subst, append-nil, Option, None, Some, arith}
+use Rattle.std.proofs.Common.{◌≡◌, ◌≤◌, ◌+◌, ◌++◌, ◌&&◌, ℕ, zero, suc, Bool, true, List, [], ◌∷◌, drop, take, length, slice_get, map, refl, ap, sym, ◌∙◌, append-nil, Option, None, Some, arith}
 use Rattle.std.specs.List.{cons_option, filter_map, flat_map, list_all, range_with_len}
 use Rattle.std.specs.Option.{is_some, option_map_or}
 use Rattle.std.proofs.lemmas.List.{append_assoc, drop_all, length-map}

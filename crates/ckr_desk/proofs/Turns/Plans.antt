@@ -1,8 +1,8 @@
 -- A turn that is no unit and passes no checkpoint, from the desk as it stood.
-use Rattle.std.proofs.Common.{◌≡◌, ◌++◌, [], ℕ, List, Bool, true, false, refl, ap, sym, ◌∙◌, subst, append-nil, inl, Option, Some, None, Result, Ok, Err, IfOk, IsSome}
+use Rattle.std.proofs.Common.{◌≡◌, ◌≤◌, ◌++◌, [], ℕ, List, Bool, true, false, refl, ap, sym, ◌∙◌, subst, append-nil, inl, inr, Option, Some, None, Result, Ok, Err, IfOk}
 use Rattle.std.proofs.lemmas.Bool.{true≢false}
 use Rattle.ckr_events.specs.declared.event.Event.{Event}
-use Rattle.ckr_desk_memory.specs.Plans.{IsSpelledPlan, Tells}
+use Rattle.ckr_desk_memory.specs.Plans.{IsSpelledPlan, NeedsRoom}
 use Rattle.ckr_desk_memory.specs.View.{jobs_of}
 use Rattle.ckr_desk_turn.specs.Invariant.{IsTurnOf}
 use Rattle.ckr_outside.specs.Disk.{EachSince}
@@ -17,17 +17,18 @@ use Rattle.ckr_desk_turn.specs.Desk.{TurnDone}
 use Rattle.ckr_desk_turn.specs.Plans.{plan_of}
 use Rattle.ckr_desk.proofs.Turns.Preparation.{same-unchanged}
 use Rattle.ckr_desk.proofs.Images.Soundness.{kept-left}
+use Rattle.ckr_desk.proofs.Trust.Counts.{trusted-counted}
 use Rattle.ckr_desk.proofs.Trust.Events.{trusted-behind}
 use Rattle.ckr_desk.proofs.Turns.Events.{behind-turn-so, coming-turn, event-so, image-kept, state-behind, turn-fits-so, turned}
 use Rattle.ckr_desk.specs.declared.error.DeskError.{DeskError}
 use Rattle.ckr_desk.specs.declared.error.DeskError.TheVariants.{NoMemory, DiskFault, BookFull, Stopped}
 use Rattle.ckr_desk.specs.Requests.{FailsBy, IsFull, MayFail, has_room, room_behind, spelled}
 use Rattle.ckr_desk.specs.Calls.{IsSettledBehind}
-use Rattle.ckr_desk.specs.Preparation.{NotReadyFor}
+use Rattle.ckr_desk.specs.Preparation.{MayLack, NotReadyFor}
 use Rattle.ckr_desk.specs.Rewrite.{OpensSame}
 use Rattle.ckr_desk.specs.NoChange.{HasHalted, IsOfDisk, StaysBy}
 use Rattle.ckr_desk.specs.Turn.{behind_turn, event_of_turn, reply_of, turn_fits}
-use Rattle.ckr_desk.specs.Units.{HasGoneBehind, IsLeftBehind, IsPlainPlan, IsPlainTold, NotBehind, TakesBy}
+use Rattle.ckr_desk.specs.Units.{HasGoneBehind, IsLeftBehind, IsPlainPlan, IsPlainTold, NotBehind, TakesBy, needs_some}
 use Rattle.ckr_desk.specs.Soundness.{HasKept, IsTrusted, KeepsWithin, state_of}
 use Rattle.ckr_desk.specs.State.{RoomyDesk, DeskView}
 
@@ -95,7 +96,7 @@ of-disk-stays content may_leave faults old new (Stopped fault) is halted = absur
 pub unready-stays : {D : Type 0} (content : D → List ℕ) (may_leave : D → List ℕ → Type 0) (faults : D → ℕ) (old new : DeskView D) (event : Option Event) (error : DeskError) → NotReadyFor event old new error
     → StaysBy content may_leave faults old new error × MayFail (faults old.store.disk) (faults new.store.disk) old.store.fault error
 unready-stays content may_leave faults old new None error not = absurd not
-unready-stays content may_leave faults old new (Some event) NoMemory not = (same-unchanged content may_leave old new not.jobs not.store, tt)
+unready-stays content may_leave faults old new (Some event) NoMemory not = (same-unchanged content may_leave old new not.0.jobs not.0.store, tt)
 unready-stays content may_leave faults old new (Some event) DiskFault not = absurd not
 unready-stays content may_leave faults old new (Some event) (BookFull need room) not = (same-unchanged content may_leave old new not.3.jobs not.3.store, tt)
 unready-stays content may_leave faults old new (Some event) (Stopped fault) not = absurd not
@@ -215,27 +216,33 @@ module _ {D : Type 0} (told : Type 0) (content : D → List ℕ) (may_leave : D 
   go-unready (Pass job reply) new error is shape rests not = absurd (true≢false rests)
   go-unready (Take job) new error is shape rests not = absurd (true≢false rests)
 
-  -- a plan that tells an event takes memory for it
-  tells-by : (plan : Plan) → plan_of old.store.layout (jobs_of old.jobs) turn ≡ plan → Tells plan → IsSome (event_of_turn state turn)
+  -- a plan that tells an event that needs memory
+  needs-by : (plan : Plan) → plan_of old.store.layout (jobs_of old.jobs) turn ≡ plan → NeedsRoom plan → needs_some (event_of_turn state turn) ≡ true
   unfolding event_of_turn
-  tells-by (Rest reply) is tells = absurd tells
-  tells-by (Tell reply event) is tells = subst IsSome (sym (ap (λ (done : TurnDone). done.event) (turned told content may_leave size old trusted turn its (Tell reply event) is))) refl
-  tells-by (Work job) is tells = absurd tells
-  tells-by (Pass job reply) is tells = absurd tells
-  tells-by (Take job) is tells = absurd tells
+  needs-by (Rest reply) is needs = absurd needs
+  needs-by (Tell reply event) is needs = ap (λ (done : TurnDone). needs_some done.event) (turned told content may_leave size old trusted turn its (Tell reply event) is) ∙ needs
+  needs-by (Work job) is needs = absurd needs
+  needs-by (Pass job reply) is needs = absurd needs
+  needs-by (Take job) is needs = absurd needs
 
-  pub go-tells : Tells (plan_of old.store.layout (jobs_of old.jobs) turn) → IsSome (event_of_turn state turn)
-  go-tells tells = tells-by (plan_of old.store.layout (jobs_of old.jobs) turn) refl tells
+  pub go-needs : NeedsRoom (plan_of old.store.layout (jobs_of old.jobs) turn) → needs_some (event_of_turn state turn) ≡ true
+  go-needs needs = needs-by (plan_of old.store.layout (jobs_of old.jobs) turn) refl needs
 
-  pub unready-takes : (plan : Plan) (new : DeskView D) (error : DeskError) → plan_of old.store.layout (jobs_of old.jobs) turn ≡ plan → NotReadyFor (event_in plan) old new error → TakesBy (reply_of state turn) (event_of_turn state turn) error
-  unready-takes (Rest reply) new error is not = absurd not
-  unready-takes (Tell reply event) new NoMemory is not = inl (tells-by (Tell reply event) is tt)
-  unready-takes (Tell reply event) new DiskFault is not = tt
-  unready-takes (Tell reply event) new (BookFull need room) is not = tt
-  unready-takes (Tell reply event) new (Stopped fault) is not = tt
-  unready-takes (Work job) new error is not = absurd not
-  unready-takes (Pass job reply) new error is not = absurd not
-  unready-takes (Take job) new error is not = absurd not
+  lacks-by : (reply : Reply) (event : Event) → old.store.layout.book ≤ 4294967295 → plan_of old.store.layout (jobs_of old.jobs) turn ≡ Tell reply event → MayLack event old
+      → TakesBy (reply_of state turn) (event_of_turn state turn) NoMemory
+  lacks-by reply event small is (inl needs) = inl (needs-by (Tell reply event) is needs)
+  lacks-by reply event small is (inr off) = absurd (true≢false (sym (trusted-counted told content may_leave old trusted small event) ∙ off))
+
+  pub unready-takes : (plan : Plan) (new : DeskView D) (error : DeskError) → old.store.layout.book ≤ 4294967295 → plan_of old.store.layout (jobs_of old.jobs) turn ≡ plan → NotReadyFor (event_in plan) old new error
+      → TakesBy (reply_of state turn) (event_of_turn state turn) error
+  unready-takes (Rest reply) new error small is not = absurd not
+  unready-takes (Tell reply event) new NoMemory small is not = lacks-by reply event small is not.1
+  unready-takes (Tell reply event) new DiskFault small is not = tt
+  unready-takes (Tell reply event) new (BookFull need room) small is not = tt
+  unready-takes (Tell reply event) new (Stopped fault) small is not = tt
+  unready-takes (Work job) new error small is not = absurd not
+  unready-takes (Pass job reply) new error small is not = absurd not
+  unready-takes (Take job) new error small is not = absurd not
 
   pub go-cause : (plan : Plan) (new : DeskView D) (error : DeskError) → plan_of old.store.layout (jobs_of old.jobs) turn ≡ plan → IsSpelledPlan plan → is_work plan ≡ false
       → NotBehind faults plan old new error → FailsBy state.room (event_of_turn state turn) error

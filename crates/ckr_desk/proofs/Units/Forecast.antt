@@ -1,9 +1,12 @@
 -- What a unit is going to tell, on a trusted disk: where the book has no room for it, it has none for what the turn tells.
-use Rattle.std.proofs.Common.{◌≡◌, ◌<◌, ℕ, List, length, refl, ap, sym, ◌∙◌, subst, arith, Option, Some, None, IsSome}
+use Rattle.std.proofs.Common.{◌≡◌, ◌<◌, ℕ, List, length, true, false, refl, ap, sym, ◌∙◌, subst, arith, Option, Some, None}
+use Rattle.std.proofs.lemmas.Bool.{false≢true}
 use Rattle.ckr_book.specs.Book.{room_of}
 use Rattle.ckr_events.specs.declared.event.Event.{Event}
+use Rattle.ckr_events.specs.declared.event.Event.TheVariants.{Ended, Rewritten}
 use Rattle.ckr_events.specs.Event.{spelling}
 use Rattle.ckr_desk_memory.specs.Plans.{behind_unit, told_by}
+use Rattle.ckr_desk_memory.specs.Preparation.{needs_room}
 use Rattle.ckr_desk_memory.specs.View.{RunningStepView, jobs_of, running_of}
 use Rattle.ckr_meaning.specs.EffectiveJob.{OwnedStep}
 use Rattle.ckr_points.specs.Office.{Office}
@@ -21,13 +24,28 @@ use Rattle.ckr_volumes.specs.declared.layout.Layout.{Layout}
 use Rattle.ckr_desk_refines.proofs.Units.Forecasts.{BothTell, as-many, both-tell, foretold-so}
 use Rattle.ckr_desk_refines.proofs.Units.RunningStep.{pair-found}
 use Rattle.ckr_desk_refines.proofs.Units.StepLists.{IsPair}
-use Rattle.ckr_desk_refines.specs.Forecast.{IsTold}
+use Rattle.ckr_desk_refines.specs.Forecast.{IsTold, is_end_of, is_like, is_rewrite_of}
 use Rattle.ckr_desk.proofs.Units.Turn.{at-desk, row-within, turned}
 use Rattle.ckr_desk.specs.Requests.{IsFull}
 use Rattle.ckr_desk.specs.Preparation.{IsLookedAhead}
 use Rattle.ckr_desk.specs.Soundness.{IsTrusted, office_on, state_of}
 use Rattle.ckr_desk.specs.State.{DeskView, need_of}
 use Rattle.ckr_desk.specs.Turn.{event_of_turn}
+use Rattle.ckr_desk.specs.Units.{needs_some}
+
+-- an event that is like one that was foretold needs memory where that one does: an end of a run, and no rewrite
+rewrite-needs : (run : ℕ) (event : Event) → is_rewrite_of run event ≡ true → needs_room event ≡ false
+rewrite-needs run (Rewritten job taken writes lengths place image) is = refl
+rewrite-needs run _ is = absurd (false≢true is)
+
+end-needs : (run : ℕ) (event : Event) → is_end_of run event ≡ true → needs_room event ≡ true
+end-needs run (Ended job ending) is = refl
+end-needs run _ is = absurd (false≢true is)
+
+like-needs : (foretold event : Event) → is_like foretold event ≡ true → needs_room event ≡ needs_room foretold
+like-needs (Rewritten job taken writes lengths place image) event is = rewrite-needs job event is
+like-needs (Ended job ending) event is = end-needs job event is
+like-needs _ event is = absurd (false≢true is)
 
 module _ {D : Type 0} (told : Type 0) (content : D → List ℕ) (may_leave : D → List ℕ → Type 0) (moment : D → ℕ) (left_since : D → ℕ → List ℕ → Type 0) (size : D → ℕ)
     (old : DeskView D) (trusted : IsTrusted told content may_leave old) (turn : Turn) (run : ℕ)
@@ -86,13 +104,15 @@ module _ {D : Type 0} (told : Type 0) (content : D → List ℕ) (may_leave : D 
       subst (λ (done : TurnDone). IsTold event done.event) (sym (turned told content may_leave moment left_since size old trusted turn run planned))
       (foretold-so layout old.jobs image desk turn run on unit.worked trusted.stands worked-at looked.of.found looked.of.there looked-out row within.2 event is)
 
-  -- where the unit tells an event, the turn tells one
-  pub told-ahead : (event : Event) → event_in plan ≡ Some event → IsSome (event_of_turn (state_of content old) turn)
-  told-ahead event is = by (told-with on) refl (subst (BothTell (told-with on)) is both)
+  -- where the unit tells an event that needs memory, the turn tells one
+  pub needs-ahead : (event : Event) → event_in plan ≡ Some event → needs_room event ≡ true → needs_some (event_of_turn (state_of content old) turn) ≡ true
+  needs-ahead event is needs = by (told-with on) refl (subst (BothTell (told-with on)) is both)
     where
-      by : (before : Option Event) → told-with on ≡ before → BothTell before (Some event) → IsSome (event_of_turn (state_of content old) turn)
+      by : (before : Option Event) → told-with on ≡ before → BothTell before (Some event) → needs_some (event_of_turn (state_of content old) turn) ≡ true
       by None at tells = absurd tells
-      by (Some foretold) at tells = subst IsSome (sym (told-before foretold at).is) refl
+      by (Some foretold) at tells =
+          let its : IsTold foretold (event_of_turn (state_of content old) turn) = told-before foretold at in
+          ap needs_some its.is ∙ like-needs foretold its.told its.so.like ∙ sym (like-needs foretold event tells.like) ∙ needs
 
   -- the book has no room for what the unit tells, so it has none for what the turn tells, which needs as much
   pub full-ahead : (event : Event) → event_in plan ≡ Some event → (need room : ℕ) → need ≡ need_of event → room ≡ room_of old.store.book → room_of old.store.book < need_of event

@@ -1,9 +1,12 @@
 -- A turn that works, once its unit was looked at: what is ready for it, and why it wasn't done.
-use Rattle.std.proofs.Common.{◌≡◌, ◌<◌, ℕ, List, [], ◌∷◌, find, refl, ap, sym, ◌∙◌, subst, arith, Option, Some, None, Result, Ok, Err, IsErrAnd, IsSome, inl}
+use Rattle.std.proofs.Common.{◌≡◌, ◌≤◌, ◌<◌, ℕ, List, [], ◌∷◌, find, refl, ap, sym, ◌∙◌, subst, arith, Option, Some, None, Result, Ok, Err, IsErrAnd, true, false, ◌⊎◌, inl, inr}
+use Rattle.std.proofs.lemmas.Bool.{true≢false}
 use Rattle.std.proofs.lemmas.Option.{same_Some}
 use Rattle.ckr_book.specs.Book.{room_of}
 use Rattle.ckr_events.specs.declared.event.Event.{Event}
 use Rattle.ckr_desk_memory.specs.EventChanges.{is_of_run}
+use Rattle.ckr_desk_memory.specs.Model.RewriteCounts.{may_count}
+use Rattle.ckr_desk_memory.specs.Preparation.{needs_room}
 use Rattle.ckr_desk_memory.specs.View.{RunningStepView, running_of}
 use Rattle.ckr_desk_memory.specs.OwnSteps.{PlanCommits, PlanFollows, PlanIsOf}
 use Rattle.ckr_desk_memory.specs.Plans.{IsSpelledPlan, IsUnitPlan, behind_unit, told_by}
@@ -24,20 +27,21 @@ use Rattle.ckr_desk_turn.specs.declared.plan.Plan.{Plan}
 use Rattle.ckr_desk_turn.specs.declared.plan.Plan.TheVariants.{Work}
 use Rattle.ckr_desk_turn.specs.declared.reply.Turn.{Turn}
 use Rattle.ckr_volumes.specs.declared.layout.Layout.{Layout}
-use Rattle.ckr_desk.proofs.Units.Forecast.{full-ahead, told-ahead}
+use Rattle.ckr_desk.proofs.Units.Forecast.{full-ahead, needs-ahead}
 use Rattle.ckr_desk.proofs.Turns.Preparation.{read-unchanged}
+use Rattle.ckr_desk.proofs.Trust.Counts.{trusted-counted}
 use Rattle.ckr_desk.proofs.Trust.Sameness.{IsAsBefore, state-same}
 use Rattle.ckr_desk.specs.Requests.{FailsBy, IsFull}
 use Rattle.ckr_desk.specs.Calls.{HasSameJobs}
 use Rattle.ckr_desk.specs.declared.error.DeskError.{DeskError}
 use Rattle.ckr_desk.specs.declared.error.DeskError.TheVariants.{NoMemory, DiskFault, BookFull, Stopped}
 use Rattle.ckr_desk.specs.declared.preparation.Ready.{Ready}
-use Rattle.ckr_desk.specs.Preparation.{IsAhead, IsLookedAhead, IsReadyFor, IsWorkedOut, NotLooked, NotReadyFor}
+use Rattle.ckr_desk.specs.Preparation.{HasEventAhead, IsAhead, IsLookedAhead, IsReadyFor, IsWorkedOut, MayLack, NotLooked, NotReadyFor}
 use Rattle.ckr_desk.specs.Soundness.{state_of}
 use Rattle.ckr_desk.specs.State.{DeskView, RoomyDesk, need_of}
 use Rattle.ckr_desk.specs.NoChange.{StaysBy}
 use Rattle.ckr_desk.specs.Turn.{event_of_turn, reply_of}
-use Rattle.ckr_desk.specs.Units.{IsPlanned, IsToldOf, TakesBy}
+use Rattle.ckr_desk.specs.Units.{IsPlanned, IsToldOf, TakesBy, needs_some}
 
 -- an error that is handed on is the answer
 pub err-is : {T E : Type 0} (r : Result T E) (error : E) → IsErrAnd r (λ e. e ≡ error) → r ≡ Err error
@@ -92,7 +96,13 @@ module _ {D : Type 0} (told : Type 0) (content : D → List ℕ) (faults : D →
 
   by-event : (event : Option Event) → event_in plan ≡ event → (error : DeskError) → NotReadyFor event mid new error → NotLooked told content faults run old new error
   by-event None is error not = absurd not
-  by-event (Some event) is NoMemory not = (stored, record { unit = unit; plan = plan; looked = looked; event = event; is = is })
+  by-event (Some event) is NoMemory not = (
+    stored,
+    record {
+      ahead = record { unit = unit; plan = plan; looked = looked; event = event; is = is };
+      lacks = subst (λ (t : TablesModel). (needs_room event ≡ true) ⊎ (may_count event t.sets ≡ false)) (sym jobs.tables) not.1;
+    },
+  )
   by-event (Some event) is DiskFault not = absurd not
   by-event (Some event) is (BookFull need room) not =
       let there_is : room_of new.store.book ≡ room_of mid.store.book = ap (λ (s : StoreView D). room_of s.book) store in
@@ -117,15 +127,20 @@ module _ {D : Type 0} (told : Type 0) (content : D → List ℕ) (may_leave : D 
       (full-ahead told content may_leave moment left_since size new later.trusted turn run later.planned not.1.ahead.unit not.1.ahead.plan not.1.ahead.looked not.1.ahead.event not.1.ahead.is need room not.1.needed not.1.left not.1.full)
   look-cause turn p later is (Stopped fault) not = absurd not
 
-  -- there is no memory only for what the turn tells
-  pub look-takes : (turn : Turn) → IsPlanned told content may_leave new turn (Work run) → IsAsBefore told content may_leave old new → (error : DeskError) → NotLooked told content faults run old new error
-      → TakesBy (reply_of (state_of content old) turn) (event_of_turn (state_of content old) turn) error
-  look-takes turn later is NoMemory not =
-      inl (subst (λ (s : RoomyDesk). IsSome (event_of_turn s turn)) (state-same told content may_leave old new is)
-      (told-ahead told content may_leave moment left_since size new later.trusted turn run later.planned not.1.unit not.1.plan not.1.looked not.1.event not.1.is))
-  look-takes turn later is DiskFault not = tt
-  look-takes turn later is (BookFull need room) not = tt
-  look-takes turn later is (Stopped fault) not = tt
+  -- there is no memory only for what the turn tells, where that needs some
+  lacks-ahead : (turn : Turn) → IsPlanned told content may_leave new turn (Work run) → new.store.layout.book ≤ 4294967295 → (ahead : HasEventAhead told content run new) → MayLack ahead.event new
+      → needs_some (event_of_turn (state_of content new) turn) ≡ true
+  lacks-ahead turn later small ahead (inl needs) =
+      needs-ahead told content may_leave moment left_since size new later.trusted turn run later.planned ahead.unit ahead.plan ahead.looked ahead.event ahead.is needs
+  lacks-ahead turn later small ahead (inr off) = absurd (true≢false (sym (trusted-counted told content may_leave new later.trusted small ahead.event) ∙ off))
+
+  pub look-takes : (turn : Turn) → IsPlanned told content may_leave new turn (Work run) → IsAsBefore told content may_leave old new → new.store.layout.book ≤ 4294967295
+      → (error : DeskError) → NotLooked told content faults run old new error → TakesBy (reply_of (state_of content old) turn) (event_of_turn (state_of content old) turn) error
+  look-takes turn later is small NoMemory not =
+      inl (subst (λ (s : RoomyDesk). needs_some (event_of_turn s turn) ≡ true) (state-same told content may_leave old new is) (lacks-ahead turn later small not.1.ahead not.1.lacks))
+  look-takes turn later is small DiskFault not = tt
+  look-takes turn later is small (BookFull need room) not = tt
+  look-takes turn later is small (Stopped fault) not = tt
 
   pub look-stays : HasSameJobs old new → OnlyReads content may_leave moment left_since old.store.disk new.store.disk → (error : DeskError) → NotLooked told content faults run old new error → StaysBy content may_leave faults old new error
   look-stays jobs reads NoMemory not = read-unchanged content may_leave old new moment left_since jobs not.0 reads

@@ -1,4 +1,4 @@
-use Rattle.std.proofs.Common.{◌≡◌, ◌≤◌, ◌∙◌, IfErr, IfSome, Option, arith, ap, subst, sym, None, Some}
+use Rattle.std.proofs.Common.{◌∙◌, IfErr, IfSome, Option, arith, ap, subst, sym, None}
 use Rattle.std.specs.Option.{is_some}
 use Rattle.ckr_desk_memory.specs.declared.checkpoint.Checkpoint.{Checkpoint}
 use Rattle.ckr_desk_memory.specs.Checkpoints.{IsCheckpointOf}

@@ -13,6 +13,7 @@ use Rattle.ckr_desk.proofs.Turns.Checkpoints.{turned-past}
 use Rattle.ckr_desk.proofs.Turns.Preparation.{as-before, came-of-disk, planned-before, same-unchanged, turned-before, turned-not}
 use Rattle.ckr_desk.proofs.Turns.Plans.{behind-takes, go-after, go-cause, go-fits, go-kept, go-may-fail, go-of-disk, go-reply, go-told, go-trusted, go-unready, if-ok, of-disk-stays, plain-told, rests-so, unready-stays, unready-takes}
 use Rattle.ckr_desk.proofs.Calls.Stops.{now-left, opens-so, same-left}
+use Rattle.ckr_desk.proofs.Trust.Counts.{book-short}
 use Rattle.ckr_desk.proofs.Units.Preparation.{err-is}
 use Rattle.ckr_desk.specs.Requests.{MayFail, TellsNumbers}
 use Rattle.ckr_desk.specs.Rewrite.{OpensSame}
@@ -72,7 +73,7 @@ returns-in_err-ready-in_default g c =
           subst (HasTurned d.told d.content d.may_leave d.moment d.left_since d.size turn now mid) (sym is)
           (turned-not d.told d.content d.may_leave d.moment d.left_since d.size now mid before sized since turn p.trusted error
           (go-unready d.told d.content d.may_leave d.moment d.left_since d.size d.faults now p.trusted turn p.its plan mid error p.planned shape rests cause)
-          (unready-takes d.told d.content d.may_leave d.moment d.left_since d.size d.faults now p.trusted turn p.its plan mid error p.planned cause));
+          (unready-takes d.told d.content d.may_leave d.moment d.left_since d.size d.faults now p.trusted turn p.its plan mid error (book-short now.store.layout (d.size now.store.disk) sound.header) p.planned cause));
       spelled = subst (λ r. IfOk r IsToldReply) (sym is) tt;
       is_open = subst (λ r. OnOk r (mid.store.fault ≡ None)) (sym is) tt;
       layout = ap (λ (s : StoreView g.row.D.Denot). s.layout) store;

@@ -1,6 +1,6 @@
 use Rattle.std.proofs.Common.{◌≡◌, ◌≤◌, ◌∙◌, arith, ap, subst, sym, None, IfErr, IfOk, OnOk}
 use Rattle.ckr_book.specs.Book.{room_of}
-use Rattle.ckr_desk_memory.specs.Plans.{HasDue, IsToldReply}
+use Rattle.ckr_desk_memory.specs.Plans.{IsToldReply}
 use Rattle.ckr_desk_store.specs.State.{IsSound, StoreView}
 use Rattle.ckr_desk_turn.specs.declared.plan.Plan.TheVariants.{Take}
 use Rattle.ckr_desk.proofs.Calls.FullBooks.{of-disk-numbers}
@@ -8,7 +8,6 @@ use Rattle.ckr_desk.proofs.Calls.Requests.{if-err, if-err-both}
 use Rattle.ckr_desk.proofs.Calls.Stops.{now-left, same-left}
 use Rattle.ckr_desk.proofs.Checkpoints.Causes.{attempt-cause, attempt-numbers, attempt-stays, attempt-takes}
 use Rattle.ckr_desk.proofs.Checkpoints.Unfit.{turned-unfit}
-use Rattle.ckr_desk.proofs.Trust.Sameness.{IsAsBefore}
 use Rattle.ckr_desk.proofs.Turns.Plans.{of-disk-stays}
 use Rattle.ckr_desk.proofs.Turns.Preparation.{as-before, planned-before, same-unchanged, turned-before, turned-not}
 use Rattle.ckr_desk.proofs.Units.Preparation.{err-is}

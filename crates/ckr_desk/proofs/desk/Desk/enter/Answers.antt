@@ -1,6 +1,7 @@
-use Rattle.std.proofs.Common.{ap, refl, subst, sym, ◌∙◌}
+use Rattle.std.proofs.Common.{◌≤◌, ◌+◌, IfErr, length, ap, refl, subst, sym, ◌∙◌}
 use Rattle.std.proofs.lemmas.Bool.{and_from}
-use Rattle.ckr_book.specs.Book.{IsBeforeOrAfter}
+use Rattle.ckr_book.specs.Book.{IsBeforeOrAfter, room_of}
+use Rattle.ckr_events.specs.Event.{spelling}
 use Rattle.ckr_desk_memory.proofs.Invariant.{numbered-behind}
 use Rattle.ckr_desk_memory.proofs.RewriteCounts.{counted-may}
 use Rattle.ckr_desk_memory.specs.Model.RewriteCounts.{may_count}
@@ -14,8 +15,10 @@ use Rattle.ckr_volumes.specs.declared.layout.Layout.{Layout}
 use Rattle.ckr_volumes.specs.Records.{records_on}
 use Rattle.ckr_desk.proofs.Images.Records.{records-stay}
 use Rattle.ckr_desk.proofs.Layouts.{append-layout, failed-layout, kept-stay}
-use Rattle.ckr_desk.proofs.Calls.Stops.{appended-store}
-use Rattle.ckr_desk.specs.Calls.{may_follow}
+use Rattle.ckr_desk.proofs.Calls.Stops.{appended-store, unappended, unsynced}
+use Rattle.ckr_desk.proofs.Units.Preparation.{err-is}
+use Rattle.ckr_desk.specs.Errors.{of_store}
+use Rattle.ckr_desk.specs.Calls.{NotEntered, may_follow}
 use Rattle.ckr_desk.specs.State.{AreKept, DeskView}
 use Rattle.ckr_desk.proofs.desk.Desk.enter.Goals as goal
 
@@ -46,7 +49,7 @@ returns-in_err-append-clause-left g c =
     (appended-store d.told d.content d.may_leave d.moment d.left_since d.size c.args.event.now c.args.deck (record { store = old.store; jobs = old.jobs }) mid c.append.new.self
     c.in_ok-sync.ensures.kept (and_from _ _ follows counts) c.layout-layout.ensures.sound.laid
     (c.sync.ensures.any_moment is_open) c.sync.ensures.only_reads c.sync.ensures.size c.in_ok-sync.ensures.settled
-    (subst (λ bytes. EachSince d.moment d.left_since mid.disk c.append.new.self.disk (Opens mid.layout (d.size mid.disk) (IsBeforeOrAfter (event_records mid.layout (d.content mid.disk)) bytes))) (c.deref.ensures.value ∙ c.requires.ready.spelled)
+    (subst (λ bytes. EachSince d.moment d.left_since mid.disk c.append.new.self.disk (Opens mid.layout (d.size mid.disk) (IsBeforeOrAfter (event_records mid.layout (d.content mid.disk)) bytes))) c.of-bytes.ensures
     (c.append.ensures.any_moment (ap (λ s. s.fault) c.in_ok-sync.ensures.kept ∙ is_open))) c.append.ensures.changes)
 
 pub returns-clause-left : goal.returns-clause-left
@@ -61,7 +64,7 @@ returns-clause-left g c =
     (appended-store d.told d.content d.may_leave d.moment d.left_since d.size c.args.event.now c.args.deck (record { store = old.store; jobs = old.jobs }) mid c.append.new.self
     c.in_ok-sync.ensures.kept (and_from _ _ follows counts) c.layout-layout.ensures.sound.laid
     (c.sync.ensures.any_moment is_open) c.sync.ensures.only_reads c.sync.ensures.size c.in_ok-sync.ensures.settled
-    (subst (λ bytes. EachSince d.moment d.left_since mid.disk c.append.new.self.disk (Opens mid.layout (d.size mid.disk) (IsBeforeOrAfter (event_records mid.layout (d.content mid.disk)) bytes))) (c.deref.ensures.value ∙ c.requires.ready.spelled)
+    (subst (λ bytes. EachSince d.moment d.left_since mid.disk c.append.new.self.disk (Opens mid.layout (d.size mid.disk) (IsBeforeOrAfter (event_records mid.layout (d.content mid.disk)) bytes))) c.of-bytes.ensures
     (c.append.ensures.any_moment (ap (λ s. s.fault) c.in_ok-sync.ensures.kept ∙ is_open))) c.append.ensures.changes)
 
 pub invariant_of-self : goal.invariant_of-self
@@ -90,3 +93,35 @@ invariant_of-self-2 g c =
       numbered = subst (λ (tables : TablesModel). AreNumbered 1 tables.runs) (sym c.keep.ensures.tables)
           (numbered-behind layout jobs.tables.desk event deck c.requires.plain follow kept.numbered);
     })
+
+-- ---- where the disk fails
+
+pub returns-in_err-sync-clause-layout : goal.returns-in_err-sync-clause-layout
+returns-in_err-sync-clause-layout g c =
+    failed-layout g.D.Disk.faults c.self.inside.store c.sync.new.self c.in_err-sync.field-0.0 c.in_err-sync.ensures.cause ∙ ap (λ (s : DeskView g.row.D.Denot). s.store.layout) c.self.view_is
+
+pub returns-in_err-sync-clause-cause : goal.returns-in_err-sync-clause-cause
+returns-in_err-sync-clause-cause g c =
+    let d = g.D.Disk in
+    let old : DeskView g.row.D.Denot = record { store = c.self.inside.store; jobs = c.self.inside.jobs } in
+    let error = c.in_err-sync.field-0.0 in
+    rw (← c.self.view_is)
+    (subst (λ r. IfErr r (NotEntered d.faults old (record { store = c.sync.new.self; jobs = c.self.inside.jobs }))) (sym (err-is c.from_residual.result (of_store error) c.from_residual.ensures.1))
+    (unsynced d.faults old c.sync.new.self error (ap (λ s. s.store.fault) c.self.view_is ∙ c.requires.is_open) c.in_err-sync.ensures.cause))
+
+pub returns-in_err-append-clause-layout : goal.returns-in_err-append-clause-layout
+returns-in_err-append-clause-layout g c =
+    append-layout g.D.Disk.faults c.sync.new.self c.append.new.self _ c.in_err-append.field-0.0 c.in_err-append.ensures.cause
+    ∙ ap (λ s. s.layout) c.in_ok-sync.ensures.kept ∙ ap (λ (s : DeskView g.row.D.Denot). s.store.layout) c.self.view_is
+
+pub returns-in_err-append-clause-cause : goal.returns-in_err-append-clause-cause
+returns-in_err-append-clause-cause g c =
+    let d = g.D.Disk in
+    let old : DeskView g.row.D.Denot = record { store = c.self.inside.store; jobs = c.self.inside.jobs } in
+    let error = c.in_err-append.field-0.0 in
+    rw (← c.self.view_is)
+    (subst (λ r. IfErr r (NotEntered d.faults old (record { store = c.append.new.self; jobs = c.self.inside.jobs }))) (sym (err-is c.from_residual-in_err-append.result (of_store error) c.from_residual-in_err-append.ensures.1))
+    (unappended d.faults old c.sync.new.self c.append.new.self _ error (ap (λ s. s.store.fault) c.self.view_is ∙ c.requires.is_open) c.in_ok-sync.ensures.kept c.sync.ensures.faults
+    (subst (λ bytes. length bytes + 6 ≤ room_of c.self.inside.store.book) (sym c.of-bytes.ensures)
+    (subst (λ (s : DeskView g.row.D.Denot). length (spelling c.args.event.now) + 6 ≤ room_of s.store.book) (sym c.self.view_is) c.requires.ready.fits))
+    c.in_err-append.ensures.cause))

@@ -1,4 +1,4 @@
-use Rattle.std.proofs.Common.{◌≡◌, ◌≤◌, ◌∙◌, ap, sym, subst, true, None}
+use Rattle.std.proofs.Common.{◌≡◌, ◌≤◌, ◌∙◌, ap, sym, subst, None}
 use Rattle.ckr_book.specs.Book.{room_of}
 use Rattle.ckr_desk_memory.specs.Model.RewriteCounts.{may_count}
 use Rattle.ckr_desk_memory.specs.Invariant.{IsAnyAccepted}

@@ -1,5 +1,5 @@
 use Rattle.std.proofs.Common.{◌∙◌, IfErr, ap, inl, refl, subst, sym}
-use Rattle.ckr_desk_memory.specs.Plans.{Tells}
+use Rattle.ckr_desk_memory.specs.Plans.{NeedsRoom}
 use Rattle.ckr_desk_memory.specs.OwnSteps.{PlanFollows}
 use Rattle.ckr_desk_memory.specs.View.{jobs_of}
 use Rattle.ckr_desk_turn.specs.Invariant.{IsTurnOf}
@@ -9,7 +9,7 @@ use Rattle.ckr_desk_turn.specs.Plans.{plan_of}
 use Rattle.ckr_volumes.specs.declared.layout.Layout.{Layout}
 use Rattle.ckr_desk.proofs.Turns.Preparation.{planned-before, turned-before}
 use Rattle.ckr_desk.proofs.Turns.PlainEvents.{plan-plain}
-use Rattle.ckr_desk.proofs.Turns.Plans.{go-tells}
+use Rattle.ckr_desk.proofs.Turns.Plans.{go-needs}
 use Rattle.ckr_desk.proofs.Units.Preparation.{err-is}
 use Rattle.ckr_desk.proofs.Images.Soundness.{kept-left}
 use Rattle.ckr_desk.proofs.Calls.FullBooks.{turn-has_room}
@@ -46,9 +46,9 @@ returns-in_err-plan-clause-takes g c =
     rw (← c.self.view_is)
     (λ trusted.
     subst (λ r. IfErr r (TakesBy (reply_of (state_of d.content old) turn) (event_of_turn (state_of d.content old) turn))) (sym (err-is c.from_residual.result NoMemory c.from_residual.ensures.1))
-    (inl (go-tells d.told d.content d.may_leave d.moment d.left_since d.size d.faults old trusted turn
+    (inl (go-needs d.told d.content d.may_leave d.moment d.left_since d.size d.faults old trusted turn
     (subst (λ (s : DeskView g.row.D.Denot). IsTurnOf s.store.layout turn) (sym c.self.view_is) c.requires.initiator)
-    (subst (λ (l : Layout). Tells (plan_of l (jobs_of c.self.inside.jobs) turn)) c.layout.ensures.layout c.in_err-plan.ensures.tells))))
+    (subst (λ (l : Layout). NeedsRoom (plan_of l (jobs_of c.self.inside.jobs) turn)) c.layout.ensures.layout c.in_err-plan.ensures.takes))))
 
 pub carry_out-requires-clause-plain : goal.carry_out-requires-clause-plain
 carry_out-requires-clause-plain g c κs within = plan-plain _ _ c.args.turn c.in_ok-plan.plan c.in_ok-plan.ensures.plan

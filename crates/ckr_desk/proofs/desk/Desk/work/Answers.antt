@@ -1,13 +1,17 @@
-use Rattle.std.proofs.Common.{IfErr, sym, subst}
+use Rattle.std.proofs.Common.{◌≤◌, IfErr, sym, subst}
 use Rattle.ckr_book.specs.Book.{room_of}
+use Rattle.ckr_desk_store.specs.State.{IsSound}
 use Rattle.ckr_desk_turn.specs.declared.plan.Plan.TheVariants.{Work}
+use Rattle.ckr_volumes.specs.declared.layout.Layout.{Layout}
 use Rattle.ckr_desk.proofs.Turns.Preparation.{planned-before, turned-before, turned-not}
 use Rattle.ckr_desk.proofs.Calls.FullBooks.{of-disk-numbers, unlooked-numbers}
 use Rattle.ckr_desk.proofs.Calls.Requests.{if-err}
 use Rattle.ckr_desk.proofs.Calls.Stops.{reads-left}
 use Rattle.ckr_desk.proofs.Units.Preparation.{err-is, look-cause, look-takes}
+use Rattle.ckr_desk.proofs.Trust.Counts.{book-short}
 use Rattle.ckr_desk.proofs.Trust.Sameness.{IsAsBefore}
 use Rattle.ckr_desk.specs.Requests.{TellsNumbers}
+use Rattle.ckr_desk.specs.State.{DeskView}
 use Rattle.ckr_desk.specs.Units.{HasTurned}
 use Rattle.ckr_desk.proofs.desk.Desk.work.Goals as goal
 
@@ -26,11 +30,12 @@ returns-in_err-ahead-clause-turned g c turn p =
     }
     in
     let since = reads-left d.told d.content d.may_leave d.moment d.left_since d.size now new.store.disk e.any_moment e.only_reads in
+    let sound = subst (λ (s : DeskView g.row.D.Denot). IsSound d.content d.may_leave d.size s.store) c.self.view_is c.layout-layout.ensures.sound in
     let later = planned-before d.told d.content d.may_leave d.moment d.left_since d.size now new is e.size since turn (Work c.args.run) p in
     subst (HasTurned d.told d.content d.may_leave d.moment d.left_since d.size turn now new) (sym (err-is c.from_residual.result c.in_err-ahead.field-0.0 c.from_residual.ensures.1))
     (turned-not d.told d.content d.may_leave d.moment d.left_since d.size now new is e.size since turn p.trusted c.in_err-ahead.field-0.0
     (look-cause d.told d.content d.may_leave d.moment d.left_since d.size d.faults c.args.run now new turn p later is c.in_err-ahead.field-0.0 c.in_err-ahead.ensures.cause)
-    (look-takes d.told d.content d.may_leave d.moment d.left_since d.size d.faults c.args.run now new turn later is c.in_err-ahead.field-0.0 c.in_err-ahead.ensures.cause))
+    (look-takes d.told d.content d.may_leave d.moment d.left_since d.size d.faults c.args.run now new turn later is (subst (λ (l : Layout). l.book ≤ 4294967295) (sym e.layout) (book-short now.store.layout (d.size now.store.disk) sound.header)) c.in_err-ahead.field-0.0 c.in_err-ahead.ensures.cause))
 
 pub returns-clause-turned : goal.returns-clause-turned
 returns-clause-turned g c turn p =

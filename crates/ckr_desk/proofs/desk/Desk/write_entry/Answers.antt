@@ -1,4 +1,4 @@
-use Rattle.std.proofs.Common.{◌≡◌, ◌≤◌, ◌+◌, ◌∙◌, List, ℕ, ap, length, refl, subst, sym}
+use Rattle.std.proofs.Common.{◌≤◌, ◌+◌, ◌∙◌, List, ℕ, ap, length, refl, subst, sym}
 use Rattle.ckr_library.specs.Catalog.{records_of}
 use Rattle.ckr_outside.specs.Moments.{both_since}
 use Rattle.ckr_steps.specs.EntryRecords.{ChangesRecords, HasEntry, StemsFromRecords}

@@ -12,7 +12,7 @@ use Rattle.ckr_desk_turn.specs.Queue.{AreNumbered}
 use Rattle.ckr_desk_turn.proofs.Queue.Events.{run_number}
 use Rattle.ckr_volumes.specs.Layouts.{StandsIn}
 use Rattle.ckr_desk_memory.specs.View.{jobs_of}
-use Rattle.ckr_desk_memory.proofs.Plans.{between-ended, between-refused, between-started, between-tells, if-tells, may-allocate, named-step, no-step, refused-there}
+use Rattle.ckr_desk_memory.proofs.Plans.{between-ended, between-refused, between-started, between-needs, if-needs, may-allocate, named-step, no-step, refused-there}
 use Rattle.ckr_desk_memory.proofs.jobs.Jobs.between.Goals as goal
 
 pub returns-in_default-clause-plan : goal.returns-in_default-clause-plan
@@ -74,5 +74,5 @@ refused-requires-clause-dd c =
       there = refused-there c.args.layout.now row own.0 c.args.number c.args.self.now.tables.desk c.in-Err.refusal here;
     })
 
-pub returns-in_err-made-clause-tells : goal.returns-in_err-made-clause-tells
-returns-in_err-made-clause-tells c row = if-tells c.from_residual.result _ (between-tells c.args.layout.now (jobs_of c.args.self.now) row c.args.number)
+pub returns-in_err-made-clause-takes : goal.returns-in_err-made-clause-takes
+returns-in_err-made-clause-takes c row = if-needs c.from_residual.result _ (between-needs c.args.layout.now (jobs_of c.args.self.now) row c.args.number)

@@ -4,7 +4,7 @@ use Rattle.std.proofs.lemmas.Result.{IfOk-weaker}
 use Rattle.ckr_points_tables.specs.View.{run_on}
 use Rattle.ckr_desk_turn.specs.declared.plan.Plan.{Plan}
 use Rattle.ckr_desk_turn.specs.Plans.{free_plan, plan_of, run_plan}
-use Rattle.ckr_desk_memory.specs.Plans.{Tells}
+use Rattle.ckr_desk_memory.specs.Plans.{NeedsRoom}
 use Rattle.ckr_desk_turn.specs.Queue.{AreNumbered}
 use Rattle.ckr_desk_memory.specs.View.{jobs_of}
 use Rattle.ckr_desk_memory.proofs.Plans.{on-none, on-run}
@@ -28,17 +28,17 @@ returns-in-Some-clause-plan c =
     (λ plan is. is ∙ sym (ap (λ found. option_map_or (run_plan layout jobs c.args.turn.fail) found (free_plan layout jobs c.args.turn.initiator c.args.turn.fail)) one.1))
     (c.run_plan.ensures.plan one.0 one.2)
 
-pub returns-in-Some-clause-tells : goal.returns-in-Some-clause-tells
+pub returns-in-Some-clause-takes : goal.returns-in-Some-clause-takes
 unfolding plan_of jobs_of
-returns-in-Some-clause-tells c =
+returns-in-Some-clause-takes c =
     let layout = c.args.layout.now in
     let jobs = jobs_of c.args.self.now in
     let desk = ap (λ v. v.tables.desk) c.self.view_is in
     let numbered = subst (λ tables. AreNumbered 1 tables.runs) desk c.self.invariant.numbered in
     let one = on-run c.args.self.now.tables.desk numbered c.args.turn.initiator c.in-Some.job (c.in-Some.ensures ∙ ap (run_on c.args.turn.initiator) desk) in
-    subst (λ (plan : Plan). IfErr c.run_plan.result (λ _. Tells plan))
+    subst (λ (plan : Plan). IfErr c.run_plan.result (λ _. NeedsRoom plan))
     (sym (ap (λ found. option_map_or (run_plan layout jobs c.args.turn.fail) found (free_plan layout jobs c.args.turn.initiator c.args.turn.fail)) one.1))
-    (c.run_plan.ensures.tells one.0 one.2)
+    (c.run_plan.ensures.takes one.0 one.2)
 
 pub returns-in-None-clause-plan : goal.returns-in-None-clause-plan
 unfolding plan_of jobs_of

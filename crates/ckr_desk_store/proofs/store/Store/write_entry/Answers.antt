@@ -13,9 +13,12 @@ invariant_of-self g c =
     let laws = g.met.D.Disk g.world.𝓛 g.world.𝓜 g.world.𝓡 ((λ s x. x), (λ x. x), (λ x. x), λ x. x) in
     let set = c.args.set.now in
     let stands : StandsIn c.self.inside.layout set = subst (λ (l : Layout). StandsIn l set) (sym (ap (λ s. s.layout) c.self.view_is)) c.requires.stands in
-    sound_keeping d.told d.content d.may_leave d.moment d.left_since d.size _ c.self.invariant (alone set) c.write_for_good.new.disk
-    (alone-keeping d.told d.content d.may_leave d.moment d.left_since c.self.inside.layout set (records_of (length c.args.entry.now)) c.self.inside.disk c.write_for_good.new.disk stands c.write_for_good.ensures.changes)
-    c.write_for_good.ensures.size (laws.counts_now c.write_for_good.new.disk) (laws.tells c.write_for_good.new.disk)
+    record {
+      sound = sound_keeping d.told d.content d.may_leave d.moment d.left_since d.size _ c.self.invariant.sound (alone set) c.write_for_good.new.disk
+          (alone-keeping d.told d.content d.may_leave d.moment d.left_since c.self.inside.layout set (records_of (length c.args.entry.now)) c.self.inside.disk c.write_for_good.new.disk stands c.write_for_good.ensures.changes)
+          c.write_for_good.ensures.size (laws.counts_now c.write_for_good.new.disk) (laws.tells c.write_for_good.new.disk);
+      settled = λ _. c.in-Ok.ensures.settled;
+    }
 
 pub returns-in-Ok-clause-keeps : goal.returns-in-Ok-clause-keeps
 returns-in-Ok-clause-keeps g c =
@@ -30,7 +33,7 @@ returns-in-Ok-clause-events g c =
     let set = c.args.set.now in
     let stands : StandsIn c.self.inside.layout set = subst (λ (l : Layout). StandsIn l set) (sym (ap (λ s. s.layout) c.self.view_is)) c.requires.stands in
     rw (← c.self.view_is)
-    (events_keeping d.told d.content d.may_leave d.moment d.left_since d.size _ c.self.invariant (alone set) c.write_for_good.new.disk
+    (events_keeping d.told d.content d.may_leave d.moment d.left_since d.size _ c.self.invariant.sound (alone set) c.write_for_good.new.disk
     (alone-keeping d.told d.content d.may_leave d.moment d.left_since c.self.inside.layout set (records_of (length c.args.entry.now)) c.self.inside.disk c.write_for_good.new.disk stands c.write_for_good.ensures.changes))
 
 pub returns-in-Ok-clause-any_moment : goal.returns-in-Ok-clause-any_moment
@@ -39,7 +42,7 @@ returns-in-Ok-clause-any_moment g c =
     let set = c.args.set.now in
     let stands : StandsIn c.self.inside.layout set = subst (λ (l : Layout). StandsIn l set) (sym (ap (λ s. s.layout) c.self.view_is)) c.requires.stands in
     rw (← c.self.view_is)
-    (opens_keeping d.told d.content d.may_leave d.moment d.left_since d.size _ c.self.invariant (alone set) c.write_for_good.new.disk
+    (opens_keeping d.told d.content d.may_leave d.moment d.left_since d.size _ c.self.invariant.sound (alone set) c.write_for_good.new.disk
     (alone-keeping d.told d.content d.may_leave d.moment d.left_since c.self.inside.layout set (records_of (length c.args.entry.now)) c.self.inside.disk c.write_for_good.new.disk stands c.write_for_good.ensures.changes))
 
 pub returns-in-Err-clause-keeps : goal.returns-in-Err-clause-keeps
@@ -55,7 +58,7 @@ returns-in-Err-clause-events g c =
     let set = c.args.set.now in
     let stands : StandsIn c.self.inside.layout set = subst (λ (l : Layout). StandsIn l set) (sym (ap (λ s. s.layout) c.self.view_is)) c.requires.stands in
     rw (← c.self.view_is)
-    (events_keeping d.told d.content d.may_leave d.moment d.left_since d.size _ c.self.invariant (alone set) c.write_for_good.new.disk
+    (events_keeping d.told d.content d.may_leave d.moment d.left_since d.size _ c.self.invariant.sound (alone set) c.write_for_good.new.disk
     (alone-keeping d.told d.content d.may_leave d.moment d.left_since c.self.inside.layout set (records_of (length c.args.entry.now)) c.self.inside.disk c.write_for_good.new.disk stands c.write_for_good.ensures.changes))
 
 pub returns-in-Err-clause-any_moment : goal.returns-in-Err-clause-any_moment
@@ -64,5 +67,5 @@ returns-in-Err-clause-any_moment g c =
     let set = c.args.set.now in
     let stands : StandsIn c.self.inside.layout set = subst (λ (l : Layout). StandsIn l set) (sym (ap (λ s. s.layout) c.self.view_is)) c.requires.stands in
     rw (← c.self.view_is)
-    (opens_keeping d.told d.content d.may_leave d.moment d.left_since d.size _ c.self.invariant (alone set) c.write_for_good.new.disk
+    (opens_keeping d.told d.content d.may_leave d.moment d.left_since d.size _ c.self.invariant.sound (alone set) c.write_for_good.new.disk
     (alone-keeping d.told d.content d.may_leave d.moment d.left_since c.self.inside.layout set (records_of (length c.args.entry.now)) c.self.inside.disk c.write_for_good.new.disk stands c.write_for_good.ensures.changes))

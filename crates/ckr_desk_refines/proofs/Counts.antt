@@ -1,0 +1,3 @@
+pub mod Bytes
+pub mod Sets
+pub mod Events

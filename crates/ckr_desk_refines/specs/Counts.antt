@@ -1,0 +1,18 @@
+-- How many data sets and rewrites events can have added.
+use Rattle.std.specs.Prelude.{◌≤◌, ℕ, suc, List, length, sum_by}
+use Rattle.ckr_events.specs.declared.event.Event.{Event}
+use Rattle.ckr_events.specs.declared.event.Event.TheVariants.{Started}
+use Rattle.ckr_points.specs.Restart.{Decked}
+use Rattle.ckr_points.specs.Rows.{TableSet}
+
+-- an event adds at most so many data sets, and as many rewrites to each: one for each item that a step made, and one more
+abbrev pub added_by : Event → ℕ
+added_by (Started job step items) = suc (length items.items)
+added_by _ = 1
+
+abbrev pub added_by_all : List Decked → ℕ
+added_by_all events = sum_by (λ event. added_by event.0) events
+
+-- the stamp of a data set tells at most so many rewrites
+abbrev pub HasRewrites : ℕ → TableSet → Type 0
+HasRewrites most table = table.set.stamp.rewrites ≤ most
