@@ -1,4 +1,5 @@
 pub mod Cards
+pub mod Tellings
 pub mod Service
 pub mod Streams
 pub mod Calls

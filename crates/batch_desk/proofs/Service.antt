@@ -3,4 +3,5 @@ pub mod Answers
 pub mod Ends
 pub mod Halts
 pub mod Order
+pub mod Tellings
 pub mod Turns

@@ -3,6 +3,7 @@ pub mod Calls
 pub mod Events
 pub mod Listings
 pub mod Texts
+pub mod Lines
 pub mod Service
 pub mod Turns
 pub mod Stops

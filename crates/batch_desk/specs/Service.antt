@@ -16,6 +16,7 @@ use Rattle.batch_desk.specs.declared.stop.Stop.{Stop}
 use Rattle.batch_desk.specs.declared.stop.Stop.TheVariants as Stops
 use Rattle.batch_desk.specs.Calls.{calls, after_all, all_fit, replies_of, is_refusal, broken_off}
 use Rattle.batch_desk.specs.Events.{events_told, events_before, event_at}
+use Rattle.batch_desk.specs.Lines.{HaltsTold, Telling, TellsSo}
 use Rattle.batch_desk.specs.Texts.{answer_text}
 
 -- the desk between two calls, whether a line or a deck was refused, and the events on the disk
@@ -93,6 +94,17 @@ PurgeHalt Halts.Memory fits event before now came kept = ComesTo (if fits then e
 PurgeHalt Halts.Book fits event before now came kept = (fits ≡ false) × (now ≡ before) × (came ≡ []) × (kept ≡ [])
 PurgeHalt Halts.Disk fits event before now came kept = (now ≡ before) × (came ≡ event) × ((kept ≡ came) ⊎ (kept ≡ []))
 
+-- ---- the same where lines go out meanwhile
+
+-- from old to new the requests were served, and this was told, with what waited before
+abbrev pub ServesTelling : View → View → List Handed → Telling → Telling → Type 0
+ServesTelling old new requests from to = TellsSo (Serves old new requests from.waits) from to
+
+-- serving requests stopped, and this was told by then
+abbrev pub HaltsTelling : Halt → RoomyDesk → List Handed → Telling → Telling → List (List ℕ) → List (List ℕ) → Type 0
+HaltsTelling halt state requests from to came kept =
+    HaltsTold halt (HaltsSo halt state requests from.waits) (from.waits ++ text_to state requests) from to came kept
+
 -- ---- what is written then
 
 -- the whole text is written, or the sink failed and a front of it is
@@ -129,8 +141,14 @@ Caused trusted Stops.Memory sink sink' disk disk' = Unit {0}
 Caused trusted Stops.Book sink sink' disk disk' = Unit {0}
 Caused trusted Stops.Disk sink sink' disk disk' = Rose disk disk'
 
--- what was answered before the serving stopped is written, as far as the sink takes it
-abbrev pub RestWritten : Halt → Stop → ℕ → ℕ → Option (List ℕ) → Option (List ℕ) → List ℕ → Type 0
-RestWritten Halts.Memory stop before now old new text = (stop ≡ Stops.Memory) × (new ≡ old)
-RestWritten Halts.Book stop before now old new text = (stop ≡ Stops.Book) × WritesSo before now old new text
-RestWritten Halts.Disk stop before now old new text = (stop ≡ Stops.Disk) × WritesSo before now old new text
+-- why a stream isn't served any further where requests aren't
+abbrev pub stop_of : Halt → Stop
+stop_of Halts.Memory = Stops.Memory
+stop_of Halts.Book = Stops.Book
+stop_of Halts.Disk = Stops.Disk
+
+-- what was answered before the serving stopped is written, as far as the sink takes it; where memory ran out, a front of the whole is
+abbrev pub RestWritten : Halt → ℕ → ℕ → Option (List ℕ) → Option (List ℕ) → List ℕ → List ℕ → Type 0
+RestWritten Halts.Memory before now old new whole text = AppendsFront old new whole
+RestWritten Halts.Book before now old new whole text = WritesSo before now old new text
+RestWritten Halts.Disk before now old new whole text = WritesSo before now old new text

@@ -1,5 +1,5 @@
 -- Turns one after another, and the lines that are told of them.
-use Rattle.std.specs.Prelude.{◌≡◌, ◌⊎◌, ℕ, false, List, [], ◌++◌, length, Option, None, Some}
+use Rattle.std.specs.Prelude.{◌≡◌, ◌⊎◌, ℕ, true, false, if◌then◌else◌, List, [], ◌++◌, length, Option, None, Some}
 use Rattle.std.specs.List.{flat_map}
 use Rattle.ckr_desk.specs.Model.Plans.{IsToldReply}
 use Rattle.ckr_desk.specs.Requests.{spelled}
@@ -10,15 +10,16 @@ use Rattle.ckr_desk.specs.Model.Turn.{Turn}
 use Rattle.ckr_desk.specs.Model.Layout.{Layout}
 use Rattle.batch_desk.specs.declared.stop.Halt.{Halt}
 use Rattle.batch_desk.specs.declared.stop.Halt.TheVariants as Halts
-use Rattle.batch_desk.specs.Calls.{BrokenOff, turns, turns_fit, after_turns}
+use Rattle.batch_desk.specs.Calls.{BrokenOff, Turned, turns, turns_fit, after_turns}
 use Rattle.batch_desk.specs.Events.{behind_turns, turn_event, turns_events}
+use Rattle.batch_desk.specs.Lines.{HaltsTold, Telling}
 use Rattle.batch_desk.specs.Service.{ComesTo}
-use Rattle.batch_desk.specs.Texts.{answer_text, run_text, before_runs, runs_of, with_waiting}
+use Rattle.batch_desk.specs.Texts.{answer_text, run_text, before_runs, is_work, runs_of, told_runs, with_waiting}
 
--- the replies that wait have texts
+-- the replies that wait are work, and have texts
 abbrev pub IsToldWaiting : Option (Reply × ℕ) → Type 0
 IsToldWaiting None = Unit {0}
-IsToldWaiting (Some run) = IsToldReply run.0
+IsToldWaiting (Some run) = (is_work run.0 ≡ true) × IsToldReply run.0
 
 module _ (layout : Layout) (initiator : ℕ) where
   -- a reply comes behind those that wait: these runs have ended then, and their lines are written
@@ -26,7 +27,9 @@ module _ (layout : Layout) (initiator : ℕ) where
     pub ended : List (Reply × ℕ)
     pub written : now ≡ before ++ flat_map (run_text layout initiator) ended
     pub joins : (runs : List (Reply × ℕ)) → with_waiting waiting (before_runs reply 1 runs) ≡ ended ++ with_waiting now_waiting runs
-    pub waits : now_waiting ≡ None → ⊥
+    -- where none waits, some have ended, and no other reply goes on the last of them
+    pub some : now_waiting ≡ None → ended ≡ [] → ⊥
+    pub none : now_waiting ≡ None → told_runs ended ≡ ended
 
 module _ (layout : Layout) (turn : Turn) where
   -- From one state to another, with so many turns left, some were made: the replies to them, the runs that have ended, and their events.
@@ -38,7 +41,7 @@ module _ (layout : Layout) (turn : Turn) where
     pub fit : turns_fit turn n first ≡ turns_fit turn m state
     pub joins : (rest : List Reply) → runs_of (made ++ rest) ≡ ended ++ with_waiting waiting (runs_of rest)
     pub written : now ≡ before ++ flat_map (run_text layout turn.initiator) ended
-    pub none : waiting ≡ None → ended ≡ []
+    pub none : waiting ≡ None → told_runs ended ≡ ended
     pub behind : state ≡ behind_turns turn (length made) first
     pub events : have ≡ had ++ turns_events turn (length made) first
 
@@ -59,6 +62,14 @@ module _ (layout : Layout) (turn : Turn) where
       (turns_fit turn count state ≡ false) × (now ≡ before ++ answer_text (BrokenOff layout turn.initiator (turns turn count state)))
       × (came ≡ turns_events turn (length (turns turn count state)) state) × (kept ≡ came)
   TurnsHalt Halts.Disk count state before now came kept = FirstTurns count state before now came kept
+
+  -- what is told of so many turns, or of those that the book has room for
+  abbrev pub turns_text : ℕ → RoomyDesk → List ℕ
+  turns_text count state = answer_text (if turns_fit turn count state then Turned layout turn.initiator (turns turn count state) else BrokenOff layout turn.initiator (turns turn count state))
+
+  -- the same where lines go out meanwhile
+  abbrev pub TurnsHaltTelling : Halt → ℕ → RoomyDesk → Telling → Telling → List (List ℕ) → List (List ℕ) → Type 0
+  TurnsHaltTelling halt count state from to came kept = HaltsTold halt (TurnsHalt halt count state from.waits) (from.waits ++ turns_text count state) from to came kept
 
 -- a turn that wasn't made: whether the book has room for its event, and whether that came
 abbrev pub TurnHalt : Halt → Turn → RoomyDesk → List (List ℕ) → List (List ℕ) → Type 0

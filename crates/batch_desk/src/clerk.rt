@@ -1,5 +1,6 @@
 //! The requests of a stream, one after another.
 ghost use Rattle.std.specs.Prelude.{◌≡◌, ◌<◌, ◌≤◌, ◌%◌, ◌*◌, ◌||◌, length, [], ◌∷◌, ◌++◌, OnOk, IfErr, false, true};
+ghost use Rattle.ckr_outside.specs.Faults.{Rose};
 ghost use Rattle.ckr_desk.specs.Model.Listing.{listed, records_of};
 ghost use Rattle.ckr_desk.specs.Requests.{behind_call, call_fits, event_in, spelled};
 ghost use Rattle.ckr_desk.specs.Soundness.{IsTrusted, state_of};
@@ -9,8 +10,10 @@ ghost use Rattle.batch_desk.specs.Stops.{Goes, Has, Stopped};
 ghost use Rattle.ckr_cards.specs.Session.Handed.{Deck, Order as Command, Refusal};
 ghost use Rattle.batch_desk.specs.Calls.{Accepted, DeckRefused, JobsListed, LineRefused, Listed, Purged, SetsListed, lines_of, name_in, list_answer, purge_answer, is_refusal};
 ghost use Rattle.batch_desk.specs.Texts.{answer_text};
-ghost use Rattle.batch_desk.specs.Service.{HaltsSo, HaltCause, ListHalt, PurgeHalt, Serves, seen};
+ghost use Rattle.batch_desk.specs.Lines.{telling};
+ghost use Rattle.batch_desk.specs.Service.{HaltsSo, HaltsTelling, HaltCause, ListHalt, PurgeHalt, Serves, ServesTelling, seen};
 
+use crate::lines::Lines;
 use crate::listing_lines::{jobs, sets};
 use crate::orders::{Order, read_order};
 use crate::report::{accepted, deck_refused, line_refused, listed, purged};
@@ -19,7 +22,7 @@ use crate::text::Text;
 use crate::turns::turned;
 use ckr_base::{DsName, NoMemory, Rec};
 use ckr_desk::{Desk, DeskError, Run, Submitted};
-use ckr_outside::Disk;
+use ckr_outside::{Disk, Sink};
 use std::alloc::Global;
 
 /// The desk, and whether a line or a deck was refused.
@@ -129,25 +132,36 @@ impl<D: Disk> Clerk<D> {
     }
 
     /// A command ends.
-    pub fn obey(&mut self, number: u32, text: &[u8], out: &mut Text) -> Result<(), Halt>
+    pub fn obey<K: Sink>(
+        &mut self,
+        number: u32,
+        text: &[u8],
+        lines: &mut Lines,
+        sink: &mut K,
+    ) -> Result<(), Halt>
         requires is_open { IsOpen self.old.desk }
-        ensures serves { IsTrusted D.told D.content D.may_leave self.old.desk → OnOk result (Serves (seen D.content self.old) (seen D.content self.new) (Command number text.now ∷ []) out.old out.new) }
+        requires fresh { lines.old.failed ≡ false }
+        ensures serves { IsTrusted D.told D.content D.may_leave self.old.desk → OnOk result (ServesTelling (seen D.content self.old) (seen D.content self.new) (Command number text.now ∷ [])
+            (telling lines.old (K.written sink.old) (K.faults sink.old)) (telling lines.new (K.written sink.new) (K.faults sink.new))) }
         ensures trusted { OnOk result (IsTrusted D.told D.content D.may_leave self.old.desk → IsTrusted D.told D.content D.may_leave self.new.desk) }
         ensures goes { IsTrusted D.told D.content D.may_leave self.old.desk → OnOk result (Goes D.content D.moment D.left_since D.size self.old.desk self.new.desk) }
         ensures is_open { OnOk result (IsOpen self.new.desk) }
         ensures later { D.faults (disk_of self.old.desk) ≤ D.faults (disk_of self.new.desk) }
         ensures size { D.size (disk_of self.new.desk) ≡ D.size (disk_of self.old.desk) }
-        ensures halt { IsTrusted D.told D.content D.may_leave self.old.desk → IfErr result (λ halt. Stopped D.content D.moment D.left_since D.size self.old.desk (disk_of self.new.desk) (HaltsSo halt (state_of D.content self.old.desk) (Command number text.now ∷ []) out.old out.new)) }
+        ensures halt { IsTrusted D.told D.content D.may_leave self.old.desk → IfErr result (λ halt. Stopped D.content D.moment D.left_since D.size self.old.desk (disk_of self.new.desk) (HaltsTelling halt (state_of D.content self.old.desk) (Command number text.now ∷ [])
+            (telling lines.old (K.written sink.old) (K.faults sink.old)) (telling lines.new (K.written sink.new) (K.faults sink.new)))) }
         ensures cause { IfErr result (λ halt. HaltCause (IsTrusted D.told D.content D.may_leave self.old.desk) halt (D.faults (disk_of self.old.desk)) (D.faults (disk_of self.new.desk))) }
+        ensures sink_later { K.faults sink.old ≤ K.faults sink.new }
+        ensures failed { lines.new.failed ≡ true → Rose (K.faults sink.old) (K.faults sink.new) }
     {
         let _layout = self.desk.layout();
         match read_order(self.desk.layout().initiators, text) {
-            Order::Turns { turn, count } => turned(&mut self.desk, turn, count, out),
-            Order::ListOf(name) => self.list(number, &name, out),
-            Order::Sets => self.list_sets(out),
-            Order::Jobs => self.list_jobs(out),
-            Order::Purge(job) => self.purge(number, job, out),
-            Order::Unknown => self.refuse_line(number, out),
+            Order::Turns { turn, count } => turned(&mut self.desk, turn, count, lines, sink),
+            Order::ListOf(name) => self.list(number, &name, &mut lines.text),
+            Order::Sets => self.list_sets(&mut lines.text),
+            Order::Jobs => self.list_jobs(&mut lines.text),
+            Order::Purge(job) => self.purge(number, job, &mut lines.text),
+            Order::Unknown => self.refuse_line(number, &mut lines.text),
         }
     }
 

@@ -6,6 +6,7 @@ mod checkpoint_tests;
 mod clerk;
 mod failure;
 mod flow;
+mod lines;
 mod listing_lines;
 mod orders;
 #[cfg(test)]

@@ -261,6 +261,7 @@ fn any_stop_leaves_a_disk_that_opens_with_what_was_answered(rt: HostRuntime) -> 
     Ok(())
 }
 
+/// Each put has the lines that were told since the one before: of the deck, of each turn but units of work in a row, of a listing.
 #[test]
 fn each_call_of_the_outside_fails_in_turn(rt: HostRuntime) -> Result<(), Fail> {
     let alloc = rt.alloc();
@@ -270,7 +271,12 @@ fn each_call_of_the_outside_fails_in_turn(rt: HostRuntime) -> Result<(), Fail> {
         (1, NEVER, 4, TEXT.len()),
         (NEVER, 0, 5, 0),
         (NEVER, 1, 5, 25),
-        (NEVER, 2, 5, TEXT.len() - 13),
+        (NEVER, 2, 5, 46),
+        (NEVER, 3, 5, 69),
+        (NEVER, 4, 5, 127),
+        (NEVER, 5, 5, 145),
+        (NEVER, 6, 5, TEXT.len() - 13),
+        (NEVER, 7, 0, TEXT.len()),
     ];
     for (take, put, status, length) in table {
         let (ended, sink) = served(alloc, STREAM.to_vec(alloc)?, take, put)?;
@@ -279,6 +285,22 @@ fn each_call_of_the_outside_fails_in_turn(rt: HostRuntime) -> Result<(), Fail> {
         assert!(rt; TEXT.starts_with(sink.bytes()), "take {take} put {put}");
         assert!(rt; sink.lacks() == 0);
     }
+    Ok(())
+}
+
+/// A command that the sink fails in is served to its end, and none of its lines is written behind the one that failed.
+#[test]
+fn a_sink_that_fails_within_a_command(rt: HostRuntime) -> Result<(), Fail> {
+    let alloc = rt.alloc();
+    let disk = formatted(alloc, CARDS, SIZE, None, None)?;
+    let mut source = MemSource::new(STREAM.to_vec(alloc)?, Vec::new(alloc));
+    let mut sink = MemSink::new(alloc, [2].to_vec(alloc)?);
+    let words = words(alloc, "run", "night.disk")?;
+    let Closed { status, disk } = batch_desk(alloc, &words, &mut source, &mut sink, disk);
+    assert!(rt; status == 5 && TEXT.starts_with(sink.bytes()) && sink.bytes().len() == 46);
+    let ended = call(alloc, "run", b"$Q\n$R OUT.A\n", disk)?;
+    assert!(rt; ended.status == 0);
+    assert!(rt; ended.text.as_slice() == b"J0000001 COPY1 ENDED\n=ALPHA\n=BETA\n".as_slice());
     Ok(())
 }
 

@@ -45,6 +45,13 @@ impl Text {
         Ok(())
     }
 
+    /// Nothing is left of it.
+    pub fn clear(&mut self)
+        ensures { self.new ≡ [] }
+    {
+        self.bytes.clear();
+    }
+
     /// The number in decimal.
     pub fn number(&mut self, number: u32) -> Result<(), NoMemory>
         ensures { OnOk result (self.new ≡ self.old ++ decimal number) }

@@ -1,5 +1,5 @@
 //! Turns, and the lines for their replies.
-ghost use Rattle.std.specs.Prelude.{◌≡◌, ◌<◌, ◌≤◌, ◌+◌, ◌-◌, ◌^◌, ◌++◌, ◌∷◌, [], OnOk, IfOk, IfErr, Some, None, length, true};
+ghost use Rattle.std.specs.Prelude.{◌≡◌, ◌<◌, ◌≤◌, ◌+◌, ◌-◌, ◌^◌, ◌++◌, ◌∷◌, [], OnOk, IfOk, IfErr, Some, None, length, false, true};
 ghost use Rattle.std.specs.List.{flat_map};
 ghost use Rattle.ckr_desk.specs.Model.Plans.{IsAnyCode, IsToldReply};
 ghost use Rattle.ckr_desk.specs.Requests.{spelled};
@@ -7,18 +7,21 @@ ghost use Rattle.ckr_desk.specs.Turn.{behind_turn, event_of_turn, reply_of, turn
 ghost use Rattle.ckr_desk.specs.Soundness.{IsTrusted, state_of};
 ghost use Rattle.ckr_desk.specs.State.{IsOpen, disk_of, layout_of};
 ghost use Rattle.batch_desk.specs.Stops.{Goes, Has, Stopped};
+ghost use Rattle.ckr_outside.specs.Faults.{Rose};
 ghost use Rattle.batch_desk.specs.Calls.{Turned, turns, turns_fit, after_turns, is_idle};
 ghost use Rattle.batch_desk.specs.Events.{turns_events};
 ghost use Rattle.batch_desk.specs.Service.{HaltCause};
-ghost use Rattle.batch_desk.specs.Texts.{answer_text, run_text, goes_on, is_same_work, is_work, work_in, before_runs, with_waiting, waiting_count, told_runs};
-ghost use Rattle.batch_desk.specs.Turns.{Adds, IsToldWaiting, TurnHalt, TurnsHalt};
+ghost use Rattle.batch_desk.specs.Lines.{IsTold, telling};
+ghost use Rattle.batch_desk.specs.Texts.{answer_text, run_text, goes_on, is_same_work, is_work, work_in, before_runs, with_waiting, waiting_count};
+ghost use Rattle.batch_desk.specs.Turns.{Adds, IsToldWaiting, TurnHalt, TurnsHaltTelling};
 
+use crate::lines::Lines;
 use crate::report::reply_line;
 use crate::stop::Halt;
 use crate::text::Text;
 use ckr_base::{Name8, NoMemory};
 use ckr_desk::{Desk, DeskError, Layout, Reply, Turn};
-use ckr_outside::Disk;
+use ckr_outside::{Disk, Sink};
 
 fn is_work(reply: &Reply) -> bool
     ensures { result ≡ is_work reply.now }
@@ -56,10 +59,25 @@ fn goes_on(last: &Reply, reply: &Reply) -> bool
     }
 }
 
-/// The last replies in a row that one line will tell, and how many they are.
+/// The last replies in a row of work that one line will tell, and how many they are.
 type Waiting = Option<(Reply, u32)>;
 
-/// Adds a reply to those that wait, behind the lines of those that it doesn't go on.
+/// A reply behind the lines of those before it. It waits where others may go on it, and is told where none does.
+fn begin(layout: &Layout, initiator: u8, reply: Reply, out: &mut Text) -> Result<Waiting, NoMemory>
+    requires reply { IsToldReply reply }
+    ensures adds { IfOk result (λ now. Adds layout.now initiator None reply now out.old out.new) }
+    ensures count { IfOk result (λ now. waiting_count now ≤ 1) }
+    ensures idle { IfOk result (λ now. is_idle reply ≡ true → now ≡ None) }
+    ensures told { IfOk result (λ now. IsToldWaiting now) }
+{
+    if is_work(&reply) {
+        return Ok(Some((reply, 1)));
+    }
+    reply_line(layout, initiator, &reply, 1, out)?;
+    Ok(None)
+}
+
+/// Adds a reply to those that wait, or behind the line of those that it doesn't go on.
 fn add(
     layout: &Layout,
     initiator: u8,
@@ -72,16 +90,17 @@ fn add(
     requires reply { IsToldReply reply }
     ensures adds { IfOk result (λ now. Adds layout.now initiator waiting reply now out.old out.new) }
     ensures count { IfOk result (λ now. waiting_count now ≤ waiting_count waiting + 1) }
+    ensures idle { IfOk result (λ now. is_idle reply ≡ true → now ≡ None) }
     ensures told { IfOk result (λ now. IsToldWaiting now) }
 {
     let Some((last, times)) = waiting else {
-        return Ok(Some((reply, 1)));
+        return begin(layout, initiator, reply, out);
     };
     if goes_on(&last, &reply) {
         return Ok(Some((reply, times + 1)));
     }
     reply_line(layout, initiator, &last, times, out)?;
-    Ok(Some((reply, 1)))
+    begin(layout, initiator, reply, out)
 }
 
 /// The line for the replies that wait, which no other one goes on.
@@ -91,27 +110,6 @@ fn finish(layout: &Layout, initiator: u8, waiting: Waiting, out: &mut Text) -> R
 {
     match waiting {
         Some((last, times)) => reply_line(layout, initiator, &last, times, out),
-        None => Ok(()),
-    }
-}
-
-/// The same where other replies might have followed: work that isn't known to have ended isn't told.
-fn break_off(
-    layout: &Layout,
-    initiator: u8,
-    waiting: Waiting,
-    out: &mut Text,
-) -> Result<(), NoMemory>
-    requires { IsToldWaiting waiting }
-    ensures { OnOk result (out.new ≡ out.old ++ flat_map (run_text layout.now initiator) (told_runs (with_waiting waiting []))) }
-{
-    match waiting {
-        Some((last, times)) => {
-            if is_work(&last) {
-                return Ok(());
-            }
-            reply_line(layout, initiator, &last, times, out)
-        }
         None => Ok(()),
     }
 }
@@ -145,20 +143,24 @@ fn one_turn<D: Disk>(desk: &mut Desk<D>, turn: Turn) -> Result<Reply, Halt>
     }
 }
 
-/// At most so many such turns of an initiator, up to the first Idle, and their lines.
-pub fn turned<D: Disk>(
+/// At most so many such turns of an initiator, up to the first Idle, and their lines, which go out before the next turn. Work that isn't known to
+/// have ended isn't told where a turn isn't made.
+pub fn turned<K: Sink, D: Disk>(
     desk: &mut Desk<D>,
     turn: Turn,
     count: u32,
-    out: &mut Text,
+    lines: &mut Lines,
+    sink: &mut K,
 ) -> Result<(), Halt>
     requires few { count ≤ 1_000_000 }
     requires above { 1 ≤ turn.initiator }
     requires below { turn.initiator ≤ (layout_of desk.old).initiators }
     requires code { IsAnyCode turn.fail }
     requires is_open { IsOpen desk.old }
+    requires fresh { lines.old.failed ≡ false }
     ensures fits { IsTrusted D.told D.content D.may_leave desk.old → OnOk result (turns_fit turn count (state_of D.content desk.old) ≡ true) }
-    ensures text { IsTrusted D.told D.content D.may_leave desk.old → OnOk result (out.new ≡ out.old ++ answer_text (Turned (layout_of desk.old) turn.initiator (turns turn count (state_of D.content desk.old)))) }
+    ensures text { IsTrusted D.told D.content D.may_leave desk.old → OnOk result (IsTold (telling lines.old (K.written sink.old) (K.faults sink.old))
+        (lines.old.text ++ answer_text (Turned (layout_of desk.old) turn.initiator (turns turn count (state_of D.content desk.old)))) (telling lines.new (K.written sink.new) (K.faults sink.new))) }
     ensures after { IsTrusted D.told D.content D.may_leave desk.old → OnOk result (state_of D.content desk.new ≡ after_turns turn count (state_of D.content desk.old)) }
     ensures is_open { OnOk result (IsOpen desk.new) }
     ensures layout { OnOk result (layout_of desk.new ≡ layout_of desk.old) }
@@ -168,27 +170,29 @@ pub fn turned<D: Disk>(
     ensures goes { IsTrusted D.told D.content D.may_leave desk.old → OnOk result (Goes D.content D.moment D.left_since D.size desk.old desk.new) }
     ensures later { D.faults (disk_of desk.old) ≤ D.faults (disk_of desk.new) }
     ensures size { D.size (disk_of desk.new) ≡ D.size (disk_of desk.old) }
-    ensures halt { IsTrusted D.told D.content D.may_leave desk.old → IfErr result (λ halt. Stopped D.content D.moment D.left_since D.size desk.old (disk_of desk.new) (TurnsHalt (layout_of desk.old) turn halt count (state_of D.content desk.old) out.old out.new)) }
+    ensures halt { IsTrusted D.told D.content D.may_leave desk.old → IfErr result (λ halt. Stopped D.content D.moment D.left_since D.size desk.old (disk_of desk.new)
+        (TurnsHaltTelling (layout_of desk.old) turn halt count (state_of D.content desk.old) (telling lines.old (K.written sink.old) (K.faults sink.old)) (telling lines.new (K.written sink.new) (K.faults sink.new)))) }
     ensures cause { IfErr result (λ halt. HaltCause (IsTrusted D.told D.content D.may_leave desk.old) halt (D.faults (disk_of desk.old)) (D.faults (disk_of desk.new))) }
+    ensures sink_later { K.faults sink.old ≤ K.faults sink.new }
+    ensures failed { lines.new.failed ≡ true → Rose (K.faults sink.old) (K.faults sink.new) }
 {
     let _layout = desk.layout();
     let mut waiting = None;
     for _ in 0..count {
-        match one_turn(desk, turn) {
-            Ok(reply) => {
-                let idle = is_idle(&reply);
-                waiting = add(desk.layout(), turn.initiator, waiting, reply, out)?;
-                if idle {
-                    finish(desk.layout(), turn.initiator, waiting, out)?;
-                    return Ok(());
-                }
-            }
-            Err(halt) => {
-                break_off(desk.layout(), turn.initiator, waiting, out)?;
-                return Err(halt);
-            }
+        lines.write(sink);
+        let reply = one_turn(desk, turn)?;
+        let idle = is_idle(&reply);
+        waiting = add(
+            desk.layout(),
+            turn.initiator,
+            waiting,
+            reply,
+            &mut lines.text,
+        )?;
+        if idle {
+            return Ok(());
         }
     }
-    finish(desk.layout(), turn.initiator, waiting, out)?;
+    finish(desk.layout(), turn.initiator, waiting, &mut lines.text)?;
     Ok(())
 }

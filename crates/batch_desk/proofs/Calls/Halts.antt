@@ -1,5 +1,5 @@
 -- Requests that aren't served to their end, and which events came.
-use Rattle.std.proofs.Common.{◌≡◌, ◌++◌, ℕ, List, Result, Ok, Err, IfErr, IsErrAnd, sym, subst}
+use Rattle.std.proofs.Common.{◌≡◌, ◌++◌, ℕ, Bool, false, List, Option, Result, Ok, Err, IfErr, IsErrAnd, sym, subst}
 use Rattle.ckr_cards.specs.Session.{Handed}
 use Rattle.ckr_desk.specs.Model.OpenImages.{event_records}
 use Rattle.ckr_desk.specs.Soundness.{state_of}
@@ -8,21 +8,52 @@ use Rattle.batch_desk.specs.declared.clerk.Clerk.{Clerk}
 use Rattle.batch_desk.specs.declared.stop.Halt.{Halt}
 use Rattle.batch_desk.specs.declared.stop.Halt.TheVariants as Halts
 use Rattle.batch_desk.specs.Events.{events_told}
-use Rattle.batch_desk.specs.Service.{HaltsSo, Serves, seen}
+use Rattle.batch_desk.specs.Lines.{Telling}
+use Rattle.batch_desk.specs.Service.{HaltsSo, HaltsTelling, Serves, ServesTelling, seen, text_to}
 use Rattle.batch_desk.specs.Stops.{Goes, Stopped}
-use Rattle.batch_desk.proofs.Calls.Stops.{stopped_behind, stopped_here, stopped_so}
+use Rattle.batch_desk.proofs.Calls.Stops.{stopped_behind, stopped_here, stopped_on, stopped_so}
 use Rattle.batch_desk.proofs.Service.Events.{comes_all, events_told-front}
-use Rattle.batch_desk.proofs.Service.Halts.{halts_behind, halts_before}
+use Rattle.batch_desk.proofs.Service.Halts.{halts_before}
+use Rattle.batch_desk.proofs.Service.Tellings.{halts_before_others, halts_behind_quiet, halts_quiet_behind, waiting_with}
+use Rattle.batch_desk.proofs.Tellings.{ends_quiet}
 
 module _ {D : Type 0} (content : D → List ℕ) (moment : D → ℕ) (left_since : D → ℕ → List ℕ → Type 0) (size : D → ℕ) where
-  -- behind requests that were served
-  pub halts_on : {T : Type 0} (r : Result T Halt) (a b : Clerk D) (c : D) (xs ys : List Handed) (t u v : List ℕ) → Goes content moment left_since size a.desk b.desk → Serves (seen content a) (seen content b) xs t u
-      → IfErr r (λ halt. Stopped content moment left_since size b.desk c (HaltsSo halt (state_of content b.desk) ys u v))
-      → IfErr r (λ halt. Stopped content moment left_since size a.desk c (HaltsSo halt (state_of content a.desk) (xs ++ ys) t v))
-  halts_on (Ok x) a b c xs ys t u v goes serves stopped = tt
-  halts_on (Err halt) a b c xs ys t u v goes serves stopped =
-      stopped_behind content moment left_since size a.desk b.desk c goes (events_told (state_of content a.desk) xs) (HaltsSo halt (state_of content b.desk) ys u v) (HaltsSo halt (state_of content a.desk) (xs ++ ys) t v)
-      serves.events (λ came kept so. halts_behind halt (seen content a) (seen content b) xs ys t u v came kept serves so) stopped
+  -- behind requests that were served while nothing was written
+  pub halts_behind_on : {T : Type 0} (r : Result T Halt) (failed : Bool) (written : Option (List ℕ)) (faults : ℕ) (a b : Clerk D) (c : D) (xs ys : List Handed) (t u : List ℕ) (to : Telling)
+      → Goes content moment left_since size a.desk b.desk → Serves (seen content a) (seen content b) xs t u
+      → IfErr r (λ halt. Stopped content moment left_since size b.desk c (HaltsTelling halt (state_of content b.desk) ys (waiting_with failed written faults u) to))
+      → IfErr r (λ halt. Stopped content moment left_since size a.desk c (HaltsTelling halt (state_of content a.desk) (xs ++ ys) (waiting_with failed written faults t) to))
+  halts_behind_on (Ok x) failed written faults a b c xs ys t u to goes serves stopped = tt
+  halts_behind_on (Err halt) failed written faults a b c xs ys t u to goes serves stopped =
+      stopped_behind content moment left_since size a.desk b.desk c goes (events_told (state_of content a.desk) xs)
+      (HaltsTelling halt (state_of content b.desk) ys (waiting_with failed written faults u) to) (HaltsTelling halt (state_of content a.desk) (xs ++ ys) (waiting_with failed written faults t) to)
+      serves.events (λ came kept so. halts_behind_quiet failed written faults halt (seen content a) (seen content b) xs ys t u to came kept serves so) stopped
+
+  -- while nothing is written any more behind requests that were served
+  pub halts_then_on : {T : Type 0} (r : Result T Halt) (failed : Bool) (written : Option (List ℕ)) (faults : ℕ) (a b : Clerk D) (c : D) (xs ys : List Handed) (from : Telling) (t u : List ℕ)
+      → Goes content moment left_since size a.desk b.desk → ServesTelling (seen content a) (seen content b) xs from (waiting_with failed written faults t)
+      → IfErr r (λ halt. Stopped content moment left_since size b.desk c (HaltsSo halt (state_of content b.desk) ys t u))
+      → IfErr r (λ halt. Stopped content moment left_since size a.desk c (HaltsTelling halt (state_of content a.desk) (xs ++ ys) from (waiting_with failed written faults u)))
+  halts_then_on (Ok x) failed written faults a b c xs ys from t u goes serves stopped = tt
+  halts_then_on (Err halt) failed written faults a b c xs ys from t u goes serves stopped =
+      stopped_behind content moment left_since size a.desk b.desk c goes (events_told (state_of content a.desk) xs)
+      (HaltsSo halt (state_of content b.desk) ys t u) (HaltsTelling halt (state_of content a.desk) (xs ++ ys) from (waiting_with failed written faults u))
+      serves.so.events (λ came kept so. halts_quiet_behind failed written faults halt (seen content a) (seen content b) xs ys from t u came kept serves so) stopped
+
+  -- before other requests
+  pub halts_before_them : (halt : Halt) (a : Clerk D) (c : D) (xs ys : List Handed) (from to : Telling) → Stopped content moment left_since size a.desk c (HaltsTelling halt (state_of content a.desk) xs from to)
+      → Stopped content moment left_since size a.desk c (HaltsTelling halt (state_of content a.desk) (xs ++ ys) from to)
+  halts_before_them halt a c xs ys from to stopped =
+      stopped_so content moment left_since size a.desk c (HaltsTelling halt (state_of content a.desk) xs from to) (HaltsTelling halt (state_of content a.desk) (xs ++ ys) from to)
+      (λ came kept so. halts_before_others halt (state_of content a.desk) xs ys from to came kept so) stopped
+
+  -- nothing was written meanwhile
+  pub halts_quiet_on : {T : Type 0} (r : Result T Halt) (a : DeskView D) (c : D) (xs : List Handed) (from to : Telling) → to.failed ≡ false → to.written ≡ from.written
+      → IfErr r (λ halt. Stopped content moment left_since size a c (HaltsSo halt (state_of content a) xs from.waits to.waits))
+      → IfErr r (λ halt. Stopped content moment left_since size a c (HaltsTelling halt (state_of content a) xs from to))
+  halts_quiet_on r a c xs from to fresh same stopped =
+      stopped_on content moment left_since size r a c (λ halt. HaltsSo halt (state_of content a) xs from.waits to.waits) (λ halt. HaltsTelling halt (state_of content a) xs from to)
+      (λ halt came kept so. record { told = to.waits; so = so; ends = ends_quiet halt from to (from.waits ++ text_to (state_of content a) xs) fresh same }) stopped
 
   -- at the exit of a `?` that hands the halt on, before other requests
   pub halts_before_on : {T : Type 0} (r : Result T Halt) (halt : Halt) (a : Clerk D) (c : D) (xs ys : List Handed) (t v : List ℕ) → IsErrAnd r (λ h. h ≡ halt)

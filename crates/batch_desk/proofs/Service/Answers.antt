@@ -1,5 +1,6 @@
 -- What the clerk answers to one request.
 use Rattle.std.proofs.Common.{◌≡◌, ◌⊎◌, ℕ, Bool, true, false, cond, ◌||◌, ◌&&◌, List, [], ◌∷◌, ◌++◌, length, Result, Ok, Err, OnOk, ⊎_elim, inl, inr, refl, sym, ap, subst, ◌∙◌, append-nil}
+use Rattle.std.specs.List.{flat_map}
 use Rattle.ckr_base.proofs.Bools.{or-false, or-true}
 use Rattle.ckr_desk.specs.Model.Rows.{TablesModel}
 use Rattle.ckr_desk.specs.Model.Turn.{Turn}
@@ -15,11 +16,11 @@ use Rattle.batch_desk.specs.declared.orders.Order.{Order}
 use Rattle.batch_desk.specs.declared.orders.Order.TheVariants.{Turns, ListOf, Purge}
 use Rattle.batch_desk.specs.declared.stop.Halt.{Halt}
 use Rattle.batch_desk.specs.declared.stop.Halt.TheVariants as Halts
-use Rattle.batch_desk.specs.Calls.{Answer, Accepted, DeckRefused, BrokenOff, fits, after_order, broken_off, replies_of, replies_to, initiator_of, name_in, answer_to_deck, behind_deck, deck_answer, deck_fits, lines_of, order_answer, order_fits, order_in, tables_of, is_refusal}
+use Rattle.batch_desk.specs.Calls.{Answer, Accepted, DeckRefused, BrokenOff, answer, fits, after_order, broken_off, replies_of, replies_to, initiator_of, name_in, answer_to_deck, behind_deck, deck_answer, deck_fits, lines_of, order_answer, order_fits, order_in, tables_of, is_refusal}
 use Rattle.batch_desk.specs.Events.{deck_event, purge_event, order_events, request_events, events_told, order_events_before, order_event_at, events_before, event_at}
 use Rattle.batch_desk.specs.Texts.{answer_text}
-use Rattle.batch_desk.specs.Turns.{TurnsHalt}
-use Rattle.batch_desk.specs.Service.{View, ComesTo, Serves, HaltsSo, ListHalt, PurgeHalt}
+use Rattle.batch_desk.specs.Turns.{TurnsHalt, turns_text}
+use Rattle.batch_desk.specs.Service.{View, ComesTo, Serves, HaltsSo, ListHalt, PurgeHalt, text_to}
 use Rattle.batch_desk.proofs.Service.Events.{comes_all, events_told-one}
 use Rattle.batch_desk.proofs.Service.Order.{serves_one, text_to-one}
 
@@ -142,6 +143,23 @@ module _ (s : RoomyDesk) (number : ℕ) (line : List ℕ) (order : Order) (reads
   pub turns_halted_so : (turn : Turn) (n : ℕ) (t u : List ℕ) → order ≡ Turns turn n → (halt : Halt) (came kept : List (List ℕ))
       → TurnsHalt s.desk.layout turn halt n s t u came kept → HaltsSo halt s (Command number line ∷ []) t u came kept
   turns_halted_so turn n t u is halt came kept why = turns_not_served halt turn n t u is came kept why
+
+  -- what is told of turns is what is told of the command
+  pub turns_text_to : (turn : Turn) (n : ℕ) → order ≡ Turns turn n → turns_text s.desk.layout turn n s ≡ text_to s (Command number line ∷ [])
+  turns_text_to turn n is = ap told_by (sym is ∙ reads) ∙ sym (one_told (fits s (Command number line)))
+    where
+      told_by : Order → List ℕ
+      told_by o = answer_text (cond (order_fits s o) (order_answer s number o) (BrokenOff s.desk.layout (initiator_of o) (replies_to s o)))
+
+      whole : Answer
+      whole = answer s (Command number line)
+
+      part : Answer
+      part = broken_off s (Command number line) (replies_of s (Command number line))
+
+      one_told : (b : Bool) → flat_map answer_text (cond b (whole ∷ []) (part ∷ [])) ≡ answer_text (cond b whole part)
+      one_told true = append-nil (answer_text whole)
+      one_told false = append-nil (answer_text part)
 
   pub list_halted_so : (name : _) (t u : List ℕ) → order ≡ ListOf name → (halt : Halt) (came kept : List (List ℕ)) → ListHalt halt t u came kept → HaltsSo halt s (Command number line ∷ []) t u came kept
   list_halted_so name t u is Halts.Memory came kept why =

@@ -13,7 +13,7 @@ use Rattle.batch_desk.specs.declared.stop.Stop.TheVariants as Stops
 use Rattle.batch_desk.specs.Calls.{after_all, all_fit, replies_of, broken_off}
 use Rattle.batch_desk.specs.Events.{events_told, events_before, event_at}
 use Rattle.batch_desk.specs.Texts.{answer_text}
-use Rattle.batch_desk.specs.Service.{View, Serves, BreaksOff, HaltsSo, HaltCause, WritesSo, StopsWithin, Caused, RestWritten, text_to}
+use Rattle.batch_desk.specs.Service.{View, Serves, BreaksOff, HaltsSo, HaltCause, WritesSo, StopsWithin, Caused, RestWritten, stop_of, text_to}
 use Rattle.batch_desk.proofs.Service.Order.{Serves-append, all_fit-append, after_all-append, text_to-append, text_to-full}
 use Rattle.batch_desk.proofs.Service.Events.{events_told-append, events_told-full, comes_behind, comes_before}
 
@@ -219,26 +219,19 @@ stops_behind Stops.Disk before between now a b xs ys more t start old new came k
 -- ---- what is left of a text is written
 
 pub rest_written : (halt : Halt) (stop : Stop) (before now : ℕ) (s : RoomyDesk) (xs : List Handed) (out : List ℕ) (old new : Option (List ℕ)) (came kept : List (List ℕ))
-    → HaltsSo halt s xs [] out came kept → RestWritten halt stop before now old new out → StopsWithin stop before now s xs old new came kept
-rest_written Halts.Memory stop before now s xs out old new came kept so rest =
-    subst (λ (w : Stop). StopsWithin w before now s xs old new came kept) (sym rest.0)
-    (subst (λ (end : Option (List ℕ)). AppendsFront old end (text_to s xs)) (sym rest.1) ([], text_to s xs, refl, Appends-nil old), so)
-rest_written Halts.Book stop before now s xs out old new came kept so rest =
-    subst (λ (w : Stop). StopsWithin w before now s xs old new came kept) (sym rest.0) (so.0, subst (WritesSo before now old new) so.1 rest.1, so.2, so.3)
-rest_written Halts.Disk stop before now s xs out old new came kept so rest =
-    subst (λ (w : Stop). StopsWithin w before now s xs old new came kept) (sym rest.0) (so.0, so.2, subst (WritesSo before now old new) so.1 rest.1)
+    → HaltsSo halt s xs [] out came kept → stop ≡ stop_of halt → RestWritten halt before now old new (text_to s xs) out → StopsWithin stop before now s xs old new came kept
+rest_written Halts.Memory stop before now s xs out old new came kept so is rest = subst (λ (w : Stop). StopsWithin w before now s xs old new came kept) (sym is) (rest, so)
+rest_written Halts.Book stop before now s xs out old new came kept so is rest =
+    subst (λ (w : Stop). StopsWithin w before now s xs old new came kept) (sym is) (so.0, subst (WritesSo before now old new) so.1 rest, so.2, so.3)
+rest_written Halts.Disk stop before now s xs out old new came kept so is rest =
+    subst (λ (w : Stop). StopsWithin w before now s xs old new came kept) (sym is) (so.0, so.2, subst (WritesSo before now old new) so.1 rest)
 
-pub rest_caused : (trusted : Type 0) (halt : Halt) (stop : Stop) (before now : ℕ) (disk disk' : ℕ) (out : List ℕ) (old new : Option (List ℕ))
-    → HaltCause trusted halt disk disk' → RestWritten halt stop before now old new out → Caused trusted stop before now disk disk'
-rest_caused trusted Halts.Memory stop before now disk disk' out old new cause rest = subst (λ (w : Stop). Caused trusted w before now disk disk') (sym rest.0) tt
-rest_caused trusted Halts.Book stop before now disk disk' out old new cause rest = subst (λ (w : Stop). Caused trusted w before now disk disk') (sym rest.0) tt
-rest_caused trusted Halts.Disk stop before now disk disk' out old new cause rest = subst (λ (w : Stop). Caused trusted w before now disk disk') (sym rest.0) cause
+pub rest_caused : (trusted : Type 0) (halt : Halt) (stop : Stop) (before now : ℕ) (disk disk' : ℕ) → HaltCause trusted halt disk disk' → stop ≡ stop_of halt → Caused trusted stop before now disk disk'
+rest_caused trusted Halts.Memory stop before now disk disk' cause is = subst (λ (w : Stop). Caused trusted w before now disk disk') (sym is) tt
+rest_caused trusted Halts.Book stop before now disk disk' cause is = subst (λ (w : Stop). Caused trusted w before now disk disk') (sym is) tt
+rest_caused trusted Halts.Disk stop before now disk disk' cause is = subst (λ (w : Stop). Caused trusted w before now disk disk') (sym is) cause
 
 -- ---- of a call's result
-
-pub serves_on : {E : Type 0} (r : Result (Unit {0}) E) (a b c : View) (xs ys : List Handed) (t u v : List ℕ) → Serves a b xs t u → OnOk r (Serves b c ys u v) → OnOk r (Serves a c (xs ++ ys) t v)
-serves_on (Ok x) a b c xs ys t u v first second = Serves-append a b c xs ys t u v first second
-serves_on (Err e) a b c xs ys t u v first second = tt
 
 pub cause_handed_on : {T : Type 0} (trusted : Type 0) (r : Result T Halt) (halt : Halt) (before now now' : ℕ) → IsErrAnd r (λ h. h ≡ halt) → HaltCause trusted halt before now → now ≡ now' → IfErr r (λ h. HaltCause trusted h before now')
 cause_handed_on trusted (Ok x) halt before now now' is cause same = tt

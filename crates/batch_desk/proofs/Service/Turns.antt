@@ -1,26 +1,26 @@
 -- Runs of replies, and turns.
-use Rattle.std.proofs.Common.{◌≡◌, ◌≤◌, ◌⊎◌, ◌+◌, ◌==◌, ◌&&◌, ℕ, length, ⊎_elim, inl, inr, suc, zero, Bool, true, false, cond, List, [], ◌∷◌, ◌++◌, Option, None, Some, bytes_eq, refl, sym, ap, subst, ◌∙◌, append_assoc, append-nil, arith}
+use Rattle.std.proofs.Common.{◌≡◌, ◌≤◌, ◌⊎◌, ◌+◌, ◌==◌, ◌&&◌, ℕ, length, ⊎_elim, inl, inr, suc, zero, Bool, true, false, cond, List, [], ◌∷◌, ◌++◌, Option, None, Some, Result, Ok, Err, IfOk, bytes_eq, refl, sym, ap, subst, ◌∙◌, append_assoc, append-nil, arith}
 use Rattle.std.specs.List.{flat_map}
 use Rattle.std.proofs.lemmas.Bool.{false≢true}
 use Rattle.std.proofs.lemmas.Bool.Decides.{Decides-eqb}
 use Rattle.std.proofs.lemmas.Grind.{flat_map-append}
 use Rattle.std.proofs.lemmas.Slice.Eq.{bytes_eq-Decides}
 use Rattle.ckr_base.proofs.Bools.{and-first, and-second}
-use Rattle.ckr_desk.proofs.Calls.OneEvent.{turn-few}
 use Rattle.ckr_desk.specs.Requests.{spelled}
 use Rattle.ckr_desk.specs.Turn.{behind_turn, event_of_turn, reply_of, turn_fits}
 use Rattle.ckr_desk.specs.State.{RoomyDesk}
 use Rattle.ckr_desk.specs.Model.Reply.{Reply}
+use Rattle.ckr_desk.specs.Model.Reply.TheVariants.{Idle, Worked}
 use Rattle.ckr_desk.specs.Model.Turn.{Turn}
 use Rattle.ckr_desk.specs.Model.Layout.{Layout}
-use Rattle.batch_desk.specs.Texts.{goes_on, is_same_work, work_in, before_runs, run_text, reply_text, runs_of, with_waiting, told_runs, answer_text}
+use Rattle.batch_desk.specs.Texts.{goes_on, is_same_work, is_work, work_in, before_runs, run_text, reply_text, runs_of, with_waiting, told_runs, answer_text}
 use Rattle.batch_desk.specs.Calls.{Turned, BrokenOff, turns, after_turns, turns_fit, is_idle}
 use Rattle.batch_desk.specs.declared.stop.Halt.{Halt}
 use Rattle.batch_desk.specs.declared.stop.Halt.TheVariants as Halts
 use Rattle.batch_desk.specs.Events.{behind_turns, turns_events}
 use Rattle.batch_desk.specs.Service.{ComesTo}
 use Rattle.batch_desk.proofs.Service.Events.{behind_turns-more, comes_all, length-more, turns_events-front, turns_events-more}
-use Rattle.batch_desk.specs.Turns.{Adds, Turns, FirstTurns, TurnHalt, TurnsHalt}
+use Rattle.batch_desk.specs.Turns.{Adds, IsToldWaiting, Turns, FirstTurns, TurnHalt, TurnsHalt, turns_text}
 
 abbrev Waiting : Type 0
 Waiting = Option (Reply × ℕ)
@@ -74,20 +74,76 @@ before_runs-before_runs a b k (next ∷ runs) = joined (goes_on a b) (goes_on b 
 
 -- ---- what is told of replies that were broken off
 
-told_runs-last : (runs : List (Reply × ℕ)) (run : Reply × ℕ) → told_runs (runs ++ run ∷ []) ≡ runs ++ told_runs (run ∷ [])
-told_runs-last [] run = refl
-told_runs-last (x ∷ []) run = refl
-told_runs-last (x ∷ y ∷ xs) run = ap (λ l. x ∷ l) (told_runs-last (y ∷ xs) run)
+told_runs-behind : (ended runs : List (Reply × ℕ)) → (runs ≡ [] → ⊥) → told_runs (ended ++ runs) ≡ ended ++ told_runs runs
+told_runs-behind [] runs some = refl
+told_runs-behind (x ∷ []) [] some = absurd (some refl)
+told_runs-behind (x ∷ []) (y ∷ ys) some = refl
+told_runs-behind (x ∷ y ∷ xs) runs some = ap (λ l. x ∷ l) (told_runs-behind (y ∷ xs) runs some)
 
-told_behind : (ended : List (Reply × ℕ)) (waiting : Waiting) → (waiting ≡ None → ended ≡ []) → told_runs (ended ++ with_waiting waiting []) ≡ ended ++ told_runs (with_waiting waiting [])
-told_behind ended None none = ap (λ e. told_runs (e ++ [])) (none refl) ∙ ap (λ e. e ++ []) (sym (none refl))
-told_behind ended (Some run) none = told_runs-last ended (run.0, run.1)
+told_behind : (ended : List (Reply × ℕ)) (waiting : Waiting) → (waiting ≡ None → told_runs ended ≡ ended) → told_runs (ended ++ with_waiting waiting []) ≡ ended ++ told_runs (with_waiting waiting [])
+told_behind ended None none = ap told_runs (append-nil ended) ∙ none refl ∙ sym (append-nil ended)
+told_behind ended (Some run) none = told_runs-behind ended ((run.0, run.1) ∷ []) (λ empty. cc)
+
+-- those that have ended are told, whatever others come
+told_front : (ended runs : List (Reply × ℕ)) → (runs ≡ [] → told_runs ended ≡ ended) → (more : List (Reply × ℕ)) × (told_runs (ended ++ runs) ≡ ended ++ more)
+told_front ended [] none = ([], ap told_runs (append-nil ended) ∙ none refl ∙ sym (append-nil ended))
+told_front ended (run ∷ runs) none = (told_runs (run ∷ runs), told_runs-behind ended (run ∷ runs) (λ empty. cc))
+
+before_runs-some : (r : Reply) (n : ℕ) (runs : List (Reply × ℕ)) → before_runs r n runs ≡ [] → ⊥
+before_runs-some r n [] empty = cc
+before_runs-some r n (next ∷ runs) empty = by_first (goes_on r next.0) empty
+  where
+    by_first : (b : Bool) → cond b ((next.0, n + next.1) ∷ runs) ((r, n) ∷ next ∷ runs) ≡ [] → ⊥
+    by_first true empty = cc
+    by_first false empty = cc
+
+told_without : (waiting : Waiting) (ended runs : List (Reply × ℕ)) → (waiting ≡ None → told_runs ended ≡ ended) → with_waiting waiting runs ≡ [] → told_runs ended ≡ ended
+told_without None ended runs none empty = none refl
+told_without (Some run) ended runs none empty = absurd (before_runs-some run.0 run.1 runs empty)
+
+-- work that isn't known to have ended isn't told
+untold : (waiting : Waiting) → IsToldWaiting waiting → told_runs (with_waiting waiting []) ≡ []
+untold None waits = refl
+untold (Some run) waits = ap (λ b. cond b [] ((run.0, run.1) ∷ [])) waits.0
+
+-- ---- which replies go on others
+
+same_work-none : (one : Option (ℕ × List ℕ)) → is_same_work one None ≡ false
+same_work-none None = refl
+same_work-none (Some one) = refl
+
+pub goes_on-work : (last reply : Reply) → goes_on last reply ≡ true → is_work reply ≡ true
+goes_on-work last (Worked job step taken) both = refl
+goes_on-work last _ both = absurd (false≢true (sym (same_work-none (work_in last)) ∙ both))
+
+pub idle-no_work : (reply : Reply) → is_idle reply ≡ true → is_work reply ≡ false
+idle-no_work Idle idle = refl
+idle-no_work _ idle = absurd (false≢true idle)
+
+no_work-goes_on : (reply next : Reply) → is_work reply ≡ false → goes_on reply next ≡ false
+no_work-goes_on (Worked job step taken) next other = absurd (false≢true (sym other))
+no_work-goes_on _ next other = refl
+
+before_runs-no_work : (reply : Reply) (n : ℕ) (runs : List (Reply × ℕ)) → is_work reply ≡ false → before_runs reply n runs ≡ (reply, n) ∷ runs
+before_runs-no_work reply n [] other = refl
+before_runs-no_work reply n (next ∷ runs) other = ap (λ b. cond b ((next.0, n + next.1) ∷ runs) ((reply, n) ∷ next ∷ runs)) (no_work-goes_on reply next.0 other)
 
 module _ (layout : Layout) (initiator : ℕ) where
   -- ---- a reply comes
 
+  -- work waits
   pub adds_first : (reply : Reply) (text : List ℕ) → Adds layout initiator None reply (Some (reply, 1)) text text
-  adds_first reply text = record { ended = []; written = sym (append-nil text); joins = λ runs. refl; waits = λ none. cc }
+  adds_first reply text = record { ended = []; written = sym (append-nil text); joins = λ runs. refl; some = λ none empty. cc; none = λ none. cc }
+
+  -- another reply is told
+  pub adds_told : (reply : Reply) (before now : List ℕ) → is_work reply ≡ false → now ≡ before ++ reply_text layout initiator reply 1 → Adds layout initiator None reply None before now
+  adds_told reply before now other written = record {
+    ended = (reply, 1) ∷ [];
+    written = written ∙ ap (λ t. before ++ t) (sym (append-nil (reply_text layout initiator reply 1)));
+    joins = λ runs. before_runs-no_work reply 1 runs other;
+    some = λ none empty. cc;
+    none = λ none. ap (λ b. cond b [] ((reply, 1) ∷ [])) other;
+  }
 
   pub adds_work : (last reply : Reply) (times : ℕ) (text : List ℕ) → goes_on last reply ≡ true → Adds layout initiator (Some (last, times)) reply (Some (reply, times + 1)) text text
   adds_work last reply times text both = record {
@@ -96,23 +152,40 @@ module _ (layout : Layout) (initiator : ℕ) where
     joins = λ runs.
         before_runs-before_runs last reply times runs
         ∙ ap (λ b. cond b (before_runs reply (times + 1) runs) ((last, times) ∷ before_runs reply 1 runs)) both;
-    waits = λ none. cc;
+    some = λ none empty. cc;
+    none = λ none. cc;
   }
 
-  pub adds_other : (last reply : Reply) (times : ℕ) (before now : List ℕ) → goes_on last reply ≡ false → now ≡ before ++ reply_text layout initiator last times
-      → Adds layout initiator (Some (last, times)) reply (Some (reply, 1)) before now
-  adds_other last reply times before now not_both written = record {
-    ended = (last, times) ∷ [];
-    written = written ∙ ap (λ t. before ++ t) (sym (append-nil (reply_text layout initiator last times)));
+  -- the line of those that wait comes first
+  pub adds_other : (last reply : Reply) (times : ℕ) (waiting' : Waiting) (before mid now : List ℕ) → goes_on last reply ≡ false → mid ≡ before ++ reply_text layout initiator last times
+      → Adds layout initiator None reply waiting' mid now → Adds layout initiator (Some (last, times)) reply waiting' before now
+  adds_other last reply times waiting' before mid now not_both written adds = record {
+    ended = (last, times) ∷ adds.ended;
+    written = adds.written ∙ ap (λ t. t ++ flat_map (run_text layout initiator) adds.ended) written
+        ∙ append_assoc before (reply_text layout initiator last times) (flat_map (run_text layout initiator) adds.ended);
     joins = λ runs.
         before_runs-before_runs last reply times runs
-        ∙ ap (λ b. cond b (before_runs reply (times + 1) runs) ((last, times) ∷ before_runs reply 1 runs)) not_both;
-    waits = λ none. cc;
+        ∙ ap (λ b. cond b (before_runs reply (times + 1) runs) ((last, times) ∷ before_runs reply 1 runs)) not_both
+        ∙ ap (λ l. (last, times) ∷ l) (adds.joins runs);
+    some = λ none empty. cc;
+    none = λ none. told_runs-behind ((last, times) ∷ []) adds.ended (adds.some none) ∙ ap (λ l. (last, times) ∷ l) (adds.none none);
   }
+
+  -- behind any other text
+  pub adds_behind_text : (waiting : Waiting) (reply : Reply) (waiting' : Waiting) (before now text : List ℕ) → (adds : Adds layout initiator waiting reply waiting' before now)
+      → Adds layout initiator waiting reply waiting' text (text ++ flat_map (run_text layout initiator) adds.ended)
+  adds_behind_text waiting reply waiting' before now text adds = record { ended = adds.ended; written = refl; joins = adds.joins; some = adds.some; none = adds.none }
 
   pub adds_behind : (waiting : Waiting) (last : Reply) (times : ℕ) (reply : Reply) (waiting' : Waiting) (before now : List ℕ) → waiting ≡ Some (last, times)
       → Adds layout initiator (Some (last, times)) reply waiting' before now → Adds layout initiator waiting reply waiting' before now
   adds_behind waiting last times reply waiting' before now is adds = subst (λ (w : Waiting). Adds layout initiator w reply waiting' before now) (sym is) adds
+
+  -- of a call's result
+  pub adds_other_on : {E : Type 0} (r : Result Waiting E) (waiting : Waiting) (last reply : Reply) (times : ℕ) (before mid now : List ℕ) → waiting ≡ Some (last, times) → goes_on last reply ≡ false
+      → mid ≡ before ++ reply_text layout initiator last times → IfOk r (λ waiting'. Adds layout initiator None reply waiting' mid now) → IfOk r (λ waiting'. Adds layout initiator waiting reply waiting' before now)
+  adds_other_on (Ok waiting') waiting last reply times before mid now is not_both written adds =
+      adds_behind waiting last times reply waiting' before now is (adds_other last reply times waiting' before mid now not_both written adds)
+  adds_other_on (Err e) waiting last reply times before mid now is not_both written adds = tt
 
 module _ (layout : Layout) (turn : Turn) where
   -- ---- turns
@@ -202,7 +275,7 @@ module _ (layout : Layout) (turn : Turn) where
             ∙ ap (λ b. cond b true (turns_fit turn m (behind_turn s turn))) idle ∙ ap (turns_fit turn m) (sym behind);
         joins = joined_behind h.made h.ended adds.ended waiting waiting' reply h.joins adds.joins;
         written = written_behind h.ended adds.ended before mid now h.written adds.written;
-        none = λ none. absurd (adds.waits none);
+        none = λ none. told_runs-behind h.ended adds.ended (adds.some none) ∙ ap (λ l. h.ended ++ l) (adds.none none);
         behind = behind ∙ ap (λ st. behind_turn st turn) h.behind ∙ sym (behind_turns-more turn (length h.made) first)
             ∙ ap (λ j. behind_turns turn j first) (sym (length-more turn h.made reply));
         events = events_more h.made reply first s had between have h.behind h.events came;
@@ -277,7 +350,7 @@ module _ (layout : Layout) (turn : Turn) where
       }
 
   broken_text : (made : List Reply) (ended : List (Reply × ℕ)) (waiting : Waiting) (before now final : List ℕ)
-      → ((rest : List Reply) → runs_of (made ++ rest) ≡ ended ++ with_waiting waiting (runs_of rest)) → (waiting ≡ None → ended ≡ []) → now ≡ before ++ flat_map (run_text layout turn.initiator) ended
+      → ((rest : List Reply) → runs_of (made ++ rest) ≡ ended ++ with_waiting waiting (runs_of rest)) → (waiting ≡ None → told_runs ended ≡ ended) → now ≡ before ++ flat_map (run_text layout turn.initiator) ended
       → final ≡ now ++ flat_map (run_text layout turn.initiator) (told_runs (with_waiting waiting [])) → final ≡ before ++ answer_text (BrokenOff layout turn.initiator made)
   broken_text made ended waiting before now final joins none written last =
       written_behind ended (told_runs (with_waiting waiting [])) before now final written last
@@ -340,11 +413,33 @@ module _ (layout : Layout) (turn : Turn) where
   turns_halted Halts.Book n k m first s waiting before now final had have came kept less why h last = turns_full n k m first s waiting before now final had have came kept less why.0 why.1 why.2 h last
   turns_halted Halts.Disk n k m first s waiting before now final had have came kept less why h last = turns_broken n k first s waiting before now final had have came kept why.0 why.1 h last
 
-  -- the same where memory ran out for the text
-  pub turns_halted_unsaid : (halt : Halt) (n k : ℕ) (first s : RoomyDesk) (waiting : Waiting) (before now final : List ℕ) (had have came kept : List (List ℕ))
-      → TurnHalt halt turn s came kept → (h : Turns layout turn n k first s waiting before now had have)
-      → TurnsHalt layout turn Halts.Memory n first before final (turns_events turn (length h.made) first ++ came) (turns_events turn (length h.made) first ++ kept)
-  turns_halted_unsaid Halts.Memory n k first s waiting before now final had have came kept why h = turns_unsaid n k first s waiting before now had have came kept (none-few came why.0) (inr why.1) h
-  turns_halted_unsaid Halts.Book n k first s waiting before now final had have came kept why h = turns_unsaid n k first s waiting before now had have came kept (none-few came why.1) (inr why.2) h
-  turns_halted_unsaid Halts.Disk n k first s waiting before now final had have came kept why h =
-      turns_unsaid n k first s waiting before now had have came kept (subst (λ (c : List (List ℕ)). length c ≤ 1) (sym why.0) (turn-few s turn)) why.1 h
+  -- no more is told of those that wait
+  pub no_more : (waiting : Waiting) (now : List ℕ) → IsToldWaiting waiting → now ≡ now ++ flat_map (run_text layout turn.initiator) (told_runs (with_waiting waiting []))
+  no_more waiting now waits = sym (ap (λ (rs : List (Reply × ℕ)). now ++ flat_map (run_text layout turn.initiator) rs) (untold waiting waits) ∙ append-nil now)
+
+  -- what is told so far is a front of what is told of all turns
+  pub turns_front : (n k : ℕ) (first s : RoomyDesk) (waiting : Waiting) (before now : List ℕ) (had have : List (List ℕ)) → Turns layout turn n k first s waiting before now had have
+      → (more : List ℕ) × (before ++ turns_text layout turn n first ≡ now ++ more)
+  turns_front n k first s waiting before now had have h = by_fit (turns_fit turn n first) refl
+    where
+      later : List (Reply × ℕ)
+      later = with_waiting waiting (runs_of (turns turn k s))
+
+      runs : runs_of (turns turn n first) ≡ h.ended ++ later
+      runs = ap runs_of h.replies ∙ h.joins (turns turn k s)
+
+      behind : (all more : List (Reply × ℕ)) → all ≡ h.ended ++ more → before ++ flat_map (run_text layout turn.initiator) all ≡ now ++ flat_map (run_text layout turn.initiator) more
+      behind all more is =
+          ap (λ (rs : List (Reply × ℕ)). before ++ flat_map (run_text layout turn.initiator) rs) is
+          ∙ ap (λ t. before ++ t) (flat_map-append (run_text layout turn.initiator) h.ended more)
+          ∙ sym (append_assoc before (flat_map (run_text layout turn.initiator) h.ended) (flat_map (run_text layout turn.initiator) more))
+          ∙ ap (λ t. t ++ flat_map (run_text layout turn.initiator) more) (sym h.written)
+
+      text_by : Bool → List ℕ
+      text_by b = before ++ answer_text (cond b (Turned layout turn.initiator (turns turn n first)) (BrokenOff layout turn.initiator (turns turn n first)))
+
+      by_fit : (b : Bool) → turns_fit turn n first ≡ b → (more : List ℕ) × (before ++ turns_text layout turn n first ≡ now ++ more)
+      by_fit true fit = (flat_map (run_text layout turn.initiator) later, ap text_by fit ∙ behind (runs_of (turns turn n first)) later runs)
+      by_fit false full =
+          let told = told_front h.ended later (told_without waiting h.ended (runs_of (turns turn k s)) h.none) in
+          (flat_map (run_text layout turn.initiator) told.0, ap text_by full ∙ behind (told_runs (runs_of (turns turn n first))) told.0 (ap told_runs runs ∙ told.1))

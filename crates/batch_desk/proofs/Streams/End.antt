@@ -69,9 +69,3 @@ module _ {D : Type 0} (content : D → List ℕ) where
   -- where no line waits, it is the deck that is open
   pub end_requests_without : (f : Flow D) → (length f.partial.items == 0) ≡ true → handed_deck f.session.deck.items ≡ end_requests f
   end_requests_without f none = sym (ap (λ b. handed_by (standing_of f.session) (if b then [] else (f.partial.items ∷ []))) none)
-
--- ---- requests behind others that were served
-
-pub served_behind : {T E : Type 0} (r : Result T E) (a b c : View) (xs ys : List Handed) (t u v : List ℕ) → Serves a b xs t u → OnOk r (Serves b c ys u v) → OnOk r (Serves a c (xs ++ ys) t v)
-served_behind (Ok x) a b c xs ys t u v first second = Serves-append a b c xs ys t u v first second
-served_behind (Err e) a b c xs ys t u v first second = tt

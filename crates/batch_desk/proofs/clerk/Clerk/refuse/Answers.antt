@@ -1,10 +1,10 @@
-use Rattle.std.proofs.Common.{◌∷◌, [], refl, sym, subst, append-nil}
+use Rattle.std.proofs.Common.{◌∷◌, [], sym, append-nil}
 use Rattle.ckr_cards.specs.Session.Handed.{Refusal}
 use Rattle.ckr_desk.specs.Soundness.{state_of}
 use Rattle.batch_desk.specs.Service.{HaltsSo}
 use Rattle.batch_desk.proofs.Calls.Halts.{memory_here}
 use Rattle.batch_desk.proofs.Calls.Stops.{goes_nowhere, goes_on_to}
-use Rattle.batch_desk.proofs.Service.Answers.{comes_none, comes_one}
+use Rattle.batch_desk.proofs.Service.Answers.{comes_none}
 use Rattle.batch_desk.proofs.clerk.Clerk.refuse.Goals as goal
 
 pub returns-clause-goes : goal.returns-clause-goes
