@@ -17,3 +17,9 @@ pub mod Marks
 pub mod Points
 pub mod Counts
 pub mod Start
+pub mod PutBack
+pub mod Restart
+pub mod PassedNames
+pub mod OtherRuns
+pub mod PlainRuns
+mod Examples

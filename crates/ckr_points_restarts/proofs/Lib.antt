@@ -1,6 +1,0 @@
-pub mod PutBack
-pub mod Restart
-pub mod PassedNames
-pub mod OtherRuns
-pub mod PlainRuns
-mod Examples

@@ -1,6 +1,0 @@
-use Rattle.ckr_points_restarts.proofs.PlainRuns.Office.{entries-restorable, steps-restorable}
-use Rattle.ckr_points_restarts.proofs.PlainRuns.SoundEvents.{none-ready}
-use Rattle.ckr_points_restarts.proofs.laws.ready_runs_can_restart.Goals as goal
-
-pub returns : goal.returns
-returns c = record { step = steps-restorable; checkpoint = entries-restorable; none = none-ready }

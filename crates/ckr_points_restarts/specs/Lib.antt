@@ -1,3 +1,0 @@
-pub mod Restorability
-pub mod PlainRuns
-pub mod Readiness
