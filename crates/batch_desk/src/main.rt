@@ -1,33 +1,11 @@
 //! The batch desk: job decks in, a listing out.
 #![tactic(auto)]
 
-#[cfg(test)]
-mod checkpoint_tests;
-mod clerk;
 mod failure;
-mod flow;
-mod lines;
-mod listing_lines;
-mod orders;
-#[cfg(test)]
-mod refusal_tests;
-mod report;
-#[cfg(test)]
-mod row_tests;
-mod session;
-mod stop;
-mod stream;
-#[cfg(test)]
-mod tests;
-mod text;
-mod top;
-mod turns;
-mod words;
 
 use crate::failure::{Failure, failure_at};
-use crate::top::batch_desk;
-use crate::words::disk_place;
 use ckr_outside::{FileDisk, StdSink, StdSource};
+use ckr_service::{batch_desk, disk_place};
 use std::fs::{File, OpenOptions};
 use std::process::ExitCode;
 use std::{env, io};

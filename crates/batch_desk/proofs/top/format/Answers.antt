@@ -1,8 +1,0 @@
-use Rattle.batch_desk.proofs.Calls.Ends.{has_formatted}
-use Rattle.batch_desk.proofs.top.format.Goals as goal
-
-pub returns : goal.returns
-returns g c =
-    let d = g.D.Disk in
-    let e = c.format_disk-outcome.ensures in
-    record { formatted = has_formatted d.told d.content d.may_leave d.size c.format_disk-outcome.new.disk c.format_disk-outcome.result _ _ _ _ _ _ _ _ _ _ _ _ _ _ c.formatting_status.ensures e.ends e.cause; size = e.size }

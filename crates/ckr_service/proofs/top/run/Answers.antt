@@ -1,0 +1,56 @@
+use Rattle.std.proofs.Common.{◌≡◌, ◌++◌, ◌∙◌, ℕ, List}
+use Rattle.ckr_desk.specs.FirstSync.{FromSync, IsLeft}
+use Rattle.ckr_desk.specs.Model.Layout.{Layout}
+use Rattle.ckr_desk.specs.Model.OpenImages.{event_records}
+use Rattle.ckr_desk.specs.Soundness.{AllSound, HasKept, IsTrusted, state_of}
+use Rattle.ckr_desk.specs.State.{disk_of, layout_of, opened_of}
+use Rattle.ckr_service.specs.Stops.{Has, KeepsTo}
+use Rattle.ckr_service.proofs.Calls.Ends.{run_ended, run_not_opened}
+use Rattle.ckr_service.proofs.Calls.OpenStops.{all_sound_after, each_served, has_served, sound_from, sound_left}
+use Rattle.ckr_service.proofs.Service.Ends.{serving_from, some_came}
+use Rattle.ckr_service.proofs.top.run.Goals as goal
+
+pub returns-in-Ok : goal.returns-in-Ok
+returns-in-Ok g c =
+    let d = g.D.Disk in
+    let e = c.in-Ok.ensures in
+    let s = c.serve-outcome.ensures in
+    let disk = c.args.disk in
+    let desk = c.in-Ok.desk in
+    let end = c.serve-outcome.result.disk in
+    let outcome = c.serve-outcome.result.outcome in
+    let laws = g.met.D.Disk g.world.𝓛 g.world.𝓜 g.world.𝓡 ((λ s x. x), (λ x. x), (λ x. x), λ x. x) in
+    let each : Layout → List (List ℕ) → Type 0 = λ layout came. FromSync d.content d.may_leave d.moment d.left_since disk end (HasKept layout (d.size disk) (event_records layout (d.content disk)) came) in
+    let has : Layout → List (List ℕ) → Type 0 = λ layout kept. event_records layout (d.content end) ≡ event_records layout (d.content disk) ++ kept in
+    let served = serving_from (IsTrusted d.told d.content d.may_leave desk) (AllSound d.told d.may_leave d.size disk) (KeepsTo d.content d.moment d.left_since d.size desk end) (Has d.content d.moment d.left_since d.size desk end)
+    (each (layout_of desk)) (has (layout_of desk)) e.trusted
+    (λ all came. each_served d.told d.content d.may_leave d.moment d.left_since d.size disk desk end (e.kept all) (e.records all.tells) e.size came)
+    (λ all kept. has_served d.told d.content d.may_leave d.moment d.left_since d.size disk desk end (e.records all.tells) kept)
+    (state_of d.content desk) outcome _ _ _ _ (d.faults disk) (d.faults (disk_of desk)) (d.faults end) _ _ _ _ e.never_falls s.served in
+    let safe = (λ (all : AllSound d.told d.may_leave d.size disk).
+    (let came = some_came (AllSound d.told d.may_leave d.size disk) (each (layout_of desk)) (has (layout_of desk)) (state_of d.content desk) outcome _ _ _ _ _ served all in
+    sound_from d.told d.content d.may_leave d.moment d.left_since d.size disk end (HasKept (layout_of desk) (d.size disk) (event_records (layout_of desk) (d.content disk)) came.0) all came.1 (λ image kept. kept.sound))) in
+    record {
+      run = run_ended d.told (AllSound d.told d.may_leave d.size disk) (d.content disk) (d.size disk) (opened_of desk) (state_of d.content desk)
+          (λ error. IsLeft d.content d.may_leave d.moment d.left_since d.size d.told (AllSound d.told d.may_leave d.size disk) error disk end) each has
+          outcome _ _ _ _ _ _ e.read e.opened c.serving_status.ensures served;
+      size = s.size ∙ e.size;
+      safe = safe;
+      sound = λ all. all_sound_after d.told d.content d.may_leave d.moment d.left_since d.size disk end all (s.size ∙ e.size) (laws.counts_now end) (safe all);
+    }
+
+pub returns-in-Err : goal.returns-in-Err
+returns-in-Err g c =
+    let d = g.D.Disk in
+    let e = c.in-Err.ensures in
+    let disk = c.args.disk in
+    let end = c.in-Err.field-0.disk in
+    let laws = g.met.D.Disk g.world.𝓛 g.world.𝓜 g.world.𝓡 ((λ s x. x), (λ x. x), (λ x. x), λ x. x) in
+    let safe = (λ (all : AllSound d.told d.may_leave d.size disk). sound_left d.told d.content d.may_leave d.moment d.left_since d.size c.in-Err.field-0.error disk end all e.left) in
+    record {
+      run = run_not_opened _ _ _ (λ error. IsLeft d.content d.may_leave d.moment d.left_since d.size d.told (AllSound d.told d.may_leave d.size disk) error disk end) _ _ c.in-Err.field-0.error _ _ _ _ _ _ _
+          c.opening_status.ensures e.cause e.left;
+      size = e.size_left;
+      safe = safe;
+      sound = λ all. all_sound_after d.told d.content d.may_leave d.moment d.left_since d.size disk end all e.size_left (laws.counts_now end) (safe all);
+    }

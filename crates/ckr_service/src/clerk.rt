@@ -1,0 +1,269 @@
+//! The requests of a stream, one after another.
+ghost use Rattle.std.specs.Prelude.{◌≡◌, ◌<◌, ◌≤◌, ◌%◌, ◌*◌, ◌||◌, length, [], ◌∷◌, ◌++◌, OnOk, IfErr, false, true};
+ghost use Rattle.ckr_outside.specs.Faults.{Rose};
+ghost use Rattle.ckr_desk.specs.Model.Listing.{listed, records_of};
+ghost use Rattle.ckr_desk.specs.Requests.{behind_call, call_fits, event_in, spelled};
+ghost use Rattle.ckr_desk.specs.Soundness.{IsTrusted, state_of};
+ghost use Rattle.ckr_desk.specs.Submit.{is_queued, purge_call};
+ghost use Rattle.ckr_desk.specs.State.{IsOpen, disk_of, layout_of, tables_in_memory};
+ghost use Rattle.ckr_service.specs.Stops.{Goes, Has, Stopped};
+ghost use Rattle.ckr_cards.specs.Session.Handed.{Deck, Order as Command, Refusal};
+ghost use Rattle.ckr_service.specs.Calls.{Accepted, DeckRefused, JobsListed, LineRefused, Listed, Purged, SetsListed, lines_of, name_in, list_answer, purge_answer, is_refusal};
+ghost use Rattle.ckr_service.specs.Texts.{answer_text};
+ghost use Rattle.ckr_service.specs.Lines.{telling};
+ghost use Rattle.ckr_service.specs.Service.{HaltsSo, HaltsTelling, HaltCause, ListHalt, PurgeHalt, Serves, ServesTelling, seen};
+
+use crate::lines::Lines;
+use crate::listing_lines::{jobs, sets};
+use crate::orders::{Order, read_order};
+use crate::report::{accepted, deck_refused, line_refused, listed, purged};
+use crate::stop::Halt;
+use crate::text::Text;
+use crate::turns::turned;
+use ckr_base::{DsName, NoMemory, Rec};
+use ckr_desk::{Desk, DeskError, Run, Submitted};
+use ckr_outside::{Disk, Sink};
+use std::alloc::Global;
+
+/// The desk, and whether a line or a deck was refused.
+#[derive(Drop)]
+pub struct Clerk<D: Disk> {
+    pub alloc: Global,
+    pub desk: Desk<D>,
+    pub refused: bool,
+}
+
+/// The name of the job of a number.
+fn name_in(number: u32, runs: &[Run]) -> &[u8]
+    ensures { result.now ≡ name_in number runs.now }
+{
+    match runs {
+        [] => &[],
+        [run, rest @ ..] => {
+            if run.number == number {
+                return run.name.text();
+            }
+            name_in(number, rest)
+        }
+    }
+}
+
+/// The records of a data set are told.
+fn tell(records: &[Rec], out: &mut Text) -> Result<(), Halt>
+    ensures text { OnOk result (out.new ≡ out.old ++ answer_text (Listed records.now)) }
+    ensures halt { IfErr result (λ halt. halt ≡ Halt.Memory) }
+{
+    match listed(records, out) {
+        Ok(()) => Ok(()),
+        Err(NoMemory) => Err(Halt::Memory),
+    }
+}
+
+/// A job is told that was taken from the queue.
+fn tell_purged(job: u32, out: &mut Text) -> Result<(), Halt>
+    ensures text { OnOk result (out.new ≡ out.old ++ answer_text (Purged job)) }
+    ensures halt { IfErr result (λ halt. halt ≡ Halt.Memory) }
+{
+    match purged(job, out) {
+        Ok(()) => Ok(()),
+        Err(NoMemory) => Err(Halt::Memory),
+    }
+}
+
+impl<D: Disk> Clerk<D> {
+    pub fn new(alloc: Global, desk: Desk<D>) -> Clerk<D>
+        ensures desk { result.desk ≡ desk }
+        ensures refused { result.refused ≡ false }
+    {
+        Clerk {
+            alloc,
+            desk,
+            refused: false,
+        }
+    }
+
+    /// A deck ends.
+    pub fn submit(&mut self, cards: &[u8], out: &mut Text) -> Result<(), Halt>
+        requires whole { length cards.now % 81 ≡ 0 }
+        requires some { 81 ≤ length cards.now }
+        requires few { length cards.now < 81 * 4294967295 }
+        requires is_open { IsOpen self.old.desk }
+        ensures serves { IsTrusted D.told D.content D.may_leave self.old.desk → OnOk result (Serves (seen D.content self.old) (seen D.content self.new) (Deck cards.now ∷ []) out.old out.new) }
+        ensures trusted { OnOk result (IsTrusted D.told D.content D.may_leave self.old.desk → IsTrusted D.told D.content D.may_leave self.new.desk) }
+        ensures goes { IsTrusted D.told D.content D.may_leave self.old.desk → OnOk result (Goes D.content D.moment D.left_since D.size self.old.desk self.new.desk) }
+        ensures is_open { OnOk result (IsOpen self.new.desk) }
+        ensures later { D.faults (disk_of self.old.desk) ≤ D.faults (disk_of self.new.desk) }
+        ensures size { D.size (disk_of self.new.desk) ≡ D.size (disk_of self.old.desk) }
+        ensures halt { IsTrusted D.told D.content D.may_leave self.old.desk → IfErr result (λ halt. Stopped D.content D.moment D.left_since D.size self.old.desk (disk_of self.new.desk) (HaltsSo halt (state_of D.content self.old.desk) (Deck cards.now ∷ []) out.old out.new)) }
+        ensures cause { IfErr result (λ halt. HaltCause (IsTrusted D.told D.content D.may_leave self.old.desk) halt (D.faults (disk_of self.old.desk)) (D.faults (disk_of self.new.desk))) }
+    {
+        match self.desk.submit(cards) {
+            Ok(Submitted::Job(number)) => self.accept(number, out),
+            Ok(Submitted::Refused { number, card }) => self.refuse_deck(number, card, out),
+            Err(DeskError::NoMemory) => Err(Halt::Memory),
+            Err(DeskError::BookFull { .. }) => Err(Halt::Book),
+            Err(DeskError::DiskFault) => Err(Halt::Disk),
+            Err(DeskError::Stopped { .. }) => unreachable!(),
+        }
+    }
+
+    fn accept(&mut self, number: u32, out: &mut Text) -> Result<(), Halt>
+        ensures clerk { self.new ≡ self.old }
+        ensures text { OnOk result (out.new ≡ out.old ++ answer_text (Accepted number (name_in number (lines_of (tables_in_memory self.old.desk))))) }
+        ensures halt { IfErr result (λ halt. halt ≡ Halt.Memory) }
+    {
+        match accepted(number, name_in(number, self.desk.runs()), out) {
+            Ok(()) => Ok(()),
+            Err(NoMemory) => Err(Halt::Memory),
+        }
+    }
+
+    fn refuse_deck(&mut self, number: u8, card: u32, out: &mut Text) -> Result<(), Halt>
+        ensures desk { self.new.desk ≡ self.old.desk }
+        ensures refused { self.new.refused ≡ true }
+        ensures text { OnOk result (out.new ≡ out.old ++ answer_text (DeckRefused number card)) }
+        ensures halt { IfErr result (λ halt. halt ≡ Halt.Memory) }
+    {
+        self.refused = true;
+        match deck_refused(number, card, out) {
+            Ok(()) => Ok(()),
+            Err(NoMemory) => Err(Halt::Memory),
+        }
+    }
+
+    /// A command ends.
+    pub fn obey<K: Sink>(
+        &mut self,
+        number: u32,
+        text: &[u8],
+        lines: &mut Lines,
+        sink: &mut K,
+    ) -> Result<(), Halt>
+        requires is_open { IsOpen self.old.desk }
+        requires fresh { lines.old.failed ≡ false }
+        ensures serves { IsTrusted D.told D.content D.may_leave self.old.desk → OnOk result (ServesTelling (seen D.content self.old) (seen D.content self.new) (Command number text.now ∷ [])
+            (telling lines.old (K.written sink.old) (K.faults sink.old)) (telling lines.new (K.written sink.new) (K.faults sink.new))) }
+        ensures trusted { OnOk result (IsTrusted D.told D.content D.may_leave self.old.desk → IsTrusted D.told D.content D.may_leave self.new.desk) }
+        ensures goes { IsTrusted D.told D.content D.may_leave self.old.desk → OnOk result (Goes D.content D.moment D.left_since D.size self.old.desk self.new.desk) }
+        ensures is_open { OnOk result (IsOpen self.new.desk) }
+        ensures later { D.faults (disk_of self.old.desk) ≤ D.faults (disk_of self.new.desk) }
+        ensures size { D.size (disk_of self.new.desk) ≡ D.size (disk_of self.old.desk) }
+        ensures halt { IsTrusted D.told D.content D.may_leave self.old.desk → IfErr result (λ halt. Stopped D.content D.moment D.left_since D.size self.old.desk (disk_of self.new.desk) (HaltsTelling halt (state_of D.content self.old.desk) (Command number text.now ∷ [])
+            (telling lines.old (K.written sink.old) (K.faults sink.old)) (telling lines.new (K.written sink.new) (K.faults sink.new)))) }
+        ensures cause { IfErr result (λ halt. HaltCause (IsTrusted D.told D.content D.may_leave self.old.desk) halt (D.faults (disk_of self.old.desk)) (D.faults (disk_of self.new.desk))) }
+        ensures sink_later { K.faults sink.old ≤ K.faults sink.new }
+        ensures failed { lines.new.failed ≡ true → Rose (K.faults sink.old) (K.faults sink.new) }
+    {
+        let _layout = self.desk.layout();
+        match read_order(self.desk.layout().initiators, text) {
+            Order::Turns { turn, count } => turned(&mut self.desk, turn, count, lines, sink),
+            Order::ListOf(name) => self.list(number, &name, &mut lines.text),
+            Order::Sets => self.list_sets(&mut lines.text),
+            Order::Jobs => self.list_jobs(&mut lines.text),
+            Order::Purge(job) => self.purge(number, job, &mut lines.text),
+            Order::Unknown => self.refuse_line(number, &mut lines.text),
+        }
+    }
+
+    fn refuse_line(&mut self, number: u32, out: &mut Text) -> Result<(), Halt>
+        ensures desk { self.new.desk ≡ self.old.desk }
+        ensures refused { self.new.refused ≡ true }
+        ensures text { OnOk result (out.new ≡ out.old ++ answer_text (LineRefused number)) }
+        ensures halt { IfErr result (λ halt. halt ≡ Halt.Memory) }
+    {
+        self.refused = true;
+        match line_refused(number, out) {
+            Ok(()) => Ok(()),
+            Err(NoMemory) => Err(Halt::Memory),
+        }
+    }
+
+    /// The data sets are told.
+    fn list_sets(&mut self, out: &mut Text) -> Result<(), Halt>
+        ensures clerk { self.new ≡ self.old }
+        ensures text { IsTrusted D.told D.content D.may_leave self.old.desk → OnOk result (out.new ≡ out.old ++ answer_text (SetsListed (layout_of self.old.desk) (listed (state_of D.content self.old.desk).desk))) }
+        ensures halt { IfErr result (λ halt. halt ≡ Halt.Memory) }
+    {
+        match sets(&self.desk, out) {
+            Ok(()) => Ok(()),
+            Err(NoMemory) => Err(Halt::Memory),
+        }
+    }
+
+    /// The jobs are told.
+    fn list_jobs(&mut self, out: &mut Text) -> Result<(), Halt>
+        ensures clerk { self.new ≡ self.old }
+        ensures text { OnOk result (out.new ≡ out.old ++ answer_text (JobsListed (lines_of (tables_in_memory self.old.desk)))) }
+        ensures halt { IfErr result (λ halt. halt ≡ Halt.Memory) }
+    {
+        match jobs(self.desk.runs(), out) {
+            Ok(()) => Ok(()),
+            Err(NoMemory) => Err(Halt::Memory),
+        }
+    }
+
+    /// A job is taken from the queue.
+    fn purge(&mut self, number: u32, job: u32, out: &mut Text) -> Result<(), Halt>
+        requires is_open { IsOpen self.old.desk }
+        ensures fits { IsTrusted D.told D.content D.may_leave self.old.desk → OnOk result (call_fits (state_of D.content self.old.desk) (purge_call (tables_in_memory self.old.desk) job) ≡ true) }
+        ensures after { IsTrusted D.told D.content D.may_leave self.old.desk → OnOk result (state_of D.content self.new.desk ≡ behind_call (state_of D.content self.old.desk) (purge_call (tables_in_memory self.old.desk) job)) }
+        ensures refused { OnOk result (self.new.refused ≡ (self.old.refused || is_refusal (purge_answer number job (is_queued (tables_in_memory self.old.desk) job)))) }
+        ensures text { OnOk result (out.new ≡ out.old ++ answer_text (purge_answer number job (is_queued (tables_in_memory self.old.desk) job))) }
+        ensures events { IsTrusted D.told D.content D.may_leave self.old.desk → OnOk result (Has D.content D.moment D.left_since D.size self.old.desk (disk_of self.new.desk) (spelled (event_in (purge_call (tables_in_memory self.old.desk) job)))) }
+        ensures layout { OnOk result (layout_of self.new.desk ≡ layout_of self.old.desk) }
+        ensures trusted { OnOk result (IsTrusted D.told D.content D.may_leave self.old.desk → IsTrusted D.told D.content D.may_leave self.new.desk) }
+        ensures goes { IsTrusted D.told D.content D.may_leave self.old.desk → OnOk result (Goes D.content D.moment D.left_since D.size self.old.desk self.new.desk) }
+        ensures is_open { OnOk result (IsOpen self.new.desk) }
+        ensures later { D.faults (disk_of self.old.desk) ≤ D.faults (disk_of self.new.desk) }
+        ensures size { D.size (disk_of self.new.desk) ≡ D.size (disk_of self.old.desk) }
+        ensures halt { IsTrusted D.told D.content D.may_leave self.old.desk → IfErr result (λ halt. Stopped D.content D.moment D.left_since D.size self.old.desk (disk_of self.new.desk) (PurgeHalt halt (call_fits (state_of D.content self.old.desk) (purge_call (tables_in_memory self.old.desk) job)) (spelled (event_in (purge_call (tables_in_memory self.old.desk) job))) out.old out.new)) }
+        ensures cause { IfErr result (λ halt. HaltCause (IsTrusted D.told D.content D.may_leave self.old.desk) halt (D.faults (disk_of self.old.desk)) (D.faults (disk_of self.new.desk))) }
+    {
+        match self.desk.purge(job) {
+            Ok(true) => tell_purged(job, out),
+            Ok(false) => self.refuse_line(number, out),
+            Err(DeskError::NoMemory) => Err(Halt::Memory),
+            Err(DeskError::BookFull { .. }) => Err(Halt::Book),
+            Err(DeskError::DiskFault) => Err(Halt::Disk),
+            Err(DeskError::Stopped { .. }) => unreachable!(),
+        }
+    }
+
+    fn list(&mut self, number: u32, name: &DsName, out: &mut Text) -> Result<(), Halt>
+        requires is_open { IsOpen self.old.desk }
+        ensures state { IsTrusted D.told D.content D.may_leave self.old.desk → OnOk result (state_of D.content self.new.desk ≡ state_of D.content self.old.desk) }
+        ensures refused { IsTrusted D.told D.content D.may_leave self.old.desk → OnOk result (self.new.refused ≡ (self.old.refused || is_refusal (list_answer number (records_of (state_of D.content self.old.desk).desk name.now)))) }
+        ensures text { IsTrusted D.told D.content D.may_leave self.old.desk → OnOk result (out.new ≡ out.old ++ answer_text (list_answer number (records_of (state_of D.content self.old.desk).desk name.now))) }
+        ensures events { IsTrusted D.told D.content D.may_leave self.old.desk → OnOk result (Has D.content D.moment D.left_since D.size self.old.desk (disk_of self.new.desk) []) }
+        ensures layout { OnOk result (layout_of self.new.desk ≡ layout_of self.old.desk) }
+        ensures trusted { OnOk result (IsTrusted D.told D.content D.may_leave self.old.desk → IsTrusted D.told D.content D.may_leave self.new.desk) }
+        ensures goes { IsTrusted D.told D.content D.may_leave self.old.desk → OnOk result (Goes D.content D.moment D.left_since D.size self.old.desk self.new.desk) }
+        ensures is_open { OnOk result (IsOpen self.new.desk) }
+        ensures later { D.faults (disk_of self.old.desk) ≤ D.faults (disk_of self.new.desk) }
+        ensures size { D.size (disk_of self.new.desk) ≡ D.size (disk_of self.old.desk) }
+        ensures halt { IsTrusted D.told D.content D.may_leave self.old.desk → IfErr result (λ halt. Stopped D.content D.moment D.left_since D.size self.old.desk (disk_of self.new.desk) (ListHalt halt out.old out.new)) }
+        ensures cause { IfErr result (λ halt. HaltCause (IsTrusted D.told D.content D.may_leave self.old.desk) halt (D.faults (disk_of self.old.desk)) (D.faults (disk_of self.new.desk))) }
+    {
+        match self.desk.records(name) {
+            Ok(Some(records)) => tell(records.as_slice(), out),
+            Ok(None) => self.refuse_line(number, out),
+            Err(DeskError::NoMemory) => Err(Halt::Memory),
+            Err(DeskError::DiskFault) => Err(Halt::Disk),
+            Err(DeskError::BookFull { .. }) => unreachable!(),
+            Err(DeskError::Stopped { .. }) => unreachable!(),
+        }
+    }
+
+    /// A line is refused.
+    pub fn refuse(&mut self, number: u32, out: &mut Text) -> Result<(), Halt>
+        requires is_open { IsOpen self.old.desk }
+        ensures serves { OnOk result (Serves (seen D.content self.old) (seen D.content self.new) (Refusal number ∷ []) out.old out.new) }
+        ensures desk { self.new.desk ≡ self.old.desk }
+        ensures goes { IsTrusted D.told D.content D.may_leave self.old.desk → OnOk result (Goes D.content D.moment D.left_since D.size self.old.desk self.new.desk) }
+        ensures halt { IsTrusted D.told D.content D.may_leave self.old.desk → IfErr result (λ halt. Stopped D.content D.moment D.left_since D.size self.old.desk (disk_of self.new.desk) (HaltsSo halt (state_of D.content self.old.desk) (Refusal number ∷ []) out.old out.new)) }
+        ensures memory { IfErr result (λ halt. halt ≡ Halt.Memory) }
+    {
+        let _layout = self.desk.layout();
+        self.refuse_line(number, out)
+    }
+}

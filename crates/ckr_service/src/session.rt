@@ -1,0 +1,204 @@
+//! What the desk has of a stream between two lines.
+ghost use Rattle.std.specs.Prelude.{◌≡◌, ◌<◌, ◌≤◌, ◌+◌, ◌*◌, ◌%◌, ◌^◌, [], ◌++◌, OnOk, IfErr, false, true, length};
+ghost use Rattle.ckr_outside.specs.Faults.{Rose};
+ghost use Rattle.ckr_cards.specs.Session.{first_session, handed_deck, handed_before, handed_alone, handed_with, session_behind};
+ghost use Rattle.ckr_desk.specs.Soundness.{IsTrusted};
+ghost use Rattle.ckr_service.specs.Stops.{Goes, Stopped};
+ghost use Rattle.ckr_desk.specs.Soundness.{state_of};
+ghost use Rattle.ckr_desk.specs.State.{IsOpen, disk_of};
+ghost use Rattle.ckr_service.specs.Lines.{telling};
+ghost use Rattle.ckr_service.specs.Service.{HaltsSo, HaltsTelling, HaltCause, Serves, ServesTelling, seen};
+ghost use Rattle.ckr_service.specs.Sessions.{standing_of, HasWholeCards, cards_left, cards_with};
+
+use crate::clerk::Clerk;
+use crate::lines::Lines;
+use crate::stop::Halt;
+use crate::text::Text;
+use ckr_base::NoMemory;
+use ckr_cards::{Cutter, Line, stored_line};
+use ckr_desk::Desk;
+use ckr_outside::{Disk, Sink};
+use std::alloc::Global;
+
+/// The clerk that serves what the stream hands over, the cutter, the cards of the open deck and the number of lines so far.
+#[derive(Drop)]
+pub struct Session<D: Disk> {
+    pub clerk: Clerk<D>,
+    pub cutter: Cutter,
+    /// 81 bytes for each card: 80 columns, and 1 where the line was longer.
+    pub deck: Vec<u8>,
+    pub number: u32,
+}
+
+/// The deck ends that is open, if there is one.
+fn end_deck<D: Disk>(clerk: &mut Clerk<D>, deck: &mut Vec<u8>, out: &mut Text) -> Result<(), Halt>
+    requires whole { length deck.old.items % 81 ≡ 0 }
+    requires few { length deck.old.items < 81 * 4294967295 }
+    requires is_open { IsOpen clerk.old.desk }
+    ensures serves { IsTrusted D.told D.content D.may_leave clerk.old.desk → OnOk result (Serves (seen D.content clerk.old) (seen D.content clerk.new) (handed_deck deck.old.items) out.old out.new) }
+    ensures trusted { OnOk result (IsTrusted D.told D.content D.may_leave clerk.old.desk → IsTrusted D.told D.content D.may_leave clerk.new.desk) }
+    ensures goes { IsTrusted D.told D.content D.may_leave clerk.old.desk → OnOk result (Goes D.content D.moment D.left_since D.size clerk.old.desk clerk.new.desk) }
+    ensures is_open { OnOk result (IsOpen clerk.new.desk) }
+    ensures later { D.faults (disk_of clerk.old.desk) ≤ D.faults (disk_of clerk.new.desk) }
+    ensures size { D.size (disk_of clerk.new.desk) ≡ D.size (disk_of clerk.old.desk) }
+    ensures halt { IsTrusted D.told D.content D.may_leave clerk.old.desk → IfErr result (λ halt. Stopped D.content D.moment D.left_since D.size clerk.old.desk (disk_of clerk.new.desk) (HaltsSo halt (state_of D.content clerk.old.desk) (handed_deck deck.old.items) out.old out.new)) }
+    ensures cause { IfErr result (λ halt. HaltCause (IsTrusted D.told D.content D.may_leave clerk.old.desk) halt (D.faults (disk_of clerk.old.desk)) (D.faults (disk_of clerk.new.desk))) }
+    ensures deck { OnOk result (deck.new.items ≡ []) }
+{
+    let _layout = clerk.desk.layout();
+    if deck.is_empty() {
+        return Ok(());
+    }
+    clerk.submit(deck, out)?;
+    deck.clear();
+    Ok(())
+}
+
+/// The open deck ends before each line that is no card of it.
+fn end_before<D: Disk>(
+    kind: Line,
+    clerk: &mut Clerk<D>,
+    deck: &mut Vec<u8>,
+    out: &mut Text,
+) -> Result<(), Halt>
+    requires whole { length deck.old.items % 81 ≡ 0 }
+    requires few { length deck.old.items < 81 * 4294967295 }
+    requires is_open { IsOpen clerk.old.desk }
+    ensures serves { IsTrusted D.told D.content D.may_leave clerk.old.desk → OnOk result (Serves (seen D.content clerk.old) (seen D.content clerk.new) (handed_before kind deck.old.items) out.old out.new) }
+    ensures trusted { OnOk result (IsTrusted D.told D.content D.may_leave clerk.old.desk → IsTrusted D.told D.content D.may_leave clerk.new.desk) }
+    ensures goes { IsTrusted D.told D.content D.may_leave clerk.old.desk → OnOk result (Goes D.content D.moment D.left_since D.size clerk.old.desk clerk.new.desk) }
+    ensures is_open { OnOk result (IsOpen clerk.new.desk) }
+    ensures later { D.faults (disk_of clerk.old.desk) ≤ D.faults (disk_of clerk.new.desk) }
+    ensures size { D.size (disk_of clerk.new.desk) ≡ D.size (disk_of clerk.old.desk) }
+    ensures halt { IsTrusted D.told D.content D.may_leave clerk.old.desk → IfErr result (λ halt. Stopped D.content D.moment D.left_since D.size clerk.old.desk (disk_of clerk.new.desk) (HaltsSo halt (state_of D.content clerk.old.desk) (handed_before kind deck.old.items) out.old out.new)) }
+    ensures cause { IfErr result (λ halt. HaltCause (IsTrusted D.told D.content D.may_leave clerk.old.desk) halt (D.faults (disk_of clerk.old.desk)) (D.faults (disk_of clerk.new.desk))) }
+    ensures deck { OnOk result (deck.new.items ≡ cards_left kind deck.old.items) }
+{
+    let _layout = clerk.desk.layout();
+    match kind {
+        Line::Card => Ok(()),
+        Line::Starts | Line::Ends | Line::Command | Line::Stray | Line::Ignored => {
+            end_deck(clerk, deck, out)
+        }
+    }
+}
+
+/// A line of a deck is kept as its card.
+fn keep_card(kind: Line, deck: &mut Vec<u8>, text: &[u8]) -> Result<(), NoMemory>
+    ensures { OnOk result (deck.new.items ≡ cards_with kind deck.old.items text.now) }
+{
+    match kind {
+        Line::Starts | Line::Card => {
+            deck.extend_from_slice(&stored_line(text))?;
+            Ok(())
+        }
+        Line::Ends | Line::Command | Line::Stray | Line::Ignored => Ok(()),
+    }
+}
+
+/// What a line is by itself is served.
+fn serve_line<K: Sink, D: Disk>(
+    kind: Line,
+    clerk: &mut Clerk<D>,
+    number: u32,
+    text: &[u8],
+    lines: &mut Lines,
+    sink: &mut K,
+) -> Result<(), Halt>
+    requires is_open { IsOpen clerk.old.desk }
+    requires fresh { lines.old.failed ≡ false }
+    ensures serves { IsTrusted D.told D.content D.may_leave clerk.old.desk → OnOk result (ServesTelling (seen D.content clerk.old) (seen D.content clerk.new) (handed_alone kind number text.now)
+        (telling lines.old (K.written sink.old) (K.faults sink.old)) (telling lines.new (K.written sink.new) (K.faults sink.new))) }
+    ensures trusted { OnOk result (IsTrusted D.told D.content D.may_leave clerk.old.desk → IsTrusted D.told D.content D.may_leave clerk.new.desk) }
+    ensures goes { IsTrusted D.told D.content D.may_leave clerk.old.desk → OnOk result (Goes D.content D.moment D.left_since D.size clerk.old.desk clerk.new.desk) }
+    ensures is_open { OnOk result (IsOpen clerk.new.desk) }
+    ensures later { D.faults (disk_of clerk.old.desk) ≤ D.faults (disk_of clerk.new.desk) }
+    ensures size { D.size (disk_of clerk.new.desk) ≡ D.size (disk_of clerk.old.desk) }
+    ensures halt { IsTrusted D.told D.content D.may_leave clerk.old.desk → IfErr result (λ halt. Stopped D.content D.moment D.left_since D.size clerk.old.desk (disk_of clerk.new.desk) (HaltsTelling halt (state_of D.content clerk.old.desk) (handed_alone kind number text.now)
+        (telling lines.old (K.written sink.old) (K.faults sink.old)) (telling lines.new (K.written sink.new) (K.faults sink.new)))) }
+    ensures cause { IfErr result (λ halt. HaltCause (IsTrusted D.told D.content D.may_leave clerk.old.desk) halt (D.faults (disk_of clerk.old.desk)) (D.faults (disk_of clerk.new.desk))) }
+    ensures sink_later { K.faults sink.old ≤ K.faults sink.new }
+    ensures failed { lines.new.failed ≡ true → Rose (K.faults sink.old) (K.faults sink.new) }
+{
+    let _layout = clerk.desk.layout();
+    match kind {
+        Line::Command => clerk.obey(number, text, lines, sink),
+        Line::Stray => clerk.refuse(number, &mut lines.text),
+        Line::Starts | Line::Card | Line::Ends | Line::Ignored => Ok(()),
+    }
+}
+
+impl<D: Disk> Session<D> {
+    pub fn new(alloc: Global, desk: Desk<D>) -> Session<D>
+        ensures standing { standing_of result ≡ first_session }
+        ensures desk { result.clerk.desk ≡ desk }
+        ensures refused { result.clerk.refused ≡ false }
+        ensures whole { HasWholeCards result }
+    {
+        Session {
+            clerk: Clerk::new(alloc, desk),
+            cutter: Cutter::new(),
+            deck: Vec::new(alloc),
+            number: 0,
+        }
+    }
+
+    /// The disk alone.
+    pub fn close(self) -> D
+        ensures { result ≡ disk_of self.clerk.desk }
+    {
+        let Session { clerk, .. } = self;
+        let Clerk { desk, .. } = clerk;
+        desk.close()
+    }
+
+    /// A line ends.
+    pub fn line<K: Sink>(
+        &mut self,
+        text: &[u8],
+        lines: &mut Lines,
+        sink: &mut K,
+    ) -> Result<(), Halt>
+        requires few { self.old.number < 2 ^ 25 }
+        requires whole { HasWholeCards self.old }
+        requires is_open { IsOpen self.old.clerk.desk }
+        requires fresh { lines.old.failed ≡ false }
+        ensures serves { IsTrusted D.told D.content D.may_leave self.old.clerk.desk → OnOk result (ServesTelling (seen D.content self.old.clerk) (seen D.content self.new.clerk) (handed_with (standing_of self.old) text.now)
+            (telling lines.old (K.written sink.old) (K.faults sink.old)) (telling lines.new (K.written sink.new) (K.faults sink.new))) }
+        ensures trusted { OnOk result (IsTrusted D.told D.content D.may_leave self.old.clerk.desk → IsTrusted D.told D.content D.may_leave self.new.clerk.desk) }
+        ensures goes { IsTrusted D.told D.content D.may_leave self.old.clerk.desk → OnOk result (Goes D.content D.moment D.left_since D.size self.old.clerk.desk self.new.clerk.desk) }
+        ensures is_open { OnOk result (IsOpen self.new.clerk.desk) }
+        ensures later { D.faults (disk_of self.old.clerk.desk) ≤ D.faults (disk_of self.new.clerk.desk) }
+        ensures size { D.size (disk_of self.new.clerk.desk) ≡ D.size (disk_of self.old.clerk.desk) }
+        ensures halt { IsTrusted D.told D.content D.may_leave self.old.clerk.desk → IfErr result (λ halt. Stopped D.content D.moment D.left_since D.size self.old.clerk.desk (disk_of self.new.clerk.desk) (HaltsTelling halt (state_of D.content self.old.clerk.desk) (handed_with (standing_of self.old) text.now)
+            (telling lines.old (K.written sink.old) (K.faults sink.old)) (telling lines.new (K.written sink.new) (K.faults sink.new)))) }
+        ensures cause { IfErr result (λ halt. HaltCause (IsTrusted D.told D.content D.may_leave self.old.clerk.desk) halt (D.faults (disk_of self.old.clerk.desk)) (D.faults (disk_of self.new.clerk.desk))) }
+        ensures sink_later { K.faults sink.old ≤ K.faults sink.new }
+        ensures failed { lines.new.failed ≡ true → Rose (K.faults sink.old) (K.faults sink.new) }
+        ensures standing { OnOk result (standing_of self.new ≡ session_behind (standing_of self.old) text.now) }
+        ensures whole { OnOk result (HasWholeCards self.new) }
+    {
+        self.number += 1;
+        let kind = self.cutter.line(text);
+        end_before(kind, &mut self.clerk, &mut self.deck, &mut lines.text)?;
+        keep_card(kind, &mut self.deck, text)?;
+        serve_line(kind, &mut self.clerk, self.number, text, lines, sink)
+    }
+
+    /// The stream ends.
+    pub fn end(&mut self, out: &mut Text) -> Result<(), Halt>
+        requires few { self.old.number < 2 ^ 26 }
+        requires whole { HasWholeCards self.old }
+        requires is_open { IsOpen self.old.clerk.desk }
+        ensures serves { IsTrusted D.told D.content D.may_leave self.old.clerk.desk → OnOk result (Serves (seen D.content self.old.clerk) (seen D.content self.new.clerk) (handed_deck self.old.deck.items) out.old out.new) }
+        ensures trusted { OnOk result (IsTrusted D.told D.content D.may_leave self.old.clerk.desk → IsTrusted D.told D.content D.may_leave self.new.clerk.desk) }
+        ensures goes { IsTrusted D.told D.content D.may_leave self.old.clerk.desk → OnOk result (Goes D.content D.moment D.left_since D.size self.old.clerk.desk self.new.clerk.desk) }
+        ensures is_open { OnOk result (IsOpen self.new.clerk.desk) }
+        ensures later { D.faults (disk_of self.old.clerk.desk) ≤ D.faults (disk_of self.new.clerk.desk) }
+        ensures size { D.size (disk_of self.new.clerk.desk) ≡ D.size (disk_of self.old.clerk.desk) }
+        ensures halt { IsTrusted D.told D.content D.may_leave self.old.clerk.desk → IfErr result (λ halt. Stopped D.content D.moment D.left_since D.size self.old.clerk.desk (disk_of self.new.clerk.desk) (HaltsSo halt (state_of D.content self.old.clerk.desk) (handed_deck self.old.deck.items) out.old out.new)) }
+        ensures cause { IfErr result (λ halt. HaltCause (IsTrusted D.told D.content D.may_leave self.old.clerk.desk) halt (D.faults (disk_of self.old.clerk.desk)) (D.faults (disk_of self.new.clerk.desk))) }
+    {
+        end_deck(&mut self.clerk, &mut self.deck, out)
+    }
+}

@@ -1,0 +1,125 @@
+//! The whole stream, from the source to the sink.
+ghost use Rattle.std.specs.Prelude.{◌≡◌, ◌<◌, ◌≤◌, ◌+◌, ◌*◌, ◌^◌, OnOk, OnErr, IfOk, IfErr, length, take};
+ghost use Rattle.std.specs.Io.KnownBytes.{Consumes, Keeps, IsAtEnd};
+ghost use Rattle.ckr_outside.specs.Faults.{Rose};
+ghost use Rattle.ckr_desk.specs.Soundness.{IsTrusted};
+ghost use Rattle.ckr_service.specs.Stops.{Goes, Has, KeepsTo};
+ghost use Rattle.ckr_desk.specs.Soundness.{state_of};
+ghost use Rattle.ckr_desk.specs.State.{IsOpen, disk_of};
+ghost use Rattle.ckr_service.specs.Flows.{IsBegun};
+ghost use Rattle.ckr_service.specs.Service.{seen};
+ghost use Rattle.ckr_service.specs.Sessions.{HasWholeCards};
+ghost use Rattle.ckr_service.specs.Feeds.{Serving, FedAll, IsStopped, faults_of};
+
+use crate::flow::Flow;
+use crate::stop::Stop;
+use ckr_desk::Desk;
+use ckr_outside::{Disk, Failed, PIECE_BYTES, STREAM_LIMIT, Sink, Source, take_piece};
+use std::alloc::Global;
+
+/// Takes the next bytes, one more than the limit at most.
+fn next_piece<S: Source>(source: &mut S, buffer: &mut [u8], count: usize) -> Result<usize, Stop>
+    requires few { count ≤ 16_777_216 }
+    requires room { 0 < length buffer.old }
+    ensures given { IfOk result (λ taken. Consumes (S.left source.old) (S.left source.new) (take taken buffer.new)) }
+    ensures bound { IfOk result (λ taken. (taken ≤ length buffer.new) × (count + taken ≤ 16_777_217)) }
+    ensures end { IfOk result (λ taken. taken ≡ 0 → IsAtEnd (S.left source.new)) }
+    ensures kept { OnErr result (Keeps (S.left source.old) (S.left source.new)) }
+    ensures later { S.faults source.old ≤ S.faults source.new }
+    ensures cause { IfErr result (λ stop. (stop ≡ Stop.Source) × Rose (S.faults source.old) (S.faults source.new)) }
+{
+    match take_piece(source, buffer, count) {
+        Ok(taken) => Ok(taken),
+        Err(Failed) => Err(Stop::Source),
+    }
+}
+
+/// Takes all of the stream and serves it, up to a last line without an end.
+fn feed_all<S: Source, K: Sink, D: Disk>(
+    flow: &mut Flow<D>,
+    source: &mut S,
+    sink: &mut K,
+) -> Result<(), Stop>
+    requires begun { IsBegun flow.old }
+    requires is_open { IsOpen flow.old.session.clerk.desk }
+    ensures ok { OnOk result (FedAll D.content (IsTrusted D.told D.content D.may_leave flow.old.session.clerk.desk) (seen D.content flow.old.session.clerk) flow.new (S.left source.old) (S.left source.new) (K.written sink.old) (K.written sink.new)) }
+    ensures trusted { OnOk result (IsTrusted D.told D.content D.may_leave flow.old.session.clerk.desk → IsTrusted D.told D.content D.may_leave flow.new.session.clerk.desk) }
+    ensures goes { IsTrusted D.told D.content D.may_leave flow.old.session.clerk.desk → OnOk result (Goes D.content D.moment D.left_since D.size flow.old.session.clerk.desk flow.new.session.clerk.desk) }
+    ensures is_open { OnOk result (IsOpen flow.new.session.clerk.desk) }
+    ensures few { OnOk result (flow.new.session.number < 2 ^ 25) }
+    ensures whole { OnOk result (HasWholeCards flow.new.session) }
+    ensures stop { IfErr result (λ stop. IsStopped (IsTrusted D.told D.content D.may_leave flow.old.session.clerk.desk)
+        (KeepsTo D.content D.moment D.left_since D.size flow.old.session.clerk.desk (disk_of flow.new.session.clerk.desk)) (Has D.content D.moment D.left_since D.size flow.old.session.clerk.desk (disk_of flow.new.session.clerk.desk)) (state_of D.content flow.old.session.clerk.desk) stop
+        (faults_of (S.faults source.old) (S.faults source.new) (K.faults sink.old) (K.faults sink.new) (D.faults (disk_of flow.old.session.clerk.desk)) (D.faults (disk_of flow.new.session.clerk.desk))) (S.left source.old) (S.left source.new) (K.written sink.old) (K.written sink.new)) }
+    ensures source_later { S.faults source.old ≤ S.faults source.new }
+    ensures sink_later { K.faults sink.old ≤ K.faults sink.new }
+    ensures disk_later { D.faults (disk_of flow.old.session.clerk.desk) ≤ D.faults (disk_of flow.new.session.clerk.desk) }
+    ensures size { D.size (disk_of flow.new.session.clerk.desk) ≡ D.size (disk_of flow.old.session.clerk.desk) }
+{
+    let _layout = flow.session.clerk.desk.layout();
+    let mut buffer = [0u8; PIECE_BYTES];
+    let mut count = 0;
+    loop {
+        let taken = next_piece(source, &mut buffer, count)?;
+        if taken == 0 {
+            return Ok(());
+        }
+        count += taken;
+        if count > STREAM_LIMIT {
+            flow.feed(&buffer[..taken - 1], sink)?;
+            return Err(Stop::Limit);
+        }
+        flow.feed(&buffer[..taken], sink)?;
+    }
+}
+
+/// The end of a stream: whether a line or a deck was refused, or why it wasn't served to its end; and the disk.
+pub struct Served<D: Disk> {
+    pub outcome: Result<bool, Stop>,
+    pub disk: D,
+}
+
+/// Serves the whole stream.
+pub fn serve<S: Source, K: Sink, D: Disk>(
+    alloc: Global,
+    source: &mut S,
+    sink: &mut K,
+    desk: Desk<D>,
+) -> Served<D>
+    requires is_open { IsOpen desk }
+    ensures served { Serving (IsTrusted D.told D.content D.may_leave desk)
+        (KeepsTo D.content D.moment D.left_since D.size desk result.disk) (Has D.content D.moment D.left_since D.size desk result.disk) (state_of D.content desk) result.outcome
+        (faults_of (S.faults source.old) (S.faults source.new) (K.faults sink.old) (K.faults sink.new) (D.faults (disk_of desk)) (D.faults result.disk)) (S.left source.old) (S.left source.new) (K.written sink.old) (K.written sink.new) }
+    ensures source_later { S.faults source.old ≤ S.faults source.new }
+    ensures sink_later { K.faults sink.old ≤ K.faults sink.new }
+    ensures disk_later { D.faults (disk_of desk) ≤ D.faults result.disk }
+    ensures size { D.size result.disk ≡ D.size (disk_of desk) }
+{
+    let mut flow = Flow::new(alloc, desk);
+    let outcome = serve_on(&mut flow, source, sink);
+    let Flow { session, .. } = flow;
+    Served {
+        outcome,
+        disk: session.close(),
+    }
+}
+
+/// Serves the whole stream by a flow that nothing has come to.
+fn serve_on<S: Source, K: Sink, D: Disk>(
+    flow: &mut Flow<D>,
+    source: &mut S,
+    sink: &mut K,
+) -> Result<bool, Stop>
+    requires begun { IsBegun flow.old }
+    requires is_open { IsOpen flow.old.session.clerk.desk }
+    ensures served { Serving (IsTrusted D.told D.content D.may_leave flow.old.session.clerk.desk)
+        (KeepsTo D.content D.moment D.left_since D.size flow.old.session.clerk.desk (disk_of flow.new.session.clerk.desk)) (Has D.content D.moment D.left_since D.size flow.old.session.clerk.desk (disk_of flow.new.session.clerk.desk)) (state_of D.content flow.old.session.clerk.desk) result
+        (faults_of (S.faults source.old) (S.faults source.new) (K.faults sink.old) (K.faults sink.new) (D.faults (disk_of flow.old.session.clerk.desk)) (D.faults (disk_of flow.new.session.clerk.desk))) (S.left source.old) (S.left source.new) (K.written sink.old) (K.written sink.new) }
+    ensures source_later { S.faults source.old ≤ S.faults source.new }
+    ensures sink_later { K.faults sink.old ≤ K.faults sink.new }
+    ensures disk_later { D.faults (disk_of flow.old.session.clerk.desk) ≤ D.faults (disk_of flow.new.session.clerk.desk) }
+    ensures size { D.size (disk_of flow.new.session.clerk.desk) ≡ D.size (disk_of flow.old.session.clerk.desk) }
+{
+    feed_all(flow, source, sink)?;
+    flow.end(sink)
+}

@@ -1,0 +1,182 @@
+//! The top call.
+ghost use Rattle.std.specs.Prelude.{◌≡◌, ◌≤◌, ◌↔◌, ◌++◌, Ok, map, string_bytes};
+ghost use Rattle.std.specs.Io.KnownBytes.{Keeps};
+ghost use Rattle.ckr_desk.specs.FirstSync.{FromSync, IsLeft};
+ghost use Rattle.ckr_desk.specs.Model.OpenImages.{event_records};
+ghost use Rattle.ckr_desk.specs.Soundness.{AllSound, HasKept, Sound, desk_opening};
+ghost use Rattle.ckr_desk_format.specs.Formats.{IsFormatted, FormatsBy};
+ghost use Rattle.ckr_outside.specs.Disk.{EachSince};
+ghost use Rattle.ckr_service.specs.Feeds.{faults_of};
+ghost use Rattle.ckr_service.specs.Words.{command_of};
+ghost use Rattle.ckr_service.specs.CallEnds.{HasFormatted, HasRun, serving_status, opening_status, formatting_status};
+
+use crate::stop::Stop;
+use crate::stream::{Served, serve};
+use crate::words::{Command, WordsError, read_words};
+use ckr_desk::{Desk, OpenError, Opening};
+use ckr_desk_format::{FormatOutcome, format_disk};
+use ckr_outside::{Disk, Sink, Source};
+use std::alloc::Global;
+
+/// How the call ended, and the disk.
+#[derive(Drop)]
+pub struct Closed<D> {
+    pub status: u8,
+    pub disk: D,
+}
+
+/// The status of a stream that was served.
+fn serving_status(outcome: Result<bool, Stop>) -> u8
+    ensures { result ≡ serving_status outcome }
+{
+    match outcome {
+        Ok(false) => 0,
+        Ok(true) => 8,
+        Err(Stop::Book) => 3,
+        Err(Stop::Source) => 4,
+        Err(Stop::Sink) => 5,
+        Err(Stop::Disk) => 6,
+        Err(Stop::Memory) => 7,
+        Err(Stop::Limit) => 9,
+    }
+}
+
+/// The status of a disk that isn't opened.
+fn opening_status(error: OpenError) -> u8
+    ensures { result ≡ opening_status error }
+{
+    match error {
+        OpenError::NoMemory => 7,
+        OpenError::Fault => 6,
+        OpenError::NotFormatted
+        | OpenError::Version(_)
+        | OpenError::BadHeader { .. }
+        | OpenError::BadBook { .. }
+        | OpenError::BadEntry { .. } => 2,
+    }
+}
+
+/// Serves the stream on the disk.
+fn run<S: Source, K: Sink, D: Disk>(
+    alloc: Global,
+    source: &mut S,
+    sink: &mut K,
+    disk: D,
+) -> Closed<D>
+    ensures run { HasRun D.told (AllSound D.told D.may_leave D.size disk) (desk_opening (D.content disk) (D.size disk))
+        (λ error. IsLeft D.content D.may_leave D.moment D.left_since D.size D.told (AllSound D.told D.may_leave D.size disk) error disk result.disk)
+        (λ layout came. FromSync D.content D.may_leave D.moment D.left_since disk result.disk (HasKept layout (D.size disk) (event_records layout (D.content disk)) came))
+        (λ layout kept. event_records layout (D.content result.disk) ≡ event_records layout (D.content disk) ++ kept)
+        result.status
+        (faults_of (S.faults source.old) (S.faults source.new) (K.faults sink.old) (K.faults sink.new) (D.faults disk) (D.faults result.disk))
+        (S.left source.old) (S.left source.new) (K.written sink.old) (K.written sink.new) }
+    ensures size { D.size result.disk ≡ D.size disk }
+
+    // A stop at any moment leaves a sound image; and the disk that is handed back is sound as the one was that was handed in.
+    ensures safe { AllSound D.told D.may_leave D.size disk → EachSince D.moment D.left_since disk result.disk (Sound (D.size disk)) }
+    ensures sound { AllSound D.told D.may_leave D.size disk → AllSound D.told D.may_leave D.size result.disk }
+{
+    match Desk::open_on(alloc, disk) {
+        Ok(desk) => {
+            let Served { outcome, disk } = serve(alloc, source, sink, desk);
+            Closed {
+                status: serving_status(outcome),
+                disk,
+            }
+        }
+        Err(Opening { error, disk }) => Closed {
+            status: opening_status(error),
+            disk,
+        },
+    }
+}
+
+/// The status of formatting a disk.
+fn formatting_status(outcome: FormatOutcome) -> u8
+    ensures { result ≡ formatting_status outcome }
+{
+    match outcome {
+        FormatOutcome::Formatted => 0,
+        FormatOutcome::SourceFailed => 4,
+        FormatOutcome::SinkFailed => 5,
+        FormatOutcome::DiskFailed => 6,
+        FormatOutcome::NoMemory => 7,
+        FormatOutcome::Refused => 8,
+        FormatOutcome::TooLong => 9,
+    }
+}
+
+/// Formats the disk by the cards of the source.
+fn format<S: Source, K: Sink, D: Disk>(
+    alloc: Global,
+    source: &mut S,
+    sink: &mut K,
+    mut disk: D,
+) -> Closed<D>
+    ensures formatted { HasFormatted D.told (D.size disk) (IsFormatted D.told (D.content result.disk) (D.may_leave result.disk) (D.size result.disk))
+        (FormatsBy D.told D.content D.may_leave D.moment D.left_since (D.size disk) disk result.disk) (result.disk ≡ disk)
+        (AllSound D.told D.may_leave D.size result.disk) result.status
+        (faults_of (S.faults source.old) (S.faults source.new) (K.faults sink.old) (K.faults sink.new) (D.faults disk) (D.faults result.disk))
+        (S.left source.old) (S.left source.new) (K.written sink.old) (K.written sink.new) }
+    ensures size { D.size result.disk ≡ D.size disk }
+{
+    let outcome = format_disk(alloc, source, sink, &mut disk);
+    Closed {
+        status: formatting_status(outcome),
+        disk,
+    }
+}
+
+/// Does what the words ask for, and answers how that ended:
+///
+/// | Status | |
+/// |---|---|
+/// | 0 | the source was read to its end, and nothing was refused |
+/// | 1 | the words are no command |
+/// | 2 | the disk isn't one that is formatted, or what it holds is wrong |
+/// | 3 | the book has no room for an event |
+/// | 4, 5, 6 | the source, the sink, the disk failed |
+/// | 7 | there is no memory |
+/// | 8 | the source was read to its end, and a line or a deck was refused |
+/// | 9 | the source gave more bytes than a stream may have |
+pub fn batch_desk<S: Source, K: Sink, D: Disk>(
+    alloc: Global,
+    words: &[String],
+    source: &mut S,
+    sink: &mut K,
+    disk: D,
+) -> Closed<D>
+    // The words alone decide on status 1, and nothing is taken, written or done on the disk then.
+    ensures words { command_of (map string_bytes words.now) ≡ Err WordsError.Refused → (result.status ≡ 1) × (result.disk ≡ disk)
+        × Keeps (S.left source.old) (S.left source.new) × Keeps (K.written sink.old) (K.written sink.new) }
+    ensures formatted { command_of (map string_bytes words.now) ≡ Ok Command.Format →
+        HasFormatted D.told (D.size disk) (IsFormatted D.told (D.content result.disk) (D.may_leave result.disk) (D.size result.disk))
+        (FormatsBy D.told D.content D.may_leave D.moment D.left_since (D.size disk) disk result.disk) (result.disk ≡ disk)
+        (AllSound D.told D.may_leave D.size result.disk) result.status
+        (faults_of (S.faults source.old) (S.faults source.new) (K.faults sink.old) (K.faults sink.new) (D.faults disk) (D.faults result.disk))
+        (S.left source.old) (S.left source.new) (K.written sink.old) (K.written sink.new) }
+    ensures run { command_of (map string_bytes words.now) ≡ Ok Command.Run →
+        HasRun D.told (AllSound D.told D.may_leave D.size disk) (desk_opening (D.content disk) (D.size disk))
+        (λ error. IsLeft D.content D.may_leave D.moment D.left_since D.size D.told (AllSound D.told D.may_leave D.size disk) error disk result.disk)
+        (λ layout came. FromSync D.content D.may_leave D.moment D.left_since disk result.disk (HasKept layout (D.size disk) (event_records layout (D.content disk)) came))
+        (λ layout kept. event_records layout (D.content result.disk) ≡ event_records layout (D.content disk) ++ kept)
+        result.status
+        (faults_of (S.faults source.old) (S.faults source.new) (K.faults sink.old) (K.faults sink.new) (D.faults disk) (D.faults result.disk))
+        (S.left source.old) (S.left source.new) (K.written sink.old) (K.written sink.new) }
+
+    // Whatever the words ask for, the disk that is handed back has its size.
+    ensures size { D.size result.disk ≡ D.size disk }
+
+    // Of a run: a stop at any moment leaves a sound image; and the disk that is handed back is sound as the one was that was handed in, so
+    // that it may be run again, any number of times.
+    ensures safe { command_of (map string_bytes words.now) ≡ Ok Command.Run → AllSound D.told D.may_leave D.size disk →
+        EachSince D.moment D.left_since disk result.disk (Sound (D.size disk)) }
+    ensures sound { command_of (map string_bytes words.now) ≡ Ok Command.Run → AllSound D.told D.may_leave D.size disk →
+        AllSound D.told D.may_leave D.size result.disk }
+{
+    match read_words(words) {
+        Ok(Command::Run) => run(alloc, source, sink, disk),
+        Ok(Command::Format) => format(alloc, source, sink, disk),
+        Err(WordsError::Refused) => Closed { status: 1, disk },
+    }
+}
