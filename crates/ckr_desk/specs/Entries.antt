@@ -12,7 +12,7 @@ use Rattle.ckr_meaning.specs.EffectiveJob.{name_of}
 use Rattle.ckr_points.specs.Marks.{present_at}
 use Rattle.ckr_points.specs.Office.{is_holder}
 use Rattle.ckr_points.specs.Rows.{EffectPoint, RunRow, TableSet, TablesModel, run_of}
-use Rattle.ckr_points_library.specs.Holdings.{owned}
+use Rattle.ckr_desk_memory.specs.Model.Holdings.{owned}
 use Rattle.ckr_desk_refines.specs.EntryRefusal.{effect_fault, first_fault}
 use Rattle.ckr_volumes.specs.declared.layout.Layout.{Layout}
 use Rattle.ckr_desk.specs.declared.error.OpenError.{OpenError}

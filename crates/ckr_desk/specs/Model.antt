@@ -13,7 +13,7 @@ pub use Rattle.ckr_points.specs.declared.denial.Denial
 pub use Rattle.ckr_points.specs.declared.denial.Seen
 pub use Rattle.ckr_points.specs.declared.run.Run
 pub use Rattle.ckr_points.specs.declared.run.RunState
-pub use Rattle.ckr_points_library.specs.declared.cause.Cause
+pub use Rattle.ckr_desk_memory.specs.Model.Cause
 pub use Rattle.ckr_points_tables.specs.View
 pub use Rattle.ckr_rules.specs.declared.cases.Rule
 pub use Rattle.ckr_volumes.specs.declared.layout.Layout

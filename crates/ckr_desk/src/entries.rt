@@ -15,7 +15,7 @@ ghost use Rattle.ckr_points.specs.Marks.{mark_at, present_at};
 ghost use Rattle.ckr_points.specs.Office.{is_holder};
 ghost use Rattle.ckr_points.specs.Rows.{RunRow, TablesModel, run_of};
 ghost use Rattle.ckr_points.specs.Statements.{kind_number};
-ghost use Rattle.ckr_points_library.specs.Holdings.{owned};
+ghost use Rattle.ckr_desk_memory.specs.Model.Holdings.{owned};
 ghost use Rattle.ckr_points_tables.specs.View.{line_of};
 ghost use Rattle.ckr_steps.specs.EntryRecords.{bytes_on};
 ghost use Rattle.ckr_steps.specs.Units.{program_of};

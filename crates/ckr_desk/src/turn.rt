@@ -1,13 +1,15 @@
 //! Turns, from where the desk stands.
-ghost use Rattle.std.specs.Prelude.{◌≡◌, IfErr, IfOk};
+ghost use Rattle.std.specs.Prelude.{◌≡◌, ◌≤◌, IfErr, IfOk, OnOk, None};
+ghost use Rattle.ckr_book.specs.Book.{room_of};
 ghost use Rattle.ckr_desk_memory.specs.Plans.{IsAnyCode, IsToldReply};
 ghost use Rattle.ckr_desk_turn.specs.Invariant.{IsTurnOf};
 ghost use Rattle.ckr_desk.specs.CallOutcomes.{HasComeTo, KeepsDesk};
-ghost use Rattle.ckr_desk.specs.Requests.{TellsNumbers, came_by, spelled};
+ghost use Rattle.ckr_desk.specs.NoChange.{StaysBy};
+ghost use Rattle.ckr_desk.specs.Requests.{MayFail, TellsNumbers, came_by, spelled};
 ghost use Rattle.ckr_desk.specs.Turn.{behind_turn, event_of_turn, reply_of};
 ghost use Rattle.ckr_desk.specs.Soundness.{IsTrusted, KeepsWithin, state_of};
 ghost use Rattle.ckr_desk.specs.State.{IsOpen, layout_of, room_left};
-ghost use Rattle.ckr_desk.specs.Units.{TakesBy};
+ghost use Rattle.ckr_desk.specs.Units.{HasTurned, TakesBy};
 
 use crate::{Desk, DeskError};
 use ckr_desk_turn::{Plan, Reply, Turn};
@@ -40,6 +42,47 @@ impl<D: Disk> Desk<D> {
         if let Some(fault) = self.store.fault() {
             return Err(DeskError::Stopped { fault });
         }
+        self.open_turn(turn)
+    }
+
+    /// One turn of an initiator, of a desk that hasn't stopped. A unit is found without a plan, since a plan has room for an event.
+    fn open_turn(&mut self, turn: Turn) -> Result<Reply, DeskError>
+        requires is_open { self.old.store.fault ≡ None }
+        requires initiator { IsTurnOf self.old.store.layout turn }
+        requires code { IsAnyCode turn.fail }
+        ensures turned { IsTrusted D.told D.content D.may_leave self.old → HasTurned D.told D.content D.may_leave D.moment D.left_since D.size turn self.old self.new result }
+        ensures spelled { IfOk result IsToldReply }
+        ensures is_open { OnOk result (self.new.store.fault ≡ None) }
+        ensures layout { self.new.store.layout ≡ self.old.store.layout }
+        ensures size { D.size self.new.store.disk ≡ D.size self.old.store.disk }
+        ensures faults { D.faults self.old.store.disk ≤ D.faults self.new.store.disk }
+        ensures may_fail { IfErr result (MayFail (D.faults self.old.store.disk) (D.faults self.new.store.disk) self.old.store.fault) }
+        ensures full { IfErr result (TellsNumbers (room_of self.old.store.book)) }
+        ensures stays { IfErr result (StaysBy D.content D.may_leave D.faults self.old self.new) }
+    {
+        let _layout = self.store.layout();
+        match self.jobs.unit_due(turn) {
+            Some(job) => self.work(job),
+            None => self.planned_turn(turn),
+        }
+    }
+
+    /// The same for a turn that may come to anything.
+    fn planned_turn(&mut self, turn: Turn) -> Result<Reply, DeskError>
+        requires is_open { self.old.store.fault ≡ None }
+        requires initiator { IsTurnOf self.old.store.layout turn }
+        requires code { IsAnyCode turn.fail }
+        ensures turned { IsTrusted D.told D.content D.may_leave self.old → HasTurned D.told D.content D.may_leave D.moment D.left_since D.size turn self.old self.new result }
+        ensures spelled { IfOk result IsToldReply }
+        ensures is_open { OnOk result (self.new.store.fault ≡ None) }
+        ensures layout { self.new.store.layout ≡ self.old.store.layout }
+        ensures size { D.size self.new.store.disk ≡ D.size self.old.store.disk }
+        ensures faults { D.faults self.old.store.disk ≤ D.faults self.new.store.disk }
+        ensures may_fail { IfErr result (MayFail (D.faults self.old.store.disk) (D.faults self.new.store.disk) self.old.store.fault) }
+        ensures full { IfErr result (TellsNumbers (room_of self.old.store.book)) }
+        ensures stays { IfErr result (StaysBy D.content D.may_leave D.faults self.old self.new) }
+    {
+        let _layout = self.store.layout();
         let plan = self.jobs.plan(self.store.layout(), turn)?;
         self.carry_out(plan)
     }

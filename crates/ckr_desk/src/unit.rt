@@ -4,7 +4,7 @@ ghost use Rattle.ckr_book.specs.Book.{room_of};
 ghost use Rattle.ckr_desk_memory.specs.Invariant.{IsRunnable};
 ghost use Rattle.ckr_desk_memory.specs.OwnSteps.{PlanCommits};
 ghost use Rattle.ckr_desk_memory.specs.Parts.{step_seen};
-ghost use Rattle.ckr_desk_memory.specs.Plans.{HasDue, IsToldReply};
+ghost use Rattle.ckr_desk_memory.specs.Plans.{HasDue, IsToldReply, IsWent};
 ghost use Rattle.ckr_meaning.specs.StepRun.{StepStart};
 ghost use Rattle.ckr_outside.specs.Disk.{EachSince, OnlyReads};
 ghost use Rattle.ckr_steps.specs.Places.{GoesOn, ShowsWithin, IsStepPlace};
@@ -62,7 +62,7 @@ fn do_unit<D: Disk>(
     Ok(store.work(&mut on.step, &mut on.sets, unit)?)
 }
 
-/// A unit that was looked at: the unit, what the turn tells of it, and what is ready for that.
+/// A unit that tells an event, and was looked at: the unit, what the turn tells of it, and what is ready for that.
 #[derive(Drop)]
 pub(crate) struct Ahead {
     unit: UnitAhead,
@@ -71,15 +71,14 @@ pub(crate) struct Ahead {
 }
 
 impl<D: Disk> Desk<D> {
-    /// Looks ahead at the next unit of a run's running step, which is due, so that what it is going to tell is ready before it is done. The disk is only read,
+    /// Works the next unit of a run's running step out, which is due, so that what it comes to is known before it is done. The disk is only read,
     /// and what the jobs are stays the same.
     ///
-    /// `NoMemory`. `BookFull`: the event that the unit tells needs more than the room of the book. `DiskFault`: only where the disk's
-    /// faults rose in this call; then the desk has stopped.
-    fn look(&mut self, run: u32) -> Result<Ahead, DeskError>
+    /// `DiskFault`: only where the disk's faults rose in this call; then the desk has stopped.
+    fn work_out(&mut self, run: u32) -> Result<UnitAhead, DeskError>
         requires is_open { self.old.store.fault ≡ None }
         requires due { HasDue self.old.jobs (Plans.Work run) }
-        ensures ahead { IfOk result (IsAhead D.told D.content run self.new) }
+        ensures unit { IfOk result (IsWorkedOut D.told D.content run self.new) }
         ensures kept { OnOk result (self.new.store ≡ record self.old.store { disk = self.new.store.disk }) }
         ensures jobs { HasSameJobs self.old self.new }
         ensures only_reads { OnlyReads D.content D.may_leave D.moment D.left_since self.old.store.disk self.new.store.disk }
@@ -95,6 +94,24 @@ impl<D: Disk> Desk<D> {
             unreachable!()
         };
         let unit = self.store.ahead(&on.step, &on.sets)?;
+        Ok(unit)
+    }
+
+    /// Makes what a unit tells that was worked out ready, before it is done. What the jobs are and the disk stay as they are.
+    ///
+    /// `NoMemory`. `BookFull`: the event that the unit tells needs more than the room of the book.
+    fn look(&mut self, run: u32, unit: UnitAhead) -> Result<Ahead, DeskError>
+        requires is_open { self.old.store.fault ≡ None }
+        requires unit { IsWorkedOut D.told D.content run self.old unit }
+        ensures ahead { IfOk result (IsAhead D.told D.content run self.new) }
+        ensures jobs { HasSameJobs self.old self.new }
+        ensures store { self.new.store ≡ self.old.store }
+        ensures cause { IfErr result (NotLooked D.told D.content D.faults run self.old self.new) }
+    {
+        let _layout = self.store.layout();
+        let Some(on) = self.jobs.running_step(run) else {
+            unreachable!()
+        };
         let plan = self.jobs.told(self.store.layout(), on, &unit);
         let ready = self.ready_for(&plan)?;
         Ok(Ahead { unit, plan, ready })
@@ -153,7 +170,51 @@ impl<D: Disk> Desk<D> {
         }
     }
 
-    /// The next unit of a run's running step, which is due, and what goes on behind it. What it tells is made ready before it is done.
+    /// The next unit of a run's running step, which was worked out, where the step goes on behind it and tells no event. It takes no memory.
+    fn went(&mut self, run: u32, unit: UnitAhead) -> Result<Reply, DeskError>
+        requires is_open { self.old.store.fault ≡ None }
+        requires unit { IsWorkedOut D.told D.content run self.old unit }
+        requires went { IsWent unit.worked }
+        ensures turned { (turn : TurnOf) → IsPlanned D.told D.content D.may_leave self.old turn (Plans.Work run) → HasTurned D.told D.content D.may_leave D.moment D.left_since D.size turn self.old self.new result }
+        ensures spelled { IfOk result IsToldReply }
+        ensures is_open { OnOk result (self.new.store.fault ≡ None) }
+        ensures layout { self.new.store.layout ≡ self.old.store.layout }
+        ensures size { D.size self.new.store.disk ≡ D.size self.old.store.disk }
+        ensures faults { D.faults self.old.store.disk ≤ D.faults self.new.store.disk }
+        ensures may_fail { IfErr result (MayFail (D.faults self.old.store.disk) (D.faults self.new.store.disk) self.old.store.fault) }
+        ensures of_disk { IfErr result IsOfDisk }
+        ensures halted { IfErr result (HasHalted D.faults self.new.store) }
+    {
+        let _layout = self.store.layout();
+        let Some(on) = self.jobs.running_step(run) else {
+            unreachable!()
+        };
+        let reply = self.jobs.worked(on, &unit);
+        self.done_unit(run, unit)?;
+        Ok(reply)
+    }
+
+    /// The next unit of a run's running step, which was worked out, where it tells an event: that is made ready before the unit is done.
+    fn tell_unit(&mut self, run: u32, unit: UnitAhead) -> Result<Reply, DeskError>
+        requires is_open { self.old.store.fault ≡ None }
+        requires unit { IsWorkedOut D.told D.content run self.old unit }
+        ensures turned { (turn : TurnOf) → IsPlanned D.told D.content D.may_leave self.old turn (Plans.Work run) → HasTurned D.told D.content D.may_leave D.moment D.left_since D.size turn self.old self.new result }
+        ensures spelled { IfOk result IsToldReply }
+        ensures is_open { OnOk result (self.new.store.fault ≡ None) }
+        ensures layout { self.new.store.layout ≡ self.old.store.layout }
+        ensures size { D.size self.new.store.disk ≡ D.size self.old.store.disk }
+        ensures faults { D.faults self.old.store.disk ≤ D.faults self.new.store.disk }
+        ensures may_fail { IfErr result (MayFail (D.faults self.old.store.disk) (D.faults self.new.store.disk) self.old.store.fault) }
+        ensures full { IfErr result (TellsNumbers (room_of self.old.store.book)) }
+        ensures stays { IfErr result (StaysBy D.content D.may_leave D.faults self.old self.new) }
+    {
+        let _layout = self.store.layout();
+        let ahead = self.look(run, unit)?;
+        self.work_on(run, ahead)
+    }
+
+    /// The next unit of a run's running step, which is due, and what goes on behind it. A unit behind which the step goes on makes no plan, since
+    /// that has room for an event.
     pub(crate) fn work(&mut self, run: u32) -> Result<Reply, DeskError>
         requires is_open { self.old.store.fault ≡ None }
         requires due { HasDue self.old.jobs (Plans.Work run) }
@@ -168,7 +229,11 @@ impl<D: Disk> Desk<D> {
         ensures stays { IfErr result (StaysBy D.content D.may_leave D.faults self.old self.new) }
     {
         let _layout = self.store.layout();
-        let ahead = self.look(run)?;
-        self.work_on(run, ahead)
+        let unit = self.work_out(run)?;
+        if let Worked::Went { .. } = unit.worked {
+            self.went(run, unit)
+        } else {
+            self.tell_unit(run, unit)
+        }
     }
 }

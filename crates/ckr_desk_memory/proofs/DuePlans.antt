@@ -1,7 +1,8 @@
 -- A turn that comes to a unit or a checkpoint finds the running step of which it is due.
-use Rattle.std.proofs.Common.{◌≡◌, ℕ, List, Bool, true, false, find, refl, ap, sym, ◌∙◌, Option, Some, None, Result, Ok, Err}
+use Rattle.std.proofs.Common.{◌≡◌, ◌==◌, ℕ, List, Bool, true, false, find, refl, ap, sym, ◌∙◌, Option, Some, None, Result, Ok, Err}
 use Rattle.std.specs.Prelude.{if◌then◌else◌}
 use Rattle.std.specs.Option.{option_map_or}
+use Rattle.std.proofs.lemmas.Bool.{false≢true}
 use Rattle.std.proofs.lemmas.Option.{same_Some}
 use Rattle.ckr_base.specs.declared.code.Code.{Code}
 use Rattle.ckr_base.specs.declared.programs.NextDue.{NextDue}
@@ -11,12 +12,14 @@ use Rattle.ckr_events.specs.declared.event.Made.{Made}
 use Rattle.ckr_meaning.specs.declared.place.Place.{Place}
 use Rattle.ckr_meaning.specs.declared.place.Place.TheVariants.{Before, Opened, Within}
 use Rattle.ckr_points.specs.Restart.{place_of}
+use Rattle.ckr_steps.specs.Units.{due_of}
 use Rattle.ckr_points.specs.Rows.{RunRow, step_of_run}
 use Rattle.ckr_points.specs.RuleCases.{rd_in_effect}
 use Rattle.ckr_rules.specs.RuleTables.{suppresses}
 use Rattle.ckr_points_library.specs.declared.cause.Refusal.{Refusal}
 use Rattle.ckr_desk_turn.specs.declared.plan.Plan.{Plan}
 use Rattle.ckr_desk_turn.specs.declared.plan.Plan.TheVariants.{Rest, Tell, Work, Pass, Take}
+use Rattle.ckr_desk_turn.specs.declared.reply.Reply.TheVariants.{Idle}
 use Rattle.ckr_desk_turn.specs.declared.reply.Turn.{Turn}
 use Rattle.ckr_desk_turn.specs.Allocation.{allocation_of}
 use Rattle.ckr_desk_turn.specs.Select.{next_run, run_on_initiator}
@@ -27,6 +30,7 @@ use Rattle.ckr_desk_memory.specs.EventChanges.{is_of_run}
 use Rattle.ckr_desk_memory.specs.Plans.{HasDue, IsDue}
 use Rattle.ckr_desk_memory.specs.View.{JobsView, RunningStepView, jobs_of, running_of}
 use Rattle.ckr_desk_memory.proofs.FoundRuns.{running-found}
+use Rattle.ckr_desk_memory.proofs.Plans.{run-other}
 
 module _ (layout : Layout) (jobs : JobsView) where
   either-due : (r : Result (List Made) Refusal) (f : Refusal → Plan) (g : List Made → Plan) → ((x : Refusal) → HasDue jobs (f x)) → ((x : List Made) → HasDue jobs (g x))
@@ -105,3 +109,18 @@ due-alike old new (Tell reply event) same due = tt
 due-alike old new (Work job) same due = (due.0, ap (find (is_of_run job)) same ∙ due.1, due.2)
 due-alike old new (Pass job reply) same due = (due.0, ap (find (is_of_run job)) same ∙ due.1, due.2)
 due-alike old new (Take job) same due = (due.0, ap (find (is_of_run job)) same ∙ due.1, due.2)
+
+-- a run within a step of which a unit is due comes to that unit, where it didn't fail and no code is given
+pub comes-to-unit : (layout : Layout) (jobs : JobsView) (row : RunRow) (job : ℕ) (on : RunningStepView) → row.number ≡ job → is_failed (jobs_of jobs) row.number ≡ false → is_within (place_of row) ≡ true
+    → Some on ≡ find (λ (step : RunningStepView). step.run == job) jobs.running → due_of on.step.parm on.step.state ≡ OneUnit → run_plan layout (jobs_of jobs) None row ≡ Work job
+comes-to-unit layout jobs row job on number unmarked within found due =
+    run-other layout (jobs_of jobs) row None unmarked ∙ by (place_of row) within
+  where
+    by : (place : Place) → is_within place ≡ true → placed_plan layout (jobs_of jobs) row place ≡ Work job
+    by (Before other) is = absurd (false≢true is)
+    by (Opened other) is = absurd (false≢true is)
+    by (Within other writes) is =
+        ap (λ run. option_map_or (running_plan row other) (running_in (jobs_of jobs) run) (Rest Idle)) number
+        ∙ ap (λ step. option_map_or (running_plan row other) step (Rest Idle)) (running-found jobs job (Some on) found)
+        ∙ ap (due_plan row other (running_of jobs.tables.desk on)) due
+        ∙ ap Work number

@@ -1,5 +1,8 @@
--- The definitions below this crate that its clauses cite, handed on to the crates above: the tables in memory.
+-- The definitions below this crate that its clauses cite, handed on to the crates above: the tables in memory, and the data sets of a step.
 pub use Rattle.ckr_points_follows.specs.RewriteCounts
+pub use Rattle.ckr_points_library.specs.Holdings
+pub use Rattle.ckr_points_library.specs.declared.cause.Cause
+pub use Rattle.ckr_points_library.specs.declared.cause.Refusal
 pub use Rattle.ckr_points_tables.specs.PlainRows
 pub use Rattle.ckr_points_tables.specs.View
 pub use Rattle.ckr_points_tables.specs.declared.run_table.RunTable

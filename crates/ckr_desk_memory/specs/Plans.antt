@@ -142,6 +142,11 @@ IsWorkedCode (Went taken) = Unit {0}
 IsWorkedCode (Rewrite place image taken) = Unit {0}
 IsWorkedCode (Abend code) = IsCode code
 
+-- behind the unit the step goes on, and no event tells of it
+abbrev pub IsWent : Worked → Type 0
+IsWent (Went taken) = Unit {0}
+IsWent _ = ⊥
+
 -- a running step behind a unit that was worked out, with its data sets
 abbrev pub behind_unit : RunningStepView → UnitAhead → RunningStepView
 behind_unit on ahead = record {

@@ -18,6 +18,7 @@ mod run_code;
 mod served;
 mod set_copy;
 mod start;
+mod unit_due;
 mod unit_reply;
 mod unit_step;
 

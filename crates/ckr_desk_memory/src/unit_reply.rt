@@ -8,7 +8,7 @@ ghost use Rattle.ckr_desk_memory.specs.Invariant.{IsAcceptedRow};
 ghost use Rattle.ckr_desk_memory.specs.OwnSets.{IsRunningOf};
 ghost use Rattle.ckr_desk_memory.specs.OwnSteps.{PlanCommits, PlanFollows, PlanIsOf, PlanLeaves};
 ghost use Rattle.ckr_desk_memory.specs.Parts.{step_seen};
-ghost use Rattle.ckr_desk_memory.specs.Plans.{behind_unit, reached_seen, row_for, told_by, IsSpelledPlan, IsToldReply, IsUnitPlan, IsWorkedCode};
+ghost use Rattle.ckr_desk_memory.specs.Plans.{behind_unit, reached_seen, row_for, told_by, IsSpelledPlan, IsToldReply, IsUnitPlan, IsWent, IsWorkedCode};
 ghost use Rattle.ckr_desk_memory.specs.Start.{AllFit};
 ghost use Rattle.ckr_desk_memory.specs.View.{lengths_of_row, running_of};
 ghost use Rattle.ckr_meaning.specs.EffectiveJob.{OwnedStep};
@@ -20,6 +20,7 @@ ghost use Rattle.ckr_steps.specs.Units.{taken_of};
 ghost use Rattle.ckr_points_decks.specs.DeckLimits.{IsWithinLimits};
 ghost use Rattle.ckr_desk_turn.specs.Jobs.{step_name_of};
 ghost use Rattle.ckr_desk_turn.specs.Queue.{AreNumbered};
+ghost use Rattle.ckr_volumes.specs.declared.layout.Layout.{Layout as LayoutOfDisk};
 
 use crate::run_code::{CodePlace, Extents, code_plan, lengths_of, place_of};
 use crate::{Jobs, RunningStep};
@@ -59,6 +60,22 @@ fn reached_by(on: &RunningStep, ahead: &UnitAhead, table: &RunTable) -> CodePlac
 }
 
 impl Jobs {
+    /// The reply to a unit that was worked out and isn't done yet, behind which the step goes on: what the turn tells of it, and that alone.
+    /// Its run is within a step of its deck (this project's profile).
+    pub fn worked(&self, on: &RunningStep, ahead: &UnitAhead) -> Reply
+        requires rows { AllByRecursion IsAcceptedRow self.now.tables.desk.runs }
+        requires counted { AreCounted (behind_ahead on.now.step ahead.now) }
+        requires went { IsWent ahead.now.worked }
+        ensures plan { (layout : LayoutOfDisk) (row : RunRow) (own : OwnedStep) → run_of self.now.tables.desk on.now.run ≡ Some row → step_of_run row (step_in_place (place_of_row row)) ≡ Some own
+            → Plan.Rest result ≡ told_by layout row (running_of self.now.tables.desk (behind_unit (step_seen on.now) ahead.now)) ahead.now.worked }
+        ensures told { IsToldReply result }
+    {
+        match self.known(on.run) {
+            Some(table) => worked_reply(on, ahead, table).unwrap_or(Reply::Idle),
+            None => Reply::Idle,
+        }
+    }
+
     /// What a turn tells of a unit that was worked out and isn't done yet, exactly as it tells it behind the unit: the records taken, with
     /// the rewrite in place if the unit makes one, or the end of the run by the code with which the unit ends it. The code is at most
     /// 4095. Its run is within a step of its deck; else the turn tells nothing (IBM GC28-6704; the replies are this project's profile).

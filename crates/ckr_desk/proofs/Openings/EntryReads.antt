@@ -17,7 +17,7 @@ use Rattle.ckr_desk_turn.specs.Queue.{AreNumbered}
 use Rattle.ckr_points.specs.Rows.{RunRow, TablesModel, run_of}
 use Rattle.ckr_points.specs.declared.run.Run.{Run}
 use Rattle.ckr_points_tables.specs.View.{line_of}
-use Rattle.ckr_points_library.specs.Holdings.{owned}
+use Rattle.ckr_desk_memory.specs.Model.Holdings.{owned}
 use Rattle.ckr_desk_refines.specs.EntryRefusal.{are_present, first_fault}
 use Rattle.ckr_steps.specs.EntryRecords.{bytes_on}
 use Rattle.ckr_volumes.specs.declared.layout.Layout.{Layout}

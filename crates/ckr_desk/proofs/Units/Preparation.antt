@@ -167,6 +167,12 @@ told-moved layout tables on moved unit worked plan run step sets same planned ro
 pub same-on : {D : Type 0} (told : Type 0) (content : D → List ℕ) (run : ℕ) (desk : DeskView D) (unit : UnitAhead) (of : IsWorkedOut told content run desk unit) (on : RunningStepView) → find (is_of_run run) desk.jobs.running ≡ Some on → of.on ≡ on
 same-on told content run desk unit of on found = same_Some of.on on (sym of.found ∙ found)
 
+-- it is the unit of that step that was worked out
+pub out-of : {D : Type 0} (told : Type 0) (content : D → List ℕ) (run : ℕ) (desk : DeskView D) (unit : UnitAhead) → IsWorkedOut told content run desk unit → (on : RunningStepView) → find (is_of_run run) desk.jobs.running ≡ Some on
+    → HasWorkedOut told (content desk.store.disk) desk.store.layout on.step on.sets unit
+out-of told content run desk unit of on found =
+    subst (λ (on : RunningStepView). HasWorkedOut told (content desk.store.disk) desk.store.layout on.step on.sets unit) (same-on told content run desk unit of on found) of.out
+
 -- data sets that stand in a layout are short
 pub short-so : (layout : Layout) (catalog : Catalog) → AreStored layout catalog → IsShort catalog
 short-so layout catalog stored name set is =

@@ -15,12 +15,12 @@ use Rattle.ckr_desk.specs.State.{DeskView}
 use Rattle.ckr_desk.specs.Units.{HasTurned}
 use Rattle.ckr_desk.proofs.desk.Desk.work.Goals as goal
 
-pub returns-in_err-ahead-clause-turned : goal.returns-in_err-ahead-clause-turned
-returns-in_err-ahead-clause-turned g c turn p =
+pub returns-in_err-unit-clause-turned : goal.returns-in_err-unit-clause-turned
+returns-in_err-unit-clause-turned g c turn p =
     let d = g.D.Disk in
     let now = c.args.self.now in
-    let new = c.look.new.self in
-    let e = c.look.ensures in
+    let new = c.work_out.new.self in
+    let e = c.work_out.ensures in
     let is : IsAsBefore d.told d.content d.may_leave now new = record {
       jobs = record { tables = e.jobs.tables; running = e.jobs.running; failed = e.jobs.failed };
       layout = e.layout;
@@ -32,17 +32,17 @@ returns-in_err-ahead-clause-turned g c turn p =
     let since = reads-left d.told d.content d.may_leave d.moment d.left_since d.size now new.store.disk e.any_moment e.only_reads in
     let sound = subst (λ (s : DeskView g.row.D.Denot). IsSound d.content d.may_leave d.size s.store) c.self.view_is c.layout-layout.ensures.sound in
     let later = planned-before d.told d.content d.may_leave d.moment d.left_since d.size now new is e.size since turn (Work c.args.run) p in
-    subst (HasTurned d.told d.content d.may_leave d.moment d.left_since d.size turn now new) (sym (err-is c.from_residual.result c.in_err-ahead.field-0.0 c.from_residual.ensures.1))
-    (turned-not d.told d.content d.may_leave d.moment d.left_since d.size now new is e.size since turn p.trusted c.in_err-ahead.field-0.0
-    (look-cause d.told d.content d.may_leave d.moment d.left_since d.size d.faults c.args.run now new turn p later is c.in_err-ahead.field-0.0 c.in_err-ahead.ensures.cause)
-    (look-takes d.told d.content d.may_leave d.moment d.left_since d.size d.faults c.args.run now new turn later is (subst (λ (l : Layout). l.book ≤ 4294967295) (sym e.layout) (book-short now.store.layout (d.size now.store.disk) sound.header)) c.in_err-ahead.field-0.0 c.in_err-ahead.ensures.cause))
+    subst (HasTurned d.told d.content d.may_leave d.moment d.left_since d.size turn now new) (sym (err-is c.from_residual.result c.in_err-unit.field-0.0 c.from_residual.ensures.1))
+    (turned-not d.told d.content d.may_leave d.moment d.left_since d.size now new is e.size since turn p.trusted c.in_err-unit.field-0.0
+    (look-cause d.told d.content d.may_leave d.moment d.left_since d.size d.faults c.args.run now new turn p later is c.in_err-unit.field-0.0 c.in_err-unit.ensures.cause)
+    (look-takes d.told d.content d.may_leave d.moment d.left_since d.size d.faults c.args.run now new turn later is (subst (λ (l : Layout). l.book ≤ 4294967295) (sym e.layout) (book-short now.store.layout (d.size now.store.disk) sound.header)) c.in_err-unit.field-0.0 c.in_err-unit.ensures.cause))
 
-pub returns-clause-turned : goal.returns-clause-turned
-returns-clause-turned g c turn p =
+pub returns-in-Went-clause-turned : goal.returns-in-Went-clause-turned
+returns-in-Went-clause-turned g c turn p =
     let d = g.D.Disk in
     let now = c.args.self.now in
-    let mid = c.look.new.self in
-    let e = c.look.ensures in
+    let mid = c.work_out.new.self in
+    let e = c.work_out.ensures in
     let is : IsAsBefore d.told d.content d.may_leave now mid = record {
       jobs = record { tables = e.jobs.tables; running = e.jobs.running; failed = e.jobs.failed };
       layout = e.layout;
@@ -52,15 +52,33 @@ returns-clause-turned g c turn p =
     }
     in
     let since = reads-left d.told d.content d.may_leave d.moment d.left_since d.size now mid.store.disk e.any_moment e.only_reads in
-    turned-before d.told d.content d.may_leave d.moment d.left_since d.size now mid is e.size since turn p.trusted c.work_on.new.self c.work_on.result
-    (c.work_on.ensures.turned turn (planned-before d.told d.content d.may_leave d.moment d.left_since d.size now mid is e.size since turn (Work c.args.run) p))
+    turned-before d.told d.content d.may_leave d.moment d.left_since d.size now mid is e.size since turn p.trusted c.went.new.self c.went.result
+    (c.went.ensures.turned turn (planned-before d.told d.content d.may_leave d.moment d.left_since d.size now mid is e.size since turn (Work c.args.run) p))
 
-pub returns-in_err-ahead-clause-full : goal.returns-in_err-ahead-clause-full
-returns-in_err-ahead-clause-full g c =
+pub returns-in_default-clause-turned : goal.returns-in_default-clause-turned
+returns-in_default-clause-turned g c turn p =
     let d = g.D.Disk in
     let now = c.args.self.now in
-    subst (λ r. IfErr r (TellsNumbers (room_of now.store.book))) (sym (err-is c.from_residual.result c.in_err-ahead.field-0.0 c.from_residual.ensures.1))
-    (unlooked-numbers now c.look.new.self d.told d.content d.faults c.args.run c.look.ensures.room c.in_err-ahead.field-0.0 c.in_err-ahead.ensures.cause)
+    let mid = c.work_out.new.self in
+    let e = c.work_out.ensures in
+    let is : IsAsBefore d.told d.content d.may_leave now mid = record {
+      jobs = record { tables = e.jobs.tables; running = e.jobs.running; failed = e.jobs.failed };
+      layout = e.layout;
+      room = e.room;
+      reads = e.only_reads.same;
+      none_new = e.only_reads.none_new;
+    }
+    in
+    let since = reads-left d.told d.content d.may_leave d.moment d.left_since d.size now mid.store.disk e.any_moment e.only_reads in
+    turned-before d.told d.content d.may_leave d.moment d.left_since d.size now mid is e.size since turn p.trusted c.tell_unit.new.self c.tell_unit.result
+    (c.tell_unit.ensures.turned turn (planned-before d.told d.content d.may_leave d.moment d.left_since d.size now mid is e.size since turn (Work c.args.run) p))
 
-pub returns-clause-full : goal.returns-clause-full
-returns-clause-full g c = if-err (of-disk-numbers (room_of c.args.self.now.store.book)) c.work_on.result c.work_on.ensures.of_disk
+pub returns-in_err-unit-clause-full : goal.returns-in_err-unit-clause-full
+returns-in_err-unit-clause-full g c =
+    let d = g.D.Disk in
+    let now = c.args.self.now in
+    subst (λ r. IfErr r (TellsNumbers (room_of now.store.book))) (sym (err-is c.from_residual.result c.in_err-unit.field-0.0 c.from_residual.ensures.1))
+    (unlooked-numbers now c.work_out.new.self d.told d.content d.faults c.args.run c.work_out.ensures.room c.in_err-unit.field-0.0 c.in_err-unit.ensures.cause)
+
+pub returns-in-Went-clause-full : goal.returns-in-Went-clause-full
+returns-in-Went-clause-full g c = if-err (of-disk-numbers (room_of c.args.self.now.store.book)) c.went.result c.went.ensures.of_disk
