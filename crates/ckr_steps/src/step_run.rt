@@ -212,7 +212,7 @@ impl StepRun {
         ensures cause { HasCause (D.faults disk.old) (D.faults disk.new) result }
     {
         let heads = heads_of(disk, layout, library, &self.files, &self.state)?;
-        let mut state = units::copied(&self.state);
+        let mut state = self.state.copied();
         let done = units::unit(&mut state, &self.parm, &heads, self.writes);
         Ok(UnitAhead::of(library, &self.files, state, done))
     }

@@ -5,8 +5,7 @@ ghost use Rattle.ckr_match.specs.State.{has_two_inputs};
 ghost use Rattle.ckr_meaning.specs.States.{first_of, second_of};
 ghost use Rattle.ckr_steps.specs.Units.{first_state, due_of, served_of, unit_of, state_of, taken_of, entries_of, IsCounted};
 
-use arrayvec::ArrayVec;
-use ckr_base::{Heads, NextDue, Rec, UnitDone};
+use ckr_base::{Heads, NextDue, UnitDone};
 use ckr_entry::State;
 use ckr_jcl::{Kind, Parm};
 use ckr_match::MatchState;
@@ -98,57 +97,4 @@ pub(crate) fn taken_of(state: &State) -> u32
     ensures { result ≡ taken_of state.now }
 {
     first_of(state) + second_of(state)
-}
-
-/// Another key of the same bytes.
-fn copied_key(key: &ArrayVec<u8, 32>) -> ArrayVec<u8, 32>
-    ensures { result ≡ key.now }
-{
-    match ArrayVec::try_from(key.as_slice()) {
-        Ok(copy) => copy,
-        Err(_) => unreachable!(),
-    }
-}
-
-/// Another held record of the same bytes.
-fn copied_held(held: &Option<Rec>) -> Option<Rec>
-    ensures { result ≡ held.now }
-{
-    match held {
-        Some(held) => Some(held.copied()),
-        None => None,
-    }
-}
-
-/// The last master again, with its place.
-fn copied_last(last: &Option<(u32, Rec)>) -> Option<(u32, Rec)>
-    ensures { result ≡ last.now }
-{
-    match last {
-        Some((place, master)) => Some((*place, master.copied())),
-        None => None,
-    }
-}
-
-/// The same state again, which takes no memory.
-pub(crate) fn copied(state: &State) -> State
-    ensures { result ≡ state.now }
-{
-    match state {
-        State::Plain(state) => State::Plain(*state),
-        State::Matched(state) => State::Matched(MatchState {
-            kind: state.kind,
-            first: state.first,
-            second: state.second,
-            rejects: state.rejects,
-            entries: state.entries,
-            checkpointed: state.checkpointed,
-            cancelled: state.cancelled,
-            closed: state.closed,
-            first_key: copied_key(&state.first_key),
-            second_key: copied_key(&state.second_key),
-            held: copied_held(&state.held),
-            last: copied_last(&state.last),
-        }),
-    }
 }
