@@ -1,5 +1,5 @@
 -- What the code does of a unit is what the unit for its heads asks for.
-use Rattle.std.proofs.Common.{◌≡◌, ℕ, ◌+◌, refl, ap, ◌∙◌}
+use Rattle.std.proofs.Common.{◌≡◌, ℕ, ◌+◌, ap, ◌∙◌}
 use Rattle.ckr_base.specs.declared.programs.Heads.{Heads}
 use Rattle.ckr_base.specs.declared.programs.UnitDone.{UnitDone}
 use Rattle.ckr_entry.specs.declared.point.State.{State}

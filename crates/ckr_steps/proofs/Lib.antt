@@ -13,6 +13,7 @@ pub mod Inputs
 pub mod NextHeads
 pub mod LaterWrites
 pub mod UnitProgress
+pub mod OutputSpace
 pub mod Start
 pub mod Rewrites
 pub mod EntryRecords

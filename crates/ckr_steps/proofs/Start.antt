@@ -1,4 +1,4 @@
--- A step that starts stands before its first record; what is due, and what is done at a count, leaves it where it stands.
+-- A step that starts stands before its first record, and one that goes on from a point stands there; what is due, and what is done at a count, leaves it where it stands.
 use Rattle.std.proofs.Common.{◌≡◌, ◌≤◌, ℕ, ◌+◌, ◌-◌, Bool, true, false, List, [], ◌++◌, length, Option, Some, None, refl, ap, sym, ◌∙◌, subst, arith, length-append}
 use Rattle.std.specs.Prelude.{if◌then◌else◌, option_and_then, find, slice_get}
 use Rattle.std.specs.Option.{option_map_or}
@@ -7,13 +7,12 @@ use Rattle.std.proofs.lemmas.List.{nil_from_length}
 use Rattle.ckr_base.specs.declared.programs.Finish.TheVariants as Finishes
 use Rattle.ckr_base.specs.declared.programs.NextDue.{NextDue}
 use Rattle.ckr_base.specs.declared.programs.NextDue.TheVariants.{Unit as OneUnit, Checkpoint, Cancel, Finished}
-use Rattle.ckr_base.specs.declared.programs.Output.TheVariants.{Main, Rejects}
 use Rattle.ckr_base.proofs.Options.{some-not-none}
+use Rattle.ckr_entry.specs.declared.point.Point.{Point}
 use Rattle.ckr_entry.specs.declared.point.State.{State}
 use Rattle.ckr_entry.specs.declared.point.State.TheVariants.{Plain, Matched}
 use Rattle.ckr_jcl.specs.declared.deck.Dd.{Dd}
 use Rattle.ckr_jcl.specs.declared.deck.Kind.{Kind}
-use Rattle.ckr_jcl.specs.declared.deck.Kind.TheVariants.{Copy, Select, Merge, Master, Update, Print, Br14}
 use Rattle.ckr_jcl.specs.declared.deck.Parm.{Parm}
 use Rattle.ckr_jcl.specs.Programs.{names_written}
 use Rattle.ckr_library.specs.Catalog.{Catalog}
@@ -22,31 +21,32 @@ use Rattle.ckr_library.proofs.Named.{name-itself, name-turned}
 use Rattle.ckr_programs.specs.declared.state.ProgState.{ProgState}
 use Rattle.ckr_programs.specs.State as plain
 use Rattle.ckr_match.specs.declared.state.MatchState.{MatchState}
-use Rattle.ckr_match.specs.Images.{has_transactions}
 use Rattle.ckr_match.specs.State as matched
 use Rattle.ckr_match.specs.Units as matched_units
 use Rattle.ckr_match.proofs.AllUnits.{first_stands}
 use Rattle.ckr_volumes.specs.declared.layout.Layout.{Layout}
 use Rattle.ckr_meaning.specs.EffectiveJob.{name_of}
-use Rattle.ckr_meaning.specs.LibrarySet.{LibrarySet}
+use Rattle.ckr_meaning.specs.LibrarySet.{LibrarySet, Library}
 use Rattle.ckr_meaning.specs.Program.{ProgramCase, OutputRoom, match_case, room_after, rest, upto, work}
 use Rattle.ckr_meaning.specs.States.{StandsFor}
-use Rattle.ckr_meaning.specs.StepRun.{StepStart, case_at, made_at, dd_named, input_names, main_names, room_of as set_room, output_name, rejects_dd, room_at, room_in, work_at}
+use Rattle.ckr_meaning.specs.StepRun.{StepStart, case_at, made_at, dd_named, input_names, main_names, room_of as set_room, rejects_dd, room_in, within_at, work_at}
 use Rattle.ckr_meaning.proofs.Prefixes.{work_in_parts}
-use Rattle.ckr_meaning.proofs.Room.{AreApart, outputs_apart}
+use Rattle.ckr_meaning.proofs.Room.{AreApart}
 use Rattle.ckr_meaning.proofs.Units.{write_all, write_the_rest}
+use Rattle.ckr_meaning.proofs.WriteSeries.{within_at-none}
 use Rattle.ckr_steps.specs.declared.files.RecordSource.{RecordSource}
 use Rattle.ckr_steps.specs.declared.files.RecordSource.TheVariants.{Nowhere, InDeck, InSet}
 use Rattle.ckr_steps.specs.declared.step_run.StepRun.{StepRun}
-use Rattle.ckr_steps.specs.Files.{dd_in, input_dd, set_in, source_in, files_of, set_of_source}
+use Rattle.ckr_steps.specs.Files.{input_dd, source_in, files_of, set_of_source}
 use Rattle.ckr_steps.specs.Inputs.{IsSourceThere, IsSetThere, AreSameSet, AreThere}
 use Rattle.ckr_steps.specs.Units.{first_state, state_for, due_of, served_of, is_closed}
 use Rattle.ckr_steps.specs.Writes.{IsShown, Shows, room_of}
 use Rattle.ckr_steps.specs.Writes as writing
-use Rattle.ckr_steps.specs.Places.{files_at, names_at, IsPlain, MayStart, first_room, return_of, IsStepPlace, DueAt, HasFewCards, HasMade}
+use Rattle.ckr_steps.specs.Places.{files_at, names_at, IsPlain, MayStart, first_room, return_of, IsStepPlace, ShowsWithin, DueAt, HasFewCards, HasMade, HasWithin, IsPointOf}
 use Rattle.ckr_steps.proofs.Names.{is_there}
 use Rattle.ckr_steps.proofs.NextHeads.{found_among, source_named, among_names}
-use Rattle.ckr_steps.proofs.LaterWrites.{main_is, rejects_are}
+use Rattle.ckr_steps.proofs.NextUnits.{within_records}
+use Rattle.ckr_steps.proofs.OutputSpace.{files-apart, first_room-outputs, outputs_room, room_after-upto, plain-within_at}
 use Rattle.ckr_steps.proofs.Writes.{program_at}
 
 -- ---- nothing is written yet
@@ -80,31 +80,31 @@ first_open kind = by (matched.has_two_inputs kind)
     by false = refl
     by true = refl
 
--- ---- the data sets of a step that starts
+-- ---- the data sets of a step, where the library has those of a library of records
 
-module _ (layout : Layout) (start : StepStart) (may : MayStart start) (library : Catalog) (made : HasMade layout start library) where
+module _ (layout : Layout) (start : StepStart) (may : MayStart start) (library : Catalog) (model : Library) (plainly : (name : Option Name) → IsPlain (made_at start) name → IsPlain model name) (has : Shows ⊥ [] layout (names_at start) model library) where
   -- the data set of a DD, where it hold records of programs
-  shown_set : (test : Dd → Bool) (dd : Dd) (name : Name) → find test start.owned.step.dds ≡ Some dd → name_of start.root start.owned dd ≡ Some name → (plain : IsPlain (made_at start) (Some name)) → IsShown ⊥ [] layout plain.0 library name
+  shown_set : (test : Dd → Bool) (dd : Dd) (name : Name) → find test start.owned.step.dds ≡ Some dd → name_of start.root start.owned dd ≡ Some name → (plain : IsPlain model (Some name)) → IsShown ⊥ [] layout plain.0 library name
   shown_set test dd name found named plain =
-      made name plain.0 (found_among (name_of start.root start.owned) test start.owned.step.dds dd name found named (name-itself name)) plain.1 plain.2
+      has name plain.0 (found_among (name_of start.root start.owned) test start.owned.step.dds dd name found named (name-itself name)) plain.1 plain.2
 
-  same_room_of : (name : Name) (set : LibrarySet) → entry_at (made_at start) name ≡ Some set → IsShown ⊥ [] layout set library name → room_in (made_at start) (Some name) ≡ writing.room_at library (Some name)
+  same_room_of : (name : Name) (set : LibrarySet) → entry_at model name ≡ Some set → IsShown ⊥ [] layout set library name → room_in model (Some name) ≡ writing.room_at library (Some name)
   same_room_of name set entry shown =
       ap (λ e. option_map_or set_room e 0) entry
       ∙ (let space = shown.shows.space in let size = shown.shows.length in let same : set.space - length set.records ≡ shown.set.space - shown.set.length = omega arith in same)
       ∙ sym (ap (λ e. option_map_or writing.room_of_set e 0) shown.is)
 
   -- an output, by the name of its DD
-  by_output : (dd_name : Option Name) (set : Option Name) → option_and_then (name_of start.root start.owned) (option_and_then (dd_named start.owned) dd_name) ≡ set → IsPlain (made_at start) set → room_in (made_at start) set ≡ writing.room_at library set
+  by_output : (dd_name : Option Name) (set : Option Name) → option_and_then (name_of start.root start.owned) (option_and_then (dd_named start.owned) dd_name) ≡ set → IsPlain model set → room_in model set ≡ writing.room_at library set
   by_output dd_name None is plain = refl
   by_output None (Some name) is plain = absurd (some-not-none name (sym is))
   by_output (Some dd_name) (Some name) is plain = by (dd_named start.owned dd_name) refl is
     where
-      by : (dd : Option Dd) → dd_named start.owned dd_name ≡ dd → option_and_then (name_of start.root start.owned) dd ≡ Some name → room_in (made_at start) (Some name) ≡ writing.room_at library (Some name)
+      by : (dd : Option Dd) → dd_named start.owned dd_name ≡ dd → option_and_then (name_of start.root start.owned) dd ≡ Some name → room_in model (Some name) ≡ writing.room_at library (Some name)
       by None found is = absurd (some-not-none name (sym is))
       by (Some dd) found is = same_room_of name plain.0 plain.1 (shown_set (λ d. same_name dd_name d.name) dd name found is plain)
 
-  there_by : (dd_name : Option Name) (set : Option Name) → option_and_then (name_of start.root start.owned) (option_and_then (dd_named start.owned) dd_name) ≡ set → IsPlain (made_at start) set → IsSetThere library set
+  there_by : (dd_name : Option Name) (set : Option Name) → option_and_then (name_of start.root start.owned) (option_and_then (dd_named start.owned) dd_name) ≡ set → IsPlain model set → IsSetThere library set
   there_by dd_name None is plain = tt
   there_by None (Some name) is plain = absurd (some-not-none name (sym is))
   there_by (Some dd_name) (Some name) is plain = by (dd_named start.owned dd_name) refl is
@@ -113,47 +113,52 @@ module _ (layout : Layout) (start : StepStart) (may : MayStart start) (library :
       by None found is = absurd (some-not-none name (sym is))
       by (Some dd) found is = let shown = shown_set (λ d. same_name dd_name d.name) dd name found is plain in is_there library name shown.set shown.is
 
-  main_room : (first_room start).main ≡ writing.room_at library (files_at start).main
-  unfolding room_at files_of
-  main_room =
-      ap (room_in (made_at start)) (main_is start)
-      ∙ by_output (slice_get (main_names start.owned.step.program) 0) (files_at start).main refl may.main
-
-  no_rejects : (program : Kind) → has_transactions program ≡ false → find (same_name rejects_dd) (names_written program) ≡ None
-  no_rejects Copy is = refl
-  no_rejects Select is = refl
-  no_rejects Merge is = refl
-  no_rejects Master is = absurd (false≢true (sym is))
-  no_rejects Update is = absurd (false≢true (sym is))
-  no_rejects Print is = refl
-  no_rejects Br14 is = refl
-
-  none_for_rejects : has_transactions start.owned.step.program ≡ false → (files_at start).rejects ≡ None
-  unfolding files_of
-  none_for_rejects is = ap (λ name. set_in start.root start.owned.owner start.owned.step (option_and_then (dd_in start.owned.step) name)) (no_rejects start.owned.step.program is)
-
   rejects_there : IsSetThere library (files_at start).rejects
   unfolding files_of
-  rejects_there = there_by (find (same_name rejects_dd) (names_written start.owned.step.program)) (files_at start).rejects refl may.rejects
+  rejects_there = there_by (find (same_name rejects_dd) (names_written start.owned.step.program)) (files_at start).rejects refl (plainly (files_at start).rejects may.rejects)
 
   main_there : IsSetThere library (files_at start).main
   unfolding files_of
-  main_there = there_by (slice_get (main_names start.owned.step.program) 0) (files_at start).main refl may.main
+  main_there = there_by (slice_get (main_names start.owned.step.program) 0) (files_at start).main refl (plainly (files_at start).main may.main)
 
-  rejects_room : (first_room start).rejects ≡ writing.room_at library (files_at start).rejects
-  unfolding room_at files_of
-  rejects_room = by (has_transactions start.owned.step.program) refl
+  -- the outputs have the same space by both libraries
+  room_is : outputs_room start model ≡ room_of library (files_at start)
+  unfolding room_of files_of
+  room_is = λ i. record {
+    main = by_output (slice_get (main_names start.owned.step.program) 0) (files_at start).main refl (plainly (files_at start).main may.main) i;
+    rejects = by_output (find (same_name rejects_dd) (names_written start.owned.step.program)) (files_at start).rejects refl (plainly (files_at start).rejects may.rejects) i;
+  }
+
+  source_there : (input : ℕ) → HasFewCards (source_in start.root start.owned.owner start.owned.step (input_dd start.owned.step input)) → IsPlain model (set_of_source (source_in start.root start.owned.owner start.owned.step (input_dd start.owned.step input))) → IsSourceThere library (source_in start.root start.owned.owner start.owned.step (input_dd start.owned.step input))
+  source_there input few plain = by (source_in start.root start.owned.owner start.owned.step (input_dd start.owned.step input)) refl few plain
     where
-      by : (has : Bool) → has_transactions start.owned.step.program ≡ has → (if has then room_in (made_at start) (output_name start Rejects) else 0) ≡ writing.room_at library (files_at start).rejects
-      by true e =
-          ap (room_in (made_at start)) (rejects_are start e)
-          ∙ by_output (find (same_name rejects_dd) (names_written start.owned.step.program)) (files_at start).rejects refl may.rejects
-      by false e = sym (ap (writing.room_at library) (none_for_rejects e))
+      by : (source : RecordSource) → source_in start.root start.owned.owner start.owned.step (input_dd start.owned.step input) ≡ source → HasFewCards source → IsPlain model (set_of_source source) → IsSourceThere library source
+      by Nowhere e few plain = tt
+      by (InDeck cards) e few plain = few
+      by (InSet name) e few plain =
+          let named = source_named start input name e in
+          let shown = has name plain.0 (among_names start (slice_get (input_names start.owned.step.program) input) named.dd name named.found named.named (name-itself name)) plain.1 plain.2 in
+          is_there library name shown.set shown.is
 
-  room_is : first_room start ≡ room_of library (files_at start)
-  unfolding room_of
-  room_is = λ i. record { main = main_room i; rejects = rejects_room i }
+  not_same : (rejects main : Option Name) → AreApart main rejects → AreSameSet rejects main → ⊥
+  not_same None main apart same = same
+  not_same (Some rejects) None apart same = same
+  not_same (Some rejects) (Some main) apart same = false≢true (sym apart ∙ name-turned main rejects ∙ same)
 
+  -- its data sets are there
+  all_there : HasFewCards (files_at start).first → HasFewCards (files_at start).second → AreThere (files_at start) library
+  unfolding files_of
+  all_there first second = record {
+    first = source_there 0 first (plainly (set_of_source (files_at start).first) may.first);
+    second = source_there 1 second (plainly (set_of_source (files_at start).second) may.second);
+    main = main_there;
+    rejects = rejects_there;
+    differ = not_same (files_at start).rejects (files_at start).main (files-apart start may.distinct);
+  }
+
+-- ---- a step that starts
+
+module _ (layout : Layout) (start : StepStart) (may : MayStart start) (library : Catalog) (made : HasMade layout start library) where
   -- the step stands before its first record
   pub begins : (parm : Parm) → parm ≡ start.owned.step.parm → IsStepPlace start 0 false (record { state = first_state start.owned.step.program; parm = parm; files = files_at start; writes = 0 }) library
   begins parm is = record {
@@ -163,49 +168,54 @@ module _ (layout : Layout) (start : StepStart) (may : MayStart start) (library :
     state = subst (λ k. StandsFor (first_state k) (case_at start) 0) (program_at start) (first_is (case_at start));
     open_or_closed = first_open start.owned.step.program;
     writes = sym (ap length (nothing_yet (case_at start)));
-    room = ap (λ w. room_after w (first_room start)) (nothing_yet (case_at start)) ∙ ap (λ (r : OutputRoom). Some r) room_is;
+    room = ap (λ w. room_after w (first_room start)) (nothing_yet (case_at start))
+        ∙ ap (λ (r : OutputRoom). Some r) (first_room-outputs start ∙ room_is layout start may library (made_at start) (λ name plain. plain) made);
     finish = λ e. absurd (false≢true e);
   }
 
-  source_there : (input : ℕ) → HasFewCards (source_in start.root start.owned.owner start.owned.step (input_dd start.owned.step input)) → IsPlain (made_at start) (set_of_source (source_in start.root start.owned.owner start.owned.step (input_dd start.owned.step input))) → IsSourceThere library (source_in start.root start.owned.owner start.owned.step (input_dd start.owned.step input))
-  source_there input few plain = by (source_in start.root start.owned.owner start.owned.step (input_dd start.owned.step input)) refl few plain
-    where
-      by : (source : RecordSource) → source_in start.root start.owned.owner start.owned.step (input_dd start.owned.step input) ≡ source → HasFewCards source → IsPlain (made_at start) (set_of_source source) → IsSourceThere library source
-      by Nowhere e few plain = tt
-      by (InDeck cards) e few plain = few
-      by (InSet name) e few plain =
-          let named = source_named start input name e in
-          let shown = made name plain.0 (among_names start (slice_get (input_names start.owned.step.program) input) named.dd name named.found named.named (name-itself name)) plain.1 plain.2 in
-          is_there library name shown.set shown.is
-
-  not_same : (rejects main : Option Name) → AreApart main rejects → AreSameSet rejects main → ⊥
-  not_same None main apart same = same
-  not_same (Some rejects) None apart same = same
-  not_same (Some rejects) (Some main) apart same = false≢true (sym apart ∙ name-turned main rejects ∙ same)
-
-  they_differ : AreSameSet (files_at start).rejects (files_at start).main → ⊥
-  they_differ = by (has_transactions start.owned.step.program) refl
-    where
-      by : (has : Bool) → has_transactions start.owned.step.program ≡ has → AreSameSet (files_at start).rejects (files_at start).main → ⊥
-      by true e = not_same (files_at start).rejects (files_at start).main (subst (λ n. AreApart n (files_at start).rejects) (main_is start) (subst (AreApart (output_name start Main)) (rejects_are start e) (outputs_apart start may.distinct)))
-      by false e = λ same. subst (λ n. AreSameSet n (files_at start).main) (none_for_rejects e) same
-
   -- and its data sets are there
   pub are_there : HasFewCards (files_at start).first → HasFewCards (files_at start).second → AreThere (files_at start) library
-  unfolding files_of
-  are_there first second = record {
-    first = source_there 0 first may.first;
-    second = source_there 1 second may.second;
-    main = main_there;
-    rejects = rejects_there;
-    differ = they_differ;
+  are_there first second = all_there layout start may library (made_at start) (λ name plain. plain) made first second
+
+-- ---- a step that goes on from a point
+
+module _ (layout : Layout) (start : StepStart) (may : MayStart start) (library : Catalog) (point : Point) (has : HasWithin layout start point.writes library) where
+  -- the step stands where the point is
+  pub stands-at_point : (taken : ℕ) → IsPointOf start taken point → (parm : Parm) → parm ≡ start.owned.step.parm → IsStepPlace start taken false (record { state = point.state; parm = parm; files = files_at start; writes = point.writes }) library
+  stands-at_point taken of parm is = record {
+    may = may;
+    parm = is;
+    files = refl;
+    state = of.state;
+    open_or_closed = of.open_yet;
+    writes = of.writes;
+    room = room_after-upto start taken may.distinct (within_records point.state (case_at start) taken of.state) (subst (λ n. n ≤ length (work_at start).writes) of.writes of.had_space)
+        ∙ ap (λ n. Some (outputs_room start (within_at start n))) (sym of.writes)
+        ∙ ap (λ (r : OutputRoom). Some r) (room_is layout start may library (within_at start point.writes) (plain-within_at start point.writes) has);
+    finish = λ e. absurd (false≢true e);
   }
 
+  -- and its data sets are there
+  pub there-at_point : HasFewCards (files_at start).first → HasFewCards (files_at start).second → AreThere (files_at start) library
+  there-at_point first second = all_there layout start may library (within_at start point.writes) (plain-within_at start point.writes) has first second
+
+-- ---- what the library has
+
 -- what a disk shows in full, it shows without the records too
-pub shows_made : (told : Type 0) (image : List ℕ) (layout : Layout) (start : StepStart) (library : Catalog) → Shows told image layout (names_at start) (made_at start) library → HasMade layout start library
-shows_made told image layout start library shows name set among is plain =
+shows-sets : (told : Type 0) (image : List ℕ) (layout : Layout) (names : List Name) (model : Library) (library : Catalog) → Shows told image layout names model library → Shows ⊥ [] layout names model library
+shows-sets told image layout names model library shows name set among is plain =
     let shown = shows name set among is plain in
     record { set = shown.set; is = shown.is; shows = record { lrecl = shown.shows.lrecl; space = shown.shows.space; length = shown.shows.length; records = λ none. absurd none } }
+
+pub shows_made : (told : Type 0) (image : List ℕ) (layout : Layout) (start : StepStart) (library : Catalog) → Shows told image layout (names_at start) (made_at start) library → HasMade layout start library
+shows_made told image layout start library shows = shows-sets told image layout (names_at start) (made_at start) library shows
+
+pub shows-within : (told : Type 0) (image : List ℕ) (layout : Layout) (start : StepStart) (writes : ℕ) (library : Catalog) → ShowsWithin told image layout start writes library → HasWithin layout start writes library
+shows-within told image layout start writes library shows = shows-sets told image layout (names_at start) (within_at start writes) library shows
+
+-- the data sets as they are made are those behind no write
+pub made-within : (layout : Layout) (start : StepStart) (library : Catalog) → HasMade layout start library → HasWithin layout start 0 library
+made-within layout start library made = subst (λ sets. Shows ⊥ [] layout (names_at start) sets library) (sym (within_at-none start)) made
 
 -- ---- what is due, and what is done at a count
 

@@ -7,7 +7,6 @@ use Rattle.ckr_base.specs.declared.programs.Heads.{Heads}
 use Rattle.ckr_base.specs.declared.programs.Output.{Output}
 use Rattle.ckr_base.specs.declared.programs.Output.TheVariants.{Main, Rejects, InPlace}
 use Rattle.ckr_base.specs.declared.programs.Write.{Write}
-use Rattle.ckr_base.proofs.Options.{some-not-none}
 use Rattle.ckr_library.specs.Catalog.{Catalog}
 use Rattle.ckr_library.specs.NameMaps.{Name}
 use Rattle.ckr_volumes.specs.declared.layout.Layout.{Layout}

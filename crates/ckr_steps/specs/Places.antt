@@ -9,6 +9,7 @@ use Rattle.ckr_base.specs.declared.programs.Output.TheVariants.{InPlace}
 use Rattle.ckr_base.specs.declared.programs.Write.{Write}
 use Rattle.ckr_base.specs.Columns.{fitted}
 use Rattle.ckr_uses.specs.Uses.{are_distinct}
+use Rattle.ckr_entry.specs.declared.point.Point.{Point}
 use Rattle.ckr_entry.specs.declared.point.State.{State}
 use Rattle.ckr_entry.specs.declared.point.State.TheVariants.{Plain, Matched}
 use Rattle.ckr_jcl.specs.declared.deck.Kind.{Kind}
@@ -163,3 +164,16 @@ HasFewCards _ = Unit {0}
 -- the library has the data sets of the step as they are made
 abbrev pub HasMade : Layout → StepStart → Catalog → Type 0
 HasMade layout start library = Shows ⊥ [] layout (names_at start) (made_at start) library
+
+-- ---- a step that goes on from a point
+
+-- the point is one of the step's work: behind so many records taken, with the program open, and with the writes for these records, which had space
+pub record IsPointOf (start : StepStart) (taken : ℕ) (point : Point) : Type 0 where
+  pub state : StandsFor point.state (case_at start) taken
+  pub open_yet : is_closed point.state ≡ false
+  pub writes : point.writes ≡ length (upto (case_at start) taken)
+  pub had_space : point.writes ≤ length (work_at start).writes
+
+-- the library has the data sets of the step as its first writes leave them
+abbrev pub HasWithin : Layout → StepStart → ℕ → Catalog → Type 0
+HasWithin layout start writes library = ShowsWithin ⊥ [] layout start writes library

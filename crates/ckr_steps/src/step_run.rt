@@ -11,7 +11,7 @@ ghost use Rattle.ckr_programs.specs.Ranges.{IsInRange};
 ghost use Rattle.ckr_volumes.specs.declared.layout.Layout.{Layout as OneLayout};
 ghost use Rattle.ckr_volumes.specs.Layouts.{is_laid_out, disk_needed, StandsIn};
 ghost use Rattle.ckr_steps.specs.Files.{files_of};
-ghost use Rattle.ckr_steps.specs.Units.{first_state, due_of, served_of, taken_of, entries_of};
+ghost use Rattle.ckr_steps.specs.Units.{first_state, due_of, served_of, taken_of, entries_of, IsCounted};
 ghost use Rattle.ckr_steps.specs.Inputs.{AreStored, AreThere};
 ghost use Rattle.ckr_steps.specs.Writes.{grown, ChangesKeeping};
 ghost use Rattle.ckr_steps.specs.EntryRecords.{HasEntry, ChangesRecords, bytes_on};
@@ -23,7 +23,7 @@ use crate::unit_ahead::{UnitAhead, gained};
 use crate::unit_writes::put_all;
 use crate::units;
 use ckr_base::{Code, DsName, Duplicate, NextDue, NoMemory, Rec};
-use ckr_entry::State;
+use ckr_entry::{Point, State};
 use ckr_jcl::{Parm, Step};
 use ckr_library::{DataSet, Library};
 use ckr_outside::{Disk, Failed};
@@ -65,7 +65,7 @@ pub struct StepRun {
 
 impl StepRun {
     ghost use Rattle.ckr_steps.specs.StepUnit.{AreCounted, behind_ahead, heads_on, worked_for, HasWorked, HasWorkedOut};
-    ghost use Rattle.ckr_steps.specs.Places.{files_at, MayStart, IsStepPlace, GoesOnAnywhere, DueAt, HasFewCards, HasMade};
+    ghost use Rattle.ckr_steps.specs.Places.{files_at, MayStart, IsStepPlace, GoesOnAnywhere, DueAt, HasFewCards, HasMade, HasWithin, IsPointOf};
 
     /// A step that starts, by the numbers of the run's root and of the run that owns the step, each at most 9,999,999. It keeps
     /// its own copy of the records in the deck and of the PARM, which is one that `read_parm` gives for the program.
@@ -90,6 +90,38 @@ impl StepRun {
             parm: step.parm.duplicate(alloc)?,
             files: files_of(alloc, step, root, owner)?,
             writes: 0,
+        })
+    }
+
+    /// A step that goes on from a point of it, by the numbers that `begin` takes: its program's state and the number of its writes are those
+    /// that the point has, so the next unit takes the record behind it. Nothing is read. It keeps its own copies, as `begin` says.
+    ///
+    /// `NoMemory`: there is none for the copies.
+    pub fn at_point(
+        alloc: Global,
+        step: &Step,
+        root: u32,
+        owner: u32,
+        point: &Point,
+    ) -> Result<StepRun, NoMemory>
+        requires root { root ≤ 9999999 }
+        requires owner { owner ≤ 9999999 }
+        requires counted { IsCounted step.now.parm point.now.state point.now.writes }
+        ensures at { IfOk result (λ run. run ≡ record { state = point.now.state; parm = step.now.parm; files = files_of root owner step.now; writes = point.now.writes }) }
+        ensures counted { IfOk result AreCounted }
+
+        // Where the point is one of a step that might start, and the library has the data sets as they were there, the step stands where it stood.
+        ensures stands { (start : StepStart) (layout : OneLayout) (library : Catalog) (taken : ℕ) → start.root ≡ root → start.owned.owner ≡ owner → start.owned.step ≡ step.now
+            → MayStart start → IsPointOf start taken point.now → HasWithin layout start point.now.writes library → IfOk result (λ run. IsStepPlace start taken false run library) }
+        ensures there { (start : StepStart) (layout : OneLayout) (library : Catalog) → start.root ≡ root → start.owned.owner ≡ owner → start.owned.step ≡ step.now
+            → MayStart start → HasWithin layout start point.now.writes library → HasFewCards (files_at start).first → HasFewCards (files_at start).second
+            → IfOk result (λ run. AreThere run.files library) }
+    {
+        Ok(StepRun {
+            state: point.state.copied(),
+            parm: step.parm.duplicate(alloc)?,
+            files: files_of(alloc, step, root, owner)?,
+            writes: point.writes,
         })
     }
 
