@@ -19,6 +19,8 @@ use std::alloc::Global;
 use std::process::Abort;
 use std::test::Fail;
 
+mod points;
+
 /// How a step ended, and how many writes it made.
 #[derive(Clone, Copy, PartialEq, Eq)]
 enum End {
