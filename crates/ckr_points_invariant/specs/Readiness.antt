@@ -1,20 +1,22 @@
 -- When runs are ready to restart: what the point of a run's step, and the entry of its checkpoint in effect, have beside what the points say.
 use Rattle.std.specs.Prelude.{◌≡◌, ℕ, Bool, true, false, List, find, None, Some}
 use Rattle.std.specs.List.{list_all}
-use Rattle.std.specs.Option.{option_map_or}
+use Rattle.std.specs.Option.{is_some, option_map_or}
 use Rattle.ckr_entry.specs.declared.point.Mark.{Mark}
 use Rattle.ckr_entry.specs.declared.point.Passed.{Passed}
 use Rattle.ckr_entry.specs.declared.point.Present.{Present}
 use Rattle.ckr_library.specs.Catalog.{ends_within}
 use Rattle.ckr_library.specs.NameMaps.{Name, Named, entry_at, same_name}
 use Rattle.ckr_meaning.specs.EffectiveJob.{OwnedStep, is_among}
-use Rattle.ckr_meaning.specs.JobRun.{at}
+use Rattle.ckr_meaning.specs.JobRun.{at, start_at}
+use Rattle.ckr_meaning.specs.StepRun.{StepStart}
 use Rattle.ckr_meaning.specs.declared.place.Place.{Place}
 use Rattle.ckr_meaning.specs.declared.place.Place.TheVariants.{Within}
 use Rattle.ckr_points_library.specs.Commit.{output_names}
 use Rattle.ckr_points.specs.Follows.{is_within, own_step}
 use Rattle.ckr_points.specs.Marks.{point_at, present_at}
 use Rattle.ckr_points.specs.Office.{Leg, Office}
+use Rattle.ckr_points.specs.Payload.{carries_taken}
 use Rattle.ckr_points.specs.Restart.{place_of, step_in}
 use Rattle.ckr_points.specs.Rows.{EffectPoint, KeptEntry, RunRow, StartPoint, TableSet}
 use Rattle.ckr_points_invariant.specs.Invariant.{IsHolder, step_now}
@@ -44,7 +46,7 @@ pub record KeepsEntry (sets : Named TableSet) (set id : Name) (entry : KeptEntry
   pub ends : ends_within table.set.length entry.kept ≡ true
 
 -- The checkpoint in effect: its data set is an output of the step, and keeps its entry, also when it is put back to the entry's mark of it.
--- The entry says what the run's job has there, and comes behind the point of the step.
+-- The entry says what the run's job has there, with the records that its program had taken, and comes behind the point of the step.
 pub record IsCheck (sets : Named TableSet) (row : RunRow) (leg : Leg) (effect : EffectPoint) : Type 0 where
   pub owned : OwnedStep
   pub found_step : own_step row ≡ Some owned
@@ -53,12 +55,14 @@ pub record IsCheck (sets : Named TableSet) (row : RunRow) (leg : Leg) (effect : 
   pub keeps : KeepsEntry sets effect.set effect.kept.id entry
   pub back : (present : Present) → present_at entry.point.marks effect.set ≡ Some present → ends_within present.length entry.kept ≡ true
   pub point : HasPoint leg (Within (step_now row) entry.point.writes) entry.point.marks entry.point.passed
+  pub taken : (start : StepStart) → start_at leg.job leg.start (step_now row) ≡ Some start → carries_taken entry.point.taken entry.point.writes start ≡ true
   pub since : effect.rewritten ≡ false → IsRestorable sets row leg entry.point.writes entry.point.marks entry.point.passed
   pub after : (point : StartPoint) → point_at row.points (step_now row) ≡ Some point → point.rewritten ≡ false
       → list_all (is_marked_after (output_names row.job.root owned) point.marks entry.point.marks) point.passed ≡ true
 
 -- what the restarts of a run rest on
 pub record IsReady (sets : Named TableSet) (row : RunRow) (leg : Leg) : Type 0 where
+  pub begun : is_within (place_of row) ≡ true → is_some (point_at row.points (step_now row)) ≡ true
   pub steps : (point : StartPoint) → is_within (place_of row) ≡ true → point_at row.points (step_now row) ≡ Some point → point.rewritten ≡ false
       → IsRestorable sets row leg 0 point.marks point.passed
   pub check : (effect : EffectPoint) → is_within (place_of row) ≡ true → row.in_effect ≡ Some effect → IsCheck sets row leg effect

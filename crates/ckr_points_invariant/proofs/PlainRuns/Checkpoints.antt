@@ -30,7 +30,7 @@ use Rattle.ckr_points.specs.Follows.{are_lengths, is_checkpoint, is_length_of, i
 use Rattle.ckr_points.specs.Freshness.{is_long_enough}
 use Rattle.ckr_points.specs.Marks.{deck_names, marks_now, own_names, point_at, present_at, present_of, same_mark, same_stamp}
 use Rattle.ckr_points.specs.Office.{Leg, Office}
-use Rattle.ckr_points.specs.Payload.{commits, is_formed_step, writes_in}
+use Rattle.ckr_points.specs.Payload.{carries_taken, commits, is_formed_step, writes_in}
 use Rattle.ckr_points.specs.Restart.{kept_at, place_of}
 use Rattle.ckr_points.specs.Rows.{KeptEntry, RunRow, StartPoint, TableSet, cut_set}
 use Rattle.ckr_points.specs.Tables.{committed, entry_point, fresh_effect, is_checkpoints, kept_entry, name_with_role, with_kept_entry}
@@ -51,7 +51,7 @@ use Rattle.ckr_points_invariant.specs.Restorability.{IsRestorable, is_passed_the
 use Rattle.ckr_points_invariant.proofs.OtherRuns.Sets.{length-among}
 use Rattle.ckr_points_invariant.proofs.PassedNames.Dispositions.{is_listed}
 use Rattle.ckr_points_invariant.proofs.PassedNames.Walks.{kept-there, present-some, some-present}
-use Rattle.ckr_points_invariant.proofs.PlainRuns.Commits.{HasTable, committed-has, committed-restorable, next_row, sets_behind}
+use Rattle.ckr_points_invariant.proofs.PlainRuns.Commits.{HasTable, committed-has, committed-restorable, next_row, sets_behind, start_is}
 use Rattle.ckr_points_invariant.proofs.PlainRuns.Names.{all-listed, all-listed-from, job-own, listed-decked, listed-named, listed-reached, listed-there}
 use Rattle.ckr_points_invariant.proofs.PlainRuns.Writes.{unwritten-none}
 use Rattle.ckr_points_invariant.proofs.Restart.Invariant.{point-of}
@@ -234,6 +234,7 @@ after-now row named outputs marks sets passed own each =
 module _ (layout : Layout) (now : Office) (job : ℕ) (row : RunRow) (leg : Leg) (owned : OwnedStep) (writes taken place bytes : ℕ) (id : Name) (lengths : List ℕ) (kept : IsAgreed layout now) (plain : ArePlain now)
     (running : IsRunning now job row leg owned (step_now row) (writes_in (place_of row)))
     (carried : commits now.tables.sets row writes lengths (its_start leg owned (step_now row)) ≡ true)
+    (told : carries_taken taken writes (its_start leg owned (step_now row)) ≡ true)
     (are : are_lengths now.tables.sets (output_names row.job.root owned) lengths ≡ true)
     (check : is_checkpoint now.tables id lengths place bytes row owned ≡ true)
     (pointed : (point : StartPoint) → point_at row.points (step_now row) ≡ Some point → HasPoint leg (Opened (step_now row)) point.marks point.passed)
@@ -391,12 +392,15 @@ module _ (layout : Layout) (now : Office) (job : ℕ) (row : RunRow) (leg : Leg)
     keeps = keeps_entry;
     back = back_so;
     point = point_so;
+    taken = λ its at_step.
+        subst (λ s. carries_taken taken writes s ≡ true) (start_is layout now job row leg owned writes lengths kept running carried are its at_step) told;
     since = λ unwritten. since_so;
     after = after_so;
   }
 
   pub checked-ready : IsReady checked_sets checked_row leg
   checked-ready = record {
+    begun = λ within. ready.begun within_now;
     steps = λ point within got unwritten. restorable-changed checked_row leg 0 point.marks point.passed set (with_kept_entry entry) done same_set (step_since point got unwritten);
     check = λ effect within got. subst (IsCheck checked_sets checked_row leg) (same_Some (fresh_effect set kept_now) effect got) check_so;
     none = λ out. absurd (false≢true (sym out));

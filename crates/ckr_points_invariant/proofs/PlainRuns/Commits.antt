@@ -178,7 +178,7 @@ module _ (layout : Layout) (now : Office) (job : ℕ) (row : RunRow) (leg : Leg)
   none_rewritten : rewrites_nothing start (writes_in (place_of row)) writes ≡ true
   none_rewritten = and-second (nat_le (writes_in (place_of row)) writes) (rewrites_nothing start (writes_in (place_of row)) writes) early
 
-  start_is : (its : StepStart) → start_at leg.job leg.start (step_now row) ≡ Some its → start ≡ its
+  pub start_is : (its : StepStart) → start_at leg.job leg.start (step_now row) ≡ Some its → start ≡ its
   start_is its at_step =
       same_Some start its
       (sym (start_at-of leg.job leg.start (step_now row) owned (found_leg layout now job row leg owned (step_now row) (writes_in (place_of row)) kept running)) ∙ at_step)
@@ -209,6 +209,7 @@ module _ (layout : Layout) (now : Office) (job : ℕ) (row : RunRow) (leg : Leg)
   -- a run stays ready with its checkpoint in effect
   pub committed-ready : (state : RunState) (initiator : Option ℕ) (code : Option Code) → IsReady now.tables.sets row leg → IsReady sets_behind (next_row state initiator code row.count row.in_effect) leg
   committed-ready state initiator code ready = record {
+    begun = λ within. ready.begun within_now;
     steps = λ point within got unwritten. committed-restorable state initiator code row.count row.in_effect 0 point.marks point.passed (ready.steps point within_now got unwritten);
     check = λ effect within got.
         let its : IsCheck now.tables.sets row leg effect = ready.check effect within_now got in
@@ -220,6 +221,7 @@ module _ (layout : Layout) (now : Office) (job : ℕ) (row : RunRow) (leg : Leg)
           keeps = committed-keeps (output_names row.job.root owned) lengths now.tables.sets are effect.set effect.kept.id its.entry its.keeps;
           back = its.back;
           point = its.point;
+          taken = its.taken;
           since = λ unwritten. committed-restorable state initiator code row.count row.in_effect its.entry.point.writes its.entry.point.marks its.entry.point.passed (its.since unwritten);
           after = its.after;
         };

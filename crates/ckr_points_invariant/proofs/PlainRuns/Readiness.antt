@@ -29,6 +29,7 @@ kept-entry sets set id entry keeps =
 -- a run that isn't within a step, with no checkpoint in effect
 pub ready-outside : (sets : Named TableSet) (row : RunRow) (leg : Leg) → is_within (place_of row) ≡ false → row.in_effect ≡ None → IsReady sets row leg
 ready-outside sets row leg outside none = record {
+  begun = λ within. absurd (false≢true (sym outside ∙ within));
   steps = λ point within. absurd (false≢true (sym outside ∙ within));
   check = λ effect within. absurd (false≢true (sym outside ∙ within));
   none = λ out. none;
@@ -54,6 +55,7 @@ module _ (row : RunRow) (leg : Leg) (sets later : Named TableSet)
     };
     back = its.back;
     point = its.point;
+    taken = its.taken;
     since = λ unwritten.
         restorable-same row leg its.entry.point.writes its.entry.point.marks its.entry.point.passed sets later
         (λ name listed.
@@ -65,6 +67,7 @@ module _ (row : RunRow) (leg : Leg) (sets later : Named TableSet)
   -- a run is ready where the data sets of its passed names and of its outputs are the same
   pub ready-same : IsReady sets row leg → IsReady later row leg
   ready-same ready = record {
+    begun = ready.begun;
     steps = λ point within got unwritten.
         restorable-same row leg 0 point.marks point.passed sets later
         (λ name listed. listed-same name (ap (is_listed name) (sym ((pointed point got).passed_on ∙ at-passed leg.job leg.start (Opened (step_now row)))) ∙ listed))

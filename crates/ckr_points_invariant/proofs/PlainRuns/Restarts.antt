@@ -201,12 +201,14 @@ module _ (row : RunRow) (leg : Leg) (effect : EffectPoint) (sets : Named TableSe
       keeps = back-keeps its.entry.point.marks outputs needed sets effect.set effect.kept.id its.entry its.among its.back its.keeps;
       back = its.back;
       point = its.point;
+      taken = its.taken;
       since = λ told. entry_since;
       after = its.after;
     }
 
     pub restarted-ready : IsReady restarted_sets restarted_row leg
     restarted-ready = record {
+      begun = λ inside. ready.begun within;
       steps = λ point inside got told. step_since point got told;
       check = λ other inside got. subst (IsCheck restarted_sets restarted_row leg) (same_Some (effect_restarted effect) other got) check_so;
       none = λ out. absurd (false≢true (sym out));

@@ -1,7 +1,7 @@
 -- A run is ready where a record was rewritten in its step: a restart rests on nothing then.
 use Rattle.std.proofs.Common.{◌≡◌, ℕ, Bool, true, false, cond, if◌then◌else◌, List, [], ◌∷◌, map, refl, ap, sym, ◌∙◌, subst, Option, Some, None}
 use Rattle.std.specs.Prelude.{◌==◌}
-use Rattle.std.specs.Option.{option_map}
+use Rattle.std.specs.Option.{is_some, option_map}
 use Rattle.std.proofs.lemmas.Bool.{false≢true}
 use Rattle.std.proofs.lemmas.Option.{same_Some}
 use Rattle.ckr_base.proofs.Bools.{bool-cases}
@@ -38,6 +38,15 @@ rewritten-told step (first ∷ rest) point got =
         ap (λ (its : StartPoint). its.rewritten)
         (sym (same_Some (record first { rewritten = true }) point (sym (ap (λ b. cond b (Some (let its : StartPoint = record first { rewritten = true } in its)) (point_at (map (point_rewritten step) rest) step)) here) ∙ got)))
     by others false there got = others (sym (ap (λ b. cond b (Some first) (point_at (map (point_rewritten step) rest) step)) there) ∙ got)
+
+-- and is there still
+rewritten-there : (step : ℕ) (points : List StartPoint) → is_some (point_at points step) ≡ true → is_some (point_at (map (point_rewritten step) points) step) ≡ true
+rewritten-there step [] there = there
+rewritten-there step (first ∷ rest) there = by (rewritten-there step rest) (first.step == step) refl there
+  where
+    by : (is_some (point_at rest step) ≡ true → is_some (point_at (map (point_rewritten step) rest) step) ≡ true) → (b : Bool) → (first.step == step) ≡ b → is_some (cond b (Some first) (point_at rest step)) ≡ true → is_some (point_at ((if b then record first { rewritten = true } else first) ∷ map (point_rewritten step) rest) step) ≡ true
+    by others true here there = ap (λ b. is_some (cond b (Some (let its : StartPoint = record first { rewritten = true } in its)) (point_at (map (point_rewritten step) rest) step))) here
+    by others false here there = ap (λ b. is_some (cond b (Some first) (point_at (map (point_rewritten step) rest) step))) here ∙ others there
 
 changed-from : (effect : Option EffectPoint) (later : EffectPoint) → option_map effect_rewritten effect ≡ Some later → (before : EffectPoint) × (effect ≡ Some before) × (effect_rewritten before ≡ later)
 changed-from None later e = absurd (some-not-none later (sym e))
@@ -90,12 +99,14 @@ module _ (layout : Layout) (now : Office) (job : ℕ) (row : RunRow) (leg : Leg)
         };
         back = its.back;
         point = its.point;
+        taken = its.taken;
         since = λ unwritten. absurd (false≢true (sym unwritten));
         after = λ point got unwritten. absurd (false≢true (sym unwritten ∙ rewritten-told (step_now row) row.points point got));
       }
 
   pub rewritten-ready : IsReady rewritten_sets rewritten_row leg
   rewritten-ready = record {
+    begun = λ within. rewritten-there (step_now row) row.points (ready.begun within_now);
     steps = λ point within got unwritten. absurd (false≢true (sym unwritten ∙ rewritten-told (step_now row) row.points point got));
     check = λ effect within got.
         let its = changed-from row.in_effect effect got in

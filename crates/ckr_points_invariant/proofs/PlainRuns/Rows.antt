@@ -31,6 +31,7 @@ restorable-state sets row leg state initiator code from marks passed can = recor
 
 pub ready-state : (sets : Named TableSet) (row : RunRow) (leg : Leg) (state : RunState) (initiator : Option ℕ) (code : Option Code) → IsReady sets row leg → IsReady sets (record row { state = state; initiator = initiator; code = code }) leg
 ready-state sets row leg state initiator code ready = record {
+  begun = ready.begun;
   steps = λ point within got unwritten. restorable-state sets row leg state initiator code 0 point.marks point.passed (ready.steps point within got unwritten);
   check = λ effect within got.
       let its : IsCheck sets row leg effect = ready.check effect within got in
@@ -42,6 +43,7 @@ ready-state sets row leg state initiator code ready = record {
         keeps = its.keeps;
         back = its.back;
         point = its.point;
+        taken = its.taken;
         since = λ unwritten. restorable-state sets row leg state initiator code its.entry.point.writes its.entry.point.marks its.entry.point.passed (its.since unwritten);
         after = its.after;
       };
@@ -51,6 +53,7 @@ ready-state sets row leg state initiator code ready = record {
 -- with no checkpoint in effect
 pub ready-cancelled : (sets : Named TableSet) (row : RunRow) (leg : Leg) → IsReady sets row leg → IsReady sets (record row { in_effect = None }) leg
 ready-cancelled sets row leg ready = record {
+  begun = ready.begun;
   steps = λ point within got unwritten.
       let can = ready.steps point within got unwritten in record { behind = can.behind; unwritten = can.unwritten; there = can.there };
   check = λ effect within got. absurd (some-not-none effect (sym got));

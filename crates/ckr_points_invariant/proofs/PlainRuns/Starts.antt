@@ -130,6 +130,7 @@ module _ (layout : Layout) (now : Office) (job : ℕ) (row : RunRow) (leg : Leg)
 
   pub started-ready : IsReady started_sets started_row leg
   started-ready = record {
+    begun = λ within. ap is_some (point_at-new (start_point row step opened) row.points);
     steps = λ point within got unwritten.
         subst (λ (its : StartPoint). IsRestorable started_sets started_row leg 0 its.marks its.passed)
         (same_Some (start_point row step opened) point (sym (point_at-new (start_point row step opened) row.points) ∙ got)) point_restorable;

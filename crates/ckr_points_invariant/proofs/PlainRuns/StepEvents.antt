@@ -139,12 +139,14 @@ module _ (layout : Layout) (now : Office) (kept : IsAgreed layout now) (pointed 
       (λ owned found are.
       let check : is_checkpoint now.tables id lengths.items place bytes row owned ≡ true = sym (ap (λ (o : Option OwnedStep). option_map_or (is_checkpoint now.tables id lengths.items place bytes row) o false) found) ∙ and-second (is_running row && lengths_follow now.tables row lengths.items) (of_step row (is_checkpoint now.tables id lengths.items place bytes row)) passes in
       let running : IsRunning now job row leg owned (step_now row) (writes_in (place_of row)) = running-so layout now job row leg owned holder (and-second (is_in_state On row) (is_within (place_of row)) runs) found in
+      let both : (commits now.tables.sets row writes lengths.items (its_start leg owned (step_now row)) && carries_taken taken writes (its_start leg owned (step_now row))) ≡ true =
+      carried-of layout now job row leg owned (step_now row) (λ row start. commits now.tables.sets row writes lengths.items start && carries_taken taken writes start) kept holder refl found carried in
       let commit : commits now.tables.sets row writes lengths.items (its_start leg owned (step_now row)) ≡ true =
-      and-first (commits now.tables.sets row writes lengths.items (its_start leg owned (step_now row))) (carries_taken taken writes (its_start leg owned (step_now row)))
-      (carried-of layout now job row leg owned (step_now row) (λ row start. commits now.tables.sets row writes lengths.items start && carries_taken taken writes start) kept holder refl found carried)
-      in
-      let next : RunRow = checked_row layout now job row leg owned writes taken place bytes id lengths.items kept ready.plain running commit are check (points-of job row leg holder) (ready.runs job row leg holder) in
-      let sets : Named TableSet = checked_sets layout now job row leg owned writes taken place bytes id lengths.items kept ready.plain running commit are check (points-of job row leg holder) (ready.runs job row leg holder) in
+      and-first (commits now.tables.sets row writes lengths.items (its_start leg owned (step_now row))) (carries_taken taken writes (its_start leg owned (step_now row))) both in
+      let told : carries_taken taken writes (its_start leg owned (step_now row)) ≡ true =
+      and-second (commits now.tables.sets row writes lengths.items (its_start leg owned (step_now row))) (carries_taken taken writes (its_start leg owned (step_now row))) both in
+      let next : RunRow = checked_row layout now job row leg owned writes taken place bytes id lengths.items kept ready.plain running commit told are check (points-of job row leg holder) (ready.runs job row leg holder) in
+      let sets : Named TableSet = checked_sets layout now job row leg owned writes taken place bytes id lengths.items kept ready.plain running commit told are check (points-of job row leg holder) (ready.runs job row leg holder) in
       let plain : IsPlain row = ready.plain.rows job row leg holder in
       changed-to (λ later. LeavesApart now job later.tables.sets → AreReady later) now job row owned (λ row owned step. after_checkpointed row owned step (record { id = id; run = job; place = place; bytes = bytes }) taken writes lengths.items now.tables) e found
       (λ apart.
@@ -152,7 +154,7 @@ module _ (layout : Layout) (now : Office) (kept : IsAgreed layout now) (pointed 
       (λ its there. (
         record { unasked = plain.unasked; own = plain.own },
         its-leg job row leg (IsReady sets next) holder
-            (checked-ready layout now job row leg owned writes taken place bytes id lengths.items kept ready.plain running commit are check (points-of job row leg holder) (ready.runs job row leg holder)) its there.leg_at,
+            (checked-ready layout now job row leg owned writes taken place bytes id lengths.items kept ready.plain running commit told are check (points-of job row leg holder) (ready.runs job row leg holder)) its there.leg_at,
       ))
       (not-queued next holds)))))
       (apart-checkpointed layout now kept job taken writes place bytes id lengths deck may)
