@@ -13,12 +13,13 @@ use Rattle.ckr_points.specs.Office.{Office, office_after}
 use Rattle.ckr_points.specs.Rows.{RunRow, run_of}
 use Rattle.ckr_points.specs.Tables.{after_cancelled}
 use Rattle.ckr_points_invariant.proofs.Holders.Rows.{run-other, run-same}
-use Rattle.ckr_points_invariant.proofs.RowChanges.{cancelled}
+use Rattle.ckr_points_invariant.proofs.PlainRuns.SoundEvents.{AreKept}
 use Rattle.ckr_desk_turn.specs.Desk.{DeskModel, DeskStep, behind as desk_behind, cancel_done, start_of, without_run}
 use Rattle.ckr_desk_turn.specs.NextEvents.{Comes, IsWithinStep}
 use Rattle.ckr_desk_turn.specs.Invariant.{IsAdmitted, IsDesk, IsFailed, IsGoing, is_accounted}
 use Rattle.ckr_desk_turn.proofs.Checkpoints.Events.{cancel-comes}
 use Rattle.ckr_desk_turn.proofs.OtherRuns.{Changes, admitted-then, each_row, failed-there, going-rest, plain-then, row-admitted, row-plain}
+use Rattle.ckr_desk_turn.proofs.Readiness.{kept-on}
 use Rattle.ckr_desk_turn.proofs.Units.Invariant.{accounted_so, come-served, with_change-found}
 
 module _ (desk : DeskModel) (is : IsDesk desk) (row : RunRow) (number committed : ℕ) (start : StepStart) (within : IsWithinStep desk.office row.number row number committed start) where
@@ -90,9 +91,12 @@ module _ (desk : DeskModel) (is : IsDesk desk) (row : RunRow) (number committed 
         or_right (not (is_running next)) _
         (or_left (list_any (λ (step : DeskStep). step.run == row.number) later.running) _ (or_left (row.number == row.number) _ (equal-itself row.number)))
 
+    its_events : AreKept desk.layout now
+    its_events = kept-on desk is (CancelledEvent row.number) refl cancelled-comes
+
     later-kept : IsDesk later
     later-kept = record {
-      kept = cancelled desk.layout desk.office row.number None is.kept cancelled-comes.may;
+      kept = its_events.kept;
       going = (still_going, going-rest desk.office now row.number next changes desk.running is.going);
       failed = failed_now desk.failed is.failed;
       plain = plain-then desk later is row.number next changes (row-plain desk is row.number row within.row_at);
@@ -104,6 +108,8 @@ module _ (desk : DeskModel) (is : IsDesk desk) (row : RunRow) (number committed 
           (λ other apart was. accounted_so desk is row.number (cancel_done on.progress) other was);
       spaced = is.spaced;
       spaced_legs = is.spaced_legs;
+      pointed = its_events.pointed;
+      ready = its_events.ready;
     }
 
     -- the desk behind it

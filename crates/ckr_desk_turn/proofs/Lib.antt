@@ -3,6 +3,7 @@ pub mod OtherRuns
 pub mod StepEnd
 pub mod Select
 pub mod RunEnd
+pub mod Readiness
 pub mod Runs
 pub mod Opening
 pub mod Definitions

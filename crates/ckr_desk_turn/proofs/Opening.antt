@@ -94,6 +94,8 @@ has-runs desk is = record {
   stepped = all-by has_its_step desk.office.tables.runs stepped;
   spaced = is.spaced;
   spaced_legs = is.spaced_legs;
+  pointed = is.pointed;
+  ready = is.ready;
 }
   where
     stepped : (place : ℕ) (row : RunRow) → slice_get desk.office.tables.runs place ≡ Some row → has_its_step row ≡ true
@@ -165,6 +167,8 @@ module _ (layout : Layout) (office : Office) (kept : IsKept layout office) (has 
     accounted = all-by (is_accounted (opened layout office)) office.tables.runs accounted;
     spaced = has.spaced;
     spaced_legs = has.spaced_legs;
+    pointed = has.pointed;
+    ready = has.ready;
   }
     where
       accounted : (place : ℕ) (row : RunRow) → slice_get office.tables.runs place ≡ Some row → is_accounted (opened layout office) row ≡ true

@@ -34,11 +34,12 @@ use Rattle.ckr_points.specs.Restart.{after_abnormal, after_ended, after_passed_e
 use Rattle.ckr_points.specs.Rows.{RunRow, TablesModel, run_of}
 use Rattle.ckr_points.specs.Soundness.{may_come}
 use Rattle.ckr_points_invariant.proofs.Holders.Rows.{run-other, run-same}
-use Rattle.ckr_points_invariant.proofs.EventLaws.{allocation, completed}
+use Rattle.ckr_points_invariant.proofs.PlainRuns.SoundEvents.{AreKept}
 use Rattle.ckr_points_invariant.proofs.Steps.Events.{led-by}
-use Rattle.ckr_points_invariant.specs.Invariant.{IsKept}
 use Rattle.ckr_desk_turn.specs.Desk.{DeskModel, behind}
 use Rattle.ckr_desk_turn.specs.Invariant.{IsAdmitted, IsDesk, is_on_one, is_plain_state}
+use Rattle.ckr_desk_turn.specs.NextEvents.{Comes}
+use Rattle.ckr_desk_turn.proofs.Readiness.{kept-on}
 use Rattle.ckr_desk_turn.proofs.StepEnd.{Rests}
 use Rattle.ckr_desk_turn.proofs.OtherRuns.{accounted-then, admitted-then, failed-rest, failed-same, going-rest, plain-then, row-admitted, row-plain, running-same, taken_over-within}
 use Rattle.ckr_desk_turn.proofs.Units.Outputs.{distinct-job}
@@ -123,12 +124,13 @@ module _ (desk : DeskModel) (is : IsDesk desk) (row : RunRow) (at : run_of desk.
         (subst (λ tables. Rests desk.office (record desk.office { tables = tables; library = left }) row.number) (sym same) (end-rests left))
 
     -- the desk behind it
-    pub end-kept : IsKept desk.layout later → IsDesk (behind (EndedEvent row.number ending) None desk)
-    end-kept kept =
+    pub end-kept : Comes desk (EndedEvent row.number ending) → IsDesk (behind (EndedEvent row.number ending) None desk)
+    end-kept comes =
+        let on : AreKept desk.layout later = kept-on desk is (EndedEvent row.number ending) refl comes in
         let rests : Rests desk.office later row.number = later-rests in
         let then : DeskModel = behind (EndedEvent row.number ending) None desk in
         record {
-          kept = kept;
+          kept = on.kept;
           going = going-rest desk.office later row.number rests.next rests.changes desk.running is.going;
           failed = failed-rest desk.office later row.number rests.next rests.changes desk.failed is.failed;
           plain = plain-then desk then is row.number rests.next rests.changes rests.plain;
@@ -136,13 +138,15 @@ module _ (desk : DeskModel) (is : IsDesk desk) (row : RunRow) (at : run_of desk.
           accounted = accounted-then desk then is row.number rests.next rests.changes rests.rests (running-same row.number desk.running) (failed-same row.number desk.failed);
           spaced = left-within ending;
           spaced_legs = is.spaced_legs;
+          pointed = on.pointed;
+          ready = on.ready;
         }
 
   -- behind its last step
   pub completed-kept : may_come desk.layout desk.office (EndedEvent row.number Completed, None) ≡ true → IsDesk (behind (EndedEvent row.number Completed) None desk)
-  completed-kept may = end-kept Completed refl (completed desk.layout desk.office row.number None is.kept may)
+  completed-kept may = end-kept Completed refl (record { may = may; carried = refl })
 
   -- since a DD isn't allocated
   pub refused-kept : (dd cause first second : ℕ) → is_within (place_of row) ≡ false → may_come desk.layout desk.office (EndedEvent row.number (AllocationEnding dd cause first second), None) ≡ true → IsDesk (behind (EndedEvent row.number (AllocationEnding dd cause first second)) None desk)
   refused-kept dd cause first second out may =
-      end-kept (AllocationEnding dd cause first second) (outside row (place_of row) desk.office.tables out) (allocation desk.layout desk.office row.number dd cause first second None is.kept may)
+      end-kept (AllocationEnding dd cause first second) (outside row (place_of row) desk.office.tables out) (record { may = may; carried = refl })

@@ -1,3 +1,4 @@
+pub mod Restarts
 pub mod Rows
 pub mod Events
 pub mod Ends

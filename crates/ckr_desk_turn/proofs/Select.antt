@@ -31,13 +31,13 @@ use Rattle.ckr_points.specs.Soundness.{may_come}
 use Rattle.ckr_points_invariant.proofs.Select.Invariant.{chosen, led_there}
 use Rattle.ckr_points_invariant.proofs.WaitingRuns.{by-selected}
 use Rattle.ckr_points_invariant.proofs.Holders.Rows.{run-other, run-same}
-use Rattle.ckr_points_invariant.proofs.EventLaws.{purged, selected, submitted}
+use Rattle.ckr_points_invariant.proofs.PlainRuns.SoundEvents.{AreKept, next-kept}
 use Rattle.ckr_points_invariant.proofs.Select.Holders.{all_legs}
-use Rattle.ckr_points_invariant.specs.Invariant.{IsKept}
 use Rattle.ckr_desk_turn.specs.Desk.{DeskModel, DeskStep, behind, start_of, submitted as submitted_desk, purged as purged_desk}
 use Rattle.ckr_desk_turn.specs.Invariant.{IsAdmitted, IsDesk, IsFailed, IsGoing, is_on_one, is_plain_row, is_plain_state}
 use Rattle.ckr_desk_turn.proofs.NextEvents.BetweenSteps.{purged_comes, submitted_comes}
 use Rattle.ckr_desk_turn.proofs.OtherRuns.{Changes, accounted-then, admitted-then, failed-still, going-still, plain-then, row-admitted, row-plain}
+use Rattle.ckr_desk_turn.proofs.Readiness.{kept-on}
 
 -- ---- the runs on initiators
 
@@ -67,7 +67,7 @@ pub record Enters (desk : DeskModel) (after : Office) (job : ℕ) (next : RunRow
   pub others : (other : ℕ) → other ≢ job → run_of after.tables other ≡ run_of desk.office.tables other
   pub legs : (other : ℕ) → other ≢ job → leg_of after other ≡ leg_of desk.office other
   pub waits : (row : RunRow) → run_of desk.office.tables job ≡ Some row → row.state ≡ On → ⊥
-  pub kept : IsKept desk.layout after
+  pub kept : AreKept desk.layout after
   pub plain : is_plain_row next ≡ true
   pub admitted : IsAdmitted next
   pub rests : is_running next ≡ false
@@ -77,7 +77,7 @@ pub record Enters (desk : DeskModel) (after : Office) (job : ℕ) (next : RunRow
 -- the desk with it is as its events have brought it about
 pub entered : (desk : DeskModel) → IsDesk desk → (after : Office) (job : ℕ) (next : RunRow) → Enters desk after job next → IsDesk (record desk { office = after })
 entered desk is after job next enters = record {
-  kept = enters.kept;
+  kept = enters.kept.kept;
   going = each-implies (IsGoing desk.office) (IsGoing after) desk.running (going-stays desk is after stay) is.going;
   failed = each-implies (IsFailed desk.office) (IsFailed after) desk.failed (failed-stays desk is after stay) is.failed;
   plain = plain-then desk later is job next changes enters.plain;
@@ -85,6 +85,8 @@ entered desk is after job next enters = record {
   accounted = accounted-then desk later is job next changes enters.rests (λ number apart. refl) (λ number apart. refl);
   spaced = enters.spaced;
   spaced_legs = enters.spaced_legs;
+  pointed = enters.kept.pointed;
+  ready = enters.kept.ready;
 }
   where
     stay : (run : ℕ) (row : RunRow) → run_of desk.office.tables run ≡ Some row → row.state ≡ On → Stays desk.office after run
@@ -117,7 +119,7 @@ purged-keeps desk is job row at queued =
       others = λ other apart. of_tables other ∙ run-other desk.office.tables next other (λ e. apart (e ∙ its));
       legs = λ other apart. refl;
       waits = λ one there on. queued-off one.state (ap (λ (r : RunRow). state_number r.state == 1) (same_Some one row (sym there ∙ at)) ∙ ap (λ s. state_number s == 1) queued) on;
-      kept = purged desk.layout desk.office job None is.kept (purged_comes desk job row at queued);
+      kept = kept-on desk is (PurgedEvent job) refl (record { may = purged_comes desk job row at queued; carried = refl });
       plain = off_plain plain;
       admitted = record { cards = was.cards; accepted = was.accepted; lodged = refl };
       rests = refl;
@@ -151,7 +153,7 @@ submitted-keeps desk is cards first kept deck accepted runs =
       others = others;
       legs = λ other apart. refl;
       waits = λ row at on. some-not-none row (sym at ∙ slice_get_past desk.office.tables.runs (length desk.office.tables.runs) (omega arith));
-      kept = submitted desk.layout desk.office job (first ∷ kept) (Some deck) is.kept (submitted_comes desk first kept deck) (job_formed cards deck job accepted);
+      kept = next-kept desk.layout desk.office (SubmittedEvent job (first ∷ kept)) (Some deck) refl is.kept is.pointed is.ready (record { may = submitted_comes desk first kept deck; carried = job_formed cards deck job accepted });
       plain = runs;
       admitted = record { cards = cards; accepted = accepted; lodged = refl };
       rests = refl;
@@ -189,7 +191,7 @@ stored-comes desk cards deck some accepted =
 
 pub selected-keeps : (desk : DeskModel) → IsDesk desk → (job initiator : ℕ) → may_come desk.layout desk.office (SelectedEvent job initiator 0 0 None, None) ≡ true → IsDesk (behind (SelectedEvent job initiator 0 0 None) None desk)
 selected-keeps desk is job initiator may =
-    by-selected (λ after. IsKept desk.layout after → IsDesk (record desk { office = after })) desk.layout desk.office job initiator 0 None None is.kept.events may
+    by-selected (λ after. AreKept desk.layout after → IsDesk (record desk { office = after })) desk.layout desk.office job initiator 0 None None is.kept.events may
     (λ row row_at queued plain free kept.
     let next : RunRow = record row { state = On; initiator = Some initiator; place = Some (Before 1) } in
     let was : IsAdmitted row = row-admitted desk is row.number row row_at in
@@ -206,4 +208,4 @@ selected-keeps desk is job initiator may =
       spaced = is.spaced;
       spaced_legs = all_legs (λ (leg : Leg). AreWithinSpace leg.start) _ desk.office.legs is.spaced is.spaced_legs;
     }))
-    (selected desk.layout desk.office job initiator 0 None None is.kept may)
+    (kept-on desk is (SelectedEvent job initiator 0 0 None) refl (record { may = may; carried = refl }))

@@ -26,11 +26,12 @@ use Rattle.ckr_points.specs.Restart.{after_abnormal, after_passed_ended, by_step
 use Rattle.ckr_points.specs.Rows.{RunRow, TableSet, TablesModel, run_of, step_of_run, with_run}
 use Rattle.ckr_points_invariant.proofs.Steps.Commits.{place_so}
 use Rattle.ckr_points_invariant.proofs.Holders.Rows.{run-other, run-same}
-use Rattle.ckr_points_invariant.proofs.EventLaws.{coded, step_ended}
+use Rattle.ckr_points_invariant.proofs.PlainRuns.SoundEvents.{AreKept}
 use Rattle.ckr_desk_turn.specs.Desk.{DeskModel, behind}
 use Rattle.ckr_desk_turn.specs.NextEvents.{Comes, IsWithinStep}
 use Rattle.ckr_desk_turn.specs.Invariant.{IsAdmitted, IsDesk, is_on_one, is_plain_row, is_plain_state}
 use Rattle.ckr_desk_turn.proofs.OtherRuns.{Changes, accounted-then, admitted-then, failed-all, failed-rest, failed-same, going-rest, plain-then, row-admitted, running-same, taken_over-within}
+use Rattle.ckr_desk_turn.proofs.Readiness.{kept-on}
 use Rattle.ckr_desk_turn.proofs.Units.Outputs.{distinct-job}
 use Rattle.ckr_desk_turn.proofs.NextEvents.WithinStep.{by-step}
 
@@ -91,8 +92,9 @@ module _ (desk : DeskModel) (is : IsDesk desk) (run : ℕ) (row : RunRow) (numbe
   pub step_end-kept : (rc writes : ℕ) (lengths : ArrayVec ℕ) → Comes desk (StepEndedEvent run number rc writes lengths) → list_any (λ one. one == run) desk.failed ≡ false → IsDesk (behind (StepEndedEvent run number rc writes lengths) None desk)
   step_end-kept rc writes lengths comes isnt =
       let rests : Rests desk.office (office_after (StepEndedEvent run number rc writes lengths, None) desk.office) run = step_end-rests rc writes lengths in
+      let on : AreKept desk.layout (office_after (StepEndedEvent run number rc writes lengths, None) desk.office) = kept-on desk is (StepEndedEvent run number rc writes lengths) refl comes in
       record {
-        kept = step_ended desk.layout desk.office run number rc writes lengths None is.kept comes.may comes.carried;
+        kept = on.kept;
         going = going-rest desk.office (office_after (StepEndedEvent run number rc writes lengths, None) desk.office) run rests.next rests.changes desk.running is.going;
         failed = failed-all desk.office (office_after (StepEndedEvent run number rc writes lengths, None) desk.office) run rests.next rests.changes desk.failed isnt is.failed;
         plain = plain-then desk (behind (StepEndedEvent run number rc writes lengths) None desk) is run rests.next rests.changes rests.plain;
@@ -100,6 +102,8 @@ module _ (desk : DeskModel) (is : IsDesk desk) (run : ℕ) (row : RunRow) (numbe
         accounted = accounted-then desk (behind (StepEndedEvent run number rc writes lengths) None desk) is run rests.next rests.changes rests.rests (running-same run desk.running) (λ other apart. refl);
         spaced = is.spaced;
         spaced_legs = is.spaced_legs;
+        pointed = on.pointed;
+        ready = on.ready;
       }
 
   -- ---- the end of the run with a code
@@ -142,8 +146,9 @@ module _ (desk : DeskModel) (is : IsDesk desk) (run : ℕ) (row : RunRow) (numbe
   pub code-kept : (code : Code) (rule writes : ℕ) (lengths : ArrayVec ℕ) → Comes desk (EndedEvent run (CodedEnding code rule writes lengths)) → IsDesk (behind (EndedEvent run (CodedEnding code rule writes lengths)) None desk)
   code-kept code rule writes lengths comes =
       let rests : Rests desk.office (office_after (EndedEvent run (CodedEnding code rule writes lengths), None) desk.office) run = code-rests code rule writes lengths in
+      let on : AreKept desk.layout (office_after (EndedEvent run (CodedEnding code rule writes lengths), None) desk.office) = kept-on desk is (EndedEvent run (CodedEnding code rule writes lengths)) refl comes in
       record {
-        kept = coded desk.layout desk.office run rule writes code lengths None is.kept comes.may comes.carried;
+        kept = on.kept;
         going = going-rest desk.office (office_after (EndedEvent run (CodedEnding code rule writes lengths), None) desk.office) run rests.next rests.changes desk.running is.going;
         failed = failed-rest desk.office (office_after (EndedEvent run (CodedEnding code rule writes lengths), None) desk.office) run rests.next rests.changes desk.failed is.failed;
         plain = plain-then desk (behind (EndedEvent run (CodedEnding code rule writes lengths)) None desk) is run rests.next rests.changes rests.plain;
@@ -151,4 +156,6 @@ module _ (desk : DeskModel) (is : IsDesk desk) (run : ℕ) (row : RunRow) (numbe
         accounted = accounted-then desk (behind (EndedEvent run (CodedEnding code rule writes lengths)) None desk) is run rests.next rests.changes rests.rests (running-same run desk.running) (failed-same run desk.failed);
         spaced = left-within code rule writes lengths;
         spaced_legs = is.spaced_legs;
+        pointed = on.pointed;
+        ready = on.ready;
       }

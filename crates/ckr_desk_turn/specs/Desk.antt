@@ -1,16 +1,16 @@
 -- The desk between two turns, with all that its jobs are to do: a plan and a unit with the desk behind each, and the calls that are no turns.
-use Rattle.std.specs.Prelude.{ℕ, suc, ◌==◌, Bool, true, ◌&&◌, not, List, [], ◌∷◌, map, filter, find, length, Option, None, Some}
+use Rattle.std.specs.Prelude.{ℕ, suc, ◌==◌, Bool, true, false, ◌&&◌, not, List, [], ◌∷◌, map, filter, find, length, Option, None, Some}
 use Rattle.std.specs.Option.{option_map_or, is_some}
 use Rattle.ckr_base.specs.declared.programs.NextDue.TheVariants.{Unit as OneUnit}
 use Rattle.ckr_events.specs.declared.event.Event.{Event}
-use Rattle.ckr_events.specs.declared.event.Event.TheVariants.{Submitted, Started, Cancelled, StepEnded, Ended, Purged}
+use Rattle.ckr_events.specs.declared.event.Event.TheVariants.{Submitted, Started, Cancelled, StepEnded, Restarted, Held, Ended, Purged}
 use Rattle.ckr_jcl.specs.declared.deck.Job.{Job}
 use Rattle.ckr_meaning.specs.JobRun.{start_at}
 use Rattle.ckr_meaning.specs.StepRun.{StepStart}
 use Rattle.ckr_points.specs.Payload.{lengths_at}
 use Rattle.ckr_points.specs.Office.{Office, office_after, leg_of}
-use Rattle.ckr_points.specs.Restart.{place_of, step_in}
-use Rattle.ckr_points.specs.Rows.{RunRow, run_of}
+use Rattle.ckr_points.specs.Restart.{kept_at, place_of, step_in}
+use Rattle.ckr_points.specs.Rows.{EntryPoint, KeptEntry, RunRow, TablesModel, run_of}
 use Rattle.ckr_volumes.specs.declared.layout.Layout.{Layout}
 use Rattle.ckr_desk_turn.specs.declared.plan.Plan.{Plan}
 use Rattle.ckr_desk_turn.specs.declared.plan.Plan.TheVariants.{Rest, Tell, Work, Pass, Take}
@@ -90,17 +90,38 @@ checkpoint_done progress = record progress { checkpointed = true }
 abbrev pub cancel_done : StepProgress → StepProgress
 cancel_done progress = record progress { cancelled = true }
 
--- a step is running from its start to its end, or to that of its run
-abbrev pub running_behind : Event → List DeskStep → List DeskStep
-running_behind (Started job step items) running = at_first job ∷ without_run job running
-running_behind (Cancelled job) running = with_change job cancel_done running
-running_behind (StepEnded job step rc writes lengths) running = without_run job running
-running_behind (Ended job ending) running = without_run job running
-running_behind _ running = running
+-- a step that goes on from an entry: behind the records taken and the writes that the entry tells, with its checkpoint done
+abbrev pub at_entry : ℕ → EntryPoint → DeskStep
+at_entry run point = record { run = run; progress = checkpoint_done (arrived point.taken point.writes) }
 
--- a run that has ended isn't marked any more
+-- the entry of a run's checkpoint in effect
+abbrev pub effect_entry : TablesModel → RunRow → Option KeptEntry
+effect_entry tables row = option_map_or (λ effect. kept_at tables.sets effect.set effect.kept.id) row.in_effect None
+
+-- a run that is restarted at its checkpoint goes on from its entry
+abbrev pub running_again : TablesModel → ℕ → List DeskStep → List DeskStep
+running_again tables run running =
+    option_map_or (λ entry. at_entry run entry.point ∷ without_run run running) (option_map_or (effect_entry tables) (run_of tables run) None) (without_run run running)
+
+-- a step is running from its start, or from the checkpoint at which its run is restarted, to its end, to that of its run, or until its run is held or restarted
+abbrev pub running_behind : TablesModel → Event → List DeskStep → List DeskStep
+running_behind tables (Started job step items) running = at_first job ∷ without_run job running
+running_behind tables (Cancelled job) running = with_change job cancel_done running
+running_behind tables (StepEnded job step rc writes lengths) running = without_run job running
+running_behind tables (Restarted job initiator code true) running = running_again tables job running
+running_behind tables (Restarted job initiator code false) running = without_run job running
+running_behind tables (Held job code writes lengths) running = without_run job running
+running_behind tables (Ended job ending) running = without_run job running
+running_behind tables _ running = running
+
+abbrev pub without_mark : ℕ → List ℕ → List ℕ
+without_mark run failed = filter (λ number. not (number == run)) failed
+
+-- a run that is restarted, is held or has ended isn't marked any more
 abbrev pub failed_behind : Event → List ℕ → List ℕ
-failed_behind (Ended job ending) failed = filter (λ number. not (number == job)) failed
+failed_behind (Restarted job initiator code checkpoint) failed = without_mark job failed
+failed_behind (Held job code writes lengths) failed = without_mark job failed
+failed_behind (Ended job ending) failed = without_mark job failed
 failed_behind _ failed = failed
 
 -- the desk behind an event; the deck is given for one that is submitted
@@ -108,7 +129,7 @@ abbrev pub behind : Event → Option Job → DeskModel → DeskModel
 behind event deck desk = record {
   layout = desk.layout;
   office = office_after (event, deck) desk.office;
-  running = running_behind event desk.running;
+  running = running_behind desk.office.tables event desk.running;
   failed = failed_behind event desk.failed;
 }
 

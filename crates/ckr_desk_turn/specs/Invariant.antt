@@ -15,6 +15,8 @@ use Rattle.ckr_points.specs.Payload.{rewrites_nothing}
 use Rattle.ckr_points.specs.Office.{Leg, Office}
 use Rattle.ckr_points.specs.Rows.{RunRow, run_of}
 use Rattle.ckr_points_invariant.specs.Invariant.{IsKept}
+use Rattle.ckr_points_invariant.specs.Points.{ArePointed}
+use Rattle.ckr_points_invariant.specs.Readiness.{AreReady}
 use Rattle.ckr_points_decks.specs.Form.{is_run}
 use Rattle.ckr_desk_turn.specs.declared.reply.Turn.{Turn}
 use Rattle.ckr_desk_turn.specs.Desk.{DeskModel, DeskStep, TurnDone, start_of}
@@ -99,6 +101,8 @@ pub record IsDesk (desk : DeskModel) : Type 0 where
   pub accounted : list_all (is_accounted desk) desk.office.tables.runs ≡ true
   pub spaced : AreWithinSpace desk.office.library
   pub spaced_legs : AllByRecursion (λ (leg : Leg). AreWithinSpace leg.start) desk.office.legs
+  pub pointed : ArePointed desk.office
+  pub ready : AreReady desk.office
 
 -- a run on an initiator within a step has that step
 abbrev pub has_its_step : RunRow → Bool
@@ -111,6 +115,8 @@ pub record HasRuns (office : Office) : Type 0 where
   pub stepped : list_all has_its_step office.tables.runs ≡ true
   pub spaced : AreWithinSpace office.library
   pub spaced_legs : AllByRecursion (λ (leg : Leg). AreWithinSpace leg.start) office.legs
+  pub pointed : ArePointed office
+  pub ready : AreReady office
 
 -- what a turn comes to: its event may come, and the desk behind it is as its events have brought it about
 pub record Keeps (desk : DeskModel) (done : TurnDone) : Type 0 where

@@ -1,8 +1,8 @@
--- The events of what the desk runs: decks of its form, runs that continue no other one, and no restart.
+-- The events of what the desk runs: decks of its form, and runs that continue no other one; without automatic restarts, and with them.
 use Rattle.std.specs.Prelude.{◌≡◌, ◌==◌, ℕ, true, List, Option, None, Some}
 use Rattle.std.specs.List.{AllByRecursion}
 use Rattle.ckr_events.specs.declared.event.Event.{Event}
-use Rattle.ckr_events.specs.declared.event.Event.TheVariants.{Cancelled, Checkpointed, Ended, Purged, Rewritten, Selected, Started, StepEnded, Submitted}
+use Rattle.ckr_events.specs.declared.event.Event.TheVariants.{Cancelled, Checkpointed, Ended, Purged, Restarted, Rewritten, Selected, Started, StepEnded, Submitted}
 use Rattle.ckr_jcl.specs.declared.deck.Job.{Job}
 use Rattle.ckr_points.specs.Restart.{Decked}
 use Rattle.ckr_points_decks.specs.Cards.{kept_deck}
@@ -27,3 +27,11 @@ IsRunEvent _ deck = ⊥
 
 abbrev pub AreRunEvents : List Decked → Type 0
 AreRunEvents events = AllByRecursion (λ (event : Decked). IsRunEvent event.0 event.1) events
+
+-- one of these, or an automatic restart
+abbrev pub IsAnyRunEvent : Event → Option Job → Type 0
+IsAnyRunEvent (Restarted job initiator code checkpoint) deck = Unit {0}
+IsAnyRunEvent event deck = IsRunEvent event deck
+
+abbrev pub AreAnyRunEvents : List Decked → Type 0
+AreAnyRunEvents events = AllByRecursion (λ (event : Decked). IsAnyRunEvent event.0 event.1) events

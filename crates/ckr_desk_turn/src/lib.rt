@@ -27,7 +27,9 @@ pub use events::{
     allocation_event, cancelled_event, checkpointed_event, coded_event, completed_event,
     purged_event, rewritten_event, selected_event, started_event, step_ended_event,
 };
-pub use opening_law::{opened_desks_are_desks, sound_events_open_to_a_desk};
+pub use opening_law::{
+    opened_desks_are_desks, sound_events_open_to_a_desk, sound_events_with_restarts_open_to_a_desk,
+};
 pub use plan::Plan;
 pub use queue_law::the_queue_selects_the_next_run;
 pub use reply::{Chkpt, How, Reply, Submitted, Turn};

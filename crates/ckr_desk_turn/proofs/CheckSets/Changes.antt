@@ -1,11 +1,13 @@
 -- Data sets for checkpoints have records of 256 bytes behind all that a run does to data sets.
 use Rattle.std.proofs.Common.{◌≡◌, ℕ, suc, Bool, true, false, ◌&&◌, ◌||◌, not, List, [], ◌∷◌, Option, Some, None, if◌then◌else◌}
-use Rattle.std.specs.Prelude.{◌==◌}
+use Rattle.std.specs.Prelude.{◌==◌, nat_le}
 use Rattle.std.specs.List.{AllByRecursion, cons_option, list_all}
-use Rattle.std.specs.Option.{option_map}
+use Rattle.std.specs.Option.{option_map, option_map_or}
 use Rattle.ckr_base.proofs.Bools.{and-first, and-second}
 use Rattle.ckr_base.proofs.Numbers.{equal-true}
+use Rattle.ckr_entry.specs.declared.point.Mark.{Mark}
 use Rattle.ckr_entry.specs.declared.point.Passed.{Passed}
+use Rattle.ckr_entry.specs.declared.point.Present.{Present}
 use Rattle.ckr_events.specs.declared.event.Made.{Made}
 use Rattle.ckr_jcl.specs.declared.deck.After.{After}
 use Rattle.ckr_jcl.specs.declared.deck.After.TheVariants.{Delete, Keep, Pass, Catlg, Uncatlg}
@@ -22,6 +24,7 @@ use Rattle.ckr_meaning.specs.Allotments.{AllotmentModel, DdAllotment, content_fo
 use Rattle.ckr_meaning.specs.Dispositions.{Disposal, Stock, disposed_all, disposed_one, passed_ended, sets_after}
 use Rattle.ckr_meaning.specs.EffectiveJob.{OwnedStep, name_of, placed_from, placed_one}
 use Rattle.ckr_meaning.specs.LibrarySet.{SetWays}
+use Rattle.ckr_points.specs.Marks.{present_at, put_back, put_back_catalogs, put_back_length, put_back_lengths}
 use Rattle.ckr_points.specs.Rows.{TableSet, cut_set, table_ways}
 use Rattle.ckr_points.specs.Tables.{committed, fresh_table, is_checkpoints, made_table, made_tables, parts_from}
 use Rattle.ckr_points_decks.specs.DeckLimits.{has_check_records}
@@ -100,3 +103,27 @@ ended-have false name sets each = each
 pub passed_ended-have : (passed : List Passed) (sets : Named TableSet) → HaveCheckRecords sets → HaveCheckRecords (passed_ended passed sets)
 passed_ended-have [] sets each = each
 passed_ended-have (one ∷ rest) sets each = passed_ended-have rest _ (ended-have one.made one.name sets each)
+
+-- ---- data sets that are put back
+
+length-has : (most : ℕ) (table : TableSet) → HasCheckRecords table → HasCheckRecords (put_back_length most table)
+length-has most table its = elim (nat_le most table.set.length) as (λ b. HasCheckRecords (if b then cut_set most table else table)) [ true ↦ its | false ↦ its ]
+
+lengths-have : (marks : List Mark) (names : List Name) (sets : Named TableSet) → HaveCheckRecords sets → HaveCheckRecords (put_back_lengths marks names sets)
+lengths-have marks [] sets each = each
+lengths-have marks (name ∷ names) sets each = lengths-have marks names _ (by (present_at marks name))
+  where
+    by : (present : Option Present) → HaveCheckRecords (option_map_or (λ present. with_changed name (put_back_length present.length) sets) present sets)
+    by None = each
+    by (Some present) = each-with_changed HasCheckRecords name (put_back_length present.length) sets (length-has present.length) each
+
+catalogs-have : (marks : List Mark) (names : List Name) (sets : Named TableSet) → HaveCheckRecords sets → HaveCheckRecords (put_back_catalogs marks names sets)
+catalogs-have marks [] sets each = each
+catalogs-have marks (name ∷ names) sets each = catalogs-have marks names _ (by (present_at marks name))
+  where
+    by : (present : Option Present) → HaveCheckRecords (option_map_or (λ present. with_changed name (table_ways.marked present.cataloged) sets) present sets)
+    by None = each
+    by (Some present) = each-with_changed HasCheckRecords name (table_ways.marked present.cataloged) sets (λ table its. its) each
+
+pub put_back-have : (marks : List Mark) (outputs needed : List Name) (sets : Named TableSet) → HaveCheckRecords sets → HaveCheckRecords (put_back marks outputs needed sets)
+put_back-have marks outputs needed sets each = catalogs-have marks needed (put_back_lengths marks outputs sets) (lengths-have marks outputs sets each)

@@ -5,7 +5,7 @@ use Rattle.std.specs.Option.{option_map_or}
 use Rattle.arrayvec.specs.ArrayVec.{ArrayVec}
 use Rattle.ckr_base.proofs.Numbers.{equal-true}
 use Rattle.ckr_events.specs.declared.event.Event.{Event}
-use Rattle.ckr_events.specs.declared.event.Event.TheVariants.{Cancelled, Checkpointed, Ended, Purged, Rewritten, Selected, Started, StepEnded, Submitted}
+use Rattle.ckr_events.specs.declared.event.Event.TheVariants.{Cancelled, Checkpointed, Ended, Purged, Restarted, Rewritten, Selected, Started, StepEnded, Submitted}
 use Rattle.ckr_events.specs.declared.event.Ending.{Ending}
 use Rattle.ckr_events.specs.declared.event.Ending.TheVariants.{Allocation, Coded, Completed}
 use Rattle.ckr_events.specs.declared.event.Made.{Made}
@@ -20,19 +20,20 @@ use Rattle.ckr_points_library.specs.Commit.{output_names}
 use Rattle.ckr_points.specs.declared.run.RunState.TheVariants.{Purged as PurgedRun}
 use Rattle.ckr_points.specs.Events.{IsNext}
 use Rattle.ckr_points.specs.Office.{Leg, Office, office_after}
-use Rattle.ckr_points.specs.Restart.{after_abnormal, after_ended, after_passed_ended, by_step, place_of, step_in}
-use Rattle.ckr_points.specs.Rows.{RunRow, TablesModel, run_of, standing_of, step_of_run, table_ways, with_run}
+use Rattle.ckr_points.specs.Marks.{point_at, removed_all, with_point}
+use Rattle.ckr_points.specs.Restart.{Back, after_abnormal, after_ended, after_passed_ended, after_put_back, after_restarted, back_to_entry, back_to_start, by_step, effect_restarted, kept_at, place_of, point_restarted, row_on, step_in}
+use Rattle.ckr_points.specs.Rows.{EffectPoint, KeptEntry, RunRow, TablesModel, run_of, standing_of, step_of_run, table_ways, with_run}
 use Rattle.ckr_points.specs.Tables.{after_cancelled, after_checkpointed, after_commit, after_dispositions, after_rewritten, after_selected, after_step_ended, earlier_made, entry_point, is_checkpoints, is_updates, kept_entry, name_with_role, own_made, row_rewritten, run_disposals, table_rewritten, with_kept_entry}
 use Rattle.ckr_points_decks.specs.DeckLimits.{HasCheckParts}
 use Rattle.ckr_points_invariant.specs.Invariant.{IsHolder, IsKept}
+use Rattle.ckr_points_invariant.proofs.PutBack.Sets.{removed_all-holds}
 use Rattle.ckr_points_invariant.proofs.Start.Event.{by-start}
 use Rattle.ckr_volumes.specs.declared.layout.Layout.{Layout}
 use Rattle.ckr_desk_turn.specs.CheckSets.{HasCheckRecords, HaveCheckRecords}
-use Rattle.ckr_desk_turn.specs.Invariant.{HasRuns}
-use Rattle.ckr_desk_turn.specs.RunEvents.{IsRunEvent}
-use Rattle.ckr_desk_turn.proofs.CheckSets.Changes.{committed-have, disposed_all-have, made_all-have, opened_all-have, passed_ended-have, placed-right}
+use Rattle.ckr_desk_turn.specs.RunEvents.{IsAnyRunEvent}
+use Rattle.ckr_desk_turn.proofs.CheckSets.Changes.{committed-have, disposed_all-have, made_all-have, opened_all-have, passed_ended-have, placed-right, put_back-have}
 use Rattle.ckr_desk_turn.proofs.NextEvents.BetweenSteps.{no_restart, plain_parts}
-use Rattle.ckr_desk_turn.proofs.Runs.Rows.{HasRow, has-row}
+use Rattle.ckr_desk_turn.proofs.Runs.Rows.{HasRow, HasRows, has-row}
 use Rattle.ckr_desk_turn.proofs.Start.Decks.{check-parts}
 
 -- each data set for checkpoints of the tables
@@ -80,7 +81,7 @@ ended-has tables row (Allocation dd cause first second) each = abnormal-has tabl
 pub none-before : (before : ℕ) → (suc before == 0) ≡ true → ⊥
 none-before before e = let same : suc before ≡ 0 = equal-true (suc before) 0 e in omega (arith, same)
 
-module _ (layout : Layout) (now : Office) (kept : IsKept layout now) (has : HasRuns now) (each : Have now.tables) where
+module _ (layout : Layout) (now : Office) (kept : IsKept layout now) (has : HasRows now) (each : Have now.tables) where
   -- what an accepted deck gives to a step of a run
   own-parts : (job : ℕ) (row : RunRow) (leg : Leg) (owned : OwnedStep) (step : ℕ) → IsHolder now job row leg → step_of_run row step ≡ Some owned → HasCheckParts owned.step
   own-parts job row leg owned step holder found =
@@ -113,7 +114,28 @@ module _ (layout : Layout) (now : Office) (kept : IsKept layout now) (has : HasR
   step_ended-has row owned step rc writes lengths =
       disposed-have (after_commit row owned step writes lengths now.tables) row owned step false (commit-has now.tables row owned step writes lengths each)
 
-  pub have-next : (event : Event) (deck : Option Job) → IsRunEvent event deck → IsNext layout now (event, deck) → Have (office_after (event, deck) now).tables
+  -- a run goes back
+  back-has : (row : RunRow) (owned : OwnedStep) (back : Back) → Have (after_put_back row owned back now.tables)
+  back-has row owned back =
+      put_back-have back.marks (output_names row.job.root owned) back.needed (removed_all back.removed now.tables.sets)
+      (removed_all-holds HasCheckRecords back.removed now.tables.sets each)
+
+  restarted-has : (row : RunRow) (owned : OwnedStep) (step initiator : ℕ) (checkpoint : Bool) → Have (after_restarted row owned step initiator checkpoint now.tables)
+  restarted-has row owned step initiator false =
+      by now.tables (λ point. after_put_back (record (row_on initiator row) { points = with_point (point_restarted point) row.points; in_effect = None }) owned (back_to_start row owned step point) now.tables) (point_at row.points step) each
+      (λ point. back-has (record (row_on initiator row) { points = with_point (point_restarted point) row.points; in_effect = None }) owned (back_to_start row owned step point))
+  restarted-has row owned step initiator true =
+      by now.tables
+      (λ (effect : EffectPoint).
+      option_map_or (λ (entry : KeptEntry). after_put_back (record (row_on initiator row) { in_effect = Some (effect_restarted effect) }) owned (back_to_entry row owned step entry.point) now.tables)
+      (kept_at now.tables.sets effect.set effect.kept.id) now.tables)
+      row.in_effect each
+      (λ effect.
+      by now.tables (λ (entry : KeptEntry). after_put_back (record (row_on initiator row) { in_effect = Some (effect_restarted effect) }) owned (back_to_entry row owned step entry.point) now.tables)
+      (kept_at now.tables.sets effect.set effect.kept.id) each
+      (λ entry. back-has (record (row_on initiator row) { in_effect = Some (effect_restarted effect) }) owned (back_to_entry row owned step entry.point)))
+
+  pub have-next : (event : Event) (deck : Option Job) → IsAnyRunEvent event deck → IsNext layout now (event, deck) → Have (office_after (event, deck) now).tables
   have-next (Submitted job cards) None is next = absurd is
   have-next (Submitted job cards) (Some deck) is next = each
   have-next (Selected job initiator zero step id) deck is next = by now.tables (λ (row : RunRow). after_selected row initiator now.tables) (run_of now.tables job) each (λ row. each)
@@ -127,6 +149,8 @@ module _ (layout : Layout) (now : Office) (kept : IsKept layout now) (has : HasR
   have-next (Cancelled job) deck is next = by now.tables (λ (row : RunRow). after_cancelled row now.tables) (run_of now.tables job) each (λ row. each)
   have-next (StepEnded job step rc writes lengths) deck is next =
       by-step now.tables job (λ row owned step. after_step_ended row owned step rc writes lengths.items now.tables) each (λ row owned step. step_ended-has row owned step rc writes lengths.items)
+  have-next (Restarted job initiator code checkpoint) deck is next =
+      by-step now.tables job (λ row owned step. after_restarted row owned step initiator checkpoint now.tables) each (λ row owned step. restarted-has row owned step initiator checkpoint)
   have-next (Ended job ending) deck is next = by now.tables (λ (row : RunRow). after_ended row ending now.tables) (run_of now.tables job) each (λ row. ended-has now.tables row ending each)
   have-next (Purged job) deck is next = by now.tables (λ (row : RunRow). with_run (record row { state = PurgedRun }) now.tables) (run_of now.tables job) each (λ row. each)
   have-next _ deck is next = absurd is

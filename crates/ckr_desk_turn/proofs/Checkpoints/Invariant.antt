@@ -13,6 +13,7 @@ use Rattle.ckr_points.specs.RuleCases.{rd_in_effect}
 use Rattle.ckr_points.specs.Rows.{EffectPoint, RunRow, TablesModel, run_of}
 use Rattle.ckr_points.specs.Tables.{fresh_effect, is_checkpoints, name_with_role}
 use Rattle.ckr_points_invariant.proofs.Holders.Rows.{run-other}
+use Rattle.ckr_points_invariant.proofs.PlainRuns.SoundEvents.{AreKept}
 use Rattle.ckr_rules.specs.RuleTables.{suppresses}
 use Rattle.ckr_desk_turn.specs.declared.reply.Chkpt.{Chkpt}
 use Rattle.ckr_desk_turn.specs.Checkpoints.{MayCheckpoint, checkpoint_fits, checkpoint_try, checkpoint_unless, checkpointed_by, office_behind, written_event}
@@ -21,9 +22,10 @@ use Rattle.ckr_desk_turn.specs.Invariant.{IsAdmitted, IsDesk, IsFailed, IsGoing,
 use Rattle.ckr_desk_turn.specs.NextEvents.{IsWithinStep}
 use Rattle.ckr_desk_turn.specs.Taken.{served_by, taken_of}
 use Rattle.ckr_desk_turn.specs.Units.{StepProgress}
-use Rattle.ckr_desk_turn.proofs.Checkpoints.Events.{behind-by, committed_now, kept-behind, kept_now, may-come, next_row, row-now}
+use Rattle.ckr_desk_turn.proofs.Checkpoints.Events.{behind-by, committed_now, kept_now, may-come, next_row, row-now}
 use Rattle.ckr_desk_turn.proofs.Checkpoints.Plans.{takes}
 use Rattle.ckr_desk_turn.proofs.OtherRuns.{Changes, admitted-then, each_row, failed-there, going-rest, plain-then, row-admitted, row-plain}
+use Rattle.ckr_desk_turn.proofs.Readiness.{kept-on}
 use Rattle.ckr_desk_turn.proofs.RunningSteps.{going-within, nothing-between}
 use Rattle.ckr_desk_turn.proofs.Units.AnyUnit.{found-going}
 use Rattle.ckr_desk_turn.proofs.Units.Invariant.{accounted_so, come-served, going-served, moved-kept}
@@ -114,9 +116,12 @@ module _ (desk : DeskModel) (is : IsDesk desk) (on : DeskStep) (going : IsGoing 
       or_right (not (is_running next)) _
       (or_left (list_any (λ (step : DeskStep). step.run == going.row.number) later.running) _ (or_left (going.row.number == going.row.number) _ (equal-itself going.row.number)))
 
+  its_events : AreKept desk.layout now
+  its_events = kept-on desk is (written_event desk.layout desk.office on may) refl (may-come desk.layout desk.office on may)
+
   written-kept : IsDesk later
   written-kept = record {
-    kept = kept-behind desk.layout desk.office on may;
+    kept = its_events.kept;
     going = (still_going, subst (λ n. AllByRecursion (IsGoing now) (without_run n desk.running)) (sym its_number) (going-rest desk.office now on.run next changes desk.running is.going));
     failed = failed_now desk.failed is.failed;
     plain = plain-then desk later is on.run next changes (row-plain desk is on.run going.row going.row_at);
@@ -128,6 +133,8 @@ module _ (desk : DeskModel) (is : IsDesk desk) (on : DeskStep) (going : IsGoing 
         (λ other apart was. accounted_so desk is going.row.number (checkpoint_done on.progress) other was);
     spaced = is.spaced;
     spaced_legs = is.spaced_legs;
+    pointed = its_events.pointed;
+    ready = its_events.ready;
   }
 
   written-keeps : Keeps desk (served_by going.row (checkpoint_try true desk.office.tables going.row going.start on.progress) desk)

@@ -23,13 +23,14 @@ use Rattle.ckr_points.specs.Office.{Office, office_after}
 use Rattle.ckr_points.specs.Restart.{place_of, step_in}
 use Rattle.ckr_points.specs.Rows.{RunRow, TableSet, run_of, step_of_run}
 use Rattle.ckr_points_invariant.proofs.Holders.Rows.{run-other, run-same}
-use Rattle.ckr_points_invariant.proofs.EventLaws.{rewritten}
+use Rattle.ckr_points_invariant.proofs.PlainRuns.SoundEvents.{AreKept}
 use Rattle.ckr_desk_turn.specs.Desk.{DeskModel, DeskStep, behind as desk_behind, with_progress, without_run}
 use Rattle.ckr_desk_turn.specs.Units.{StepProgress, arrived}
 use Rattle.ckr_desk_turn.specs.NextEvents.{Comes, IsWithinStep}
 use Rattle.ckr_desk_turn.specs.Invariant.{IsAdmitted, IsDesk, IsFailed, IsGoing, is_accounted}
 use Rattle.ckr_desk_turn.proofs.StepEnd.{by-changed}
 use Rattle.ckr_desk_turn.proofs.OtherRuns.{Changes, admitted-then, each_row, failed-there, going-rest, plain-then, row-admitted, row-plain}
+use Rattle.ckr_desk_turn.proofs.Readiness.{kept-on}
 use Rattle.ckr_desk_turn.proofs.RunningSteps.{nothing-between}
 use Rattle.ckr_desk_turn.proofs.Rewrite.Event.{Rewrites, carry_so, follow_so, its_table, lrecl_so, rewrite_carried, rewrite_follows}
 use Rattle.ckr_desk_turn.proofs.Units.Invariant.{accounted_so}
@@ -165,9 +166,12 @@ module _ (desk : DeskModel) (is : IsDesk desk) (run : ℕ) (row : RunRow) (numbe
       or_right (not (is_running next)) _
       (or_left (list_any (λ (step : DeskStep). step.run == row.number) later.running) _ (or_left (row.number == row.number) _ (equal-itself row.number)))
 
+  on : AreKept desk.layout now
+  on = kept-on desk is (RewrittenEvent run taken (suc before) lengths at.0 image) refl rewritten-comes
+
   pub rewritten-kept : IsDesk later
   rewritten-kept = record {
-    kept = rewritten desk.layout desk.office run taken (suc before) at.0 lengths image None is.kept rewritten-comes.may rewritten-comes.carried;
+    kept = on.kept;
     going = (still_going, subst (λ n. AllByRecursion (IsGoing now) (without_run n desk.running)) (sym its_number) (going-rest desk.office now run next changes desk.running is.going));
     failed = failed_now desk.failed is.failed;
     plain = plain-then desk later is run next changes (row-plain desk is run row within.row_at);
@@ -177,4 +181,6 @@ module _ (desk : DeskModel) (is : IsDesk desk) (run : ℕ) (row : RunRow) (numbe
         (λ other apart was. accounted_so desk is row.number further other was);
     spaced = is.spaced;
     spaced_legs = is.spaced_legs;
+    pointed = on.pointed;
+    ready = on.ready;
   }

@@ -30,10 +30,9 @@ use Rattle.ckr_points_invariant.specs.Invariant.{IsAgreed}
 use Rattle.ckr_points_invariant.proofs.Steps.Events.{led-by, on-holds, running-holds, step-by}
 use Rattle.ckr_points_invariant.proofs.WaitingRuns.{follows-of, tested-run}
 use Rattle.ckr_volumes.specs.declared.layout.Layout.{Layout}
-use Rattle.ckr_desk_turn.specs.Invariant.{HasRuns}
 use Rattle.ckr_desk_turn.proofs.OtherRuns.{taken_over-within}
 use Rattle.ckr_desk_turn.proofs.Runs.Events.{has-step, run-deck}
-use Rattle.ckr_desk_turn.proofs.Runs.Rows.{HasRow, Renewed, Stands, has-row, runs-renewed, stands-more, stands-one}
+use Rattle.ckr_desk_turn.proofs.Runs.Rows.{HasRow, HasRows, Renewed, Stands, has-row, runs-renewed, stands-more, stands-one}
 use Rattle.ckr_desk_turn.proofs.Units.Outputs.{distinct-job}
 
 -- the row of a run that has ended
@@ -62,7 +61,7 @@ abnormal-renewed tables now job row (Within step writes) stands its was = by (st
         let done = after_dispositions row owned step true now in
         ended-renewed tables now (passed_ended done.passed done.sets) job row stands its was
 
-module _ (layout : Layout) (office : Office) (kept : IsAgreed layout office) (has : HasRuns office) where
+module _ (layout : Layout) (office : Office) (kept : IsAgreed layout office) (has : HasRows office) where
   -- what the run leaves keeps to its space
   left-within : (job : ℕ) (row : RunRow) (ending : Ending) → run_of office.tables job ≡ Some row → is_holder row.state ≡ true → AreWithinSpace (option_map_or (λ row. library_after office row ending) (run_of office.tables job) office.library)
   left-within job row ending at holds =
@@ -75,7 +74,7 @@ module _ (layout : Layout) (office : Office) (kept : IsAgreed layout office) (ha
       (find-holds (λ (leg : Leg). AreWithinSpace leg.start) (λ leg. leg.number == job) office.legs leg has.spaced_legs holder.leg_at))
       has.spaced)))
 
-  ended-runs : (job : ℕ) (row : RunRow) (ending : Ending) (deck : Option Job) → run_of office.tables job ≡ Some row → is_holder row.state ≡ true → Renewed office.tables (after_ended row ending office.tables) job → HasRuns (office_after (EndedEvent job ending, deck) office)
+  ended-runs : (job : ℕ) (row : RunRow) (ending : Ending) (deck : Option Job) → run_of office.tables job ≡ Some row → is_holder row.state ≡ true → Renewed office.tables (after_ended row ending office.tables) job → HasRows (office_after (EndedEvent job ending, deck) office)
   ended-runs job row ending deck at holds renewed =
       runs-renewed office (office_after (EndedEvent job ending, deck) office) job has
       (subst (λ (o : Option RunRow). Renewed office.tables (option_map_or (λ row. after_ended row ending office.tables) o office.tables) job) (sym at) renewed)
@@ -84,21 +83,21 @@ module _ (layout : Layout) (office : Office) (kept : IsAgreed layout office) (ha
   still : (job : ℕ) (row : RunRow) → run_of office.tables job ≡ Some row → Stands office.tables office.tables job row
   still job row at = record { mine = at; others = λ other apart. refl }
 
-  pub completed-runs : (job : ℕ) (deck : Option Job) → may_come layout office (EndedEvent job Completed, deck) ≡ true → HasRuns (office_after (EndedEvent job Completed, deck) office)
+  pub completed-runs : (job : ℕ) (deck : Option Job) → may_come layout office (EndedEvent job Completed, deck) ≡ true → HasRows (office_after (EndedEvent job Completed, deck) office)
   completed-runs job deck may =
       tested-run office.tables job (λ row. ended_follows office.tables row Completed) (follows-of layout office (EndedEvent job Completed) deck may)
       (λ row at passes.
       ended-runs job row Completed deck at (on-holds row.state (and-first (is_in_state On row) _ (and-first _ _ passes)))
       (ended-renewed office.tables office.tables (passed_ended row.passed office.tables.sets) job row (still job row at) (kept.numbered job row at) (has-row office has job row at)))
 
-  pub refused-runs : (job dd cause first second : ℕ) (deck : Option Job) → may_come layout office (EndedEvent job (Allocation dd cause first second), deck) ≡ true → HasRuns (office_after (EndedEvent job (Allocation dd cause first second), deck) office)
+  pub refused-runs : (job dd cause first second : ℕ) (deck : Option Job) → may_come layout office (EndedEvent job (Allocation dd cause first second), deck) ≡ true → HasRows (office_after (EndedEvent job (Allocation dd cause first second), deck) office)
   refused-runs job dd cause first second deck may =
       tested-run office.tables job (λ row. ended_follows office.tables row (Allocation dd cause first second)) (follows-of layout office (EndedEvent job (Allocation dd cause first second)) deck may)
       (λ row at passes.
       ended-runs job row (Allocation dd cause first second) deck at (on-holds row.state (and-first (is_in_state On row) _ passes))
       (abnormal-renewed office.tables office.tables job row (place_of row) (still job row at) (kept.numbered job row at) (has-row office has job row at)))
 
-  pub coded-runs : (job rule writes : ℕ) (code : Code) (lengths : ArrayVec ℕ) (deck : Option Job) → may_come layout office (EndedEvent job (Coded code rule writes lengths), deck) ≡ true → HasRuns (office_after (EndedEvent job (Coded code rule writes lengths), deck) office)
+  pub coded-runs : (job rule writes : ℕ) (code : Code) (lengths : ArrayVec ℕ) (deck : Option Job) → may_come layout office (EndedEvent job (Coded code rule writes lengths), deck) ≡ true → HasRows (office_after (EndedEvent job (Coded code rule writes lengths), deck) office)
   coded-runs job rule writes code lengths deck may =
       tested-run office.tables job (λ row. ended_follows office.tables row (Coded code rule writes lengths)) (follows-of layout office (EndedEvent job (Coded code rule writes lengths)) deck may)
       (λ row at passes.

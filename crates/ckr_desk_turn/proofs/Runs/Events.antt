@@ -39,9 +39,9 @@ use Rattle.ckr_points_invariant.proofs.Start.Event.{by-start}
 use Rattle.ckr_points_invariant.proofs.Steps.Events.{step-by}
 use Rattle.ckr_points_invariant.proofs.WaitingRuns.{by-selected, follows-of, tested-run}
 use Rattle.ckr_volumes.specs.declared.layout.Layout.{Layout}
-use Rattle.ckr_desk_turn.specs.Invariant.{HasRuns, IsAdmitted, is_on_one, is_plain_row, is_plain_state}
+use Rattle.ckr_desk_turn.specs.Invariant.{IsAdmitted, is_on_one, is_plain_row, is_plain_state}
 use Rattle.ckr_desk_turn.specs.RunEvents.{IsRunDeck}
-use Rattle.ckr_desk_turn.proofs.Runs.Rows.{HasRow, Stands, has-row, runs-renewed, stands-more, stands-one}
+use Rattle.ckr_desk_turn.proofs.Runs.Rows.{HasRow, HasRows, Stands, has-row, runs-renewed, stands-more, stands-one}
 use Rattle.ckr_desk_turn.proofs.Select.{front_row, last_row}
 use Rattle.ckr_desk_turn.proofs.StepEnd.{by-changed}
 
@@ -67,15 +67,15 @@ has-step row owned found plain admitted = record {
   stepped = or_right (not (is_running row)) (is_some (own_step row)) (ap is_some found);
 }
 
-module _ (layout : Layout) (office : Office) (kept : IsAgreed layout office) (has : HasRuns office) where
-  pub submitted-runs : (job : ℕ) (cards : List ℕ) (deck : Option Job) → may_come layout office (SubmittedEvent job cards, deck) ≡ true → IsRunDeck cards deck → HasRuns (office_after (SubmittedEvent job cards, deck) office)
+module _ (layout : Layout) (office : Office) (kept : IsAgreed layout office) (has : HasRows office) where
+  pub submitted-runs : (job : ℕ) (cards : List ℕ) (deck : Option Job) → may_come layout office (SubmittedEvent job cards, deck) ≡ true → IsRunDeck cards deck → HasRows (office_after (SubmittedEvent job cards, deck) office)
   submitted-runs job cards None may runs = absurd runs
   submitted-runs job cards (Some deck) may runs =
       let its : job ≡ suc (length office.tables.runs) =
       equal-true job (suc (length office.tables.runs))
       (and-first (job == suc (length office.tables.runs)) (not (is_empty cards))
       (and-first (job == suc (length office.tables.runs) && not (is_empty cards)) _ (follows-of layout office (SubmittedEvent job cards) (Some deck) may))) in
-      subst (λ n. HasRuns (record office { tables = after_submitted n deck office.tables })) (sym its)
+      subst (λ n. HasRows (record office { tables = after_submitted n deck office.tables })) (sym its)
       (runs-renewed office (record office { tables = after_submitted (suc (length office.tables.runs)) deck office.tables }) (suc (length office.tables.runs)) has
       (record {
         next = queued_run (suc (length office.tables.runs)) deck;
@@ -88,9 +88,9 @@ module _ (layout : Layout) (office : Office) (kept : IsAgreed layout office) (ha
       others zero apart = refl
       others (suc place) apart = front_row office.tables.runs (queued_run (suc (length office.tables.runs)) deck) place (λ e. apart (ap suc e))
 
-  pub selected-runs : (job initiator step : ℕ) (id : Option Name) (deck : Option Job) → may_come layout office (SelectedEvent job initiator 0 step id, deck) ≡ true → HasRuns (office_after (SelectedEvent job initiator 0 step id, deck) office)
+  pub selected-runs : (job initiator step : ℕ) (id : Option Name) (deck : Option Job) → may_come layout office (SelectedEvent job initiator 0 step id, deck) ≡ true → HasRows (office_after (SelectedEvent job initiator 0 step id, deck) office)
   selected-runs job initiator step id deck may =
-      by-selected HasRuns layout office job initiator step id deck kept may
+      by-selected HasRows layout office job initiator step id deck kept may
       (λ row row_at queued plain free.
       let next : RunRow = record row { state = On; initiator = Some initiator; place = Some (Before 1) } in
       let was : HasRow row = has-row office has row.number row row_at in
@@ -102,12 +102,12 @@ module _ (layout : Layout) (office : Office) (kept : IsAgreed layout office) (ha
       })
       has.spaced (all_legs (λ (leg : Leg). AreWithinSpace leg.start) _ office.legs has.spaced has.spaced_legs))
 
-  pub purged-runs : (job : ℕ) (deck : Option Job) → may_come layout office (PurgedEvent job, deck) ≡ true → HasRuns (office_after (PurgedEvent job, deck) office)
+  pub purged-runs : (job : ℕ) (deck : Option Job) → may_come layout office (PurgedEvent job, deck) ≡ true → HasRows (office_after (PurgedEvent job, deck) office)
   purged-runs job deck may =
       tested-run office.tables job (is_in_state Queued) (follows-of layout office (PurgedEvent job) deck may)
       (λ row at queued.
       let was : HasRow row = has-row office has job row at in
-      subst (λ (o : Option RunRow). HasRuns (record office { tables = option_map_or (λ row. with_run (record row { state = Purged }) office.tables) o office.tables })) (sym at)
+      subst (λ (o : Option RunRow). HasRows (record office { tables = option_map_or (λ row. with_run (record row { state = Purged }) office.tables) o office.tables })) (sym at)
       (runs-renewed office (record office { tables = with_run (record row { state = Purged }) office.tables }) job has
       (record {
         next = record row { state = Purged };
@@ -119,13 +119,13 @@ module _ (layout : Layout) (office : Office) (kept : IsAgreed layout office) (ha
       off : (row : RunRow) → is_in_state Queued row ≡ true → is_plain_row row ≡ true → is_plain_row (record row { state = Purged }) ≡ true
       off row queued plain = sym (ap (λ (s : RunState). is_plain_state s && ((is_none row.initiator || is_on_one s) && (is_none row.code && is_run row.deck))) (queued-is row.state queued)) ∙ plain
 
-  pub cancelled-runs : (job : ℕ) (deck : Option Job) → may_come layout office (CancelledEvent job, deck) ≡ true → HasRuns (office_after (CancelledEvent job, deck) office)
+  pub cancelled-runs : (job : ℕ) (deck : Option Job) → may_come layout office (CancelledEvent job, deck) ≡ true → HasRows (office_after (CancelledEvent job, deck) office)
   cancelled-runs job deck may =
       tested-run office.tables job is_running (follows-of layout office (CancelledEvent job) deck may)
       (λ row at runs.
       let next : RunRow = record row { in_effect = None } in
       let was : HasRow row = has-row office has job row at in
-      subst (λ (o : Option RunRow). HasRuns (record office { tables = option_map_or (λ row. after_cancelled row office.tables) o office.tables })) (sym at)
+      subst (λ (o : Option RunRow). HasRows (record office { tables = option_map_or (λ row. after_cancelled row office.tables) o office.tables })) (sym at)
       (runs-renewed office (record office { tables = with_run next office.tables }) job has
       (record {
         next = next;
@@ -134,9 +134,9 @@ module _ (layout : Layout) (office : Office) (kept : IsAgreed layout office) (ha
       })
       has.spaced has.spaced_legs))
 
-  pub started-runs : (job step : ℕ) (items : ArrayVec Made) (deck : Option Job) → may_come layout office (StartedEvent job step items, deck) ≡ true → carries layout office (StartedEvent job step items) deck ≡ true → HasRuns (office_after (StartedEvent job step items, deck) office)
+  pub started-runs : (job step : ℕ) (items : ArrayVec Made) (deck : Option Job) → may_come layout office (StartedEvent job step items, deck) ≡ true → carries layout office (StartedEvent job step items) deck ≡ true → HasRows (office_after (StartedEvent job step items, deck) office)
   started-runs job step items deck may carried =
-      by-start HasRuns layout office job step items deck kept may carried
+      by-start HasRows layout office job step items deck kept may carried
       (λ row leg owned now.
       let stamp = stamp_of owned step in
       let placed : List DdAllotment = placed_in table_ways (standing_of row office.tables) row.job.root owned in
@@ -151,7 +151,7 @@ module _ (layout : Layout) (office : Office) (kept : IsAgreed layout office) (ha
       })
       has.spaced has.spaced_legs)
 
-  pub rewritten-runs : (job taken writes place : ℕ) (lengths : ArrayVec ℕ) (image : List ℕ) (deck : Option Job) → may_come layout office (RewrittenEvent job taken writes lengths place image, deck) ≡ true → HasRuns (office_after (RewrittenEvent job taken writes lengths place image, deck) office)
+  pub rewritten-runs : (job taken writes place : ℕ) (lengths : ArrayVec ℕ) (image : List ℕ) (deck : Option Job) → may_come layout office (RewrittenEvent job taken writes lengths place image, deck) ≡ true → HasRows (office_after (RewrittenEvent job taken writes lengths place image, deck) office)
   rewritten-runs job taken writes place lengths image deck may =
       tested-run office.tables job (λ row. is_running row && lengths_follow office.tables row lengths.items && of_step row (is_rewrite office.tables place image row)) (follows-of layout office (RewrittenEvent job taken writes lengths place image) deck may)
       (λ row at passes.
@@ -162,7 +162,7 @@ module _ (layout : Layout) (office : Office) (kept : IsAgreed layout office) (ha
       let next : RunRow = record (row_rewritten step row) { place = Some (Within step writes) } in
       let sets : Named TableSet = with_changed (name_with_role row.job.root owned is_updates) (table_rewritten owned.owner step) (committed (output_names row.job.root owned) lengths.items office.tables.sets) in
       let was : HasRow row = has-row office has job row at in
-      by-changed (λ tables. HasRuns (record office { tables = tables })) office.tables job row owned (λ row owned step. after_rewritten row owned step writes lengths.items office.tables) at found
+      by-changed (λ tables. HasRows (record office { tables = tables })) office.tables job row owned (λ row owned step. after_rewritten row owned step writes lengths.items office.tables) at found
       (runs-renewed office (record office { tables = with_run next (record office.tables { sets = sets }) }) job has
       (record {
         next = next;
@@ -172,7 +172,7 @@ module _ (layout : Layout) (office : Office) (kept : IsAgreed layout office) (ha
       has.spaced has.spaced_legs)))
 
   -- an entry is written
-  pub checkpointed-runs : (job taken writes place bytes : ℕ) (id : Name) (lengths : ArrayVec ℕ) (deck : Option Job) → may_come layout office (CheckpointedEvent job id taken writes lengths place bytes, deck) ≡ true → HasRuns (office_after (CheckpointedEvent job id taken writes lengths place bytes, deck) office)
+  pub checkpointed-runs : (job taken writes place bytes : ℕ) (id : Name) (lengths : ArrayVec ℕ) (deck : Option Job) → may_come layout office (CheckpointedEvent job id taken writes lengths place bytes, deck) ≡ true → HasRows (office_after (CheckpointedEvent job id taken writes lengths place bytes, deck) office)
   checkpointed-runs job taken writes place bytes id lengths deck may =
       tested-run office.tables job (λ row. is_running row && lengths_follow office.tables row lengths.items && of_step row (is_checkpoint office.tables id lengths.items place bytes row)) (follows-of layout office (CheckpointedEvent job id taken writes lengths place bytes) deck may)
       (λ row at passes.
@@ -185,7 +185,7 @@ module _ (layout : Layout) (office : Office) (kept : IsAgreed layout office) (ha
       let sets : Named TableSet = committed (output_names row.job.root owned) lengths.items office.tables.sets in
       let stands : Stands office.tables (with_run next (record office.tables { sets = sets })) job next = stands-one office.tables sets job row next at (kept.numbered job row at) in
       let was : HasRow row = has-row office has job row at in
-      by-changed (λ tables. HasRuns (record office { tables = tables })) office.tables job row owned (λ row owned step. after_checkpointed row owned step kept_now taken writes lengths.items office.tables) at found
+      by-changed (λ tables. HasRows (record office { tables = tables })) office.tables job row owned (λ row owned step. after_checkpointed row owned step kept_now taken writes lengths.items office.tables) at found
       (runs-renewed office (record office { tables = after_checkpointed row owned step kept_now taken writes lengths.items office.tables }) job has
       (record {
         next = next;
@@ -194,7 +194,7 @@ module _ (layout : Layout) (office : Office) (kept : IsAgreed layout office) (ha
       })
       has.spaced has.spaced_legs)))
 
-  pub step_ended-runs : (job step rc writes : ℕ) (lengths : ArrayVec ℕ) (deck : Option Job) → may_come layout office (StepEndedEvent job step rc writes lengths, deck) ≡ true → HasRuns (office_after (StepEndedEvent job step rc writes lengths, deck) office)
+  pub step_ended-runs : (job step rc writes : ℕ) (lengths : ArrayVec ℕ) (deck : Option Job) → may_come layout office (StepEndedEvent job step rc writes lengths, deck) ≡ true → HasRows (office_after (StepEndedEvent job step rc writes lengths, deck) office)
   step_ended-runs job step rc writes lengths deck may =
       tested-run office.tables job (λ row. is_running row && step_in (place_of row) == step && lengths_follow office.tables row lengths.items) (follows-of layout office (StepEndedEvent job step rc writes lengths) deck may)
       (λ row at passes.
@@ -206,7 +206,7 @@ module _ (layout : Layout) (office : Office) (kept : IsAgreed layout office) (ha
       let stock = after_dispositions row owned step false done in
       let next : RunRow = record row { place = Some (Before (suc step)); rcs = row.rcs ++ (step, rc) ∷ []; in_effect = None; passed = stock.passed } in
       let was : HasRow row = has-row office has job row at in
-      by-changed (λ tables. HasRuns (record office { tables = tables })) office.tables job row owned (λ row owned step. after_step_ended row owned step rc writes lengths.items office.tables) at found
+      by-changed (λ tables. HasRows (record office { tables = tables })) office.tables job row owned (λ row owned step. after_step_ended row owned step rc writes lengths.items office.tables) at found
       (runs-renewed office (record office { tables = with_run next (record done { sets = stock.sets }) }) job has
       (record {
         next = next;

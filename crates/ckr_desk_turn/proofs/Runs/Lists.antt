@@ -9,73 +9,105 @@ use Rattle.ckr_volumes.specs.declared.layout.Layout.{Layout}
 use Rattle.ckr_points.specs.Events.{AreSound, AreSoundFrom, IsNext}
 use Rattle.ckr_points.specs.Office.{Office, no_office, office, office_after, office_from}
 use Rattle.ckr_points.specs.Restart.{Decked}
-use Rattle.ckr_points_invariant.specs.Continuations.{goes_back}
 use Rattle.ckr_points_invariant.specs.Invariant.{IsKept}
+use Rattle.ckr_points_invariant.specs.PlainRuns.{continues}
 use Rattle.ckr_points_invariant.proofs.EventLaws.{no_events}
-use Rattle.ckr_points_invariant.proofs.SoundEvents.{kept-next}
+use Rattle.ckr_points_invariant.proofs.PlainRuns.SoundEvents.{AreKept, next-kept, none-ready}
 use Rattle.ckr_desk_turn.specs.CheckSets.{HaveCheckRecords}
 use Rattle.ckr_desk_turn.specs.Desk.{opened}
 use Rattle.ckr_desk_turn.specs.Invariant.{HasRuns, IsDesk}
-use Rattle.ckr_desk_turn.specs.RunEvents.{AreRunEvents, IsRunEvent}
+use Rattle.ckr_desk_turn.specs.RunEvents.{AreAnyRunEvents, AreRunEvents, IsAnyRunEvent, IsRunEvent}
 use Rattle.ckr_desk_turn.proofs.CheckSets.Events.{have-next, none-before}
 use Rattle.ckr_desk_turn.proofs.Opening.{opened-is}
 use Rattle.ckr_desk_turn.proofs.Runs.Ends.{coded-runs, completed-runs, refused-runs}
 use Rattle.ckr_desk_turn.proofs.Runs.Events.{cancelled-runs, checkpointed-runs, purged-runs, rewritten-runs, selected-runs, started-runs, step_ended-runs, submitted-runs}
+use Rattle.ckr_desk_turn.proofs.Runs.Restarts.{restarted-runs}
+use Rattle.ckr_desk_turn.proofs.Runs.Rows.{HasRows, runs-of}
 
--- no run goes back
-on-so : (event : Event) (deck : Option Job) → IsRunEvent event deck → goes_back event ≡ false
+-- no run continues another one
+on-so : (event : Event) (deck : Option Job) → IsAnyRunEvent event deck → continues event ≡ false
 on-so (Selected job initiator zero step id) deck is = refl
 on-so (Selected job initiator (suc before) step id) deck is = absurd (none-before before is)
-on-so (Restarted job initiator code checkpoint) deck is = absurd is
 on-so _ deck is = refl
 
-module _ (layout : Layout) (now : Office) (kept : IsKept layout now) (has : HasRuns now) where
-  runs-next : (event : Event) (deck : Option Job) → IsRunEvent event deck → IsNext layout now (event, deck) → HasRuns (office_after (event, deck) now)
-  runs-next (Submitted job cards) deck is next = submitted-runs layout now kept.events has job cards deck next.may is
-  runs-next (Selected job initiator zero step id) deck is next = selected-runs layout now kept.events has job initiator step id deck next.may
+module _ (layout : Layout) (now : Office) (are : AreKept layout now) (has : HasRows now) where
+  runs-next : (event : Event) (deck : Option Job) → IsAnyRunEvent event deck → IsNext layout now (event, deck) → HasRows (office_after (event, deck) now)
+  runs-next (Submitted job cards) deck is next = submitted-runs layout now are.kept.events has job cards deck next.may is
+  runs-next (Selected job initiator zero step id) deck is next = selected-runs layout now are.kept.events has job initiator step id deck next.may
   runs-next (Selected job initiator (suc before) step id) deck is next = absurd (none-before before is)
-  runs-next (Started job step items) deck is next = started-runs layout now kept.events has job step items deck next.may next.carried
-  runs-next (Rewritten job taken writes lengths place image) deck is next = rewritten-runs layout now kept.events has job taken writes place lengths image deck next.may
-  runs-next (Checkpointed job id taken writes lengths place bytes) deck is next = checkpointed-runs layout now kept.events has job taken writes place bytes id lengths deck next.may
-  runs-next (Cancelled job) deck is next = cancelled-runs layout now kept.events has job deck next.may
-  runs-next (StepEnded job step rc writes lengths) deck is next = step_ended-runs layout now kept.events has job step rc writes lengths deck next.may
-  runs-next (Ended job Completed) deck is next = completed-runs layout now kept.events has job deck next.may
-  runs-next (Ended job (Coded code rule writes lengths)) deck is next = coded-runs layout now kept.events has job rule writes code lengths deck next.may
-  runs-next (Ended job (Allocation dd cause first second)) deck is next = refused-runs layout now kept.events has job dd cause first second deck next.may
-  runs-next (Purged job) deck is next = purged-runs layout now kept.events has job deck next.may
+  runs-next (Started job step items) deck is next = started-runs layout now are.kept.events has job step items deck next.may next.carried
+  runs-next (Rewritten job taken writes lengths place image) deck is next = rewritten-runs layout now are.kept.events has job taken writes place lengths image deck next.may
+  runs-next (Checkpointed job id taken writes lengths place bytes) deck is next = checkpointed-runs layout now are.kept.events has job taken writes place bytes id lengths deck next.may
+  runs-next (Cancelled job) deck is next = cancelled-runs layout now are.kept.events has job deck next.may
+  runs-next (StepEnded job step rc writes lengths) deck is next = step_ended-runs layout now are.kept.events has job step rc writes lengths deck next.may
+  runs-next (Restarted job initiator code checkpoint) deck is next = restarted-runs layout now are has checkpoint job initiator code deck next
+  runs-next (Ended job Completed) deck is next = completed-runs layout now are.kept.events has job deck next.may
+  runs-next (Ended job (Coded code rule writes lengths)) deck is next = coded-runs layout now are.kept.events has job rule writes code lengths deck next.may
+  runs-next (Ended job (Allocation dd cause first second)) deck is next = refused-runs layout now are.kept.events has job dd cause first second deck next.may
+  runs-next (Purged job) deck is next = purged-runs layout now are.kept.events has job deck next.may
   runs-next _ deck is next = absurd is
 
 -- what the events have brought about, from some office on
 record AreLeft (layout : Layout) (office : Office) : Type 0 where
-  pub kept : IsKept layout office
-  pub has : HasRuns office
+  pub are : AreKept layout office
+  pub has : HasRows office
   pub checks : HaveCheckRecords office.tables.sets
 
-left-from : (layout : Layout) (events : List Decked) (now : Office) → AreSoundFrom layout now events → AreRunEvents events → AreLeft layout now → AreLeft layout (office_from events now)
+left-from : (layout : Layout) (events : List Decked) (now : Office) → AreSoundFrom layout now events → AreAnyRunEvents events → AreLeft layout now → AreLeft layout (office_from events now)
 left-from layout [] now are run left = left
 left-from layout (event ∷ rest) now are run left =
     let next : IsNext layout now (event.0, event.1) = record { may = are.0.may; carried = are.0.carried } in
     left-from layout rest (office_after event now) are.1 run.1
     (record {
-      kept = kept-next layout now event.0 event.1 (on-so event.0 event.1 run.0) left.kept next;
-      has = runs-next layout now left.kept left.has event.0 event.1 run.0 next;
-      checks = have-next layout now left.kept left.has left.checks event.0 event.1 run.0 next;
+      are = next-kept layout now event.0 event.1 (on-so event.0 event.1 run.0) left.are.kept left.are.pointed left.are.ready next;
+      has = runs-next layout now left.are left.has event.0 event.1 run.0 next;
+      checks = have-next layout now left.are.kept left.has left.checks event.0 event.1 run.0 next;
     })
 
-left-at : (layout : Layout) (events : List Decked) → AreSound layout events → AreRunEvents events → AreLeft layout (office events)
+left-at : (layout : Layout) (events : List Decked) → AreSound layout events → AreAnyRunEvents events → AreLeft layout (office events)
 left-at layout events are run =
     left-from layout events no_office are run
-    (record { kept = no_events layout; has = record { plain = refl; admitted = tt; stepped = refl; spaced = tt; spaced_legs = tt }; checks = tt })
+    (record {
+      are = record { kept = no_events layout; pointed = record { rows = tt; entries = tt }; ready = none-ready };
+      has = record { plain = refl; admitted = tt; stepped = refl; spaced = tt; spaced_legs = tt };
+      checks = tt;
+    })
 
-pub events-kept : (layout : Layout) (events : List Decked) → AreSound layout events → AreRunEvents events → IsKept layout (office events)
-events-kept layout events are run = (left-at layout events are run).kept
+-- ---- events with restarts among them
 
-pub events-run : (layout : Layout) (events : List Decked) → AreSound layout events → AreRunEvents events → HasRuns (office events)
-events-run layout events are run = (left-at layout events are run).has
+pub any-kept : (layout : Layout) (events : List Decked) → AreSound layout events → AreAnyRunEvents events → IsKept layout (office events)
+any-kept layout events are run = (left-at layout events are run).are.kept
 
-pub events-checked : (layout : Layout) (events : List Decked) → AreSound layout events → AreRunEvents events → HaveCheckRecords (office events).tables.sets
-events-checked layout events are run = (left-at layout events are run).checks
+pub any-run : (layout : Layout) (events : List Decked) → AreSound layout events → AreAnyRunEvents events → HasRuns (office events)
+any-run layout events are run =
+    let left : AreLeft layout (office events) = left-at layout events are run in
+    runs-of (office events) left.has left.are.pointed left.are.ready
+
+pub any-checked : (layout : Layout) (events : List Decked) → AreSound layout events → AreAnyRunEvents events → HaveCheckRecords (office events).tables.sets
+any-checked layout events are run = (left-at layout events are run).checks
 
 -- a desk that is opened on them
+pub any-opened : (layout : Layout) (events : List Decked) → AreSound layout events → AreAnyRunEvents events → IsDesk (opened layout (office events))
+any-opened layout events are run = opened-is layout (office events) (any-kept layout events are run) (any-run layout events are run)
+
+-- ---- and without
+
+any-one : (event : Event) (deck : Option Job) → IsRunEvent event deck → IsAnyRunEvent event deck
+any-one (Restarted job initiator code checkpoint) deck is = tt
+any-one _ deck is = is
+
+any-all : (events : List Decked) → AreRunEvents events → AreAnyRunEvents events
+any-all [] run = tt
+any-all (event ∷ rest) run = (any-one event.0 event.1 run.0, any-all rest run.1)
+
+pub events-kept : (layout : Layout) (events : List Decked) → AreSound layout events → AreRunEvents events → IsKept layout (office events)
+events-kept layout events are run = any-kept layout events are (any-all events run)
+
+pub events-run : (layout : Layout) (events : List Decked) → AreSound layout events → AreRunEvents events → HasRuns (office events)
+events-run layout events are run = any-run layout events are (any-all events run)
+
+pub events-checked : (layout : Layout) (events : List Decked) → AreSound layout events → AreRunEvents events → HaveCheckRecords (office events).tables.sets
+events-checked layout events are run = any-checked layout events are (any-all events run)
+
 pub events-opened : (layout : Layout) (events : List Decked) → AreSound layout events → AreRunEvents events → IsDesk (opened layout (office events))
-events-opened layout events are run = opened-is layout (office events) (events-kept layout events are run) (events-run layout events are run)
+events-opened layout events are run = any-opened layout events are (any-all events run)

@@ -1,6 +1,6 @@
 -- What the rows of the tables have, where one of them is renewed.
 use Rattle.std.proofs.Common.{◌≡◌, ◌≢◌, ℕ, zero, suc, true, slice_get, ap, sym, ◌∙◌, subst, Some}
-use Rattle.std.specs.List.{AllByRecursion}
+use Rattle.std.specs.List.{AllByRecursion, list_all}
 use Rattle.std.proofs.lemmas.Option.{same_Some}
 use Rattle.ckr_base.proofs.Numbers.{number-cases}
 use Rattle.ckr_base.proofs.Options.{some-not-none}
@@ -10,8 +10,32 @@ use Rattle.ckr_meaning.specs.LibrarySet.{AreWithinSpace}
 use Rattle.ckr_points.specs.Office.{Leg, Office}
 use Rattle.ckr_points.specs.Rows.{RunRow, TableSet, TablesModel, run_of, with_run}
 use Rattle.ckr_points_invariant.proofs.Holders.Rows.{run-other, run-same}
+use Rattle.ckr_points_invariant.specs.Points.{ArePointed}
+use Rattle.ckr_points_invariant.specs.Readiness.{AreReady}
 use Rattle.ckr_desk_turn.specs.Invariant.{HasRuns, IsAdmitted, has_its_step, is_plain_row}
 use Rattle.ckr_desk_turn.proofs.OtherRuns.{all-by, every-by}
+
+-- what the events of a desk have brought about, its points aside
+pub record HasRows (office : Office) : Type 0 where
+  pub plain : list_all is_plain_row office.tables.runs ≡ true
+  pub admitted : AllByRecursion IsAdmitted office.tables.runs
+  pub stepped : list_all has_its_step office.tables.runs ≡ true
+  pub spaced : AreWithinSpace office.library
+  pub spaced_legs : AllByRecursion (λ (leg : Leg). AreWithinSpace leg.start) office.legs
+
+pub rows-of : (office : Office) → HasRuns office → HasRows office
+rows-of office has = record { plain = has.plain; admitted = has.admitted; stepped = has.stepped; spaced = has.spaced; spaced_legs = has.spaced_legs }
+
+pub runs-of : (office : Office) → HasRows office → ArePointed office → AreReady office → HasRuns office
+runs-of office has pointed ready = record {
+  plain = has.plain;
+  admitted = has.admitted;
+  stepped = has.stepped;
+  spaced = has.spaced;
+  spaced_legs = has.spaced_legs;
+  pointed = pointed;
+  ready = ready;
+}
 
 -- what each row of the desk has
 pub record HasRow (row : RunRow) : Type 0 where
@@ -19,7 +43,7 @@ pub record HasRow (row : RunRow) : Type 0 where
   pub admitted : IsAdmitted row
   pub stepped : has_its_step row ≡ true
 
-pub has-row : (office : Office) → HasRuns office → (run : ℕ) (row : RunRow) → run_of office.tables run ≡ Some row → HasRow row
+pub has-row : (office : Office) → HasRows office → (run : ℕ) (row : RunRow) → run_of office.tables run ≡ Some row → HasRow row
 has-row office has zero row at = absurd (some-not-none row (sym at))
 has-row office has (suc place) row at = record {
   plain = all-get is_plain_row office.tables.runs place row has.plain at;
@@ -52,7 +76,7 @@ stands-more tables after sets job row next stands its = record {
 }
 
 -- the rows with one that is renewed
-pub runs-renewed : (office after : Office) (job : ℕ) → HasRuns office → Renewed office.tables after.tables job → AreWithinSpace after.library → AllByRecursion (λ (leg : Leg). AreWithinSpace leg.start) after.legs → HasRuns after
+pub runs-renewed : (office after : Office) (job : ℕ) → HasRows office → Renewed office.tables after.tables job → AreWithinSpace after.library → AllByRecursion (λ (leg : Leg). AreWithinSpace leg.start) after.legs → HasRows after
 runs-renewed office after job has renewed spaced spaced_legs = record {
   plain = all-by is_plain_row after.tables.runs (λ place row at. (each place row at).plain);
   admitted = every-by IsAdmitted after.tables.runs (λ place row at. (each place row at).admitted);

@@ -36,7 +36,7 @@ use Rattle.ckr_points.specs.Restart.{place_of, step_in}
 use Rattle.ckr_points.specs.Rows.{RunRow, TableSet, TablesModel, run_of, standing_of, step_of_run, table_ways}
 use Rattle.ckr_points_invariant.proofs.Steps.Commits.{its_start}
 use Rattle.ckr_points_invariant.proofs.Holders.Rows.{run-other, run-same}
-use Rattle.ckr_points_invariant.proofs.EventLaws.{started}
+use Rattle.ckr_points_invariant.proofs.PlainRuns.SoundEvents.{AreKept}
 use Rattle.ckr_points_invariant.proofs.Steps.Events.{led-by}
 use Rattle.ckr_points_invariant.proofs.Steps.Walks.{start_at-of}
 use Rattle.ckr_points_invariant.specs.Invariant.{IsHolder}
@@ -49,6 +49,7 @@ use Rattle.ckr_desk_turn.proofs.NextEvents.BetweenSteps.{no_restart, plain_parts
 use Rattle.ckr_desk_turn.proofs.Start.Decks.{asks, fits-allocation, never-bypassed, rises}
 use Rattle.ckr_desk_turn.proofs.Start.Items.{items-follow}
 use Rattle.ckr_desk_turn.proofs.OtherRuns.{Changes, admitted-then, each_row, failed-all, going-rest, plain-then, row-admitted, row-plain, running-same, some-holds}
+use Rattle.ckr_desk_turn.proofs.Readiness.{kept-on}
 use Rattle.ckr_desk_turn.proofs.RunningSteps.{nothing-between}
 
 -- nothing is written before the first record
@@ -213,8 +214,9 @@ module _ (desk : DeskModel) (is : IsDesk desk) (row : RunRow) (at : run_of desk.
   pub started-kept : IsDesk later
   started-kept =
       let mine : IsAdmitted row = its_deck in
+      let on_now : AreKept desk.layout later.office = kept-on desk is (StartedEvent row.number step (record { items = items })) refl started-comes in
       record {
-        kept = started desk.layout desk.office row.number step (record { items = items }) None is.kept started-comes.may started-comes.carried;
+        kept = on_now.kept;
         going = (goes, going-rest desk.office later.office row.number next changes desk.running is.going);
         failed = failed-all desk.office later.office row.number next changes desk.failed (not-failed desk is row at out) is.failed;
         plain = plain-then desk later is row.number next changes (row-plain desk is row.number row at);
@@ -223,4 +225,6 @@ module _ (desk : DeskModel) (is : IsDesk desk) (row : RunRow) (at : run_of desk.
             (or_right (not (is_running next)) _ (or_left _ _ (or_left (row.number == row.number) _ (equal-itself row.number)))) is.accounted accounted-so;
         spaced = is.spaced;
         spaced_legs = is.spaced_legs;
+        pointed = on_now.pointed;
+        ready = on_now.ready;
       }

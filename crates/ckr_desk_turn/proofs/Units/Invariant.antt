@@ -68,6 +68,8 @@ module _ (desk : DeskModel) (is : IsDesk desk) (run : ℕ) (progress : StepProgr
     accounted = all-by (is_accounted moved) desk.office.tables.runs (λ place row at. accounted_so row (all-get (is_accounted desk) desk.office.tables.runs place row is.accounted at));
     spaced = is.spaced;
     spaced_legs = is.spaced_legs;
+    pointed = is.pointed;
+    ready = is.ready;
   }
 
 -- however much of it is served, a running step has come as far

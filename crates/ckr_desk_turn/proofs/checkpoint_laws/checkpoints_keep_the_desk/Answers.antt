@@ -1,14 +1,22 @@
-use Rattle.std.proofs.Common.{None}
+use Rattle.std.proofs.Common.{None, refl}
+use Rattle.ckr_events.specs.declared.event.Event.TheVariants.{Checkpointed}
+use Rattle.ckr_points.specs.Office.{office_after}
+use Rattle.ckr_points_invariant.proofs.PlainRuns.SoundEvents.{AreKept, next-kept}
 use Rattle.ckr_desk_turn.proofs.Checkpoints.Events.{committed-so}
 use Rattle.ckr_desk_turn.proofs.Checkpoints.Invariant.{taken-keeps}
 use Rattle.ckr_desk_turn.proofs.Checkpoints.Plans.{done-behind}
 use Rattle.ckr_desk_turn.proofs.Runs.Events.{checkpointed-runs}
+use Rattle.ckr_desk_turn.proofs.Runs.Rows.{rows-of, runs-of}
 use Rattle.ckr_desk_turn.proofs.checkpoint_laws.checkpoints_keep_the_desk.Goals as goal
 
 pub returns : goal.returns
 returns c = record {
   taken = taken-keeps;
   done = done-behind;
-  runs = λ layout office job taken writes place bytes id lengths kept has next. checkpointed-runs layout office kept.events has job taken writes place bytes id lengths None next.may;
+  runs = λ layout office job taken writes place bytes id lengths kept has next.
+      let on : AreKept layout (office_after (Checkpointed job id taken writes lengths place bytes, None) office) =
+      next-kept layout office (Checkpointed job id taken writes lengths place bytes) None refl kept has.pointed has.ready next in
+      runs-of (office_after (Checkpointed job id taken writes lengths place bytes, None) office)
+      (checkpointed-runs layout office kept.events (rows-of office has) job taken writes place bytes id lengths None next.may) on.pointed on.ready;
   committed = committed-so;
 }
