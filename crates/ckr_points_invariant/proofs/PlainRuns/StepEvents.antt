@@ -42,7 +42,8 @@ use Rattle.ckr_points_invariant.proofs.PlainRuns.Restarts.{restarted-ready}
 use Rattle.ckr_points_invariant.proofs.PlainRuns.Rewrites.{rewritten-ready, rewritten_row, rewritten_sets}
 use Rattle.ckr_points_invariant.proofs.PlainRuns.Rows.{changed-to, ready-moved, ready-with}
 use Rattle.ckr_points_invariant.proofs.PlainRuns.Starts.{started-ready, started_row, started_sets}
-use Rattle.ckr_points_invariant.proofs.Restart.Event.{by-run, check-unwritten, entry-by, entry-left, row_back, row_then, sets_then, sets_then_back, start-by, start-left}
+use Rattle.ckr_points_invariant.proofs.Restart.Event.{by-run, entry-by, entry-left, row_back, row_then, sets_then, sets_then_back, start-by, start-left}
+use Rattle.ckr_points_invariant.proofs.Restart.Verdicts.{check-unwritten}
 
 module _ (layout : Layout) (now : Office) (kept : IsAgreed layout now) (pointed : ArePointed now) (ready : AreReady now) where
   -- what holds of a run's leg holds of any that it has

@@ -1,8 +1,7 @@
 -- A Restarted that follows and has the verdict of the rules keeps the events, and its run stands at the point then.
-use Rattle.std.proofs.Common.{◌≡◌, ℕ, Bool, true, false, not, ◌&&◌, ◌||◌, if◌then◌else◌, List, [], ◌∷◌, refl, ap, sym, ◌∙◌, subst, Option, Some, None}
-use Rattle.std.specs.Prelude.{◌==◌, nat_eq, nat_le}
-use Rattle.std.specs.Option.{option_eq, option_map, option_map_or, is_some}
-use Rattle.std.proofs.lemmas.Bool.{false≢true}
+use Rattle.std.proofs.Common.{◌≡◌, ℕ, Bool, true, false, ◌&&◌, ◌||◌, [], refl, ap, sym, ◌∙◌, subst, Option, Some, None}
+use Rattle.std.specs.Prelude.{◌==◌, nat_eq}
+use Rattle.std.specs.Option.{option_eq, option_map, option_map_or}
 use Rattle.ckr_base.specs.declared.code.Code.{Code}
 use Rattle.ckr_base.proofs.Bools.{and-first, bool-cases}
 use Rattle.ckr_base.proofs.Numbers.{equal-true}
@@ -17,10 +16,7 @@ use Rattle.ckr_meaning.specs.LibrarySet.{LibrarySet}
 use Rattle.ckr_meaning.specs.Dispositions.{Stock}
 use Rattle.ckr_meaning.specs.declared.place.Place.{Place}
 use Rattle.ckr_meaning.specs.declared.place.Place.TheVariants.{Before, Opened, Within}
-use Rattle.ckr_rules.specs.RuleTables.{automatic, first_line, forbids_restart, is_rnc}
-use Rattle.ckr_rules.specs.declared.cases.AutoCase.{AutoCase}
-use Rattle.ckr_rules.specs.declared.cases.Rule.TheVariants.{A1, A2, A3, A4, A5, A6}
-use Rattle.ckr_rules.specs.declared.cases.Verdict.TheVariants.{Step, Checkpoint, Denied}
+use Rattle.ckr_rules.specs.RuleTables.{automatic}
 use Rattle.ckr_volumes.specs.declared.layout.Layout.{Layout}
 use Rattle.ckr_points.specs.declared.run.RunState.TheVariants.{Released as ReleasedRun}
 use Rattle.ckr_points.specs.Follows.{is_free, is_in_state, is_running, is_within, may_restart_again, own_step}
@@ -28,7 +24,7 @@ use Rattle.ckr_points.specs.Marks.{point_at, with_point}
 use Rattle.ckr_points.specs.Office.{Leg, Office, leg_of, office_after}
 use Rattle.ckr_points.specs.Payload.{carries, is_verdict, writes_in}
 use Rattle.ckr_points.specs.Restart.{after_put_back, after_restarted, back_to_entry, back_to_start, by_step, effect_restarted, kept_at, place_of, point_restarted, row_on}
-use Rattle.ckr_points.specs.RuleCases.{Since, auto_case, rd_in_effect, since_point, since_start}
+use Rattle.ckr_points.specs.RuleCases.{auto_case}
 use Rattle.ckr_points.specs.Rows.{EffectPoint, KeptEntry, RunRow, StartPoint, TableSet, TablesModel, run_of, step_of_run}
 use Rattle.ckr_points.specs.Soundness.{may_come}
 use Rattle.ckr_points.specs.Tables.{own_made}
@@ -49,55 +45,7 @@ use Rattle.ckr_points_invariant.specs.Readiness.{HasPoint}
 use Rattle.ckr_points_invariant.specs.Restorability.{AreEntriesRestorable, AreStepsRestorable, IsRestorable, LeavesTheRest, StandsAt}
 use Rattle.ckr_points_invariant.proofs.Restart.Invariant.{entry-outside, entry-shared, entry_row, entry_sets, kept-entry_back, kept-start_back, point-of, start-outside, start-shared, start_row, start_sets}
 use Rattle.ckr_points_invariant.proofs.Restart.Points.{back-holds, fewer, points-with}
-
--- ---- the verdict
-
--- where the rules let a run restart, no record was rewritten since the point, and which point it is
-verdict-lines : (a b c d e f g checkpoint : Bool) → is_verdict checkpoint (first_line ((a, Denied A1) ∷ (b, Denied A2) ∷ (c, Denied A3) ∷ (d, Denied A4) ∷ (e, Denied A5) ∷ (f, Denied A6) ∷ (g, Step) ∷ []) Checkpoint) ≡ true → (d ≡ false) × (g ≡ not checkpoint)
-verdict-lines true b c d e f g checkpoint v = absurd (false≢true v)
-verdict-lines false true c d e f g checkpoint v = absurd (false≢true v)
-verdict-lines false false true d e f g checkpoint v = absurd (false≢true v)
-verdict-lines false false false true e f g checkpoint v = absurd (false≢true v)
-verdict-lines false false false false true f g checkpoint v = absurd (false≢true v)
-verdict-lines false false false false false true g checkpoint v = absurd (false≢true v)
-verdict-lines false false false false false false true true v = absurd (false≢true v)
-verdict-lines false false false false false false true false v = (refl, refl)
-verdict-lines false false false false false false false true v = (refl, refl)
-verdict-lines false false false false false false false false v = absurd (false≢true v)
-
-abbrev since_by : Bool → Option EffectPoint → Since → Since
-since_by rnc effect first = if rnc then first else option_map_or (λ (effect : EffectPoint). record { restarts = effect.restarts; rewritten = effect.rewritten }) effect first
-
-at_start : (rnc : Bool) (effect : Option EffectPoint) (first : Since) → (rnc || not (is_some effect)) ≡ true → since_by rnc effect first ≡ first
-at_start true effect first e = refl
-at_start false None first e = refl
-at_start false (Some effect) first e = absurd (false≢true e)
-
-at_check : (rnc : Bool) (effect : EffectPoint) (first : Since) → (rnc || false) ≡ false → (since_by rnc (Some effect) first).rewritten ≡ effect.rewritten
-at_check true effect first e = absurd (false≢true (sym e))
-at_check false effect first e = refl
-
-module _ (row : RunRow) (step : ℕ) (eligible : List Code) (code : Code) where
-  judged : (checkpoint : Bool) → is_verdict checkpoint (automatic (auto_case row step eligible code false)) ≡ true → ((since_point row step).rewritten ≡ false) × ((is_rnc (rd_in_effect row step) || not (is_some row.in_effect)) ≡ not checkpoint)
-  judged checkpoint v =
-      let case : AutoCase = auto_case row step eligible code false in
-      verdict-lines (forbids_restart case.rd) (not (is_some case.rd) && not case.checkpoint) (not case.eligible) case.rewritten (nat_le 3 case.restarts) case.refused (is_rnc case.rd || not case.checkpoint) checkpoint v
-
-  pub start-unwritten : (point : StartPoint) → point_at row.points step ≡ Some point → is_verdict false (automatic (auto_case row step eligible code false)) ≡ true → point.rewritten ≡ false
-  start-unwritten point got v =
-      let its = judged false v in
-      sym (
-      ap (λ (since : Since). since.rewritten) (at_start (is_rnc (rd_in_effect row step)) row.in_effect (since_start row step) its.1)
-      ∙ ap (λ (o : Option StartPoint). let since : Since = option_map_or (λ (point : StartPoint). record { restarts = point.restarts; rewritten = point.rewritten }) o (record { restarts = 0; rewritten = false }) in since.rewritten) got)
-      ∙ its.0
-
-  pub check-unwritten : (effect : EffectPoint) → row.in_effect ≡ Some effect → is_verdict true (automatic (auto_case row step eligible code false)) ≡ true → effect.rewritten ≡ false
-  check-unwritten effect got v =
-      let its = judged true v in
-      sym (
-      ap (λ (o : Option EffectPoint). (since_by (is_rnc (rd_in_effect row step)) o (since_start row step)).rewritten) got
-      ∙ at_check (is_rnc (rd_in_effect row step)) effect (since_start row step) (sym (ap (λ (o : Option EffectPoint). is_rnc (rd_in_effect row step) || not (is_some o)) got) ∙ its.1))
-      ∙ its.0
+use Rattle.ckr_points_invariant.proofs.Restart.Verdicts.{check-unwritten, start-unwritten}
 
 -- ---- the tables
 
@@ -154,7 +102,7 @@ module _ (layout : Layout) (now : Office) (job initiator : ℕ) (code : Code) (d
       (λ leg holder. each row leg (restarts-now checkpoint row leg holder may carried)))
 
   -- what its step does to the tables, or nothing
-  at-step : (checkpoint : Bool) (Q : Office → Type 0) (row : RunRow) → run_of now.tables job ≡ Some row → (step : Option OwnedStep) → step_of_run row (step_now row) ≡ step → Q (record now { tables = option_map_or (λ owned. after_restarted row owned (step_now row) initiator checkpoint now.tables) step now.tables }) → Q (behind checkpoint)
+  pub at-step : (checkpoint : Bool) (Q : Office → Type 0) (row : RunRow) → run_of now.tables job ≡ Some row → (step : Option OwnedStep) → step_of_run row (step_now row) ≡ step → Q (record now { tables = option_map_or (λ owned. after_restarted row owned (step_now row) initiator checkpoint now.tables) step now.tables }) → Q (behind checkpoint)
   at-step checkpoint Q row e step found it =
       subst (λ (o : Option RunRow). Q (record now { tables = option_map_or (λ row. by_step (λ owned step. after_restarted row owned step initiator checkpoint now.tables) row now.tables) o now.tables })) (sym e)
       (subst (λ (o : Option OwnedStep). Q (record now { tables = option_map_or (λ owned. after_restarted row owned (step_now row) initiator checkpoint now.tables) o now.tables })) (sym found) it)
@@ -229,7 +177,7 @@ module _ (layout : Layout) (now : Office) (job initiator : ℕ) (code : Code) (d
         (points-with now.legs row.number (point_restarted point) row.points point_is (its-points row its.holder.row_at)) pointed
 
     -- the tables behind it are these
-    to-start : (Q : Office → Type 0) → Q office_then → Q (record now { tables = after_restarted row owned (step_now row) initiator false now.tables })
+    pub to-start : (Q : Office → Type 0) → Q office_then → Q (record now { tables = after_restarted row owned (step_now row) initiator false now.tables })
     to-start Q it = subst (λ (o : Option StartPoint). Q (record now { tables = option_map_or (start_change row owned (step_now row) initiator now.tables) o now.tables })) (sym got) it
 
     pub holder-start : IsHolder office_then job row_then leg
@@ -292,7 +240,7 @@ module _ (layout : Layout) (now : Office) (job initiator : ℕ) (code : Code) (d
         back-holds (λ run count. AreStepPoints now.legs run) (AreEntryPoints now.legs) tt (fewer now.legs) now.tables row_back entry.point.marks (output_names row.job.root owned) (names_of row.job.root owned) []
         (its-points row its.holder.row_at) pointed
 
-    to-entry : (Q : Office → Type 0) → Q office_back → Q (record now { tables = after_restarted row owned (step_now row) initiator true now.tables })
+    pub to-entry : (Q : Office → Type 0) → Q office_back → Q (record now { tables = after_restarted row owned (step_now row) initiator true now.tables })
     to-entry Q it =
         subst (λ (o : Option EffectPoint). Q (record now { tables = option_map_or (λ effect. option_map_or (entry_change row owned (step_now row) initiator now.tables effect) (kept_at now.tables.sets effect.set effect.kept.id) now.tables) o now.tables })) (sym got)
         (subst (λ (o : Option KeptEntry). Q (record now { tables = option_map_or (entry_change row owned (step_now row) initiator now.tables effect) o now.tables })) (sym there) it)
