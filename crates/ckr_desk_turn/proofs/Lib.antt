@@ -4,6 +4,7 @@ pub mod StepEnd
 pub mod Select
 pub mod RunEnd
 pub mod Readiness
+pub mod Restart
 pub mod Runs
 pub mod Opening
 pub mod Definitions

@@ -49,9 +49,13 @@ rule_by (Denied rule) = rule
 rule_by Step = A6
 rule_by Checkpoint = A6
 
+-- what the rules say of a run after a code, where the operator doesn't refuse its restart
+abbrev pub verdict_for : Layout → RunRow → Code → Verdict
+verdict_for layout row code = automatic (auto_case row (step_in (place_of row)) layout.eligible.items code false)
+
 -- the rule by which a run isn't restarted after a code
 abbrev pub rule_for : Layout → RunRow → Code → Rule
-rule_for layout row code = rule_by (automatic (auto_case row (step_in (place_of row)) layout.eligible.items code false))
+rule_for layout row code = rule_by (verdict_for layout row code)
 
 -- a turn in which a run has a code
 abbrev pub code_plan : Layout → RunRow → Code → CodePlaceModel → Plan

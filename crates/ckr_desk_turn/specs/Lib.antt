@@ -17,3 +17,4 @@ pub mod CheckSets
 pub mod EntryForms
 pub mod Taken
 pub mod Turns
+pub mod Restarts

@@ -1,5 +1,5 @@
 -- Data sets for checkpoints have records of 256 bytes behind all that a run does to data sets.
-use Rattle.std.proofs.Common.{◌≡◌, ℕ, suc, Bool, true, false, ◌&&◌, ◌||◌, not, List, [], ◌∷◌, Option, Some, None, if◌then◌else◌}
+use Rattle.std.proofs.Common.{◌≡◌, ℕ, suc, Bool, true, false, ◌||◌, not, List, [], ◌∷◌, Option, Some, None, if◌then◌else◌}
 use Rattle.std.specs.Prelude.{◌==◌, nat_le}
 use Rattle.std.specs.List.{AllByRecursion, cons_option, list_all}
 use Rattle.std.specs.Option.{option_map, option_map_or}
@@ -13,7 +13,7 @@ use Rattle.ckr_jcl.specs.declared.deck.After.{After}
 use Rattle.ckr_jcl.specs.declared.deck.After.TheVariants.{Delete, Keep, Pass, Catlg, Uncatlg}
 use Rattle.ckr_jcl.specs.declared.deck.Dd.{Dd}
 use Rattle.ckr_jcl.specs.declared.deck.Role.{Role}
-use Rattle.ckr_jcl.specs.declared.deck.Role.TheVariants.{Reads, Writes, Updates, Checkpoints as ChecksOn, Unused}
+use Rattle.ckr_jcl.specs.declared.deck.Role.TheVariants.{Checkpoints as ChecksOn}
 use Rattle.ckr_jcl.specs.declared.deck.Status.{Status}
 use Rattle.ckr_jcl.specs.declared.deck.Status.TheVariants.{New, Old, Shr, Mod}
 use Rattle.ckr_library.specs.declared.sets.Content.TheVariants.{Checkpoints}

@@ -1,17 +1,15 @@
 -- How a checkpoint of a running step is taken, and that the turn which is planned for one that is due takes it, whatever its RD.
-use Rattle.std.proofs.Common.{◌≡◌, ℕ, zero, suc, Bool, cond, true, false, List, [], ◌∷◌, find, slice_get, refl, ap, sym, ◌∙◌, Option, Some, None}
+use Rattle.std.proofs.Common.{◌≡◌, ℕ, Bool, cond, true, false, List, [], ◌∷◌, find, ap, sym, ◌∙◌, Option, Some, None}
 use Rattle.std.specs.Prelude.{◌==◌, if◌then◌else◌}
-use Rattle.std.specs.Option.{option_map, option_map_or}
-use Rattle.std.proofs.lemmas.Option.{same_Some, slice_get-map}
+use Rattle.std.specs.Option.{option_map_or}
+use Rattle.std.proofs.lemmas.Option.{same_Some}
 use Rattle.ckr_base.specs.declared.programs.NextDue.TheVariants.{Checkpoint}
 use Rattle.ckr_base.proofs.Bools.{bool-cases}
 use Rattle.ckr_base.proofs.Numbers.{equal-itself}
 use Rattle.ckr_base.proofs.Options.{option-cases, some-not-none}
 use Rattle.ckr_events.specs.declared.event.Event.TheVariants.{Cancelled as CancelledEvent}
-use Rattle.ckr_jcl.specs.declared.deck.Job.{Job}
-use Rattle.ckr_jcl.specs.declared.deck.Step.{Step}
 use Rattle.ckr_library.specs.NameMaps.{Name}
-use Rattle.ckr_meaning.specs.EffectiveJob.{Effective, OwnedStep, owned_by, plain_job, step_at}
+use Rattle.ckr_meaning.specs.EffectiveJob.{Effective, OwnedStep, plain_job, step_at}
 use Rattle.ckr_meaning.specs.StepRun.{StepStart}
 use Rattle.ckr_points.specs.Restart.{place_of, step_in}
 use Rattle.ckr_points.specs.RuleCases.{rd_in_effect}

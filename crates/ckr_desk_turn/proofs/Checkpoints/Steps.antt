@@ -1,5 +1,5 @@
 -- What the accepted deck of a running step gives to its checkpoints.
-use Rattle.std.proofs.Common.{◌≡◌, ◌≤◌, ◌-◌, ℕ, suc, true, ◌&&◌, nat_le, ap, sym, ◌∙◌, Some, arith}
+use Rattle.std.proofs.Common.{◌≡◌, ◌≤◌, suc, true, ◌&&◌, nat_le, ap, sym, ◌∙◌, Some, arith}
 use Rattle.ckr_base.specs.Grammar.{is_check_id}
 use Rattle.ckr_base.proofs.Bools.{and-first}
 use Rattle.ckr_base.proofs.Numbers.{nat_le-true}

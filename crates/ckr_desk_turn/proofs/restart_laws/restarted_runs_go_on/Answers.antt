@@ -1,0 +1,14 @@
+use Rattle.std.proofs.Common.{ap, Option, Some, None}
+use Rattle.std.specs.Option.{option_map_or}
+use Rattle.ckr_desk_turn.specs.Desk.{DeskStep}
+use Rattle.ckr_desk_turn.proofs.Restart.Points.{any-without, check-going, check-progress, find-without, starts-again}
+use Rattle.ckr_desk_turn.proofs.restart_laws.restarted_runs_go_on.Goals as goal
+
+pub returns : goal.returns
+returns c = record {
+  unmarked = λ desk job initiator code checkpoint. any-without job desk.failed;
+  stopped = λ desk job initiator code. ap (λ (o : Option DeskStep). option_map_or (λ (step : DeskStep). Some step.progress) o None) (find-without job desk.running);
+  starts = λ desk row initiator code next owned is its. starts-again desk row initiator code is its next owned;
+  going = λ desk row initiator code entry is its there. check-going desk row initiator code is its entry there;
+  progress = λ desk row initiator code entry is its there. check-progress desk row initiator code is its entry there;
+}

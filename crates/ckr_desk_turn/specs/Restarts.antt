@@ -1,0 +1,39 @@
+-- Automatic restarts at a desk: a run with a code and what the rules say of it, and an event that the desk goes on by.
+use Rattle.std.specs.Prelude.{◌≡◌, ℕ, Bool, None, Some}
+use Rattle.ckr_base.specs.declared.code.Code.{Code}
+use Rattle.ckr_events.specs.declared.event.Event.{Event}
+use Rattle.ckr_events.specs.declared.event.Event.TheVariants.{Ended as EndedEvent, Restarted as RestartedEvent}
+use Rattle.ckr_events.specs.declared.event.Ending.TheVariants.{Coded as CodedEnding}
+use Rattle.ckr_meaning.specs.StepRun.{StepStart}
+use Rattle.ckr_points.specs.Rows.{RunRow}
+use Rattle.ckr_rules.specs.RuleTables.{rule_number}
+use Rattle.ckr_rules.specs.declared.cases.Rule.TheVariants.{A6}
+use Rattle.ckr_rules.specs.declared.cases.Verdict.{Verdict}
+use Rattle.ckr_desk_turn.specs.Codes.{reached_by, verdict_for}
+use Rattle.ckr_desk_turn.specs.Desk.{DeskModel, behind, jobs_of}
+use Rattle.ckr_desk_turn.specs.Invariant.{IsDesk}
+use Rattle.ckr_desk_turn.specs.NextEvents.{Comes, IsWithinStep}
+
+-- a run on its initiator within a step, running or marked since the system failed, and what the rules say of it after a code
+pub record IsJudged (desk : DeskModel) (row : RunRow) (initiator : ℕ) (code : Code) (verdict : Verdict) : Type 0 where
+  pub number : ℕ
+  pub committed : ℕ
+  pub start : StepStart
+  pub within : IsWithinStep desk.office row.number row number committed start
+  pub lodged : row.initiator ≡ Some initiator
+  pub judged : verdict_for desk.layout row code ≡ verdict
+
+-- the run is restarted on its initiator, at its checkpoint in effect or at the start of its step
+abbrev pub restart_of : RunRow → ℕ → Code → Bool → Event
+restart_of row initiator code checkpoint = RestartedEvent row.number initiator code checkpoint
+
+-- the operator refuses its restart: it ends with what it has reached
+abbrev pub refusal_of : DeskModel → RunRow → Code → Event
+refusal_of desk row code =
+    let reached = reached_by (jobs_of desk) row in
+    EndedEvent row.number (CodedEnding code (rule_number A6) reached.writes (record { items = reached.lengths }))
+
+-- an event may come and carries what the job gives, and the desk behind it is as its events have brought it about
+pub record GoesOnBy (desk : DeskModel) (event : Event) : Type 0 where
+  pub comes : Comes desk event
+  pub kept : IsDesk (behind event None desk)

@@ -1,0 +1,58 @@
+//! What automatic restarts do to the desk. A law is the contract of a function that does nothing.
+ghost use Rattle.std.specs.Prelude.{◌≡◌, ℕ, Bool, true, false, None, Some};
+ghost use Rattle.std.specs.Option.{is_some};
+ghost use Rattle.ckr_base.specs.declared.code.Code.{Code};
+ghost use Rattle.ckr_events.specs.declared.event.Event.TheVariants.{Restarted as RestartedEvent};
+ghost use Rattle.ckr_meaning.specs.EffectiveJob.{OwnedStep};
+ghost use Rattle.ckr_meaning.specs.declared.place.Place.TheVariants.{Opened, Within};
+ghost use Rattle.ckr_points.specs.Follows.{own_step};
+ghost use Rattle.ckr_points.specs.Marks.{point_at};
+ghost use Rattle.ckr_points.specs.Office.{Leg, leg_of};
+ghost use Rattle.ckr_points.specs.Rows.{KeptEntry, RunRow, StartPoint, run_of};
+ghost use Rattle.ckr_points_invariant.specs.Restorability.{StandsAt};
+ghost use Rattle.ckr_rules.specs.declared.cases.Verdict.TheVariants.{Checkpoint as AtCheckpoint, Step as AtStep};
+ghost use Rattle.ckr_desk_turn.specs.Desk.{DeskModel, at_entry, behind, effect_entry, jobs_of, progress_of};
+ghost use Rattle.ckr_desk_turn.specs.Invariant.{IsDesk, IsGoing};
+ghost use Rattle.ckr_desk_turn.specs.Jobs.{is_failed};
+ghost use Rattle.ckr_desk_turn.specs.Plans.{run_plan, start_plan};
+ghost use Rattle.ckr_desk_turn.specs.Restarts.{GoesOnBy, IsJudged, refusal_of, restart_of};
+
+/// Where the rules restart a run with a code at the start of its step, the event of its restart may come and carries what the job gives, and
+/// the desk behind it is as its events have brought it about. So it is where they restart it at its checkpoint in effect. The run is on an
+/// initiator within its step: its step is running, or it is marked since the system failed.
+pub fn restarts_keep_the_desk()
+    ensures step { (desk : DeskModel) (row : RunRow) (initiator : ℕ) (code : Code) → IsDesk desk → IsJudged desk row initiator code AtStep → GoesOnBy desk (restart_of row initiator code false) }
+    ensures checkpoint { (desk : DeskModel) (row : RunRow) (initiator : ℕ) (code : Code) → IsDesk desk → IsJudged desk row initiator code AtCheckpoint → GoesOnBy desk (restart_of row initiator code true) }
+{}
+
+/// So it is where the operator refuses such a restart, and the run ends with what it has reached.
+pub fn refused_restarts_keep_the_desk()
+    ensures step { (desk : DeskModel) (row : RunRow) (initiator : ℕ) (code : Code) → IsDesk desk → IsJudged desk row initiator code AtStep → GoesOnBy desk (refusal_of desk row code) }
+    ensures checkpoint { (desk : DeskModel) (row : RunRow) (initiator : ℕ) (code : Code) → IsDesk desk → IsJudged desk row initiator code AtCheckpoint → GoesOnBy desk (refusal_of desk row code) }
+{}
+
+/// Behind its restart the run stands at the point. The tables have of the names in its reach, and of its passed list, what its job has
+/// there, and the entries are counted from the point on. So no disposition of the step was processed. There is such a point: that of the
+/// start of the step, or the entry of the checkpoint in effect, which its data set keeps.
+pub fn restarted_runs_stand_at_their_point()
+    ensures begun { (desk : DeskModel) (row : RunRow) (initiator : ℕ) (code : Code) → IsDesk desk → (its : IsJudged desk row initiator code AtStep) → is_some (point_at row.points its.number) ≡ true }
+    ensures step { (desk : DeskModel) (row : RunRow) (initiator : ℕ) (code : Code) (leg : Leg) (point : StartPoint) → IsDesk desk → (its : IsJudged desk row initiator code AtStep) → leg_of desk.office row.number ≡ Some leg → point_at row.points its.number ≡ Some point
+        → StandsAt (behind (restart_of row initiator code false) None desk).office row.number leg (Opened its.number) point.count }
+    ensures entered { (desk : DeskModel) (row : RunRow) (initiator : ℕ) (code : Code) → IsDesk desk → IsJudged desk row initiator code AtCheckpoint → is_some (effect_entry desk.office.tables row) ≡ true }
+    ensures checkpoint { (desk : DeskModel) (row : RunRow) (initiator : ℕ) (code : Code) (leg : Leg) (entry : KeptEntry) → IsDesk desk → (its : IsJudged desk row initiator code AtCheckpoint) → leg_of desk.office row.number ≡ Some leg → effect_entry desk.office.tables row ≡ Some entry
+        → StandsAt (behind (restart_of row initiator code true) None desk).office row.number leg (Within its.number entry.point.writes) entry.point.count }
+{}
+
+/// A run that is restarted isn't marked any more. At the start of its step it has no running step, and its next turn starts the step again.
+/// At its checkpoint its step goes on behind the records taken and the writes that the entry tells, with this checkpoint done.
+pub fn restarted_runs_go_on()
+    ensures unmarked { (desk : DeskModel) (job initiator : ℕ) (code : Code) (checkpoint : Bool) → is_failed (jobs_of (behind (RestartedEvent job initiator code checkpoint) None desk)) job ≡ false }
+    ensures stopped { (desk : DeskModel) (job initiator : ℕ) (code : Code) → progress_of (behind (RestartedEvent job initiator code false) None desk) job ≡ None }
+    ensures starts { (desk : DeskModel) (row : RunRow) (initiator : ℕ) (code : Code) (next : RunRow) (owned : OwnedStep) → IsDesk desk → (its : IsJudged desk row initiator code AtStep)
+        → run_of (behind (restart_of row initiator code false) None desk).office.tables row.number ≡ Some next → own_step row ≡ Some owned
+        → run_plan desk.layout (jobs_of (behind (restart_of row initiator code false) None desk)) None next ≡ start_plan desk.layout (jobs_of (behind (restart_of row initiator code false) None desk)) next owned its.number }
+    ensures going { (desk : DeskModel) (row : RunRow) (initiator : ℕ) (code : Code) (entry : KeptEntry) → IsDesk desk → IsJudged desk row initiator code AtCheckpoint → effect_entry desk.office.tables row ≡ Some entry
+        → IsGoing (behind (restart_of row initiator code true) None desk).office (at_entry row.number entry.point) }
+    ensures progress { (desk : DeskModel) (row : RunRow) (initiator : ℕ) (code : Code) (entry : KeptEntry) → IsDesk desk → IsJudged desk row initiator code AtCheckpoint → effect_entry desk.office.tables row ≡ Some entry
+        → progress_of (behind (restart_of row initiator code true) None desk) row.number ≡ Some (at_entry row.number entry.point).progress }
+{}
