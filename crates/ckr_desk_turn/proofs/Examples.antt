@@ -5,3 +5,4 @@ pub mod Tables
 pub mod Desks
 pub mod Turns
 pub mod Checkpoints
+pub mod Restarts

@@ -242,3 +242,13 @@ checkpointed =
     codes "//SYSUT2 DD DSN=OUT.K,DISP=(NEW,CATLG,CATLG),SPACE=(80,100)" ∷
     codes "//CHKDD DD DSN=CHK.K,DISP=(NEW,CATLG,CATLG),SPACE=(256,20)" ∷
     []
+
+-- the same under this RD
+abbrev pub under : List ℕ → List (List ℕ)
+under rd =
+    codes "//K JOB" ∷
+    (codes "//S1 EXEC PGM=COPY,RD=" ++ (rd ++ codes ",PARM='CHK=20'")) ∷
+    codes "//SYSUT1 DD DSN=IN.A,DISP=SHR" ∷
+    codes "//SYSUT2 DD DSN=OUT.K,DISP=(NEW,CATLG,CATLG),SPACE=(80,100)" ∷
+    codes "//CHKDD DD DSN=CHK.K,DISP=(NEW,CATLG,CATLG),SPACE=(256,20)" ∷
+    []

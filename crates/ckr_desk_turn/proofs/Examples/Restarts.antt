@@ -1,0 +1,228 @@
+-- Runs that are restarted: what the rules say, the desk behind the restart, and the replies of the turns behind it.
+use Rattle.std.specs.Prelude.{◌≡◌, ℕ, zero, suc, Bool, true, false, ◌&&◌, List, [], ◌∷◌, ◌++◌, codes, Option, None, Some, refl}
+use Rattle.std.specs.Option.{option_map, option_map_or}
+use Rattle.ckr_base.specs.declared.code.Code.{Code}
+use Rattle.ckr_base.specs.declared.code.Code.TheVariants.{System}
+use Rattle.ckr_events.specs.declared.event.Event.TheVariants.{Checkpointed, Restarted}
+use Rattle.ckr_jcl_decks.proofs.Definitions.{decks_open}
+use Rattle.ckr_library.specs.NameMaps.{Name}
+use Rattle.ckr_meaning.proofs.Definitions.{jobs_open}
+use Rattle.ckr_meaning.specs.declared.place.Place.{Place}
+use Rattle.ckr_meaning.specs.declared.place.Place.TheVariants.{Opened, Within}
+use Rattle.ckr_points.specs.Payload.{carries}
+use Rattle.ckr_points.specs.Restart.{Decked}
+use Rattle.ckr_points.specs.Rows.{run_of}
+use Rattle.ckr_points.specs.Soundness.{may_come}
+use Rattle.ckr_rules.specs.declared.cases.Rule.TheVariants.{A1, A5}
+use Rattle.ckr_rules.specs.declared.cases.Verdict.{Verdict}
+use Rattle.ckr_rules.specs.declared.cases.Verdict.TheVariants.{Step, Checkpoint, Denied}
+use Rattle.ckr_desk_turn.specs.declared.reply.Chkpt.TheVariants.{Done, Suppressed}
+use Rattle.ckr_desk_turn.specs.declared.reply.How.TheVariants.{Completed}
+use Rattle.ckr_desk_turn.specs.declared.reply.Reply.{Reply}
+use Rattle.ckr_desk_turn.specs.declared.reply.Reply.TheVariants.{Idle, Selected, Started, Worked, Checkpointed as CheckpointedReply, Cancelled, StepEnded, JobEnded}
+use Rattle.ckr_desk_turn.specs.Codes.{verdict_for}
+use Rattle.ckr_desk_turn.specs.Desk.{DeskModel, behind as behind_event}
+use Rattle.ckr_desk_turn.specs.EntryStates.{checkpoint_state}
+use Rattle.ckr_desk_turn.specs.Units.{StepProgress}
+use Rattle.ckr_desk_turn.proofs.Definitions.{turns_open}
+use Rattle.ckr_desk_turn.proofs.Examples.Decks.{counting, deck, sixty, under}
+use Rattle.ckr_desk_turn.proofs.Examples.Desks.{behind, fresh, line, listing, reopened, replies, with_deck}
+use Rattle.ckr_desk_turn.proofs.Examples.Tables.{ended, in_one, selected, started, step_ended, submitted}
+
+-- ---- the desk behind events
+
+abbrev behind_all : List Decked → DeskModel → DeskModel
+behind_all [] desk = desk
+behind_all (event ∷ events) desk = behind_all events (behind_event event.0 event.1 desk)
+
+abbrev comes : Decked → DeskModel → Bool
+comes event desk = may_come desk.layout desk.office event && carries desk.layout desk.office event.0 event.1
+
+abbrev all_come : List Decked → DeskModel → Bool
+all_come [] desk = true
+all_come (event ∷ events) desk = comes event desk && all_come events (behind_event event.0 event.1 desk)
+
+-- what the rules say of a run after a code
+abbrev judged : ℕ → Code → DeskModel → Option Verdict
+judged job code desk = option_map (λ row. verdict_for desk.layout row code) (run_of desk.office.tables job)
+
+abbrev place_now : ℕ → DeskModel → Option Place
+place_now job desk = option_map_or (λ row. row.place) (run_of desk.office.tables job) None
+
+-- a run on the first initiator is restarted
+abbrev restart : ℕ → Code → Bool → Decked
+restart job code checkpoint = (Restarted job 1 code checkpoint, None)
+
+abbrev restarted : ℕ → Code → Bool → DeskModel → DeskModel
+restarted job code checkpoint desk = behind_all (restart job code checkpoint ∷ []) desk
+
+-- an abend with S001, and the system failure
+abbrev abended : Code
+abended = System 1
+
+abbrev failed : Code
+failed = System 755
+
+abbrev on_s1 : ℕ → Reply
+on_s1 taken = Worked 1 (codes "S1") taken
+
+-- ---- RD=RNC: at the start of the step
+
+-- its checkpoints are suppressed
+abbrev suppressing : DeskModel
+suppressing = with_deck (deck (counting (codes "RNC") (codes "CHK=2"))) fresh
+
+abbrev suppressed : Reply
+suppressed = CheckpointedReply 1 (codes "S1") Suppressed None
+
+suppressing_replies : replies 6 suppressing ≡ Selected 1 ∷ Started 1 (codes "S1") ∷ on_s1 1 ∷ on_s1 2 ∷ suppressed ∷ on_s1 3 ∷ []
+unfolding decks_open jobs_open turns_open
+suppressing_replies = refl
+
+suppressing_judged : judged 1 abended (behind 6 suppressing) ≡ Some Step
+unfolding decks_open jobs_open turns_open
+suppressing_judged = refl
+
+suppressing_comes : comes (restart 1 abended false) (behind 6 suppressing) ≡ true
+unfolding decks_open jobs_open turns_open
+suppressing_comes = refl
+
+-- what the step has made doesn't exist then, and no step is running
+abbrev from_start : DeskModel
+from_start = restarted 1 abended false (behind 6 suppressing)
+
+start_listed : listing from_start ≡ []
+unfolding decks_open jobs_open turns_open
+start_listed = refl
+
+start_running : from_start.running ≡ []
+unfolding decks_open jobs_open turns_open
+start_running = refl
+
+start_place : place_now 1 from_start ≡ Some (Opened 1)
+unfolding decks_open jobs_open turns_open
+start_place = refl
+
+-- it starts again, and ends as it does with no failure
+started_again : replies 10 from_start
+    ≡ Started 1 (codes "S1") ∷ on_s1 1 ∷ on_s1 2 ∷ suppressed ∷ on_s1 3 ∷ on_s1 4 ∷ suppressed ∷ on_s1 4 ∷ StepEnded 1 (codes "S1") 0 ∷ JobEnded 1 Completed ∷ []
+unfolding decks_open jobs_open turns_open
+started_again = refl
+
+again_listed : listing (behind 10 from_start)
+    ≡ line (codes "CHK.A") 0 true 256 0 4 (1, 1, 0) ∷ line (codes "OUT.A") 0 true 80 4 10 (1, 1, 0) ∷ []
+unfolding decks_open jobs_open turns_open
+again_listed = refl
+
+-- ---- RD=R, behind the cancel of restarts: at the start of the step
+
+abbrev cancelling : DeskModel
+cancelling = with_deck (deck (counting (codes "R") (codes "CHK=2,CANCEL=3"))) fresh
+
+abbrev written : List ℕ → Reply
+written id = CheckpointedReply 1 (codes "S1") Done (Some id)
+
+cancelling_replies : replies 7 cancelling
+    ≡ Selected 1 ∷ Started 1 (codes "S1") ∷ on_s1 1 ∷ on_s1 2 ∷ written (codes "C0000001") ∷ on_s1 3 ∷ Cancelled 1 (codes "S1") ∷ []
+unfolding decks_open jobs_open turns_open checkpoint_state
+cancelling_replies = refl
+
+cancelling_judged : judged 1 abended (behind 7 cancelling) ≡ Some Step
+unfolding decks_open jobs_open turns_open checkpoint_state
+cancelling_judged = refl
+
+-- neither data set exists then
+cancelling_listed : listing (restarted 1 abended false (behind 7 cancelling)) ≡ []
+unfolding decks_open jobs_open turns_open checkpoint_state
+cancelling_listed = refl
+
+-- the entries count from the start of the step
+cancelling_again : replies 4 (restarted 1 abended false (behind 7 cancelling)) ≡ Started 1 (codes "S1") ∷ on_s1 1 ∷ on_s1 2 ∷ written (codes "C0000001") ∷ []
+unfolding decks_open jobs_open turns_open checkpoint_state
+cancelling_again = refl
+
+-- ---- RD=R: at the second of three checkpoints
+
+abbrev entry_written : Name → ℕ → ℕ → ℕ → Decked
+entry_written id taken entries place = (Checkpointed 2 id taken taken (record { items = taken ∷ entries ∷ [] }) place 143, None)
+
+-- COPY of 60 records under this RD, behind the entries at 20 and at 40
+abbrev to_second : List ℕ → List Decked
+to_second rd =
+    submitted 1 (deck sixty) ∷ selected 1 ∷ started 1 1 (in_one 2 0 0 100 ∷ []) ∷ step_ended 1 1 0 60 (60 ∷ []) ∷ ended 1
+    ∷ submitted 2 (deck (under rd)) ∷ selected 2 ∷ started 2 1 (in_one 2 0 8000 100 ∷ in_one 3 0 16000 20 ∷ [])
+    ∷ entry_written (codes "C0000001") 20 1 0 ∷ entry_written (codes "C0000002") 40 2 1 ∷ []
+
+abbrev at_second : List ℕ → DeskModel
+at_second rd = behind_all (to_second rd) fresh
+
+second_comes : all_come (to_second (codes "R")) fresh ≡ true
+unfolding decks_open jobs_open turns_open
+second_comes = refl
+
+second_judged : judged 2 abended (at_second (codes "R")) ≡ Some Checkpoint
+unfolding decks_open jobs_open turns_open
+second_judged = refl
+
+second_restarts : comes (restart 2 abended true) (at_second (codes "R")) ≡ true
+unfolding decks_open jobs_open turns_open
+second_restarts = refl
+
+-- the step goes on behind 40 records, with its checkpoint done
+abbrev at_forty : StepProgress
+at_forty = record { taken = 40; writes = 40; checkpointed = true; cancelled = false; closed = false }
+
+abbrev from_second : DeskModel
+from_second = restarted 2 abended true (at_second (codes "R"))
+
+second_running : from_second.running ≡ record { run = 2; progress = at_forty } ∷ []
+unfolding decks_open jobs_open turns_open
+second_running = refl
+
+second_place : place_now 2 from_second ≡ Some (Within 1 40)
+unfolding decks_open jobs_open turns_open
+second_place = refl
+
+second_listed : listing from_second
+    ≡ line (codes "CHK.K") 0 false 256 2 20 (2, 1, 0) ∷ line (codes "IN.A") 0 true 80 60 100 (1, 1, 0) ∷ line (codes "OUT.K") 0 false 80 40 100 (2, 1, 0) ∷ []
+unfolding decks_open jobs_open turns_open
+second_listed = refl
+
+-- the next record is the forty-first, and the third entry is written at the sixtieth
+abbrev worked_from : ℕ → ℕ → List Reply
+worked_from taken zero = []
+worked_from taken (suc count) = Worked 2 (codes "S1") (suc taken) ∷ worked_from (suc taken) count
+
+second_replies : replies 25 from_second
+    ≡ worked_from 40 20 ++ CheckpointedReply 2 (codes "S1") Done (Some (codes "C0000003")) ∷ Worked 2 (codes "S1") 60 ∷ StepEnded 2 (codes "S1") 0 ∷ JobEnded 2 Completed ∷ Idle ∷ []
+unfolding decks_open jobs_open turns_open checkpoint_state
+second_replies = refl
+
+-- all is there then as without the restart
+second_left : listing (behind 25 from_second)
+    ≡ line (codes "CHK.K") 0 true 256 3 20 (2, 1, 0) ∷ line (codes "IN.A") 0 true 80 60 100 (1, 1, 0) ∷ line (codes "OUT.K") 0 true 80 60 100 (2, 1, 0) ∷ []
+unfolding decks_open jobs_open turns_open checkpoint_state
+second_left = refl
+
+-- so it is where the system fails: the run is marked, and isn't any more behind its restart
+marked : (reopened (at_second (codes "R"))).failed ≡ 2 ∷ []
+unfolding decks_open jobs_open turns_open
+marked = refl
+
+unmarked : (restarted 2 failed true (reopened (at_second (codes "R")))).failed ≡ []
+unfolding decks_open jobs_open turns_open
+unmarked = refl
+
+unmarked_running : (restarted 2 failed true (reopened (at_second (codes "R")))).running ≡ record { run = 2; progress = at_forty } ∷ []
+unfolding decks_open jobs_open turns_open
+unmarked_running = refl
+
+-- the fourth restart at a checkpoint is denied
+restarted_thrice : judged 2 abended (behind_all (restart 2 abended true ∷ restart 2 abended true ∷ restart 2 abended true ∷ []) (at_second (codes "R"))) ≡ Some (Denied A5)
+unfolding decks_open jobs_open turns_open
+restarted_thrice = refl
+
+-- RD=NR forbids it
+not_restarted : judged 2 abended (at_second (codes "NR")) ≡ Some (Denied A1)
+unfolding decks_open jobs_open turns_open
+not_restarted = refl
