@@ -1,17 +1,21 @@
-//! What automatic restarts do to the desk. A law is the contract of a function that does nothing.
+//! What automatic restarts do to the desk, and the holds of runs that wait for them. A law is the contract of a function that does nothing.
 ghost use Rattle.std.specs.Prelude.{◌≡◌, ℕ, Bool, true, false, None, Some};
 ghost use Rattle.std.specs.Option.{is_some};
+ghost use Rattle.arrayvec.specs.ArrayVec.{ArrayVec};
 ghost use Rattle.ckr_base.specs.declared.code.Code.{Code};
-ghost use Rattle.ckr_events.specs.declared.event.Event.TheVariants.{Restarted as RestartedEvent};
+ghost use Rattle.ckr_base.specs.declared.programs.NextDue.TheVariants.{Checkpoint as CheckpointDue};
+ghost use Rattle.ckr_events.specs.declared.event.Event.TheVariants.{Held as HeldEvent, Restarted as RestartedEvent};
 ghost use Rattle.ckr_meaning.specs.EffectiveJob.{OwnedStep};
+ghost use Rattle.ckr_meaning.specs.StepRun.{StepStart};
 ghost use Rattle.ckr_meaning.specs.declared.place.Place.TheVariants.{Opened, Within};
 ghost use Rattle.ckr_points.specs.Follows.{own_step};
 ghost use Rattle.ckr_points.specs.Marks.{point_at};
 ghost use Rattle.ckr_points.specs.Office.{Leg, leg_of};
-ghost use Rattle.ckr_points.specs.Rows.{KeptEntry, RunRow, StartPoint, run_of};
+ghost use Rattle.ckr_points.specs.Rows.{EntryPoint, KeptEntry, RunRow, StartPoint, run_of};
 ghost use Rattle.ckr_points_invariant.specs.Restorability.{StandsAt};
 ghost use Rattle.ckr_rules.specs.declared.cases.Verdict.TheVariants.{Checkpoint as AtCheckpoint, Step as AtStep};
 ghost use Rattle.ckr_desk_turn.specs.Desk.{DeskModel, at_entry, behind, effect_entry, jobs_of, progress_of};
+ghost use Rattle.ckr_desk_turn.specs.Due.{next_due};
 ghost use Rattle.ckr_desk_turn.specs.Invariant.{IsDesk, IsGoing};
 ghost use Rattle.ckr_desk_turn.specs.Jobs.{is_failed};
 ghost use Rattle.ckr_desk_turn.specs.Plans.{run_plan, start_plan};
@@ -44,7 +48,7 @@ pub fn restarted_runs_stand_at_their_point()
 {}
 
 /// A run that is restarted isn't marked any more. At the start of its step it has no running step, and its next turn starts the step again.
-/// At its checkpoint its step goes on behind the records taken and the writes that the entry tells, with this checkpoint done.
+/// At its checkpoint its step goes on behind the records taken and the writes that the entry tells, and this checkpoint isn't due once more.
 pub fn restarted_runs_go_on()
     ensures unmarked { (desk : DeskModel) (job initiator : ℕ) (code : Code) (checkpoint : Bool) → is_failed (jobs_of (behind (RestartedEvent job initiator code checkpoint) None desk)) job ≡ false }
     ensures stopped { (desk : DeskModel) (job initiator : ℕ) (code : Code) → progress_of (behind (RestartedEvent job initiator code false) None desk) job ≡ None }
@@ -55,4 +59,11 @@ pub fn restarted_runs_go_on()
         → IsGoing (behind (restart_of row initiator code true) None desk).office (at_entry row.number entry.point) }
     ensures progress { (desk : DeskModel) (row : RunRow) (initiator : ℕ) (code : Code) (entry : KeptEntry) → IsDesk desk → IsJudged desk row initiator code AtCheckpoint → effect_entry desk.office.tables row ≡ Some entry
         → progress_of (behind (restart_of row initiator code true) None desk) row.number ≡ Some (at_entry row.number entry.point).progress }
+    ensures served { (start : StepStart) (job : ℕ) (point : EntryPoint) → next_due start (at_entry job point).progress ≡ CheckpointDue → ⊥ }
+{}
+
+/// A run that is held has no running step any more, and isn't marked.
+pub fn held_runs_stop()
+    ensures stopped { (desk : DeskModel) (job writes : ℕ) (code : Code) (lengths : ArrayVec ℕ) → progress_of (behind (HeldEvent job code writes lengths) None desk) job ≡ None }
+    ensures unmarked { (desk : DeskModel) (job writes : ℕ) (code : Code) (lengths : ArrayVec ℕ) → is_failed (jobs_of (behind (HeldEvent job code writes lengths) None desk)) job ≡ false }
 {}

@@ -1,6 +1,8 @@
-use Rattle.std.proofs.Common.{ap, Option, Some, None}
+use Rattle.std.proofs.Common.{ap, sym, Option, Some, None}
 use Rattle.std.specs.Option.{option_map_or}
-use Rattle.ckr_desk_turn.specs.Desk.{DeskStep}
+use Rattle.std.proofs.lemmas.Bool.{false≢true}
+use Rattle.ckr_desk_turn.specs.Desk.{DeskStep, at_entry}
+use Rattle.ckr_desk_turn.proofs.Checkpoints.Due.{checkpoint-only}
 use Rattle.ckr_desk_turn.proofs.Restart.Points.{any-without, check-going, check-progress, find-without, starts-again}
 use Rattle.ckr_desk_turn.proofs.restart_laws.restarted_runs_go_on.Goals as goal
 
@@ -11,4 +13,5 @@ returns c = record {
   starts = λ desk row initiator code next owned is its. starts-again desk row initiator code is its next owned;
   going = λ desk row initiator code entry is its there. check-going desk row initiator code is its entry there;
   progress = λ desk row initiator code entry is its there. check-progress desk row initiator code is its entry there;
+  served = λ start job point e. false≢true (sym (checkpoint-only start (at_entry job point).progress e).undone);
 }
