@@ -1,5 +1,5 @@
 pub mod Events
 pub mod Steps
 pub mod Checkpoints
-pub mod Refusals
 pub mod Points
+pub mod Desks

@@ -103,7 +103,7 @@ abbrev pub running_again : TablesModel → ℕ → List DeskStep → List DeskSt
 running_again tables run running =
     option_map_or (λ entry. at_entry run entry.point ∷ without_run run running) (option_map_or (effect_entry tables) (run_of tables run) None) (without_run run running)
 
--- a step is running from its start, or from the checkpoint at which its run is restarted, to its end, to that of its run, or until its run is held or restarted
+-- a step is running from its start, or from a checkpoint at which its run is restarted, until it ends, or its run ends, is held or restarted
 abbrev pub running_behind : TablesModel → Event → List DeskStep → List DeskStep
 running_behind tables (Started job step items) running = at_first job ∷ without_run job running
 running_behind tables (Cancelled job) running = with_change job cancel_done running
@@ -114,6 +114,7 @@ running_behind tables (Held job code writes lengths) running = without_run job r
 running_behind tables (Ended job ending) running = without_run job running
 running_behind tables _ running = running
 
+-- the marked runs but this one
 abbrev pub without_mark : ℕ → List ℕ → List ℕ
 without_mark run failed = filter (λ number. not (number == run)) failed
 

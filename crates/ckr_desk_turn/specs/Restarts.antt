@@ -5,23 +5,25 @@ use Rattle.ckr_events.specs.declared.event.Event.{Event}
 use Rattle.ckr_events.specs.declared.event.Event.TheVariants.{Ended as EndedEvent, Restarted as RestartedEvent}
 use Rattle.ckr_events.specs.declared.event.Ending.TheVariants.{Coded as CodedEnding}
 use Rattle.ckr_meaning.specs.StepRun.{StepStart}
+use Rattle.ckr_points.specs.Office.{Office}
 use Rattle.ckr_points.specs.Rows.{RunRow}
 use Rattle.ckr_rules.specs.RuleTables.{rule_number}
 use Rattle.ckr_rules.specs.declared.cases.Rule.TheVariants.{A6}
 use Rattle.ckr_rules.specs.declared.cases.Verdict.{Verdict}
+use Rattle.ckr_volumes.specs.declared.layout.Layout.{Layout}
 use Rattle.ckr_desk_turn.specs.Codes.{reached_by, verdict_for}
 use Rattle.ckr_desk_turn.specs.Desk.{DeskModel, behind, jobs_of}
 use Rattle.ckr_desk_turn.specs.Invariant.{IsDesk}
 use Rattle.ckr_desk_turn.specs.NextEvents.{Comes, IsWithinStep}
 
 -- a run on its initiator within a step, running or marked since the system failed, and what the rules say of it after a code
-pub record IsJudged (desk : DeskModel) (row : RunRow) (initiator : ℕ) (code : Code) (verdict : Verdict) : Type 0 where
+pub record IsJudged (layout : Layout) (office : Office) (row : RunRow) (initiator : ℕ) (code : Code) (verdict : Verdict) : Type 0 where
   pub number : ℕ
   pub committed : ℕ
   pub start : StepStart
-  pub within : IsWithinStep desk.office row.number row number committed start
+  pub within : IsWithinStep office row.number row number committed start
   pub lodged : row.initiator ≡ Some initiator
-  pub judged : verdict_for desk.layout row code ≡ verdict
+  pub judged : verdict_for layout row code ≡ verdict
 
 -- the run is restarted on its initiator, at its checkpoint in effect or at the start of its step
 abbrev pub restart_of : RunRow → ℕ → Code → Bool → Event

@@ -35,8 +35,8 @@ pub use plan::Plan;
 pub use queue_law::the_queue_selects_the_next_run;
 pub use reply::{Chkpt, How, Reply, Submitted, Turn};
 pub use restart_laws::{
-    held_runs_stop, refused_restarts_keep_the_desk, restarted_runs_go_on,
-    restarted_runs_stand_at_their_point, restarts_keep_the_desk,
+    events_of_restarts_may_come, held_runs_stop, refused_restarts_keep_the_desk,
+    restarted_runs_go_on, restarted_runs_stand_at_their_point, restarts_keep_the_desk,
 };
 pub use step_laws::{
     next_units_keep_the_desk, turns_within_a_step_keep_the_desk, units_keep_the_desk,

@@ -8,12 +8,17 @@ ghost use Rattle.ckr_events.specs.declared.event.Event.TheVariants.{Held as Held
 ghost use Rattle.ckr_meaning.specs.EffectiveJob.{OwnedStep};
 ghost use Rattle.ckr_meaning.specs.StepRun.{StepStart};
 ghost use Rattle.ckr_meaning.specs.declared.place.Place.TheVariants.{Opened, Within};
+ghost use Rattle.ckr_points.specs.Events.{IsNext};
 ghost use Rattle.ckr_points.specs.Follows.{own_step};
 ghost use Rattle.ckr_points.specs.Marks.{point_at};
-ghost use Rattle.ckr_points.specs.Office.{Leg, leg_of};
+ghost use Rattle.ckr_points.specs.Office.{Leg, Office, leg_of, office_after};
 ghost use Rattle.ckr_points.specs.Rows.{EntryPoint, KeptEntry, RunRow, StartPoint, run_of};
+ghost use Rattle.ckr_points_invariant.specs.Invariant.{IsKept};
+ghost use Rattle.ckr_points_invariant.specs.Points.{ArePointed};
+ghost use Rattle.ckr_points_invariant.specs.Readiness.{AreReady};
 ghost use Rattle.ckr_points_invariant.specs.Restorability.{StandsAt};
 ghost use Rattle.ckr_rules.specs.declared.cases.Verdict.TheVariants.{Checkpoint as AtCheckpoint, Step as AtStep};
+ghost use Rattle.ckr_volumes.specs.declared.layout.Layout.{Layout as LayoutOfDisk};
 ghost use Rattle.ckr_desk_turn.specs.Desk.{DeskModel, at_entry, behind, effect_entry, jobs_of, progress_of};
 ghost use Rattle.ckr_desk_turn.specs.Due.{next_due};
 ghost use Rattle.ckr_desk_turn.specs.Invariant.{IsDesk, IsGoing};
@@ -21,30 +26,36 @@ ghost use Rattle.ckr_desk_turn.specs.Jobs.{is_failed};
 ghost use Rattle.ckr_desk_turn.specs.Plans.{run_plan, start_plan};
 ghost use Rattle.ckr_desk_turn.specs.Restarts.{GoesOnBy, IsJudged, refusal_of, restart_of};
 
-/// Where the rules restart a run with a code at the start of its step, the event of its restart may come and carries what the job gives, and
-/// the desk behind it is as its events have brought it about. So it is where they restart it at its checkpoint in effect. The run is on an
-/// initiator within its step: its step is running, or it is marked since the system failed.
+/// Where the rules restart a run with a code, the event of its restart may come and carries what the job gives: at the start of its step, or
+/// at its checkpoint in effect. The run is on an initiator within its step: its step is running, or it is marked since the system failed.
+/// This is so over any events that are kept and ready for restarts, whatever the form of the decks.
+pub fn events_of_restarts_may_come()
+    ensures step { (layout : LayoutOfDisk) (office : Office) (row : RunRow) (initiator : ℕ) (code : Code) → IsKept layout office → ArePointed office → AreReady office → IsJudged layout office row initiator code AtStep → IsNext layout office (restart_of row initiator code false, None) }
+    ensures checkpoint { (layout : LayoutOfDisk) (office : Office) (row : RunRow) (initiator : ℕ) (code : Code) → IsKept layout office → ArePointed office → AreReady office → IsJudged layout office row initiator code AtCheckpoint → IsNext layout office (restart_of row initiator code true, None) }
+{}
+
+/// The desk behind it is as its events have brought it about.
 pub fn restarts_keep_the_desk()
-    ensures step { (desk : DeskModel) (row : RunRow) (initiator : ℕ) (code : Code) → IsDesk desk → IsJudged desk row initiator code AtStep → GoesOnBy desk (restart_of row initiator code false) }
-    ensures checkpoint { (desk : DeskModel) (row : RunRow) (initiator : ℕ) (code : Code) → IsDesk desk → IsJudged desk row initiator code AtCheckpoint → GoesOnBy desk (restart_of row initiator code true) }
+    ensures step { (desk : DeskModel) (row : RunRow) (initiator : ℕ) (code : Code) → IsDesk desk → IsJudged desk.layout desk.office row initiator code AtStep → GoesOnBy desk (restart_of row initiator code false) }
+    ensures checkpoint { (desk : DeskModel) (row : RunRow) (initiator : ℕ) (code : Code) → IsDesk desk → IsJudged desk.layout desk.office row initiator code AtCheckpoint → GoesOnBy desk (restart_of row initiator code true) }
 {}
 
 /// So it is where the operator refuses such a restart, and the run ends with what it has reached.
 pub fn refused_restarts_keep_the_desk()
-    ensures step { (desk : DeskModel) (row : RunRow) (initiator : ℕ) (code : Code) → IsDesk desk → IsJudged desk row initiator code AtStep → GoesOnBy desk (refusal_of desk row code) }
-    ensures checkpoint { (desk : DeskModel) (row : RunRow) (initiator : ℕ) (code : Code) → IsDesk desk → IsJudged desk row initiator code AtCheckpoint → GoesOnBy desk (refusal_of desk row code) }
+    ensures step { (desk : DeskModel) (row : RunRow) (initiator : ℕ) (code : Code) → IsDesk desk → IsJudged desk.layout desk.office row initiator code AtStep → GoesOnBy desk (refusal_of desk row code) }
+    ensures checkpoint { (desk : DeskModel) (row : RunRow) (initiator : ℕ) (code : Code) → IsDesk desk → IsJudged desk.layout desk.office row initiator code AtCheckpoint → GoesOnBy desk (refusal_of desk row code) }
 {}
 
 /// Behind its restart the run stands at the point. The tables have of the names in its reach, and of its passed list, what its job has
 /// there, and the entries are counted from the point on. So no disposition of the step was processed. There is such a point: that of the
 /// start of the step, or the entry of the checkpoint in effect, which its data set keeps.
 pub fn restarted_runs_stand_at_their_point()
-    ensures begun { (desk : DeskModel) (row : RunRow) (initiator : ℕ) (code : Code) → IsDesk desk → (its : IsJudged desk row initiator code AtStep) → is_some (point_at row.points its.number) ≡ true }
-    ensures step { (desk : DeskModel) (row : RunRow) (initiator : ℕ) (code : Code) (leg : Leg) (point : StartPoint) → IsDesk desk → (its : IsJudged desk row initiator code AtStep) → leg_of desk.office row.number ≡ Some leg → point_at row.points its.number ≡ Some point
-        → StandsAt (behind (restart_of row initiator code false) None desk).office row.number leg (Opened its.number) point.count }
-    ensures entered { (desk : DeskModel) (row : RunRow) (initiator : ℕ) (code : Code) → IsDesk desk → IsJudged desk row initiator code AtCheckpoint → is_some (effect_entry desk.office.tables row) ≡ true }
-    ensures checkpoint { (desk : DeskModel) (row : RunRow) (initiator : ℕ) (code : Code) (leg : Leg) (entry : KeptEntry) → IsDesk desk → (its : IsJudged desk row initiator code AtCheckpoint) → leg_of desk.office row.number ≡ Some leg → effect_entry desk.office.tables row ≡ Some entry
-        → StandsAt (behind (restart_of row initiator code true) None desk).office row.number leg (Within its.number entry.point.writes) entry.point.count }
+    ensures begun { (layout : LayoutOfDisk) (office : Office) (row : RunRow) (initiator : ℕ) (code : Code) → IsKept layout office → ArePointed office → AreReady office → (its : IsJudged layout office row initiator code AtStep) → is_some (point_at row.points its.number) ≡ true }
+    ensures step { (layout : LayoutOfDisk) (office : Office) (row : RunRow) (initiator : ℕ) (code : Code) (leg : Leg) (point : StartPoint) → IsKept layout office → ArePointed office → AreReady office → (its : IsJudged layout office row initiator code AtStep)
+        → leg_of office row.number ≡ Some leg → point_at row.points its.number ≡ Some point → StandsAt (office_after (restart_of row initiator code false, None) office) row.number leg (Opened its.number) point.count }
+    ensures entered { (layout : LayoutOfDisk) (office : Office) (row : RunRow) (initiator : ℕ) (code : Code) → IsKept layout office → ArePointed office → AreReady office → IsJudged layout office row initiator code AtCheckpoint → is_some (effect_entry office.tables row) ≡ true }
+    ensures checkpoint { (layout : LayoutOfDisk) (office : Office) (row : RunRow) (initiator : ℕ) (code : Code) (leg : Leg) (entry : KeptEntry) → IsKept layout office → ArePointed office → AreReady office → (its : IsJudged layout office row initiator code AtCheckpoint)
+        → leg_of office row.number ≡ Some leg → effect_entry office.tables row ≡ Some entry → StandsAt (office_after (restart_of row initiator code true, None) office) row.number leg (Within its.number entry.point.writes) entry.point.count }
 {}
 
 /// A run that is restarted isn't marked any more. At the start of its step it has no running step, and its next turn starts the step again.
@@ -52,12 +63,12 @@ pub fn restarted_runs_stand_at_their_point()
 pub fn restarted_runs_go_on()
     ensures unmarked { (desk : DeskModel) (job initiator : ℕ) (code : Code) (checkpoint : Bool) → is_failed (jobs_of (behind (RestartedEvent job initiator code checkpoint) None desk)) job ≡ false }
     ensures stopped { (desk : DeskModel) (job initiator : ℕ) (code : Code) → progress_of (behind (RestartedEvent job initiator code false) None desk) job ≡ None }
-    ensures starts { (desk : DeskModel) (row : RunRow) (initiator : ℕ) (code : Code) (next : RunRow) (owned : OwnedStep) → IsDesk desk → (its : IsJudged desk row initiator code AtStep)
+    ensures starts { (desk : DeskModel) (row : RunRow) (initiator : ℕ) (code : Code) (next : RunRow) (owned : OwnedStep) → IsKept desk.layout desk.office → ArePointed desk.office → AreReady desk.office → (its : IsJudged desk.layout desk.office row initiator code AtStep)
         → run_of (behind (restart_of row initiator code false) None desk).office.tables row.number ≡ Some next → own_step row ≡ Some owned
         → run_plan desk.layout (jobs_of (behind (restart_of row initiator code false) None desk)) None next ≡ start_plan desk.layout (jobs_of (behind (restart_of row initiator code false) None desk)) next owned its.number }
-    ensures going { (desk : DeskModel) (row : RunRow) (initiator : ℕ) (code : Code) (entry : KeptEntry) → IsDesk desk → IsJudged desk row initiator code AtCheckpoint → effect_entry desk.office.tables row ≡ Some entry
-        → IsGoing (behind (restart_of row initiator code true) None desk).office (at_entry row.number entry.point) }
-    ensures progress { (desk : DeskModel) (row : RunRow) (initiator : ℕ) (code : Code) (entry : KeptEntry) → IsDesk desk → IsJudged desk row initiator code AtCheckpoint → effect_entry desk.office.tables row ≡ Some entry
+    ensures going { (layout : LayoutOfDisk) (office : Office) (row : RunRow) (initiator : ℕ) (code : Code) (entry : KeptEntry) → IsKept layout office → ArePointed office → AreReady office → IsJudged layout office row initiator code AtCheckpoint → effect_entry office.tables row ≡ Some entry
+        → IsGoing (office_after (restart_of row initiator code true, None) office) (at_entry row.number entry.point) }
+    ensures progress { (desk : DeskModel) (row : RunRow) (initiator : ℕ) (code : Code) (entry : KeptEntry) → run_of desk.office.tables row.number ≡ Some row → effect_entry desk.office.tables row ≡ Some entry
         → progress_of (behind (restart_of row initiator code true) None desk) row.number ≡ Some (at_entry row.number entry.point).progress }
     ensures served { (start : StepStart) (job : ℕ) (point : EntryPoint) → next_due start (at_entry job point).progress ≡ CheckpointDue → ⊥ }
 {}

@@ -258,22 +258,28 @@ module _ (layout : Layout) (office : Office) (run : ℕ) (row : RunRow) (number 
   pub cancel-comes : IsNext layout office (CancelledEvent run, None)
   cancel-comes = record { may = and_from _ true (of-run is_running runs) refl; carried = refl }
 
+  -- its leg, and its step there
+  pub by-step : {A : Type 0} → IsKept layout office → ((leg : Leg) (owned : OwnedStep) → IsRunning office run row leg owned number committed → start ≡ its_start leg owned number → A) → A
+  by-step kept use_it =
+      led-by layout office run row kept.events within.row_at (ap is_holder within.on)
+      (λ leg holder.
+      let starts : start_of office row ≡ start_at leg.job leg.start number =
+      ap (λ (o : Option Leg). option_map_or (λ leg. start_at leg.job leg.start (step_in (place_of row))) o None) (ap (leg_of office) (kept.events.numbered run row within.row_at) ∙ holder.leg_at)
+      ∙ ap (λ (place : Place). start_at leg.job leg.start (step_in place)) within.place in
+      option-cases (step_at leg.job number)
+      (λ none. absurd (some-not-none start (sym within.start_at ∙ starts ∙ start_at-none leg number none)))
+      (λ owned found.
+      use_it leg owned
+      (record { holder = holder; stands = within.place; found = ap (λ job. step_at job number) (sym (kept.events.places run row leg holder).job) ∙ found })
+      (same_Some _ _ (sym within.start_at ∙ starts ∙ start_at-of leg.job leg.start number owned found))))
+
   module _ (kept : IsKept layout office) (all_spaced : AllByRecursion (λ (leg : Leg). AreWithinSpace leg.start) office.legs) where
-    -- its leg, and its step there
+    -- and its space
     pub by-leg : {A : Type 0} → ((leg : Leg) (owned : OwnedStep) → IsRunning office run row leg owned number committed → start ≡ its_start leg owned number → AreWithinSpace leg.start → A) → A
     by-leg use_it =
-        led-by layout office run row kept.events within.row_at (ap is_holder within.on)
-        (λ leg holder.
-        let starts : start_of office row ≡ start_at leg.job leg.start number =
-        ap (λ (o : Option Leg). option_map_or (λ leg. start_at leg.job leg.start (step_in (place_of row))) o None) (ap (leg_of office) (kept.events.numbered run row within.row_at) ∙ holder.leg_at)
-        ∙ ap (λ (place : Place). start_at leg.job leg.start (step_in place)) within.place in
-        option-cases (step_at leg.job number)
-        (λ none. absurd (some-not-none start (sym within.start_at ∙ starts ∙ start_at-none leg number none)))
-        (λ owned found.
-        use_it leg owned
-        (record { holder = holder; stands = within.place; found = ap (λ job. step_at job number) (sym (kept.events.places run row leg holder).job) ∙ found })
-        (same_Some _ _ (sym within.start_at ∙ starts ∙ start_at-of leg.job leg.start number owned found))
-        (find-holds (λ (leg : Leg). AreWithinSpace leg.start) (λ leg. leg.number == run) office.legs leg all_spaced holder.leg_at)))
+        by-step kept
+        (λ leg owned running same.
+        use_it leg owned running same (find-holds (λ (leg : Leg). AreWithinSpace leg.start) (λ leg. leg.number == run) office.legs leg all_spaced running.holder.leg_at))
 
     module _ (step : StepProgress) (behind : committed ≤ step.writes) (known : Premises office.tables.sets row committed step start) where
       told : IsTold office row step start

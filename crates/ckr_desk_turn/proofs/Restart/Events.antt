@@ -5,61 +5,64 @@ use Rattle.std.specs.Option.{is_some, option_eq}
 use Rattle.std.proofs.lemmas.Bool.{and_from, or_left}
 use Rattle.std.proofs.lemmas.Bool.Decides.{nat_tests}
 use Rattle.ckr_base.specs.declared.code.Code.{Code}
-use Rattle.ckr_events.specs.declared.event.Event.{Event}
-use Rattle.ckr_events.specs.declared.event.Event.TheVariants.{Restarted as RestartedEvent}
-use Rattle.ckr_meaning.specs.StepRun.{StepStart}
+use Rattle.ckr_meaning.specs.EffectiveJob.{OwnedStep}
 use Rattle.ckr_points.specs.declared.run.RunState.TheVariants.{Released}
-use Rattle.ckr_points.specs.Follows.{is_free, is_in_state, is_running, is_within, may_restart_again}
+use Rattle.ckr_points.specs.Events.{IsNext}
+use Rattle.ckr_points.specs.Follows.{is_free, is_in_state, is_running, is_within, may_restart_again, own_step}
 use Rattle.ckr_points.specs.Marks.{point_at}
-use Rattle.ckr_points.specs.Office.{is_holder, office_after}
+use Rattle.ckr_points.specs.Office.{Leg, Office, office_after}
 use Rattle.ckr_points.specs.Payload.{is_verdict}
-use Rattle.ckr_points.specs.Restart.{place_of, step_in}
-use Rattle.ckr_points.specs.Rows.{RunRow}
-use Rattle.ckr_points_invariant.proofs.PlainRuns.SoundEvents.{AreKept}
+use Rattle.ckr_points.specs.Restart.{step_in}
+use Rattle.ckr_points.specs.Rows.{RunRow, step_of_run}
+use Rattle.ckr_points_invariant.specs.Invariant.{step_now}
+use Rattle.ckr_points_invariant.proofs.PlainRuns.SoundEvents.{AreKept, next-kept}
 use Rattle.ckr_points_invariant.proofs.Restart.Verdicts.{restarts-again}
-use Rattle.ckr_points_invariant.proofs.Steps.Events.{led-by}
+use Rattle.ckr_points_invariant.proofs.Steps.Commits.{IsRunning, its_start}
+use Rattle.ckr_rules.specs.declared.cases.Verdict.{Verdict}
+use Rattle.ckr_volumes.specs.declared.layout.Layout.{Layout}
 use Rattle.ckr_desk_turn.specs.Codes.{verdict_for}
-use Rattle.ckr_desk_turn.specs.Desk.{DeskModel}
-use Rattle.ckr_desk_turn.specs.Invariant.{IsDesk}
-use Rattle.ckr_desk_turn.specs.NextEvents.{Comes, IsWithinStep}
-use Rattle.ckr_desk_turn.proofs.NextEvents.WithinStep.{of-run, runs}
-use Rattle.ckr_desk_turn.proofs.Readiness.{kept-on}
+use Rattle.ckr_desk_turn.specs.Restarts.{IsJudged, restart_of}
+use Rattle.ckr_desk_turn.proofs.Checkpoints.Events.{by-step, of-run, runs}
 
 same-number : (n : ℕ) → nat_eq n n ≡ true
 same-number n = grind (arith, nat_tests)
 
-module _ (desk : DeskModel) (is : IsDesk desk) (row : RunRow) (number committed : ℕ) (start : StepStart) (within : IsWithinStep desk.office row.number row number committed start) (initiator : ℕ) (lodged : row.initiator ≡ Some initiator) (code : Code) where
-  abbrev pub restart : Bool → Event
-  restart checkpoint = RestartedEvent row.number initiator code checkpoint
+module _ (layout : Layout) (office : Office) (are : AreKept layout office) (row : RunRow) (initiator : ℕ) (code : Code) (verdict : Verdict) (its : IsJudged layout office row initiator code verdict) where
+  pub here : step_now row ≡ its.number
+  here = ap step_in its.within.place
 
-  -- the rules restart it so
-  abbrev pub Passes : Bool → Type 0
-  Passes checkpoint = is_verdict checkpoint (verdict_for desk.layout row code) ≡ true
+  -- its leg, and its step
+  pub by-run : {A : Type 0} → ((leg : Leg) (owned : OwnedStep) → IsRunning office row.number row leg owned its.number its.committed → own_step row ≡ Some owned → its.start ≡ its_start leg owned its.number → A) → A
+  by-run use_it =
+      by-step layout office row.number row its.number its.committed its.start its.within are.kept
+      (λ leg owned running same. use_it leg owned running (ap (λ place. step_of_run row (step_in place)) its.within.place ∙ running.found) same)
 
   -- its step has a point
-  pub begun : is_some (point_at row.points (step_in (place_of row))) ≡ true
-  begun =
-      led-by desk.layout desk.office row.number row is.kept.events within.row_at (ap is_holder within.on)
-      (λ leg holder. (is.ready.runs row.number row leg holder).begun (ap is_within within.place))
+  pub begun : is_some (point_at row.points (step_now row)) ≡ true
+  begun = by-run (λ leg owned running found same. (are.ready.runs row.number row leg running.holder).begun (ap is_within its.within.place))
 
-  abbrev restarts : Bool → RunRow → Bool
-  restarts checkpoint row =
-      (is_running row && option_eq nat_eq row.initiator (Some initiator) || is_in_state Released row && is_free desk.layout desk.office.tables initiator)
-      && may_restart_again checkpoint row
+  module _ (checkpoint : Bool) (so : is_verdict checkpoint verdict ≡ true) where
+    pub judged-so : is_verdict checkpoint (verdict_for layout row code) ≡ true
+    judged-so = ap (is_verdict checkpoint) its.judged ∙ so
 
-  pub restart-comes : (checkpoint : Bool) → Passes checkpoint → Comes desk (restart checkpoint)
-  restart-comes checkpoint judged = record {
-    may =
-        and_from _ true
-        (of-run desk is row.number row number committed start within (restarts checkpoint)
-        (and_from (is_running row && option_eq nat_eq row.initiator (Some initiator) || is_in_state Released row && is_free desk.layout desk.office.tables initiator) (may_restart_again checkpoint row)
-        (or_left (is_running row && option_eq nat_eq row.initiator (Some initiator)) _
-        (and_from (is_running row) (option_eq nat_eq row.initiator (Some initiator)) (runs desk is row.number row number committed start within)
-        (ap (λ o. option_eq nat_eq o (Some initiator)) lodged ∙ same-number initiator)))
-        (restarts-again row desk.layout.eligible.items code checkpoint begun judged))) refl;
-    carried = of-run desk is row.number row number committed start within (λ row. is_verdict checkpoint (verdict_for desk.layout row code)) judged;
-  }
+    abbrev restarts : RunRow → Bool
+    restarts row =
+        (is_running row && option_eq nat_eq row.initiator (Some initiator) || is_in_state Released row && is_free layout office.tables initiator)
+        && may_restart_again checkpoint row
 
-  -- what is kept behind it
-  pub restart-keeps : (checkpoint : Bool) → Passes checkpoint → AreKept desk.layout (office_after (restart checkpoint, None) desk.office)
-  restart-keeps checkpoint judged = kept-on desk is (restart checkpoint) refl (restart-comes checkpoint judged)
+    pub restart-comes : IsNext layout office (restart_of row initiator code checkpoint, None)
+    restart-comes = record {
+      may =
+          and_from _ true
+          (of-run layout office row.number row its.number its.committed its.start its.within restarts
+          (and_from (is_running row && option_eq nat_eq row.initiator (Some initiator) || is_in_state Released row && is_free layout office.tables initiator) (may_restart_again checkpoint row)
+          (or_left (is_running row && option_eq nat_eq row.initiator (Some initiator)) _
+          (and_from (is_running row) (option_eq nat_eq row.initiator (Some initiator)) (runs layout office row.number row its.number its.committed its.start its.within)
+          (ap (λ o. option_eq nat_eq o (Some initiator)) its.lodged ∙ same-number initiator)))
+          (restarts-again row layout.eligible.items code checkpoint begun judged-so))) refl;
+      carried = of-run layout office row.number row its.number its.committed its.start its.within (λ row. is_verdict checkpoint (verdict_for layout row code)) judged-so;
+    }
+
+    -- what is kept behind it
+    pub restart-keeps : AreKept layout (office_after (restart_of row initiator code checkpoint, None) office)
+    restart-keeps = next-kept layout office (restart_of row initiator code checkpoint) None refl are.kept are.pointed are.ready restart-comes

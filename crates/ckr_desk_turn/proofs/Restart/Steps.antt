@@ -1,83 +1,79 @@
--- A run that is restarted at the start of its step has no running step any more, and the desk is as its events have brought it about.
-use Rattle.std.proofs.Common.{◌≡◌, ℕ, false, refl, ap, ◌∙◌, Some, None}
-use Rattle.std.specs.Option.{is_none}
+-- A run that is restarted at the start of its step: its row, and where it stands.
+use Rattle.std.proofs.Common.{◌≡◌, ℕ, true, false, refl, ap, sym, ◌∙◌, subst, Some, None}
+use Rattle.std.specs.Option.{is_none, is_some}
 use Rattle.ckr_base.specs.declared.code.Code.{Code}
 use Rattle.ckr_base.proofs.Bools.{and-second}
 use Rattle.ckr_base.proofs.Options.{is_some-true}
 use Rattle.ckr_library.specs.NameMaps.{Named}
-use Rattle.ckr_meaning.specs.StepRun.{StepStart}
+use Rattle.ckr_meaning.specs.declared.place.Place.TheVariants.{Opened}
+use Rattle.ckr_points.specs.Events.{IsNext}
+use Rattle.ckr_points.specs.Follows.{is_running}
 use Rattle.ckr_points.specs.Marks.{point_at}
-use Rattle.ckr_points.specs.Office.{Office, office_after}
-use Rattle.ckr_points.specs.Restart.{place_of, step_in}
-use Rattle.ckr_points.specs.Rows.{RunRow, TableSet, step_of_run}
-use Rattle.ckr_points_invariant.specs.Restorability.{AreStepsRestorable}
+use Rattle.ckr_points.specs.Office.{Leg, Office, is_holder, leg_of, office_after}
+use Rattle.ckr_points.specs.Rows.{RunRow, StartPoint, TableSet}
+use Rattle.ckr_points_invariant.specs.Invariant.{step_now}
+use Rattle.ckr_points_invariant.specs.Restorability.{AreStepsRestorable, StandsAt}
 use Rattle.ckr_points_invariant.proofs.Holders.Rows.{run-other}
 use Rattle.ckr_points_invariant.proofs.PlainRuns.Office.{steps-restorable}
 use Rattle.ckr_points_invariant.proofs.PlainRuns.SoundEvents.{AreKept}
-use Rattle.ckr_points_invariant.proofs.Restart.Event.{RestartsNow, at-step, holder-start, restarts-now, row_then, sets_then, to-start}
-use Rattle.ckr_desk_turn.specs.Desk.{DeskModel, behind}
-use Rattle.ckr_desk_turn.specs.Invariant.{IsAdmitted, IsDesk}
-use Rattle.ckr_desk_turn.specs.NextEvents.{Comes, IsWithinStep}
-use Rattle.ckr_desk_turn.proofs.NextEvents.WithinStep.{by-step}
-use Rattle.ckr_desk_turn.proofs.OtherRuns.{accounted-then, admitted-then, failed-rest, failed-same, going-rest, plain-then, row-admitted, row-plain, running-same}
-use Rattle.ckr_desk_turn.proofs.Restart.Events.{Passes, begun, restart, restart-comes, restart-keeps}
+use Rattle.ckr_points_invariant.proofs.Restart.Event.{RestartsNow, at-step, holder-start, restarts-now, row_then, sets_then, start-stands, to-start}
+use Rattle.ckr_rules.specs.declared.cases.Verdict.TheVariants.{Step}
+use Rattle.ckr_volumes.specs.declared.layout.Layout.{Layout}
+use Rattle.ckr_desk_turn.specs.Invariant.{IsAdmitted, is_plain_row}
+use Rattle.ckr_desk_turn.specs.Restarts.{IsJudged, restart_of}
+use Rattle.ckr_desk_turn.proofs.OtherRuns.{Changes}
+use Rattle.ckr_desk_turn.proofs.Restart.Events.{begun, by-run, here, restart-comes}
 use Rattle.ckr_desk_turn.proofs.Runs.Events.{run-deck}
-use Rattle.ckr_desk_turn.proofs.StepEnd.{Rests}
 
-module _ (desk : DeskModel) (is : IsDesk desk) (row : RunRow) (number committed : ℕ) (start : StepStart) (within : IsWithinStep desk.office row.number row number committed start) (initiator : ℕ) (lodged : row.initiator ≡ Some initiator) (code : Code)
-    (judged : Passes desk is row number committed start within initiator lodged code false) where
-  comes : Comes desk (restart desk is row number committed start within initiator lodged code false)
-  comes = restart-comes desk is row number committed start within initiator lodged code false judged
+-- the row of the run changes to one of the same deck, which isn't within its step
+pub record IsAtStart (office after : Office) (row : RunRow) : Type 0 where
+  pub next : RunRow
+  pub changes : Changes office after row.number next
+  pub plain : is_plain_row row ≡ true → is_plain_row next ≡ true
+  pub admitted : IsAdmitted row → IsAdmitted next
+  pub rests : is_running next ≡ false
 
+module _ (layout : Layout) (office : Office) (are : AreKept layout office) (row : RunRow) (initiator : ℕ) (code : Code) (its : IsJudged layout office row initiator code Step) where
   abbrev after : Office
-  after = office_after (restart desk is row number committed start within initiator lodged code false, None) desk.office
+  after = office_after (restart_of row initiator code false, None) office
 
-  abbrev later : DeskModel
-  later = behind (restart desk is row number committed start within initiator lodged code false) None desk
+  comes : IsNext layout office (restart_of row initiator code false, None)
+  comes = restart-comes layout office are row initiator code Step its false refl
 
-  can : AreStepsRestorable desk.office
-  can = steps-restorable desk.office is.ready
+  can : AreStepsRestorable office
+  can = steps-restorable office are.ready
 
-  -- the row of its run
-  start-rests : Rests desk.office after row.number
-  start-rests =
-      by-step desk is row.number row number committed start within
-      (λ leg owned running same spaced.
-      is_some-true (point_at row.points (step_in (place_of row))) (begun desk is row number committed start within initiator lodged code)
+  pub start-row : IsAtStart office after row
+  start-row =
+      by-run layout office are row initiator code Step its
+      (λ leg owned running found same.
+      is_some-true (point_at row.points (step_now row)) (begun layout office are row initiator code Step its)
       (λ point got.
-      let its : RestartsNow desk.layout desk.office row.number initiator code None is.kept.events is.pointed row leg false = restarts-now desk.layout desk.office row.number initiator code None is.kept.events is.pointed false row leg running.holder comes.may comes.carried in
-      let found : step_of_run row (step_in (place_of row)) ≡ Some owned = ap (λ place. step_of_run row (step_in place)) within.place ∙ running.found in
-      let next : RunRow = row_then desk.layout desk.office row.number initiator code None is.kept.events is.pointed can row leg its owned found point got in
-      let sets : Named TableSet = sets_then desk.layout desk.office row.number initiator code None is.kept.events is.pointed can row leg its owned found point got in
-      let was : IsAdmitted row = row-admitted desk is row.number row within.row_at in
-      at-step desk.layout desk.office row.number initiator code None is.kept.events is.pointed false (λ (now : Office). Rests desk.office now row.number) row within.row_at (Some owned) found
-      (to-start desk.layout desk.office row.number initiator code None is.kept.events is.pointed can row leg its owned found point got (λ (now : Office). Rests desk.office now row.number)
+      let now : RestartsNow layout office row.number initiator code None are.kept.events are.pointed row leg false = restarts-now layout office row.number initiator code None are.kept.events are.pointed false row leg running.holder comes.may comes.carried in
+      let next : RunRow = row_then layout office row.number initiator code None are.kept.events are.pointed can row leg now owned found point got in
+      let sets : Named TableSet = sets_then layout office row.number initiator code None are.kept.events are.pointed can row leg now owned found point got in
+      at-step layout office row.number initiator code None are.kept.events are.pointed false (λ (later : Office). IsAtStart office later row) row its.within.row_at (Some owned) found
+      (to-start layout office row.number initiator code None are.kept.events are.pointed can row leg now owned found point got (λ (later : Office). IsAtStart office later row)
       (record {
         next = next;
         changes = record {
-          mine = (holder-start desk.layout desk.office row.number initiator code None is.kept.events is.pointed can row leg its owned found point got).row_at;
-          others = λ other apart. run-other (record desk.office.tables { sets = sets }) next other apart;
+          mine = (holder-start layout office row.number initiator code None are.kept.events are.pointed can row leg now owned found point got).row_at;
+          others = λ other apart. run-other (record office.tables { sets = sets }) next other apart;
           legs = refl;
         };
-        plain = and-second (is_none row.code) _ (run-deck row (row-plain desk is row.number row within.row_at));
-        admitted = record { cards = was.cards; accepted = was.accepted; lodged = refl };
+        plain = λ plain. and-second (is_none row.code) _ (run-deck row plain);
+        admitted = λ was. record { cards = was.cards; accepted = was.accepted; lodged = refl };
         rests = refl;
       }))))
 
-  -- the desk behind it
-  pub start-kept : IsDesk later
-  start-kept =
-      let rests : Rests desk.office after row.number = start-rests in
-      let on : AreKept desk.layout after = restart-keeps desk is row number committed start within initiator lodged code false judged in
-      record {
-        kept = on.kept;
-        going = going-rest desk.office after row.number rests.next rests.changes desk.running is.going;
-        failed = failed-rest desk.office after row.number rests.next rests.changes desk.failed is.failed;
-        plain = plain-then desk later is row.number rests.next rests.changes rests.plain;
-        admitted = admitted-then desk later is row.number rests.next rests.changes rests.admitted;
-        accounted = accounted-then desk later is row.number rests.next rests.changes rests.rests (running-same row.number desk.running) (failed-same row.number desk.failed);
-        spaced = is.spaced;
-        spaced_legs = is.spaced_legs;
-        pointed = on.pointed;
-        ready = on.ready;
-      }
+  -- the point of its step
+  pub step-begun : is_some (point_at row.points its.number) ≡ true
+  step-begun = ap (λ step. is_some (point_at row.points step)) (sym (here layout office are row initiator code Step its)) ∙ begun layout office are row initiator code Step its
+
+  pub step-stands : (leg : Leg) (point : StartPoint) → leg_of office row.number ≡ Some leg → point_at row.points its.number ≡ Some point → StandsAt after row.number leg (Opened its.number) point.count
+  step-stands leg point led got =
+      by-run layout office are row initiator code Step its
+      (λ other owned running found same.
+      subst (λ step. StandsAt after row.number leg (Opened step) point.count) (here layout office are row initiator code Step its)
+      (start-stands layout office row.number initiator code None row leg owned point are.kept are.pointed can comes.may comes.carried
+      (record { row_at = its.within.row_at; holds = ap is_holder its.within.on; leg_at = led }) found (ap (point_at row.points) (here layout office are row initiator code Step its) ∙ got)))

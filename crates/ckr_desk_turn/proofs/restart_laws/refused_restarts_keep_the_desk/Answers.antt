@@ -1,10 +1,10 @@
 use Rattle.std.proofs.Common.{refl}
 use Rattle.ckr_rules.specs.declared.cases.Verdict.TheVariants.{Checkpoint, Step}
-use Rattle.ckr_desk_turn.proofs.Restart.Refusals.{refusal-goes_on}
+use Rattle.ckr_desk_turn.proofs.Restart.Desks.{refusal-goes_on}
 use Rattle.ckr_desk_turn.proofs.restart_laws.refused_restarts_keep_the_desk.Goals as goal
 
 pub returns : goal.returns
 returns c = record {
-  step = λ desk row initiator code is its. refusal-goes_on desk row initiator code Step is its refl;
-  checkpoint = λ desk row initiator code is its. refusal-goes_on desk row initiator code Checkpoint is its refl;
+  step = λ desk row initiator code is its. refusal-goes_on desk is row initiator code Step its refl;
+  checkpoint = λ desk row initiator code is its. refusal-goes_on desk is row initiator code Checkpoint its refl;
 }

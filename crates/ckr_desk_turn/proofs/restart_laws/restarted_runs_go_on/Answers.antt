@@ -1,17 +1,18 @@
 use Rattle.std.proofs.Common.{ap, sym, Option, Some, None}
-use Rattle.std.specs.Option.{option_map_or}
 use Rattle.std.proofs.lemmas.Bool.{false≢true}
+use Rattle.std.specs.Option.{option_map_or}
 use Rattle.ckr_desk_turn.specs.Desk.{DeskStep, at_entry}
 use Rattle.ckr_desk_turn.proofs.Checkpoints.Due.{checkpoint-only}
-use Rattle.ckr_desk_turn.proofs.Restart.Points.{any-without, check-going, check-progress, find-without, starts-again}
+use Rattle.ckr_desk_turn.proofs.Restart.Checkpoints.{check-going}
+use Rattle.ckr_desk_turn.proofs.Restart.Points.{again-progress, any-without, find-without, starts-again}
 use Rattle.ckr_desk_turn.proofs.restart_laws.restarted_runs_go_on.Goals as goal
 
 pub returns : goal.returns
 returns c = record {
   unmarked = λ desk job initiator code checkpoint. any-without job desk.failed;
   stopped = λ desk job initiator code. ap (λ (o : Option DeskStep). option_map_or (λ (step : DeskStep). Some step.progress) o None) (find-without job desk.running);
-  starts = λ desk row initiator code next owned is its. starts-again desk row initiator code is its next owned;
-  going = λ desk row initiator code entry is its there. check-going desk row initiator code is its entry there;
-  progress = λ desk row initiator code entry is its there. check-progress desk row initiator code is its entry there;
+  starts = λ desk row initiator code next owned kept pointed ready its. starts-again desk (record { kept = kept; pointed = pointed; ready = ready }) row initiator code its next owned;
+  going = λ layout office row initiator code entry kept pointed ready its there. check-going layout office (record { kept = kept; pointed = pointed; ready = ready }) row initiator code its entry there;
+  progress = λ desk row initiator code entry at there. again-progress desk row initiator code entry at there;
   served = λ start job point e. false≢true (sym (checkpoint-only start (at_entry job point).progress e).undone);
 }

@@ -1,10 +1,11 @@
-use Rattle.ckr_desk_turn.proofs.Restart.Points.{entry-there, check-stands, step-begun, step-stands}
+use Rattle.ckr_desk_turn.proofs.Restart.Checkpoints.{check-stands, entry-there}
+use Rattle.ckr_desk_turn.proofs.Restart.Steps.{step-begun, step-stands}
 use Rattle.ckr_desk_turn.proofs.restart_laws.restarted_runs_stand_at_their_point.Goals as goal
 
 pub returns : goal.returns
 returns c = record {
-  begun = λ desk row initiator code is its. step-begun desk row initiator code is its;
-  step = λ desk row initiator code leg point is its. step-stands desk row initiator code is its leg point;
-  entered = λ desk row initiator code is its. entry-there desk row initiator code is its;
-  checkpoint = λ desk row initiator code leg entry is its led there. check-stands desk row initiator code is its entry there leg led;
+  begun = λ layout office row initiator code kept pointed ready its. step-begun layout office (record { kept = kept; pointed = pointed; ready = ready }) row initiator code its;
+  step = λ layout office row initiator code leg point kept pointed ready its. step-stands layout office (record { kept = kept; pointed = pointed; ready = ready }) row initiator code its leg point;
+  entered = λ layout office row initiator code kept pointed ready its. entry-there layout office (record { kept = kept; pointed = pointed; ready = ready }) row initiator code its;
+  checkpoint = λ layout office row initiator code leg entry kept pointed ready its led there. check-stands layout office (record { kept = kept; pointed = pointed; ready = ready }) row initiator code its entry there leg led;
 }

@@ -1,0 +1,130 @@
+-- A desk behind a restart, or behind the end of a run whose restart the operator refuses, is as its events have brought it about.
+use Rattle.std.proofs.Common.{◌≡◌, ◌≢◌, ℕ, Bool, true, false, not, ◌||◌, ◌∷◌, refl, ap, sym, ◌∙◌, subst, None}
+use Rattle.std.specs.Prelude.{◌==◌}
+use Rattle.std.specs.List.{list_any}
+use Rattle.std.proofs.lemmas.Bool.{or_left, or_right}
+use Rattle.arrayvec.specs.ArrayVec.{ArrayVec}
+use Rattle.ckr_base.specs.declared.code.Code.{Code}
+use Rattle.ckr_base.proofs.Numbers.{equal-itself}
+use Rattle.ckr_events.specs.declared.event.Event.TheVariants.{Ended as EndedEvent}
+use Rattle.ckr_events.specs.declared.event.Ending.TheVariants.{Coded as CodedEnding}
+use Rattle.ckr_points.specs.Follows.{is_running}
+use Rattle.ckr_points.specs.Office.{Office, office_after}
+use Rattle.ckr_points.specs.Rows.{RunRow}
+use Rattle.ckr_points_invariant.proofs.PlainRuns.SoundEvents.{AreKept}
+use Rattle.ckr_rules.specs.RuleTables.{rule_number}
+use Rattle.ckr_rules.specs.declared.cases.Rule.TheVariants.{A6}
+use Rattle.ckr_rules.specs.declared.cases.Verdict.{Verdict}
+use Rattle.ckr_rules.specs.declared.cases.Verdict.TheVariants.{Checkpoint, Step}
+use Rattle.ckr_desk_turn.specs.Codes.{reached_by, rule_by}
+use Rattle.ckr_desk_turn.specs.Desk.{DeskModel, DeskStep, at_entry, behind, jobs_of, without_run}
+use Rattle.ckr_desk_turn.specs.Invariant.{IsDesk, is_accounted}
+use Rattle.ckr_desk_turn.specs.NextEvents.{Comes}
+use Rattle.ckr_desk_turn.specs.Restarts.{GoesOnBy, IsJudged, refusal_of, restart_of}
+use Rattle.ckr_desk_turn.proofs.OtherRuns.{accounted-then, admitted-then, each_row, failed-rest, failed-same, going-rest, plain-then, row-admitted, row-plain, running-same}
+use Rattle.ckr_desk_turn.proofs.Restart.Checkpoints.{IsBack, back}
+use Rattle.ckr_desk_turn.proofs.Restart.Events.{restart-comes, restart-keeps}
+use Rattle.ckr_desk_turn.proofs.Restart.Points.{running-again}
+use Rattle.ckr_desk_turn.proofs.Restart.Steps.{IsAtStart, start-row}
+use Rattle.ckr_desk_turn.proofs.RunningSteps.{reached-comes}
+use Rattle.ckr_desk_turn.proofs.StepEnd.{code-kept}
+
+module _ (desk : DeskModel) (is : IsDesk desk) (row : RunRow) (initiator : ℕ) (code : Code) where
+  are : AreKept desk.layout desk.office
+  are = record { kept = is.kept; pointed = is.pointed; ready = is.ready }
+
+  -- ---- at the start of its step
+
+  module _ (its : IsJudged desk.layout desk.office row initiator code Step) where
+    abbrev start_after : Office
+    start_after = office_after (restart_of row initiator code false, None) desk.office
+
+    abbrev start_later : DeskModel
+    start_later = behind (restart_of row initiator code false) None desk
+
+    start-kept : IsDesk start_later
+    start-kept =
+        let then : IsAtStart desk.office start_after row = start-row desk.layout desk.office are row initiator code its in
+        let on : AreKept desk.layout start_after = restart-keeps desk.layout desk.office are row initiator code Step its false refl in
+        record {
+          kept = on.kept;
+          going = going-rest desk.office start_after row.number then.next then.changes desk.running is.going;
+          failed = failed-rest desk.office start_after row.number then.next then.changes desk.failed is.failed;
+          plain = plain-then desk start_later is row.number then.next then.changes (then.plain (row-plain desk is row.number row its.within.row_at));
+          admitted = admitted-then desk start_later is row.number then.next then.changes (then.admitted (row-admitted desk is row.number row its.within.row_at));
+          accounted = accounted-then desk start_later is row.number then.next then.changes then.rests (running-same row.number desk.running) (failed-same row.number desk.failed);
+          spaced = is.spaced;
+          spaced_legs = is.spaced_legs;
+          pointed = on.pointed;
+          ready = on.ready;
+        }
+
+    pub step-goes_on : GoesOnBy desk (restart_of row initiator code false)
+    step-goes_on = record { comes = restart-comes desk.layout desk.office are row initiator code Step its false refl; kept = start-kept }
+
+  -- ---- at its checkpoint in effect
+
+  module _ (its : IsJudged desk.layout desk.office row initiator code Checkpoint) where
+    abbrev after : Office
+    after = office_after (restart_of row initiator code true, None) desk.office
+
+    then : IsBack desk.office after row
+    then = back desk.layout desk.office are row initiator code its
+
+    abbrev later : DeskModel
+    later = record (behind (restart_of row initiator code true) None desk) { running = at_entry row.number then.entry.point ∷ without_run row.number desk.running }
+
+    accounted-so : (other : RunRow) → other.number ≢ row.number → is_accounted desk other ≡ true → is_accounted later other ≡ true
+    accounted-so other apart was =
+        by (not (is_running other)) (row.number == other.number) _ _ _ _ (running-same row.number desk.running other.number apart) (failed-same row.number desk.failed other.number apart) was
+      where
+        by : (rests here old new failed gone : Bool) → old ≡ new → failed ≡ gone → (rests || (old || failed)) ≡ true → (rests || ((here || new) || gone)) ≡ true
+        by true here old new failed gone same left was = refl
+        by false true old new failed gone same left was = refl
+        by false false old new failed gone same left was = ap (λ b. b || gone) (sym same) ∙ ap (λ b. old || b) (sym left) ∙ was
+
+    later-kept : IsDesk later
+    later-kept =
+        let on : AreKept desk.layout after = restart-keeps desk.layout desk.office are row initiator code Checkpoint its true refl in
+        record {
+          kept = on.kept;
+          going = (then.going, going-rest desk.office after row.number then.next then.changes desk.running is.going);
+          failed = failed-rest desk.office after row.number then.next then.changes desk.failed is.failed;
+          plain = plain-then desk later is row.number then.next then.changes (then.plain (row-plain desk is row.number row its.within.row_at));
+          admitted = admitted-then desk later is row.number then.next then.changes (then.admitted (row-admitted desk is row.number row its.within.row_at));
+          accounted = each_row desk later is row.number then.next then.changes (is_accounted desk) (is_accounted later)
+              (or_right (not (is_running then.next)) _
+              (or_left (list_any (λ (step : DeskStep). step.run == then.next.number) later.running) _
+              (or_left (row.number == then.next.number) _ (ap (λ n. row.number == n) (on.kept.events.numbered row.number then.next then.changes.mine) ∙ equal-itself row.number)))) is.accounted accounted-so;
+          spaced = is.spaced;
+          spaced_legs = is.spaced_legs;
+          pointed = on.pointed;
+          ready = on.ready;
+        }
+
+    pub check-goes_on : GoesOnBy desk (restart_of row initiator code true)
+    check-goes_on = record {
+      comes = restart-comes desk.layout desk.office are row initiator code Checkpoint its true refl;
+      kept =
+          subst (λ running. IsDesk (record (behind (restart_of row initiator code true) None desk) { running = running }))
+          (sym (running-again desk.office.tables row then.entry desk.running its.within.row_at then.there)) later-kept;
+    }
+
+  -- ---- where the operator refuses it
+
+  pub refusal-goes_on : (verdict : Verdict) → IsJudged desk.layout desk.office row initiator code verdict → rule_by verdict ≡ A6 → GoesOnBy desk (refusal_of desk row code)
+  refusal-goes_on verdict its restarts = record {
+    comes = comes;
+    kept = code-kept desk is row.number row its.number its.committed its.start its.within (row-plain desk is row.number row its.within.row_at) code (rule_number A6) writes lengths comes;
+  }
+    where
+      writes : ℕ
+      writes = (reached_by (jobs_of desk) row).writes
+
+      lengths : ArrayVec ℕ
+      lengths = record { items = (reached_by (jobs_of desk) row).lengths }
+
+      comes : Comes desk (EndedEvent row.number (CodedEnding code (rule_number A6) writes lengths))
+      comes =
+          subst (λ rule. Comes desk (EndedEvent row.number (CodedEnding code (rule_number rule) writes lengths))) (ap rule_by its.judged ∙ restarts)
+          (reached-comes desk is row.number row its.number its.committed its.start its.within code)
