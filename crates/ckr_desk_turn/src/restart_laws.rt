@@ -34,19 +34,19 @@ pub fn events_of_restarts_may_come()
     ensures checkpoint { (layout : LayoutOfDisk) (office : Office) (row : RunRow) (initiator : ℕ) (code : Code) → IsKept layout office → ArePointed office → AreReady office → IsJudged layout office row initiator code AtCheckpoint → IsNext layout office (restart_of row initiator code true, None) }
 {}
 
-/// The desk behind it is as its events have brought it about.
+/// A desk that restarts a run so, at the start of its step or at its checkpoint in effect, is as its events have brought it about.
 pub fn restarts_keep_the_desk()
     ensures step { (desk : DeskModel) (row : RunRow) (initiator : ℕ) (code : Code) → IsDesk desk → IsJudged desk.layout desk.office row initiator code AtStep → GoesOnBy desk (restart_of row initiator code false) }
     ensures checkpoint { (desk : DeskModel) (row : RunRow) (initiator : ℕ) (code : Code) → IsDesk desk → IsJudged desk.layout desk.office row initiator code AtCheckpoint → GoesOnBy desk (restart_of row initiator code true) }
 {}
 
-/// So it is where the operator refuses such a restart, and the run ends with what it has reached.
+/// So is a desk where the operator refuses such a restart: the run ends with what it has reached, by the sixth rule, and its event may come.
 pub fn refused_restarts_keep_the_desk()
     ensures step { (desk : DeskModel) (row : RunRow) (initiator : ℕ) (code : Code) → IsDesk desk → IsJudged desk.layout desk.office row initiator code AtStep → GoesOnBy desk (refusal_of desk row code) }
     ensures checkpoint { (desk : DeskModel) (row : RunRow) (initiator : ℕ) (code : Code) → IsDesk desk → IsJudged desk.layout desk.office row initiator code AtCheckpoint → GoesOnBy desk (refusal_of desk row code) }
 {}
 
-/// Behind its restart the run stands at the point. The tables have of the names in its reach, and of its passed list, what its job has
+/// Behind its restart a run stands at the point. The tables have of the names in its reach, and of its passed list, what its job has
 /// there, and the entries are counted from the point on. So no disposition of the step was processed. There is such a point: that of the
 /// start of the step, or the entry of the checkpoint in effect, which its data set keeps.
 pub fn restarted_runs_stand_at_their_point()
