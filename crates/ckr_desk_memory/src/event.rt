@@ -140,8 +140,11 @@ fn keep_running(
 fn keep_failed(failed: &mut Vec<u32>, event: &Event)
     ensures { failed.new.items ≡ failed_behind event.now failed.old.items }
 {
-    if let Event::Ended { job, .. } = event {
-        unmark(failed, *job);
+    match event {
+        Event::Restarted { job, .. } | Event::Held { job, .. } | Event::Ended { job, .. } => {
+            unmark(failed, *job)
+        }
+        _ => {}
     }
 }
 

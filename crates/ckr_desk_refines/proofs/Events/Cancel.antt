@@ -81,12 +81,12 @@ module _ (desk : DeskModel) (is : IsDesk desk) (before after : List ℕ) (same :
         subst (λ (running : List DeskStep). AllStand desk.layout later after (served_in job seen) running) (sym (changed-first job cancel_done pair.step desk.running pair.at))
         (subst (λ (seen : List RunningStepView). AllStand desk.layout later after seen (own ∷ without_run job desk.running)) (sym (served-first job on seen there)) all-stand)
 
-  pub cancelled-running : AllStand desk.layout later after (served_in job seen) (running_behind (Cancelled job) desk.running)
+  pub cancelled-running : AllStand desk.layout later after (served_in job seen) (running_behind desk.office.tables (Cancelled job) desk.running)
   cancelled-running =
       let there = seen-of desk.layout desk.office before job due.step seen desk.running all due.at in
       all-behind there.0 there.1 (pair-of desk.layout desk.office before job there.0 seen desk.running all is.going there.1)
 
-  pub cancelled-differ : differ (running_behind (Cancelled job) desk.running) ≡ true
+  pub cancelled-differ : differ (running_behind desk.office.tables (Cancelled job) desk.running) ≡ true
   cancelled-differ =
       subst (λ (running : List DeskStep). differ running ≡ true) (sym (changed-first job cancel_done due.step desk.running due.at))
       (put-differ (record { run = job; progress = cancel_done due.step.progress }) desk.running differs)

@@ -60,7 +60,7 @@ each-committed desk is image had = record {
 -- the jobs in memory stand for the desk behind an event, once its running steps do
 pub behind-stands : (layout : Layout) (old new : JobsView) (after : List ℕ) (desk : DeskModel) (event : Event) (deck : Option Job) → desk.layout ≡ layout → old.tables.desk ≡ desk.office.tables → old.failed ≡ desk.failed → HaveMoved event deck old new
     → (office_after (event, deck) desk.office).tables ≡ after_event event deck desk.office.tables → IsDesk (behind event deck desk)
-    → AllStand desk.layout (office_after (event, deck) desk.office) after new.running (running_behind event desk.running) → differ (running_behind event desk.running) ≡ true
+    → AllStand desk.layout (office_after (event, deck) desk.office) after new.running (running_behind desk.office.tables event desk.running) → differ (running_behind desk.office.tables event desk.running) ≡ true
     → HasCommitted desk.layout (office_after (event, deck) desk.office) after → StandsForDesk layout new after (behind event deck desk)
 behind-stands layout old new after desk event deck at tables failed moved same is running differs committed = record {
   layout_is = at;
@@ -75,7 +75,7 @@ behind-stands layout old new after desk event deck at tables failed moved same i
 -- behind the event of a run that was on no initiator all running steps stand
 pub entered-stands : (layout : Layout) (old new : JobsView) (before after : List ℕ) (desk : DeskModel) (event : Event) (deck : Option Job) → StandsForDesk layout old before desk → HaveMoved event deck old new → HasSameRecords desk.layout before after
     → (office_after (event, deck) desk.office).tables ≡ after_event event deck desk.office.tables → IsDesk (behind event deck desk)
-    → Enters desk.office (office_after (event, deck) desk.office) → new.running ≡ old.running → running_behind event desk.running ≡ desk.running
+    → Enters desk.office (office_after (event, deck) desk.office) → new.running ≡ old.running → running_behind desk.office.tables event desk.running ≡ desk.running
     → HasCommitted desk.layout (office_after (event, deck) desk.office) after → StandsForDesk layout new after (behind event deck desk)
 entered-stands layout old new before after desk event deck stands moved records same is enters stay still committed =
     behind-stands layout old new after desk event deck stands.layout_is stands.tables stands.failed moved same is
@@ -89,7 +89,7 @@ pub ended-stands : (layout : Layout) (old new : JobsView) (before after : List �
     → AllStand desk.layout desk.office before (seen_without job old.running) (steps_without job desk.running) → HaveMoved event None old new → HasSameRecords desk.layout before after
     → (office_after (event, None) desk.office).tables ≡ after_event event None desk.office.tables → IsDesk (behind event None desk)
     → LeavesRuns desk.office (office_after (event, None) desk.office) job → LeavesOthers desk.office job (office_after (event, None) desk.office)
-    → new.running ≡ without_run job old.running → running_behind event desk.running ≡ steps_without job desk.running
+    → new.running ≡ without_run job old.running → running_behind desk.office.tables event desk.running ≡ steps_without job desk.running
     → HasCommitted desk.layout (office_after (event, None) desk.office) after → StandsForDesk layout new after (behind event None desk)
 ended-stands layout old new before after desk event job at was tables failed differs others moved records same is leaves lies left gone committed =
     behind-stands layout old new after desk event None at tables failed moved same is
@@ -146,7 +146,7 @@ module _ (layout : Layout) (old new : JobsView) (before after : List ℕ) (desk 
     started = step-started;
     cancelled = λ job step some is_due comes later moved committed.
         behind-stands layout old new after desk (Cancelled job) None stands.layout_is stands.tables stands.failed moved refl later
-        (subst (λ seen. AllStand desk.layout (office_after (Cancelled job, None) desk.office) after seen (running_behind (Cancelled job) desk.running)) (sym moved.running)
+        (subst (λ seen. AllStand desk.layout (office_after (Cancelled job, None) desk.office) after seen (running_behind desk.office.tables (Cancelled job) desk.running)) (sym moved.running)
         (cancelled-running desk stands.is_desk before after records old.running stands.running stands.differ_so job step some is_due))
         (cancelled-differ desk stands.is_desk before after records old.running stands.running stands.differ_so job step some is_due) committed;
     step_ended = λ job step rc writes lengths has comes later moved committed.
