@@ -18,7 +18,7 @@ use Rattle.ckr_steps.specs.Places.{GoesOn, ShowsWithin, IsStepPlace}
 use Rattle.ckr_steps.specs.StepUnit.{HasWorked}
 use Rattle.ckr_steps.specs.Writes.{ChangesKeeping, StemsKeeping}
 use Rattle.ckr_desk_store.specs.OpenImages.{event_records, Opens}
-use Rattle.ckr_points_tables.specs.Invariant.{is_plain_event}
+use Rattle.ckr_desk_memory.specs.ForwardEvents.{is_forward_event}
 use Rattle.ckr_desk_turn.specs.Invariant.{IsTurnOf}
 use Rattle.ckr_desk_turn.specs.declared.plan.Plan.{Plan}
 use Rattle.ckr_desk_turn.specs.declared.plan.Plan.TheVariants.{Rest, Tell, Work, Pass, Take}
@@ -106,15 +106,15 @@ HasGoneBehind told content (Some event) old new = HasGoneOn event None old new �
 -- the event of a plan, if it has one, is plain
 abbrev pub IsPlainPlan : Plan → Type 0
 IsPlainPlan (Rest reply) = Unit {0}
-IsPlainPlan (Tell reply event) = is_plain_event event ≡ true
+IsPlainPlan (Tell reply event) = is_forward_event event ≡ true
 IsPlainPlan (Work job) = Unit {0}
 IsPlainPlan (Pass job reply) = Unit {0}
 IsPlainPlan (Take job) = Unit {0}
 
--- a plan that tells a plain event or none
+-- a plan that tells a forward event or none
 abbrev pub IsPlainTold : Plan → Type 0
 IsPlainTold (Rest reply) = Unit {0}
-IsPlainTold (Tell reply event) = is_plain_event event ≡ true
+IsPlainTold (Tell reply event) = is_forward_event event ≡ true
 IsPlainTold (Work job) = ⊥
 IsPlainTold (Pass job reply) = ⊥
 IsPlainTold (Take job) = ⊥

@@ -31,7 +31,7 @@ use Rattle.ckr_points.specs.Restart.{after_abnormal, after_ended, after_event, p
 use Rattle.ckr_points.specs.Rows.{RunRow, TableSet, TablesModel, run_of, standing_of, step_of_run, table_ways}
 use Rattle.ckr_points.specs.Soundness.{AreLaidOut}
 use Rattle.ckr_points_invariant.proofs.Library.Extents.{committed-laid, disposed_all-laid, fit-lengths, laid-changed, made_all-laid, passed_ended-laid}
-use Rattle.ckr_points_tables.specs.Invariant.{is_plain_event}
+use Rattle.ckr_desk_memory.specs.ForwardEvents.{is_forward_event}
 use Rattle.ckr_desk_memory.specs.View.{length_in}
 use Rattle.ckr_desk_memory.proofs.Runs.{by-run, by-step}
 
@@ -119,7 +119,7 @@ module _ (layout : Layout) (tables : TablesModel) (laid : AreLaidOut layout tabl
       (by-run (Laid layout tables laid) tables job _ laid (λ row at. laid))
 
   -- what an event opens, makes, commits and disposes of stays laid out
-  pub laid-behind : (event : Event) (deck : Option Job) → is_plain_event event ≡ true → follows layout tables event deck ≡ true → AreLaidOut layout (after_event event deck tables).sets
+  pub laid-behind : (event : Event) (deck : Option Job) → is_forward_event event ≡ true → follows layout tables event deck ≡ true → AreLaidOut layout (after_event event deck tables).sets
   laid-behind (Submitted job cards) None plain follow = laid
   laid-behind (Submitted job cards) (Some deck) plain follow = laid
   laid-behind (Selected job initiator earlier step id) deck plain follow = selected_so job initiator earlier step id deck (equal-true earlier 0 plain)

@@ -25,7 +25,8 @@ use Rattle.ckr_points.specs.Rows.{RunRow, TablesModel, step_of_run, with_row}
 use Rattle.ckr_queue.specs.declared.entry.QueueEntry.{QueueEntry}
 use Rattle.ckr_points_decks.specs.Form.{is_run}
 use Rattle.ckr_points_invariant.proofs.Holders.Rows.{queued-is}
-use Rattle.ckr_points_tables.specs.Invariant.{MayFollow, MaySubmit, is_plain_event, is_submission}
+use Rattle.ckr_points_tables.specs.Invariant.{MayFollow, MaySubmit, is_submission}
+use Rattle.ckr_desk_memory.specs.ForwardEvents.{is_forward_event}
 use Rattle.ckr_desk_turn.specs.Invariant.{is_on_one}
 use Rattle.ckr_desk_turn.specs.Queue.{AreNumbered, queue_behind}
 use Rattle.ckr_desk_memory.specs.Invariant.{IsAcceptedRow, IsAnyAccepted, IsPlacedRow}
@@ -55,9 +56,9 @@ numbered_submitted layout tables job cards (Some deck) e numbered =
     let is : 1 + length tables.runs ≡ job = omega (arith, next_number layout tables job cards (Some deck) e) in
     subst (λ n. AreNumbered 1 (tables.runs ++ queued_run n deck ∷ [])) is (numbered-more 1 tables.runs deck numbered)
 
-pub numbered-behind : (layout : Layout) (tables : TablesModel) (event : Event) (deck : Option Job) → is_plain_event event ≡ true → follows layout tables event deck ≡ true → AreNumbered 1 tables.runs → AreNumbered 1 (after_event event deck tables).runs
+pub numbered-behind : (layout : Layout) (tables : TablesModel) (event : Event) (deck : Option Job) → is_forward_event event ≡ true → follows layout tables event deck ≡ true → AreNumbered 1 tables.runs → AreNumbered 1 (after_event event deck tables).runs
 numbered-behind layout tables event deck plain e numbered =
-    by-submission (λ event. is_plain_event event ≡ true → follows layout tables event deck ≡ true → AreNumbered 1 (after_event event deck tables).runs)
+    by-submission (λ event. is_forward_event event ≡ true → follows layout tables event deck ≡ true → AreNumbered 1 (after_event event deck tables).runs)
     (λ job cards plain e. numbered_submitted layout tables job cards deck e numbered)
     (λ event other plain e. numbered-stay 1 tables.runs (after_event event deck tables).runs (runs-stay tables numbered event deck plain other) numbered)
     event plain e
@@ -70,16 +71,16 @@ few_submitted layout tables job cards (Some deck) e submits few =
     let most : job ≤ 9999999 = nat_le-true job 9999999 (and-first _ _ (and-first _ _ (and-first _ _ submits))) in
     omega (arith, length-append tables.runs (queued_run job deck ∷ []))
 
-few-behind : (layout : Layout) (tables : TablesModel) (event : Event) (deck : Option Job) → is_plain_event event ≡ true → follows layout tables event deck ≡ true → MaySubmit event deck → AreNumbered 1 tables.runs → length tables.runs ≤ 9999999
+few-behind : (layout : Layout) (tables : TablesModel) (event : Event) (deck : Option Job) → is_forward_event event ≡ true → follows layout tables event deck ≡ true → MaySubmit event deck → AreNumbered 1 tables.runs → length tables.runs ≤ 9999999
     → length (after_event event deck tables).runs ≤ 9999999
 few-behind layout tables event deck plain e submits numbered few =
-    by-submission (λ event. is_plain_event event ≡ true → follows layout tables event deck ≡ true → MaySubmit event deck → length (after_event event deck tables).runs ≤ 9999999)
+    by-submission (λ event. is_forward_event event ≡ true → follows layout tables event deck ≡ true → MaySubmit event deck → length (after_event event deck tables).runs ≤ 9999999)
     (λ job cards plain e submits. few_submitted layout tables job cards deck e submits few)
     (λ event other plain e submits. subst (λ n. n ≤ 9999999) (sym (long-stay tables.runs (after_event event deck tables).runs (runs-stay tables numbered event deck plain other))) few)
     event plain e submits
 
 -- the queue stays that of the tables
-pub queued-behind : (desk after : TablesModel) (queue now : List QueueEntry) (event : Event) (deck : Option Job) → is_plain_event event ≡ true → MayFollow desk event deck → MaySubmit event deck → AreQueued desk queue
+pub queued-behind : (desk after : TablesModel) (queue now : List QueueEntry) (event : Event) (deck : Option Job) → is_forward_event event ≡ true → MayFollow desk event deck → MaySubmit event deck → AreQueued desk queue
     → after ≡ after_event event deck desk → now ≡ queue_behind event deck queue → AreQueued after now
 queued-behind desk after queue now event deck plain follow submits are is queue_is =
     subst (λ t. AreQueued t now) (sym is) (subst (λ q. AreQueued (after_event event deck desk) q) (sym queue_is) (record {
@@ -92,7 +93,7 @@ queued-behind desk after queue now event deck plain follow submits are is queue_
 pub follow-inside : (desk seen : TablesModel) (event : Event) (deck : Option Job) → desk ≡ seen → MayFollow seen event deck → MayFollow desk event deck
 follow-inside desk seen event deck same follow = (follow.0, ap (λ t. follows follow.0 t event deck) same ∙ follow.1)
 
-pub may-go : (desk seen : TablesModel) (queue : List QueueEntry) (event : Event) (deck : Option Job) → desk ≡ seen → AreQueued desk queue → is_plain_event event ≡ true → MayFollow seen event deck → MayQueue event queue
+pub may-go : (desk seen : TablesModel) (queue : List QueueEntry) (event : Event) (deck : Option Job) → desk ≡ seen → AreQueued desk queue → is_forward_event event ≡ true → MayFollow seen event deck → MayQueue event queue
 may-go desk seen queue event deck same are plain follow =
     subst (MayQueue event) (sym are.same) (may-queue follow.0 desk event deck are.numbered plain (ap (λ t. follows follow.0 t event deck) same ∙ follow.1))
 
@@ -120,9 +121,9 @@ accepted_submitted : (tables : TablesModel) (job : ℕ) (cards : List ℕ) (deck
 accepted_submitted tables job cards None is accepted = accepted
 accepted_submitted tables job cards (Some deck) is accepted = each-append IsAcceptedRow tables.runs (queued_run job deck ∷ []) accepted (is, tt)
 
-pub accepted-behind : (tables : TablesModel) (event : Event) (deck : Option Job) → AreNumbered 1 tables.runs → is_plain_event event ≡ true → IsAnyAccepted event deck → AllByRecursion IsAcceptedRow tables.runs → AllByRecursion IsAcceptedRow (after_event event deck tables).runs
+pub accepted-behind : (tables : TablesModel) (event : Event) (deck : Option Job) → AreNumbered 1 tables.runs → is_forward_event event ≡ true → IsAnyAccepted event deck → AllByRecursion IsAcceptedRow tables.runs → AllByRecursion IsAcceptedRow (after_event event deck tables).runs
 accepted-behind tables event deck numbered plain is accepted =
-    by-submission (λ event. is_plain_event event ≡ true → IsAnyAccepted event deck → AllByRecursion IsAcceptedRow (after_event event deck tables).runs)
+    by-submission (λ event. is_forward_event event ≡ true → IsAnyAccepted event deck → AllByRecursion IsAcceptedRow (after_event event deck tables).runs)
     (λ job cards plain is. accepted_submitted tables job cards deck is accepted)
     (λ event other plain is. accepted_stay tables.runs (after_event event deck tables).runs (runs-stay tables numbered event deck plain other) accepted)
     event plain is
@@ -183,8 +184,8 @@ off_purged row waits is = record {
   code = is.code;
 }
 
--- a plain event that follows leaves a run within no step that it hasn't, holds no run, and gives no code
-pub placed-behind : (layout : Layout) (tables : TablesModel) (event : Event) (deck : Option Job) → is_plain_event event ≡ true → follows layout tables event deck ≡ true → AllByRecursion IsPlacedRow tables.runs → AllByRecursion IsPlacedRow (after_event event deck tables).runs
+-- a forward event that follows leaves a run within no step that it hasn't, holds no run, and gives no code
+pub placed-behind : (layout : Layout) (tables : TablesModel) (event : Event) (deck : Option Job) → is_forward_event event ≡ true → follows layout tables event deck ≡ true → AllByRecursion IsPlacedRow tables.runs → AllByRecursion IsPlacedRow (after_event event deck tables).runs
 placed-behind layout tables (Submitted job cards) deck plain follow placed = placed_submitted tables job cards deck placed
 placed-behind layout tables (Selected job initiator earlier step id) deck plain follow placed = placed_selected tables job initiator earlier step id deck (equal-true earlier 0 plain) placed
 placed-behind layout tables (Started job step items) deck plain follow placed =

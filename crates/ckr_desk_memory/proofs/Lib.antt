@@ -4,6 +4,7 @@ pub mod Plans
 pub mod DuePlans
 pub mod RuleCases
 pub mod FailedRuns
+pub mod ForwardEvents
 pub mod Masters
 pub mod RecordCounts
 pub mod Rewrites

@@ -28,7 +28,7 @@ use Rattle.ckr_queue.specs.declared.entry.QueueState.{QueueState}
 use Rattle.ckr_queue.specs.declared.entry.QueueState.TheVariants as InQueue
 use Rattle.ckr_queue.specs.Queue.{has_names, is_in, is_of, is_queued, may_take, passes, starts, state_of}
 use Rattle.ckr_points_invariant.proofs.Holders.Rows.{queued-is}
-use Rattle.ckr_points_tables.specs.Invariant.{is_plain_event}
+use Rattle.ckr_desk_memory.specs.ForwardEvents.{is_forward_event}
 use Rattle.ckr_desk_turn.specs.Queue.{AreNumbered, entry_of, entry_with, queue_behind, queue_of, queue_state}
 use Rattle.ckr_desk_turn.proofs.Queue.Events as behind
 use Rattle.ckr_desk_turn.proofs.Queue.Events.{kept_state, queue_in, run_number}
@@ -138,7 +138,7 @@ module _ (layout : Layout) (tables : TablesModel) (numbered : AreNumbered 1 tabl
   in_state test job row state at is holds =
       ap (λ (found : Option QueueEntry). passes test (option_map (λ (entry : QueueEntry). entry.state) found)) (found-run tables job row state numbered at is) ∙ holds
 
-  may : (event : Event) (deck : Option Job) → is_plain_event event ≡ true → follows layout tables event deck ≡ true → MayQueue event (queue_of tables)
+  may : (event : Event) (deck : Option Job) → is_forward_event event ≡ true → follows layout tables event deck ≡ true → MayQueue event (queue_of tables)
   may (Submitted job cards) deck plain e = none-behind tables job numbered (equal-true job (suc (length tables.runs)) (and-first _ _ (and-first _ (is_some deck) e)))
   may (Selected job initiator earlier step id) deck plain e =
       let there = run-there tables job (selected_follows layout tables initiator earlier step id) e in
@@ -203,7 +203,7 @@ module _ (layout : Layout) (tables : TablesModel) (numbered : AreNumbered 1 tabl
       let owned = step-there (own_step row) (λ owned. nat_le 1 dd && nat_le dd (length owned.step.dds)) (and-second (is_in_state Runs.On row) _ e) in
       behind.refused tables job dd cause first second deck row owned.0 entry.state numbered at owned.1 entry.is
 
-  queue_so : (event : Event) (deck : Option Job) → is_plain_event event ≡ true → follows layout tables event deck ≡ true → Behind event deck
+  queue_so : (event : Event) (deck : Option Job) → is_forward_event event ≡ true → follows layout tables event deck ≡ true → Behind event deck
   queue_so (Submitted job cards) deck plain e = submitted_so job cards deck (equal-true job (suc (length tables.runs)) (and-first _ _ (and-first _ (is_some deck) e)))
   queue_so (Selected job initiator earlier step id) deck plain e = selected_so job initiator earlier step id deck (equal-true earlier 0 plain) e
   queue_so (Started job step items) deck plain e = behind.started tables job step items deck numbered
@@ -219,9 +219,9 @@ module _ (layout : Layout) (tables : TablesModel) (numbered : AreNumbered 1 tabl
       behind.purged tables job deck there.0 numbered there.1 (queued-is there.0.state there.2)
   queue_so _ deck plain e = absurd (false≢true plain)
 
-pub may-queue : (layout : Layout) (tables : TablesModel) (event : Event) (deck : Option Job) → AreNumbered 1 tables.runs → is_plain_event event ≡ true → follows layout tables event deck ≡ true → MayQueue event (queue_of tables)
+pub may-queue : (layout : Layout) (tables : TablesModel) (event : Event) (deck : Option Job) → AreNumbered 1 tables.runs → is_forward_event event ≡ true → follows layout tables event deck ≡ true → MayQueue event (queue_of tables)
 may-queue layout tables event deck numbered plain e = may layout tables numbered event deck plain e
 
-pub queue-behind : (layout : Layout) (tables : TablesModel) (event : Event) (deck : Option Job) → AreNumbered 1 tables.runs → is_plain_event event ≡ true → follows layout tables event deck ≡ true
+pub queue-behind : (layout : Layout) (tables : TablesModel) (event : Event) (deck : Option Job) → AreNumbered 1 tables.runs → is_forward_event event ≡ true → follows layout tables event deck ≡ true
     → queue_of (after_event event deck tables) ≡ queue_behind event deck (queue_of tables)
 queue-behind layout tables event deck numbered plain e = queue_so layout tables numbered event deck plain e

@@ -18,7 +18,8 @@ use Rattle.ckr_points.specs.Rows.{TablesModel}
 use Rattle.ckr_points.specs.Soundness.{AreLaidOut}
 use Rattle.ckr_points_decks.specs.Cards.{job_in, kept_deck, stored_of_kept}
 use Rattle.ckr_points_decks.specs.Form.{is_run}
-use Rattle.ckr_points_tables.specs.Invariant.{MayCount, MaySubmit, is_plain_event, is_submittable}
+use Rattle.ckr_points_tables.specs.Invariant.{MayCount, MaySubmit, is_submittable}
+use Rattle.ckr_desk_memory.specs.ForwardEvents.{is_forward_event}
 use Rattle.ckr_desk_turn.specs.Queue.{AreNumbered}
 use Rattle.ckr_desk_memory.specs.Invariant.{AreJobs, IsAcceptedDeck, IsAcceptedRow, IsAnyAccepted, IsPlacedRow, IsRunnable}
 use Rattle.ckr_desk_memory.specs.Replay.{deck_of, goes_on, is_run_as, is_run_by, replayed}
@@ -43,7 +44,7 @@ may_submit _ deck e = tt
 
 -- what an event that goes on has
 pub record GoesOnWith (layout : Layout) (tables : TablesModel) (event : Event) (deck : Option Job) : Type 0 where
-  pub plain : is_plain_event event ≡ true
+  pub plain : is_forward_event event ≡ true
   pub follow : follows layout tables event deck ≡ true
   pub submits : MaySubmit event deck
   pub run : is_run_by event deck ≡ true
@@ -51,11 +52,11 @@ pub record GoesOnWith (layout : Layout) (tables : TablesModel) (event : Event) (
 
 pub goes-on-with : (layout : Layout) (tables : TablesModel) (event : Event) (deck : Option Job) → goes_on layout tables event deck ≡ true → GoesOnWith layout tables event deck
 goes-on-with layout tables event deck e =
-    let others = and-second (is_plain_event event) _ e in
+    let others = and-second (is_forward_event event) _ e in
     let run = and-first (is_run_by event deck) _ others in
     let last = and-second (is_run_by event deck) _ others in
     record {
-      plain = and-first (is_plain_event event) _ e;
+      plain = and-first (is_forward_event event) _ e;
       follow = and-first (follows layout tables event deck) (may_count event tables.sets) last;
       submits = may_submit event deck run;
       run = run;

@@ -15,7 +15,8 @@ use Rattle.ckr_meaning.specs.declared.place.Place.TheVariants.{Before, Opened, W
 use Rattle.ckr_points.specs.Tables.{after_commit, queued_run}
 use Rattle.ckr_points.specs.Restart.{after_abnormal, after_coded, after_ended, after_event, by_run, place_of, step_in}
 use Rattle.ckr_points.specs.Rows.{RunRow, TablesModel, run_of, step_of_run, with_row}
-use Rattle.ckr_points_tables.specs.Invariant.{is_plain_event, is_submission}
+use Rattle.ckr_points_tables.specs.Invariant.{is_submission}
+use Rattle.ckr_desk_memory.specs.ForwardEvents.{is_forward_event}
 use Rattle.ckr_desk_turn.specs.Queue.{AreNumbered}
 use Rattle.ckr_desk_turn.proofs.Queue.Events.{row_twice, run_number}
 
@@ -90,7 +91,7 @@ module _ (tables : TablesModel) (numbered : AreNumbered 1 tables.runs) where
       (by-run Stay tables job _ refl (λ row at. same_row tables numbered job row at _ refl))
 
   -- each run keeps what it is
-  pub runs-stay : (event : Event) (deck : Option Job) → is_plain_event event ≡ true → is_submission event ≡ false → Stay (after_event event deck tables)
+  pub runs-stay : (event : Event) (deck : Option Job) → is_forward_event event ≡ true → is_submission event ≡ false → Stay (after_event event deck tables)
   runs-stay (Submitted job cards) deck plain other = absurd (false≢true (sym other))
   runs-stay (Selected job initiator earlier step id) deck plain other = selected_same job initiator earlier step id deck (equal-true earlier 0 plain)
   runs-stay (Started job step items) deck plain other =

@@ -1,5 +1,6 @@
 pub mod EventChanges
 pub mod Extents
+pub mod ForwardEvents
 pub mod RunningSteps
 pub mod Invariant
 pub mod Parts

@@ -1,7 +1,7 @@
 -- The memory for an event.
 use Rattle.std.specs.Prelude.{◌≡◌, ◌≤◌, ◌<◌, ℕ, Bool, true, false, [], Option, Some}
 use Rattle.ckr_events.specs.declared.event.Event.{Event}
-use Rattle.ckr_events.specs.declared.event.Event.TheVariants.{Submitted, Started, Checkpointed, StepEnded, Ended}
+use Rattle.ckr_events.specs.declared.event.Event.TheVariants.{Submitted, Started, Checkpointed, StepEnded, Restarted, Ended}
 use Rattle.ckr_jcl.specs.declared.deck.Job.{Job}
 use Rattle.ckr_jcl.specs.declared.deck.Step.{Step}
 use Rattle.ckr_meaning.specs.EffectiveJob.{OwnedStep}
@@ -19,6 +19,7 @@ needs_room (Submitted job cards) = true
 needs_room (Started job step items) = true
 needs_room (Checkpointed job id taken writes lengths place bytes) = true
 needs_room (StepEnded job step rc writes lengths) = true
+needs_room (Restarted job initiator code checkpoint) = true
 needs_room (Ended job ending) = true
 needs_room _ = false
 

@@ -9,7 +9,8 @@ use Rattle.ckr_points.specs.Restart.{after_event}
 use Rattle.ckr_points.specs.Rows.{TablesModel}
 use Rattle.ckr_points_decks.specs.Cards.{kept_deck}
 use Rattle.ckr_points_decks.specs.Form.{is_run}
-use Rattle.ckr_points_tables.specs.Invariant.{is_plain_event, is_submittable}
+use Rattle.ckr_points_tables.specs.Invariant.{is_submittable}
+use Rattle.ckr_desk_memory.specs.ForwardEvents.{is_forward_event}
 use Rattle.ckr_volumes.specs.declared.layout.Layout.{Layout}
 
 -- the deck of the cards that an event keeps
@@ -34,7 +35,7 @@ is_run_by _ deck = true
 
 -- whether an event follows in what the desk runs
 abbrev pub goes_on : Layout → TablesModel → Event → Option Job → Bool
-goes_on layout tables event deck = is_plain_event event && (is_run_by event deck && (follows layout tables event deck && may_count event tables.sets))
+goes_on layout tables event deck = is_forward_event event && (is_run_by event deck && (follows layout tables event deck && may_count event tables.sets))
 
 -- the tables behind an event, where it follows in what the desk runs
 unfoldable pub replayed : Layout → TablesModel → Event → Option TablesModel

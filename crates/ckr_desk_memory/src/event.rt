@@ -16,7 +16,8 @@ ghost use Rattle.ckr_library.specs.Catalog.{records_of};
 ghost use Rattle.ckr_points.specs.Follows.{follows};
 ghost use Rattle.ckr_points.specs.Restart.{after_event};
 ghost use Rattle.ckr_queue.specs.Queue.{queued, state_of, with_entry};
-ghost use Rattle.ckr_points_tables.specs.Invariant.{is_plain_event, HasRoom, MayCount, MayFollow, MaySubmit};
+ghost use Rattle.ckr_points_tables.specs.Invariant.{HasRoom, MayCount, MayFollow, MaySubmit};
+ghost use Rattle.ckr_desk_memory.specs.ForwardEvents.{is_forward_event};
 ghost use Rattle.ckr_desk_turn.specs.Desk.{failed_behind};
 ghost use Rattle.ckr_desk_turn.specs.Queue.{queue_behind, AreNumbered};
 ghost use Rattle.ckr_volumes.specs.declared.layout.Layout.{Layout as LayoutOfDisk};
@@ -45,9 +46,9 @@ fn queue_run(queue: &mut Queue, number: u32, uses: Uses)
     }
 }
 
-/// The queue goes on by a plain event that follows. The uses are those of a deck that is submitted, and there is room for it.
+/// The queue goes on by a forward event that follows. The uses are those of a deck that is submitted, and there is room for it.
 fn keep_queue(queue: &mut Queue, event: &Event, uses: Option<Uses>)
-    requires plain { IsTrue (is_plain_event event.now) }
+    requires plain { IsTrue (is_forward_event event.now) }
     requires may { MayQueue event.now queue.old.entries }
     requires room { HasQueueRoom event.now queue.old.room }
     ensures { (deck : Option JobOfDeck) → HasUses event.now deck uses → queue.new.entries ≡ queue_behind event.now deck queue.old.entries }
@@ -104,7 +105,7 @@ fn end_of(place: u32, bytes: u32) -> u64
     u64::from(place) + u64::from(bytes).div_ceil(256)
 }
 
-/// The running steps behind a plain event, by the tables behind it. The step that starts is at its beginning, and there is room for it. A
+/// The running steps behind a forward event, by the tables behind it. The step that starts is at its beginning, and there is room for it. A
 /// checkpoint is due of the step whose entry was written, and a cancel of the step that cancels.
 fn keep_running(
     event: &Event,
@@ -149,11 +150,11 @@ fn keep_failed(failed: &mut Vec<u32>, event: &Event)
 }
 
 impl Jobs {
-    /// Goes on by a plain event that follows, with the memory that `prepare` took for it. A deck is given exactly where the event is
+    /// Goes on by a forward event that follows, with the memory that `prepare` took for it. A deck is given exactly where the event is
     /// Submitted and its cards are a deck, and it is that deck, accepted and of a form that the desk runs. It takes no memory, and
     /// doesn't fail. A record that the event tells has its place then (this project's profile).
     pub fn keep(&mut self, event: &Event, deck: Option<Job>, prepared: Prepared)
-        requires plain { IsTrue (is_plain_event event.now) }
+        requires plain { IsTrue (is_forward_event event.now) }
         requires follows { MayGoOn self.old event.now deck }
         requires deck { MaySubmit event.now deck }
         requires accepted { IsAnyAccepted event.now deck }
@@ -174,10 +175,10 @@ impl Jobs {
         keep_failed(&mut self.failed, event);
     }
 
-    /// The tables go on by a plain event that follows, and the queue with them. There is room for the event, and the uses are those
+    /// The tables go on by a forward event that follows, and the queue with them. There is room for the event, and the uses are those
     /// of the deck that it submits. It takes no memory, and doesn't fail.
     pub(crate) fn go_on(&mut self, event: &Event, deck: Option<Job>, uses: Option<Uses>)
-        requires plain { IsTrue (is_plain_event event.now) }
+        requires plain { IsTrue (is_forward_event event.now) }
         requires follows { MayFollow self.old.tables.desk event.now deck }
         requires deck { MaySubmit event.now deck }
         requires count { MayCount event.now self.old.tables.desk.sets }

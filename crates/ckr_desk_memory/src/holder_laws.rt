@@ -13,7 +13,7 @@ ghost use Rattle.ckr_points.specs.Follows.{follows};
 ghost use Rattle.ckr_points.specs.Restart.{after_event};
 ghost use Rattle.ckr_points.specs.Rows.{TablesModel, no_tables};
 ghost use Rattle.ckr_points.specs.Soundness.{AreLaidOut};
-ghost use Rattle.ckr_points_tables.specs.Invariant.{is_plain_event};
+ghost use Rattle.ckr_desk_memory.specs.ForwardEvents.{is_forward_event};
 ghost use Rattle.ckr_volumes.specs.declared.layout.Layout.{Layout};
 ghost use Rattle.ckr_steps.specs.Inputs.{AreStored, AreThere};
 ghost use Rattle.ckr_steps.specs.StepUnit.{HasDone, done_for, worked_for};
@@ -38,7 +38,7 @@ pub fn holders_stay_apart()
     ensures none { AreHolders no_tables }
     ensures kept { (layout : Layout) (tables : TablesModel) (event : Event) (deck : Option Job)
         → AreHolders tables → AllByRecursion IsAcceptedRow tables.runs → AreNumbered 1 tables.runs
-        → is_plain_event event ≡ true → follows layout tables event deck ≡ true → AreHolders (after_event event deck tables) }
+        → is_forward_event event ≡ true → follows layout tables event deck ≡ true → AreHolders (after_event event deck tables) }
 {}
 
 /// Where runs that hold stay apart, the running steps stay those of their runs, each with its data sets beside the tables, by each event that
@@ -46,7 +46,7 @@ pub fn holders_stay_apart()
 pub fn running_steps_stay_theirs()
     ensures event { (layout : Layout) (tables : TablesModel) (event : Event) (deck : Option Job) (old new : List RunningStepView)
         → AreHolders tables → AllByRecursion IsAcceptedRow tables.runs → AreNumbered 1 tables.runs
-        → is_plain_event event ≡ true → follows layout tables event deck ≡ true → AllByRecursion (IsRunningOf tables) old
+        → is_forward_event event ≡ true → follows layout tables event deck ≡ true → AllByRecursion (IsRunningOf tables) old
         → CommitsItsOwn event tables old → GoesOn event (after_event event deck tables) old new
         → AllByRecursion (IsRunningOf (after_event event deck tables)) new }
     ensures unit { (tables : TablesModel) (old new : RunningStepView) (heads : HeadsOfInputs) (worked : WorkedUnit)

@@ -53,7 +53,7 @@ fn begin_step(alloc: Global, job: u32, step: &Step) -> Result<RunningStep, NoMem
     })
 }
 
-/// Whether an event needs memory: one that submits a run, starts or ends a step, ends a run or keeps an entry.
+/// Whether an event needs memory: one that submits a run, starts or ends a step, restarts or ends a run, or keeps an entry.
 fn needs_room(event: &Event) -> bool
     ensures { result ≡ needs_room event.now }
 {
@@ -63,6 +63,7 @@ fn needs_room(event: &Event) -> bool
             | Event::Started { .. }
             | Event::Checkpointed { .. }
             | Event::StepEnded { .. }
+            | Event::Restarted { .. }
             | Event::Ended { .. }
     )
 }

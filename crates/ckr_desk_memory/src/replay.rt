@@ -5,7 +5,7 @@ ghost use Rattle.ckr_desk_memory.specs.Holders.{AreHolders};
 ghost use Rattle.ckr_desk_memory.specs.Invariant.{AreJobs};
 ghost use Rattle.ckr_desk_memory.specs.Replay.{deck_of, goes_on, is_run_as, is_run_by, replayed, HasFewCards};
 ghost use Rattle.ckr_points.specs.Follows.{follows};
-ghost use Rattle.ckr_points_tables.specs.Invariant.{is_plain_event};
+ghost use Rattle.ckr_desk_memory.specs.ForwardEvents.{is_forward_event};
 
 use crate::Jobs;
 use ckr_base::NoMemory;
@@ -13,7 +13,7 @@ use ckr_events::Event;
 use ckr_jcl::Job;
 use ckr_points_decks::{is_run, job_of_kept};
 use ckr_points_follows::{follows, may_count};
-use ckr_points_tables::{Tables, is_plain, is_submittable};
+use ckr_points_tables::{Tables, is_submittable};
 use ckr_volumes::Layout;
 use std::alloc::Global;
 
@@ -48,9 +48,28 @@ fn is_run_by(event: &Event, deck: &Option<Job>) -> bool
     }
 }
 
-/// Whether a plain event follows, with the deck that it submits.
+/// Whether an event is of those by which a desk goes on: none of a run that is held, released, restarted or denied, or continues another
+/// one.
+fn is_forward(event: &Event) -> bool
+    ensures { result ≡ is_forward_event event.now }
+{
+    match event {
+        Event::Selected { earlier, .. } => *earlier == 0,
+        Event::Submitted { .. }
+        | Event::Started { .. }
+        | Event::Rewritten { .. }
+        | Event::Checkpointed { .. }
+        | Event::Cancelled { .. }
+        | Event::StepEnded { .. }
+        | Event::Ended { .. }
+        | Event::Purged { .. } => true,
+        _ => false,
+    }
+}
+
+/// Whether such an event follows, with the deck that it submits.
 fn follows_with(tables: &Tables, layout: &Layout, event: &Event, deck: &Option<Job>) -> bool
-    requires { IsTrue (is_plain_event event.now) }
+    requires { IsTrue (is_forward_event event.now) }
     ensures { result ≡ follows layout.now tables.now.desk event.now deck.now }
 {
     match deck {
@@ -63,7 +82,7 @@ fn follows_with(tables: &Tables, layout: &Layout, event: &Event, deck: &Option<J
 fn goes_on(tables: &Tables, layout: &Layout, event: &Event, deck: &Option<Job>) -> bool
     ensures { result ≡ goes_on layout.now tables.now.desk event.now deck.now }
 {
-    is_plain(event)
+    is_forward(event)
         && is_run_by(event, deck)
         && follows_with(tables, layout, event, deck)
         && may_count(tables, event)
@@ -71,8 +90,9 @@ fn goes_on(tables: &Tables, layout: &Layout, event: &Event, deck: &Option<Job>) 
 
 impl Jobs {
     /// Goes on by an event of the desk that is read again, and starts no step. False exactly where it doesn't follow in what the desk
-    /// runs by now: it is no plain event, or its cards are no deck of a form that the desk runs, or it doesn't follow, or its rewrite
-    /// can't be counted; then the jobs are as before. An event keeps at most 3,355,443 cards (this project's profile).
+    /// runs by now: it is of a run that is held, released, restarted or denied, or continues another one, or its cards are no deck of a
+    /// form that the desk runs, or it doesn't follow, or its rewrite can't be counted; then the jobs are as before. An event keeps at
+    /// most 3,355,443 cards (this project's profile).
     ///
     /// `NoMemory`: the jobs are as before.
     pub fn replay(&mut self, layout: &Layout, event: &Event) -> Result<bool, NoMemory>

@@ -1,8 +1,8 @@
 -- Tests of lists that a function goes through.
-use Rattle.std.proofs.Common.{◌≡◌, ℕ, zero, suc, ◌-◌, length, take, drop, length-drop, arith, ◌&&◌, ◌||◌, Bool, true, false, not, cond, List, [], ◌∷◌, ◌++◌, map, filter, flat_map, slice_get, refl, ap, sym, ◌∙◌, Some, None, Option}
+use Rattle.std.proofs.Common.{◌≡◌, ℕ, zero, suc, ◌-◌, length, take, drop, length-drop, arith, ◌&&◌, ◌||◌, Bool, true, false, not, cond, List, [], ◌∷◌, map, filter, flat_map, slice_get, refl, ap, sym, ◌∙◌, Some, None, Option}
 use Rattle.std.specs.Option.{option_map, option_map_or, option_to_list}
 use Rattle.std.specs.List.{cons_option, filter_map, list_all, list_any}
-use Rattle.std.proofs.lemmas.List.Folds.{list_all-append, list_any-append}
+use Rattle.std.proofs.lemmas.List.Folds.{list_any-append}
 use Rattle.ckr_base.proofs.Bools.{or-false}
 use Rattle.ckr_base.proofs.Sequences.{take-most}
 

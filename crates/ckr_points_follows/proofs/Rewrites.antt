@@ -1,5 +1,5 @@
 -- The data set that a step updates.
-use Rattle.std.proofs.Common.{◌≡◌, ℕ, ◌&&◌, ◌==◌, ◌||◌, Bool, true, false, not, find, nat_lt, length, List, [], ◌∷◌, slice_get, suc, zero, refl, ap, sym, ◌∙◌, subst, Some, None, Option}
+use Rattle.std.proofs.Common.{◌≡◌, ℕ, ◌&&◌, ◌==◌, ◌||◌, Bool, true, false, not, nat_lt, length, List, [], ◌∷◌, slice_get, suc, zero, refl, ap, sym, ◌∙◌, Some, None, Option}
 use Rattle.std.specs.Option.{option_and_then, option_map, option_map_or}
 use Rattle.std.specs.List.{list_all}
 use Rattle.std.proofs.lemmas.Bool.{false≢true}
@@ -12,7 +12,7 @@ use Rattle.ckr_jcl.specs.declared.deck.Job.{Job}
 use Rattle.ckr_jcl.specs.declared.deck.Origin.{Origin}
 use Rattle.ckr_jcl.specs.declared.deck.Origin.TheVariants.{InStream, Named as NamedOrigin, Temporary, Unnamed, Sysout, Dummy}
 use Rattle.ckr_jcl.specs.declared.deck.Step.{Step}
-use Rattle.ckr_library.specs.NameMaps.{Name, Named, entry_at}
+use Rattle.ckr_library.specs.NameMaps.{Name, entry_at}
 use Rattle.ckr_meaning.specs.EffectiveJob.{OwnedStep, name_of, owned_by, plain_job, step_at}
 use Rattle.ckr_points.specs.Tables.{is_updates, name_with_role}
 use Rattle.ckr_points.specs.Follows.{is_rewrite, is_update}

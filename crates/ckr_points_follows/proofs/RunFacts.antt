@@ -4,7 +4,6 @@ use Rattle.std.specs.Option.{option_map}
 use Rattle.std.proofs.lemmas.Option.{same_Some, slice_get-map}
 use Rattle.ckr_base.proofs.Numbers.{suc-minus}
 use Rattle.ckr_base.proofs.Options.{some-not-none}
-use Rattle.ckr_library.specs.declared.sets.DataSet.{DataSet}
 use Rattle.ckr_library.specs.Catalog.{Holding}
 use Rattle.ckr_library.specs.NameMaps.{Name, Named, entry_at}
 use Rattle.ckr_library.proofs.Named.{at-viewed}
@@ -13,7 +12,7 @@ use Rattle.ckr_points.specs.declared.run.Run.{Run}
 use Rattle.ckr_points.specs.Rows.{RunRow, TableSet, TablesModel, holding_of, run_of}
 use Rattle.ckr_points_tables.specs.declared.run_table.RunTable.{RunTable}
 use Rattle.ckr_points_tables.specs.PlainRows.{IsPlainRow}
-use Rattle.ckr_points_tables.specs.View.{RunTableView, facts_in, facts_of, line_of, row_of, row_with, seen_by}
+use Rattle.ckr_points_tables.specs.View.{facts_in, facts_of, line_of, row_of, row_with, seen_by}
 use Rattle.ckr_points_follows.specs.Runs.{IsWholeRun, row_now}
 use Rattle.ckr_points_follows.specs.declared.runs.WholeRun.{WholeRun}
 

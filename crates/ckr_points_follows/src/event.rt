@@ -5,6 +5,9 @@ ghost use Rattle.ckr_points.specs.Follows.{follows};
 ghost use Rattle.ckr_points_tables.specs.Invariant.{is_plain_event};
 
 use crate::checkpoint::{cancelled_follows, checkpointed_follows};
+use crate::hold::held_follows;
+use crate::release::released_follows;
+use crate::restart::restarted_follows;
 use crate::rewrite::rewritten_follows;
 use crate::select::{purged_follows, selected_follows};
 use crate::start::started_follows;
@@ -15,8 +18,8 @@ use ckr_jcl::Job;
 use ckr_points_tables::Tables;
 use ckr_volumes::Layout;
 
-/// Whether an event follows on the tables: one of a run that continues none, and no restart, denial or holding. The deck is
-/// given for Submitted, where its cards are one. It takes no memory (this project's profile).
+/// Whether an event follows on the tables: one of a run that continues none, and isn't denied. The deck is given for Submitted, where
+/// its cards are one. It takes no memory (this project's profile).
 pub fn follows(tables: &Tables, layout: &Layout, event: &Event, deck: Option<&Job>) -> bool
     requires kept { IsTrue (is_plain_event event.now) }
     ensures { result ≡ follows layout.now tables.now.desk event.now (option_copied deck.entry) }
@@ -55,6 +58,14 @@ pub fn follows(tables: &Tables, layout: &Layout, event: &Event, deck: Option<&Jo
             lengths,
             ..
         } => step_ended_follows(tables, *job, *step, lengths.as_slice()),
+        Event::Restarted {
+            job,
+            initiator,
+            checkpoint,
+            ..
+        } => restarted_follows(layout, tables, *job, *initiator, *checkpoint),
+        Event::Held { job, lengths, .. } => held_follows(tables, *job, lengths.as_slice()),
+        Event::Released { job } => released_follows(tables, *job),
         Event::Ended { job, ending } => ended_follows(tables, *job, ending),
         Event::Purged { job } => purged_follows(tables, *job),
         _ => false,

@@ -2,7 +2,7 @@
 ghost use Rattle.std.specs.Prelude.{◌≡◌, ◌==◌, Option, Some, IfSome, slice_get};
 ghost use Rattle.std.specs.Option.{option_copied, option_map};
 ghost use Rattle.ckr_points.specs.Follows.{is_in_state, is_running, is_within, state_number};
-ghost use Rattle.ckr_points.specs.declared.run.RunState.TheVariants.{On as OnInitiator, Queued as QueuedRun, Released as ReleasedRun};
+ghost use Rattle.ckr_points.specs.declared.run.RunState.TheVariants.{Held as HeldRun, On as OnInitiator, Queued as QueuedRun, Released as ReleasedRun};
 ghost use Rattle.ckr_points.specs.Restart.{place_of};
 ghost use Rattle.ckr_points.specs.Rows.{run_of, RunRow};
 ghost use Rattle.ckr_points_tables.specs.PlainRows.{IsPlainRow};
@@ -75,6 +75,13 @@ fn is_on_state(state: RunState) -> bool
     matches!(state, RunState::On)
 }
 
+/// Whether a run in this state is held.
+fn is_held_state(state: RunState) -> bool
+    ensures { result ≡ (state_number state == state_number HeldRun) }
+{
+    matches!(state, RunState::Held)
+}
+
 /// Whether a run in this state was held and waits to go on.
 fn is_released_state(state: RunState) -> bool
     ensures { result ≡ (state_number state == state_number ReleasedRun) }
@@ -94,6 +101,13 @@ pub(crate) fn is_on(run: &WholeRun<'_>) -> bool
     ensures { result ≡ is_in_state OnInitiator (row_now run.now) }
 {
     is_on_state(run.line.state)
+}
+
+/// Whether a run is held.
+pub(crate) fn is_held(run: &WholeRun<'_>) -> bool
+    ensures { result ≡ is_in_state HeldRun (row_now run.now) }
+{
+    is_held_state(run.line.state)
 }
 
 /// Whether a run was held and waits to go on.

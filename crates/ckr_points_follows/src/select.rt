@@ -41,7 +41,7 @@ fn has_no_run(tables: &Tables, initiator: u8) -> bool
 }
 
 /// Whether an initiator is one of the layout's, and no run is on it.
-fn is_free(layout: &Layout, tables: &Tables, initiator: u8) -> bool
+pub(crate) fn is_free(layout: &Layout, tables: &Tables, initiator: u8) -> bool
     ensures { result ≡ is_free layout.now tables.now.desk initiator }
 {
     is_initiator(layout, initiator) && has_no_run(tables, initiator)

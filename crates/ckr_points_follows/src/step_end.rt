@@ -40,8 +40,9 @@ fn is_done(run: &WholeRun<'_>) -> bool
     is_on(run) && !is_within(place_of(run)) && own_step(run).is_none()
 }
 
-/// Whether the end of a run with a code follows.
-fn ends_coded(tables: &Tables, run: &WholeRun<'_>, lengths: &[u32]) -> bool
+/// Whether the failure of a run's step follows, with which the run ends or is held: it is within the step or waits to go on, and the
+/// lengths are those of the step's outputs.
+pub(crate) fn step_fails(tables: &Tables, run: &WholeRun<'_>, lengths: &[u32]) -> bool
     requires { IsWholeRun run.now }
     ensures { result ≡ ((is_running (row_now run.now) || is_in_state ReleasedRun (row_now run.now)) && lengths_follow tables.now.desk (row_now run.now) lengths.now) }
 {
@@ -65,7 +66,7 @@ fn run_ends(tables: &Tables, run: &WholeRun<'_>, ending: &Ending) -> bool
 {
     match ending {
         Ending::Completed => is_done(run),
-        Ending::Coded { lengths, .. } => ends_coded(tables, run, lengths.as_slice()),
+        Ending::Coded { lengths, .. } => step_fails(tables, run, lengths.as_slice()),
         Ending::Allocation { dd, .. } => is_on(run) && has_dd(run, *dd),
     }
 }

@@ -1,5 +1,5 @@
 -- A call on the tables that goes on by an event: what it needs, and what it leaves.
-use Rattle.std.proofs.Common.{◌≡◌, ℕ, suc, ◌-◌, ◌<◌, ◌≤◌, true, false, IsTrue, List, [], length, map, slice_get, slice_set, slice_index_or, vec_len, vec_capacity, ap, sym, ◌∙◌, subst, arith, Some, None, Option}
+use Rattle.std.proofs.Common.{◌≡◌, ℕ, suc, ◌-◌, ◌<◌, ◌≤◌, true, IsTrue, List, [], length, map, slice_get, slice_set, slice_index_or, vec_len, vec_capacity, ap, sym, ◌∙◌, subst, arith, Some, None, Option}
 use Rattle.std.proofs.lemmas.Option.{same_Some}
 use Rattle.std.proofs.lemmas.List.{get_or-set_same}
 use Rattle.ckr_base.proofs.Sequences.{get-from}
@@ -16,7 +16,7 @@ use Rattle.ckr_points_tables.specs.declared.run_table.RunTable.{RunTable}
 use Rattle.ckr_points_tables.specs.declared.tables.Tables.TheInside.{Inside}
 use Rattle.ckr_points_tables.specs.RunChange.{going, changed, holding_kit, written_after}
 use Rattle.ckr_points_tables.specs.Parts.{tables_seen, IsKept}
-use Rattle.ckr_points_tables.specs.Invariant.{AreKept, HasRoom, MayCount, MayFollow, is_plain_event, is_submission, put_at}
+use Rattle.ckr_points_tables.specs.Invariant.{AreKept, HasRoom, MayCount, MayFollow, is_run_change, put_at}
 use Rattle.ckr_points_tables.specs.Needs.{MayChange}
 use Rattle.ckr_points.specs.Restart.{after_event}
 use Rattle.ckr_points.specs.Rows.{TablesModel}
@@ -32,7 +32,7 @@ read-twice items place one other inside is also = same_Some one other (sym (get-
 pub read-back : {A : Type 0} (items : List A) (place : ℕ) (new other : A) → place < length items → other ≡ slice_index_or (slice_set items place new) place other → other ≡ new
 read-back items place new other inside is = is ∙ get_or-set_same items place new other inside
 
-module _ (a : Inside) (self : RoomyTables) (view : tables_seen a ≡ self) (kept : IsKept a) (event : Event) (plain : is_plain_event event ≡ true) (other : is_submission event ≡ false) (may : (deck : Option Job) → MayFollow self.desk event deck) (number : ℕ) (numbered : number ≡ job_of event) where
+module _ (a : Inside) (self : RoomyTables) (view : tables_seen a ≡ self) (kept : IsKept a) (event : Event) (change : is_run_change event ≡ true) (may : (deck : Option Job) → MayFollow self.desk event deck) (number : ℕ) (numbered : number ≡ job_of event) where
   may_in : (deck : Option Job) → MayFollow (tables_seen a).desk event deck
   may_in deck = subst (λ v. MayFollow v.desk event deck) (sym view) (may deck)
 
@@ -40,7 +40,7 @@ module _ (a : Inside) (self : RoomyTables) (view : tables_seen a ≡ self) (kept
   lengths = length-rows 1 a.lines.items a.tables.items kept.runs
 
   at : (0 < job_of event) × (job_of event ≤ length (rows_of a.lines.items a.tables.items))
-  at = placed_at (tables_seen a).desk event None plain other (may_in None)
+  at = placed_at (tables_seen a).desk event None change (may_in None)
 
   pub from_1 : 1 ≤ number
   from_1 = omega (arith, at.0, numbered)
@@ -68,21 +68,21 @@ module _ (a : Inside) (self : RoomyTables) (view : tables_seen a ≡ self) (kept
     entered = get-from a.writings.items (number - 1) entries inside_writings entries_read
 
     pub number_ok : line.number ≤ 9999999
-    number_ok = number_fits a.library a.lines.items a.tables.items a.index a.spare a.writings.items kept event None plain other (may_in None) (number - 1) line table entries is_next lined tabled entered
+    number_ok = number_fits a.library a.lines.items a.tables.items a.index a.spare a.writings.items kept event None change (may_in None) (number - 1) line table entries is_next lined tabled entered
 
     pub limits_ok : IsTrue (is_within_limits table.job)
-    limits_ok = within_limits a.library a.lines.items a.tables.items a.index a.spare a.writings.items kept event None plain other (may_in None) (number - 1) line table entries is_next lined tabled entered
+    limits_ok = within_limits a.library a.lines.items a.tables.items a.index a.spare a.writings.items kept event None change (may_in None) (number - 1) line table entries is_next lined tabled entered
 
     pub may_ok : MayCount event self.desk.sets → HasRoom self event → MayChange event line.number table entries a.library a.spare
     may_ok count has =
-        may_change a.library a.lines.items a.tables.items a.index a.spare a.writings.items kept event None plain other (may_in None) (number - 1) line table entries is_next lined tabled entered
+        may_change a.library a.lines.items a.tables.items a.index a.spare a.writings.items kept event None change (may_in None) (number - 1) line table entries is_next lined tabled entered
         (vec_capacity a.tables - vec_len a.tables) (vec_capacity a.lines - vec_len a.lines) (vec_capacity a.writings - vec_len a.writings) (subst (λ v. MayCount event v.desk.sets) (sym view) count) (subst (λ v. HasRoom v event) (sym view) has)
 
     module _ (new : Run) (after : RunTable) (sets : Named Holding) (goes : going new (facts_of after) sets ≡ changed holding_kit event (going line (facts_of table) a.library.sets)) where
       pub desk_ok : IsTrue (are_named_in_order a.library.sets) → (more : Roomy WrittenEntry) → written_of more ≡ written_after holding_kit event (going line (facts_of table) a.library.sets) (written_of entries) → (deck : Option Job)
           → (let all : TablesModel = record { sets = seen_under (table_in (map written_of (slice_set a.writings.items (number - 1) more))) sets; runs = rows_of (slice_set a.lines.items (number - 1) new) (slice_set a.tables.items (number - 1) after) } in all) ≡ after_event event deck self.desk
       desk_ok ordered more wrote deck =
-          desk_after a.library a.lines.items a.tables.items a.index a.spare a.writings.items kept event deck plain other (may_in deck) (number - 1) line table entries is_next lined tabled entered new after sets goes ordered more wrote
+          desk_after a.library a.lines.items a.tables.items a.index a.spare a.writings.items kept event deck change (may_in deck) (number - 1) line table entries is_next lined tabled entered new after sets goes ordered more wrote
           ∙ ap (λ v. after_event event deck v.desk) view
 
       pub kept_ok : (more : Roomy WrittenEntry) (marks : List Mark) → marks ≡ [] → ((i : ℕ) → new.initiator ≡ Some i → i < 256) → (index : List ℕ) → index ≡ put_at new.initiator number (put_at line.initiator 0 a.index)
@@ -90,4 +90,4 @@ module _ (a : Inside) (self : RoomyTables) (view : tables_seen a ≡ self) (kept
       kept_ok more marks spared fits index is =
           subst (λ all. AreKept sets (slice_set a.lines.items (number - 1) new) (slice_set a.tables.items (number - 1) after) all marks (slice_set a.writings.items (number - 1) more))
           (ap (λ n. put_at new.initiator n (put_at line.initiator 0 a.index)) (sym is_next ∙ sym numbered) ∙ sym is)
-          (kept_after a.library a.lines.items a.tables.items a.index a.spare a.writings.items kept event None plain other (may_in None) (number - 1) line table entries is_next lined tabled entered new after sets goes more marks spared fits)
+          (kept_after a.library a.lines.items a.tables.items a.index a.spare a.writings.items kept event None change (may_in None) (number - 1) line table entries is_next lined tabled entered new after sets goes more marks spared fits)

@@ -39,7 +39,7 @@ use Rattle.ckr_points_tables.specs.declared.tables.Spare.{Spare}
 use Rattle.ckr_points_tables.specs.RunChange.{Going, going, changed, check_writing, committed_by, desk_with, holding_kit, kept_by, place_now, table_kit, written_after}
 use Rattle.ckr_points_tables.specs.StepEnd.{HasLengths, MayRewriteIn}
 use Rattle.ckr_points.specs.Follows.{ended_follows, follows, is_checkpoint, is_length_of, is_rewrite, is_update, of_step, may_hold, may_restart, is_free, is_in_state, is_running, lengths_follow, of_run, selected_follows, started_follows}
-use Rattle.ckr_points_tables.specs.Invariant.{AreKept, HasKeptRoom, HasRoom, HasRoomIn, HasRoomUnder, IsFilled, IsRun, IsWide, MayCount, MayFollow, initiator_at, is_plain_event, is_submission, entries_at, put_at, room_at}
+use Rattle.ckr_points_tables.specs.Invariant.{AreKept, HasKeptRoom, HasRoom, HasRoomIn, HasRoomUnder, IsFilled, IsRun, IsWide, MayCount, MayFollow, initiator_at, is_run_change, entries_at, put_at, room_at}
 use Rattle.ckr_points_tables.specs.Checkpoint.{HasRoomNow, MayKeep, checkpoint_name}
 use Rattle.ckr_points_tables.specs.declared.run_table.WrittenEntry.{WrittenEntry}
 use Rattle.ckr_points_tables.specs.Needs.{MayChange}
@@ -82,23 +82,22 @@ RowFollows layout tables _ row = Unit {0}
 abbrev Followed : Layout → TablesModel → Event → Type 0
 Followed layout tables event = (row : RunRow) × (run_of tables (job_of event) ≡ Some row) × RowFollows layout tables event row
 
-followed : (layout : Layout) (tables : TablesModel) (event : Event) (deck : Option Job) → is_plain_event event ≡ true → is_submission event ≡ false → follows layout tables event deck ≡ true → Followed layout tables event
-followed layout tables (Submitted job cards) deck plain other e = absurd (false≢true (sym other))
-followed layout tables (Selected job initiator earlier step id) deck plain other e = of_run-there tables job (selected_follows layout tables initiator earlier step id) e
-followed layout tables (Started job step items) deck plain other e = of_run-there tables job (started_follows layout tables step items.items) e
-followed layout tables (Rewritten job taken writes lengths place image) deck plain other e = of_run-there tables job (λ row. is_running row && lengths_follow tables row lengths.items && of_step row (is_rewrite tables place image row)) e
-followed layout tables (Checkpointed job id taken writes lengths place bytes) deck plain other e =
+followed : (layout : Layout) (tables : TablesModel) (event : Event) (deck : Option Job) → is_run_change event ≡ true → follows layout tables event deck ≡ true → Followed layout tables event
+followed layout tables (Selected job initiator earlier step id) deck change e = of_run-there tables job (selected_follows layout tables initiator earlier step id) e
+followed layout tables (Started job step items) deck change e = of_run-there tables job (started_follows layout tables step items.items) e
+followed layout tables (Rewritten job taken writes lengths place image) deck change e = of_run-there tables job (λ row. is_running row && lengths_follow tables row lengths.items && of_step row (is_rewrite tables place image row)) e
+followed layout tables (Checkpointed job id taken writes lengths place bytes) deck change e =
     of_run-there tables job (λ row. is_running row && lengths_follow tables row lengths.items && of_step row (is_checkpoint tables id lengths.items place bytes row)) e
-followed layout tables (Cancelled job) deck plain other e = let there = of_run-there tables job is_running e in (there.0, there.1, tt)
-followed layout tables (StepEnded job step rc writes lengths) deck plain other e = of_run-there tables job (λ row. is_running row && step_in (place_of row) == step && lengths_follow tables row lengths.items) e
-followed layout tables (Ended job ending) deck plain other e = of_run-there tables job (λ row. ended_follows tables row ending) e
-followed layout tables (Purged job) deck plain other e = let there = of_run-there tables job (is_in_state Queued) e in (there.0, there.1, tt)
-followed layout tables _ deck plain other e = absurd (false≢true plain)
+followed layout tables (Cancelled job) deck change e = let there = of_run-there tables job is_running e in (there.0, there.1, tt)
+followed layout tables (StepEnded job step rc writes lengths) deck change e = of_run-there tables job (λ row. is_running row && step_in (place_of row) == step && lengths_follow tables row lengths.items) e
+followed layout tables (Ended job ending) deck change e = of_run-there tables job (λ row. ended_follows tables row ending) e
+followed layout tables (Purged job) deck change e = let there = of_run-there tables job (is_in_state Queued) e in (there.0, there.1, tt)
+followed layout tables _ deck change e = absurd (false≢true change)
 
 -- the place of the run
-pub placed_at : (desk : TablesModel) (event : Event) (deck : Option Job) → is_plain_event event ≡ true → is_submission event ≡ false → MayFollow desk event deck → (0 < job_of event) × (job_of event ≤ length desk.runs)
-placed_at desk event deck plain other may =
-    let there = followed may.0 desk event deck plain other may.1 in by (job_of event) there.0 there.1
+pub placed_at : (desk : TablesModel) (event : Event) (deck : Option Job) → is_run_change event ≡ true → MayFollow desk event deck → (0 < job_of event) × (job_of event ≤ length desk.runs)
+placed_at desk event deck change may =
+    let there = followed may.0 desk event deck change may.1 in by (job_of event) there.0 there.1
   where
     by : (job : ℕ) (row : RunRow) → run_of desk job ≡ Some row → (0 < job) × (job ≤ length desk.runs)
     by zero row found = absurd (some-not-none _ (sym found))
@@ -165,7 +164,7 @@ none_on (one ∷ runs) initiator all zero row there on =
     at_false row.initiator initiator (ap (λ (r : RunRow). option_eq nat_eq r.initiator (Some initiator)) (sym (same_Some one row there)) ∙ not-true (option_eq nat_eq one.initiator (Some initiator)) (and-first (not (option_eq nat_eq one.initiator (Some initiator))) _ all)) on
 none_on (one ∷ runs) initiator all (suc place) row there on = none_on runs initiator (and-second (not (option_eq nat_eq one.initiator (Some initiator))) _ all) place row there on
 
-module _ (library : Catalog) (lines : List Run) (tables : List RunTable) (index : List ℕ) (spare : Spare) (entered : List (Roomy WrittenEntry)) (kept : AreKept library.sets lines tables index spare.marks.items entered) (event : Event) (deck : Option Job) (plain : is_plain_event event ≡ true) (other : is_submission event ≡ false) where
+module _ (library : Catalog) (lines : List Run) (tables : List RunTable) (index : List ℕ) (spare : Spare) (entered : List (Roomy WrittenEntry)) (kept : AreKept library.sets lines tables index spare.marks.items entered) (event : Event) (deck : Option Job) (change : is_run_change event ≡ true) where
   abbrev pub writings : Writings
   writings = map written_of entered
 
@@ -196,7 +195,7 @@ module _ (library : Catalog) (lines : List Run) (tables : List RunTable) (index 
 
     row_follows : RowFollows may.0 desk event row
     row_follows =
-        let there = followed may.0 desk event deck plain other may.1 in
+        let there = followed may.0 desk event deck change may.1 in
         subst (RowFollows may.0 desk event) (same_Some there.0 row (sym there.1 ∙ ap (run_of desk) numbered ∙ run_found)) there.2
 
     own_limits : (step : ℕ) (own : OwnedStep) → step_at (plain_job line.number table.job) step ≡ Some own → IsTrue (has_few_dds own.step) × (are_distinct (names_of line.number own) ≡ true)
@@ -377,7 +376,7 @@ module _ (library : Catalog) (lines : List Run) (tables : List RunTable) (index 
           ap (going_viewed (table_in all)) goes ∙ changed_seen (table_in all) holding_kit table_kit (table_view all) event now goes_behind.1
           ∙ ap (λ seen. changed table_kit event (going line facts seen)) goes_behind.0
           )
-          ∙ sym (event_in desk line facts found event deck plain other (number_is ∙ sym numbered) (makes_by event row_follows))
+          ∙ sym (event_in desk line facts found event deck change (number_is ∙ sym numbered) (makes_by event row_follows))
 
       free_by : (one : Event) → RowFollows may.0 desk one row → (i : ℕ) → IsSelecting i one → (k : ℕ) → initiator_at lines k ≡ Some i → ⊥
       free_by (Submitted job cards) follows i selecting k on = selecting

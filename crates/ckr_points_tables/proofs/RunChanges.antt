@@ -14,7 +14,7 @@ use Rattle.ckr_points_library.specs.Disposals.{disposals_by, with_names}
 use Rattle.ckr_uses.specs.Disposal.{dispose, is_temporary}
 use Rattle.ckr_events.specs.Jobs.{job_of}
 use Rattle.ckr_events.specs.declared.event.Event.{Event}
-use Rattle.ckr_events.specs.declared.event.Event.TheVariants.{Submitted, Selected, Started, Rewritten, Checkpointed, Cancelled, StepEnded, Ended, Purged}
+use Rattle.ckr_events.specs.declared.event.Event.TheVariants.{Selected, Started, Rewritten, Checkpointed, Cancelled, StepEnded, Ended, Purged}
 use Rattle.ckr_events.specs.declared.event.Ending.{Ending}
 use Rattle.ckr_events.specs.declared.event.Ending.TheVariants.{Completed, Coded, Allocation}
 use Rattle.ckr_events.specs.declared.event.Made.{Made}
@@ -35,7 +35,7 @@ use Rattle.ckr_points_tables.specs.RunChange.{Going, going, fresh_point, opened_
 use Rattle.ckr_points_tables.specs.StepEnd.{made_at, made_in}
 use Rattle.ckr_points.specs.Tables.{made_tables, start_point, after_cancelled, after_checkpointed, after_commit, after_rewritten, is_checkpoints, kept_entry, name_with_role, with_kept_entry, after_dispositions, after_started, after_step_ended, earlier_made, own_made, run_disposal, step_made, steps_made}
 use Rattle.ckr_points_tables.specs.NewSets.{made_from}
-use Rattle.ckr_points_tables.specs.Invariant.{is_plain_event, is_submission}
+use Rattle.ckr_points_tables.specs.Invariant.{is_run_change}
 use Rattle.ckr_points.specs.Marks.{carried_marks, is_marked_absent, made_names, mark_at, mark_now, marked_under, marks_for, marks_now, own_names, point_at, with_point}
 use Rattle.ckr_points.specs.Restart.{after_event, after_abnormal, after_chosen, after_ended, after_passed_ended, by_run, by_step, step_in}
 use Rattle.ckr_points.specs.Rows.{RunRow, StartPoint, TableSet, TablesModel, run_of, step_of_run, table_ways, with_row, with_run, with_standing}
@@ -275,28 +275,27 @@ module _ (desk : TablesModel) (line : Run) (facts : RunTableView) (found : run_o
   run-in job change same = ap (λ (one : Option RunRow). option_map_or change one desk) (ap (run_of desk) (sym same) ∙ found)
 
   -- an event of the run
-  pub event_in : (event : Event) (deck : Option Job) → is_plain_event event ≡ true → is_submission event ≡ false → line.number ≡ job_of event → MakesSameBy event now → after_event event deck desk ≡ desk_with (changed table_kit event now) desk
-  event_in (Submitted job cards) deck plain other same makes = absurd (false≢true (sym other))
-  event_in (Selected job initiator earlier step id) deck plain other same makes =
-      run-in job (λ row. after_chosen row initiator earlier step id desk) same ∙ ap (λ e. after_chosen run initiator e step id desk) (zero_of earlier plain)
+  pub event_in : (event : Event) (deck : Option Job) → is_run_change event ≡ true → line.number ≡ job_of event → MakesSameBy event now → after_event event deck desk ≡ desk_with (changed table_kit event now) desk
+  event_in (Selected job initiator earlier step id) deck change same makes =
+      run-in job (λ row. after_chosen row initiator earlier step id desk) same ∙ ap (λ e. after_chosen run initiator e step id desk) (zero_of earlier change)
     where
       zero_of : (n : ℕ) → nat_eq n 0 ≡ true → n ≡ 0
       zero_of n e = grind (arith, nat_tests)
-  event_in (Started job step items) deck plain other same makes =
+  event_in (Started job step items) deck change same makes =
       run-in job (λ row. option_map_or (λ own. after_started row own step items.items desk) (step_of_run row step) desk) same ∙ started-by step items.items (step_of now step) makes
-  event_in (Rewritten job taken writes lengths place image) deck plain other same makes =
+  event_in (Rewritten job taken writes lengths place image) deck change same makes =
       run-in job (λ row. by_step (λ own step. after_rewritten row own step writes lengths.items desk) row desk) same
       ∙ rewritten-by writes lengths.items (step_of now (step_in (place_now facts)))
-  event_in (Checkpointed job id taken writes lengths place bytes) deck plain other same makes =
+  event_in (Checkpointed job id taken writes lengths place bytes) deck change same makes =
       let running = step_in (place_now facts) in
       let there = step_of now running in
       run-in job (λ row. by_step (λ own step. after_checkpointed row own step (record { id = id; run = job; place = place; bytes = bytes }) taken writes lengths.items desk) row desk) same
       ∙ checkpointed-by (record { id = id; run = job; place = place; bytes = bytes }) taken writes lengths.items there
       ∙ ap (λ n. desk_with (option_map_or (checkpointed table_kit running (record { id = id; run = n; place = place; bytes = bytes }) taken writes lengths.items now) there now) desk) (sym same)
-  event_in (Cancelled job) deck plain other same makes = run-in job (λ row. after_cancelled row desk) same
-  event_in (StepEnded job step rc writes lengths) deck plain other same makes =
+  event_in (Cancelled job) deck change same makes = run-in job (λ row. after_cancelled row desk) same
+  event_in (StepEnded job step rc writes lengths) deck change same makes =
       run-in job (λ row. by_step (λ own step. after_step_ended row own step rc writes lengths.items desk) row desk) same
       ∙ step_ended-by rc writes lengths.items (step_of now (step_in (place_now facts)))
-  event_in (Ended job ending) deck plain other same makes = run-in job (λ row. after_ended row ending desk) same ∙ ended-in ending
-  event_in (Purged job) deck plain other same makes = run-in job (λ row. with_run (record row { state = PurgedRun }) desk) same
-  event_in _ deck plain other same makes = absurd (false≢true plain)
+  event_in (Ended job ending) deck change same makes = run-in job (λ row. after_ended row ending desk) same ∙ ended-in ending
+  event_in (Purged job) deck change same makes = run-in job (λ row. with_run (record row { state = PurgedRun }) desk) same
+  event_in _ deck change same makes = absurd (false≢true change)

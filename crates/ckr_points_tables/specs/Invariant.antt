@@ -7,7 +7,7 @@ use Rattle.ckr_points_library.specs.Holdings.{owned}
 use Rattle.ckr_uses.specs.Uses.{are_distinct}
 use Rattle.ckr_events.specs.Jobs.{job_of}
 use Rattle.ckr_events.specs.declared.event.Event.{Event}
-use Rattle.ckr_events.specs.declared.event.Event.TheVariants.{Submitted, Selected, Started, Rewritten, Checkpointed, Cancelled, StepEnded, Restarted, Ended, Purged}
+use Rattle.ckr_events.specs.declared.event.Event.TheVariants.{Submitted, Selected, Started, Rewritten, Checkpointed, Cancelled, StepEnded, Restarted, Held, Released, Ended, Purged}
 use Rattle.ckr_jcl.specs.declared.deck.Job.{Job}
 use Rattle.ckr_jcl.specs.declared.deck.Step.{Step}
 use Rattle.ckr_entry.specs.declared.point.Mark.{Mark}
@@ -86,7 +86,7 @@ pub record AreKept (sets : Named Holding) (lines : List Run) (tables : List RunT
 
 -- ---- what an event needs
 
--- the events that the desk brings about by now: no restarts, and none of a run that is held or denied
+-- the events that the tables in code go on by: all but those of a run that continues another one, or is denied
 abbrev pub is_plain_event : Event → Bool
 is_plain_event (Submitted job cards) = true
 is_plain_event (Selected job initiator earlier step id) = earlier == 0
@@ -95,6 +95,9 @@ is_plain_event (Rewritten job taken writes lengths place image) = true
 is_plain_event (Checkpointed job id taken writes lengths place bytes) = true
 is_plain_event (Cancelled job) = true
 is_plain_event (StepEnded job step rc writes lengths) = true
+is_plain_event (Restarted job initiator code checkpoint) = true
+is_plain_event (Held job code writes lengths) = true
+is_plain_event (Released job) = true
 is_plain_event (Ended job ending) = true
 is_plain_event (Purged job) = true
 is_plain_event _ = false
@@ -102,6 +105,18 @@ is_plain_event _ = false
 abbrev pub is_submission : Event → Bool
 is_submission (Submitted job cards) = true
 is_submission _ = false
+
+-- the plain events that bring a run further, or end it: no submission, hold, release or restart
+abbrev pub is_run_change : Event → Bool
+is_run_change (Selected job initiator earlier step id) = earlier == 0
+is_run_change (Started job step made) = true
+is_run_change (Rewritten job taken writes lengths place image) = true
+is_run_change (Checkpointed job id taken writes lengths place bytes) = true
+is_run_change (Cancelled job) = true
+is_run_change (StepEnded job step rc writes lengths) = true
+is_run_change (Ended job ending) = true
+is_run_change (Purged job) = true
+is_run_change _ = false
 
 -- the event follows, in some layout
 abbrev pub MayFollow : TablesModel → Event → Option Job → Type 0
@@ -169,11 +184,6 @@ HasRestartRoom checkpoint sets row one = HasPassedFor one.passed (passed_back_at
 abbrev pub CanRestart : RoomyTables → ℕ → Bool → Type 0
 CanRestart now job checkpoint = (row : RunRow) (one : RunRoom) → run_of now.desk job ≡ Some row → room_at now.room job ≡ Some one → HasRestartRoom checkpoint now.desk.sets row one
 
--- room for the restart that an event is, if it is one
-abbrev pub HasRoomBack : RoomyTables → Event → Type 0
-HasRoomBack now (Restarted job initiator code checkpoint) = CanRestart now job checkpoint
-HasRoomBack now _ = Unit {0}
-
 -- room for the start of a step of a run, if it is there
 abbrev pub CanStart : RoomyTables → ℕ → Type 0
 CanStart now job = (row : RunRow) (one : RunRoom) → run_of now.desk job ≡ Some row → room_at now.room job ≡ Some one → HasStartRoom now.room row one
@@ -214,6 +224,7 @@ abbrev pub HasRoomIn : RoomyTables → RunRow → RunRoom → Event → Type 0
 HasRoomIn now row one (Started job step made) = HasStartRoom now.room row one
 HasRoomIn now row one (Checkpointed job id taken writes lengths place bytes) = HasEntryRoom now row
 HasRoomIn now row one (StepEnded job step rc writes lengths) = HasEndRoom row one
+HasRoomIn now row one (Restarted job initiator code checkpoint) = HasRestartRoom checkpoint now.desk.sets row one
 HasRoomIn now row one (Ended job ending) = HasEndRoom row one
 HasRoomIn now row one _ = Unit {0}
 

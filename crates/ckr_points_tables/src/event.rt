@@ -1,9 +1,10 @@
 //! The tables go on by an event.
 ghost use Rattle.std.specs.Prelude.{◌≡◌, ℕ, suc, ◌≤◌, ◌<◌, [], ◌∷◌, ◌++◌, true, false, Some, IsTrue, Option, length, vec_len, vec_capacity};
+ghost use Rattle.std.specs.Option.{option_map_or};
 ghost use Rattle.ckr_library.specs.NameMaps.{are_named_in_order};
 ghost use Rattle.ckr_jcl.specs.declared.deck.Job.{Job as JobOfDeck};
 ghost use Rattle.ckr_points.specs.Tables.{after_submitted};
-ghost use Rattle.ckr_points_tables.specs.Invariant.{is_plain_event, is_submission, is_submittable, put_at, HasRoom, HasRunRoom, MayCount, MayFollow, MaySubmit};
+ghost use Rattle.ckr_points_tables.specs.Invariant.{is_plain_event, is_run_change, is_submittable, put_at, HasRoom, HasRunRoom, IsAnySubmittable, MayCount, MayFollow, MaySubmit};
 ghost use Rattle.ckr_points.specs.Restart.{after_event};
 ghost use Rattle.ckr_points_tables.specs.View.{facts_of, fresh_facts};
 
@@ -29,32 +30,40 @@ impl Tables {
         requires count { MayCount event.now self.old.desk.sets }
         ensures { self.new.desk ≡ after_event event.now job self.old.desk }
     {
-        if is_submission(event) {
-            self.submit_deck(event, job);
-        } else {
-            self.change(event);
+        match event {
+            Event::Submitted { job: number, .. } => self.submit_deck(*number, job),
+            Event::Restarted {
+                job: number,
+                initiator,
+                checkpoint,
+                ..
+            } => self.restart(*number, *initiator, *checkpoint),
+            Event::Held {
+                job: number,
+                code,
+                writes,
+                lengths,
+            } => self.hold(*number, *code, *writes, lengths),
+            Event::Released { job: number } => self.release(*number),
+            _ => self.change(event),
         }
     }
 
     /// A deck is submitted, where it is given. There is room for its run.
-    fn submit_deck(&mut self, event: &Event, job: Option<Job>)
-        requires submission { is_submission event.now ≡ true }
-        requires follows { MayFollow self.old.desk event.now job }
-        requires deck { MaySubmit event.now job }
-        requires room { HasRoom self.old event.now }
-        ensures { self.new.desk ≡ after_event event.now job self.old.desk }
+    fn submit_deck(&mut self, number: u32, job: Option<Job>)
+        requires next { number ≡ suc (length self.old.desk.runs) }
+        requires deck { IsAnySubmittable number job }
+        requires room { HasRunRoom self.old.room }
+        ensures { self.new.desk ≡ option_map_or (λ deck. after_submitted number deck self.old.desk) job self.old.desk }
     {
-        if let Event::Submitted { job: number, .. } = event {
-            if let Some(job) = job {
-                self.submit(*number, job);
-            }
+        if let Some(job) = job {
+            self.submit(number, job);
         }
     }
 
     /// A run of the tables goes on by an event that follows. There is room for it.
     fn change(&mut self, event: &Event)
-        requires kept { is_plain_event event.now ≡ true }
-        requires other { is_submission event.now ≡ false }
+        requires change { is_run_change event.now ≡ true }
         requires follows { (deck : Option JobOfDeck) → MayFollow self.old.desk event.now deck }
         requires room { HasRoom self.old event.now }
         requires count { MayCount event.now self.old.desk.sets }
@@ -102,13 +111,6 @@ fn in_order(library: &Library)
     ensures { IsTrue (are_named_in_order library.now.sets) }
 {
     let _ = library.name_at(0);
-}
-
-/// Whether a deck is submitted.
-fn is_submission(event: &Event) -> bool
-    ensures { result ≡ is_submission event.now }
-{
-    matches!(event, Event::Submitted { .. })
 }
 
 /// A run that was just submitted.

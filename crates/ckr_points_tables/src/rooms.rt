@@ -4,7 +4,7 @@ ghost use Rattle.std.specs.Option.{option_and_then, option_map_or};
 ghost use Rattle.ckr_events.specs.declared.event.Event.{Event as EventOfDesk};
 ghost use Rattle.ckr_meaning.specs.EffectiveJob.{plain_job, step_at, OwnedStep};
 ghost use Rattle.ckr_points_tables.specs.StepEnd.{HasPassedRoom};
-ghost use Rattle.ckr_points_tables.specs.Invariant.{CanEnd, CanKeep, CanRestart, CanStart, HasRoom, HasRoomBack, HasRunRoom};
+ghost use Rattle.ckr_points_tables.specs.Invariant.{CanEnd, CanKeep, CanRestart, CanStart, HasRoom, HasRunRoom};
 ghost use Rattle.ckr_library.specs.Catalog.{KeepsEntryRoom};
 ghost use Rattle.ckr_points_tables.specs.Checkpoint.{checkpoint_name};
 ghost use Rattle.ckr_points_tables.specs.Needs.{step_now};
@@ -32,7 +32,6 @@ impl Tables {
     pub fn make_room(&mut self, event: &Event) -> Result<(), NoMemory>
         ensures desk { self.new.desk ≡ self.old.desk }
         ensures ok { OnOk result (HasRoom self.new event.now) }
-        ensures restart { OnOk result (HasRoomBack self.new event.now) }
         ensures room { IsRoomier self.old.room self.new.room }
     {
         match event {

@@ -17,7 +17,7 @@ use ckr_library::{Kept, Library};
 use ckr_meaning::Place;
 use ckr_points::{Run, RunState};
 
-/// Whether an event is of those that the desk brings about by now: no restart, no denial, no holding.
+/// Whether an event is of those that the tables go on by: all but those of a run that continues another one, or is denied.
 pub fn is_plain(event: &Event) -> bool
     ensures { result ≡ is_plain_event event.now }
 {
@@ -29,6 +29,9 @@ pub fn is_plain(event: &Event) -> bool
         | Event::Checkpointed { .. }
         | Event::Cancelled { .. }
         | Event::StepEnded { .. }
+        | Event::Restarted { .. }
+        | Event::Held { .. }
+        | Event::Released { .. }
         | Event::Ended { .. }
         | Event::Purged { .. } => true,
         _ => false,

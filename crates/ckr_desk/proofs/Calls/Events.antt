@@ -27,7 +27,8 @@ use Rattle.ckr_desk_store.specs.OpenImages.{Opens, event_records}
 use Rattle.ckr_points_decks.proofs.KeptCards.{kept_accepted}
 use Rattle.ckr_points_decks.specs.Cards.{kept_of_stored}
 use Rattle.ckr_points_decks.specs.Form.{is_run}
-use Rattle.ckr_points_tables.specs.Invariant.{is_plain_event, is_submittable}
+use Rattle.ckr_points_tables.specs.Invariant.{is_submittable}
+use Rattle.ckr_desk_memory.specs.ForwardEvents.{is_forward_event}
 use Rattle.ckr_desk_refines.proofs.Events.Turns.{purged-committed, purged-stands, submitted-committed, submitted-stands}
 use Rattle.ckr_desk_turn.specs.Desk.{DeskModel, behind}
 use Rattle.ckr_volumes.specs.declared.layout.Layout.{Layout}
@@ -53,7 +54,7 @@ module _ {D : Type 0} (told : Type 0) (content : D → List ℕ) (may_leave : D 
     pub is_event : IsEvent event
     pub decked : deck_of event ≡ deck
     pub runs : is_run_by event deck ≡ true
-    pub plain : is_plain_event event ≡ true
+    pub plain : is_forward_event event ≡ true
     pub quiet : (tables : _) → rewrite_of tables event ≡ None
     pub takes : (tables : TablesModel) (image : List ℕ) → HasNewOne layout tables event image
     pub next : IsNext layout desk.office (event, deck)
@@ -67,7 +68,7 @@ module _ {D : Type 0} (told : Type 0) (content : D → List ℕ) (may_leave : D 
     coming might = record {
       is_event = its.is_event;
       goes = subst (λ d. goes_on layout old.jobs.tables.desk event d ≡ true) (sym its.decked)
-          (and_from (is_plain_event event) _ its.plain (and_from (is_run_by event deck) _ its.runs might));
+          (and_from (is_forward_event event) _ its.plain (and_from (is_run_by event deck) _ its.runs might));
       next = subst (λ d. IsNext layout desk.office (event, d)) (sym its.decked) its.next;
       office = ap (λ d. office_after (event, d) (office_on layout (content old.store.disk))) (sym its.decked);
       layout_is = refl;

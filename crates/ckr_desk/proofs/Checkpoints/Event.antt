@@ -19,7 +19,7 @@ use Rattle.ckr_points.specs.Follows.{follows}
 use Rattle.ckr_points.specs.Office.{Office, office_after}
 use Rattle.ckr_points.specs.Restart.{after_event}
 use Rattle.ckr_points.specs.Rows.{TablesModel}
-use Rattle.ckr_points_tables.specs.Invariant.{is_plain_event}
+use Rattle.ckr_desk_memory.specs.ForwardEvents.{is_forward_event}
 use Rattle.ckr_volumes.specs.declared.layout.Layout.{Layout}
 use Rattle.ckr_volumes.specs.Header.{header_of}
 use Rattle.ckr_desk_refines.proofs.Checkpoints.Turn.{event-told, fits-told, known, pair, taken-by, taken-kept, unclosed}
@@ -89,8 +89,8 @@ module _ {D : Type 0} (told : Type 0) (content : D → List ℕ) (may_leave : D 
   told-so : (taken_of run desk).event ≡ Some event
   told-so = event-is told content may_leave moment left_since size old trusted turn its run planned made is
 
-  plain : is_plain_event event ≡ true
-  plain = ap is_plain_event is.of.event
+  plain : is_forward_event event ≡ true
+  plain = ap is_forward_event is.of.event
 
   none-decked : deck_of event ≡ None
   none-decked = deck-none event is.spelled.small
@@ -129,7 +129,7 @@ module _ {D : Type 0} (told : Type 0) (content : D → List ℕ) (may_leave : D 
   coming might = record {
     is_event = is.spelled.event;
     goes = subst (λ (d : Option Job). goes_on layout old.jobs.tables.desk event d ≡ true) (sym none-decked)
-        (and_from (is_plain_event event) _ plain (and_from (is_run_by event None) _ (small-runs event is.spelled.small) might));
+        (and_from (is_forward_event event) _ plain (and_from (is_run_by event None) _ (small-runs event is.spelled.small) might));
     next = subst (λ (d : Option Job). IsNext layout office (event, d)) (sym none-decked) comes;
     office = office-then ∙ ap (λ (d : Option Job). office_after (event, d) office) (sym none-decked);
     layout_is = layout-then;

@@ -15,7 +15,7 @@ use Rattle.ckr_points.specs.Rows.{TablesModel}
 use Rattle.ckr_points_decks.specs.Cards.{kept_deck}
 use Rattle.ckr_points_decks.specs.Form.{is_run}
 use Rattle.ckr_points_invariant.specs.Continuations.{NoneGoesBack, goes_back}
-use Rattle.ckr_points_tables.specs.Invariant.{is_plain_event}
+use Rattle.ckr_desk_memory.specs.ForwardEvents.{is_forward_event}
 use Rattle.ckr_volumes.specs.declared.layout.Layout.{Layout}
 use Rattle.ckr_desk.specs.Opening.{behind_read, behind_record, behind_records, or_bad}
 use Rattle.ckr_desk.specs.Soundness.{decked_by, events_in}
@@ -27,7 +27,7 @@ run-deck job cards runs =
     (λ none. absurd (false≢true (sym (ap (is_run_as job) none) ∙ runs)))
     (λ deck some. subst (IsRunDeck cards) (sym some) (some, and-first (is_run deck) _ (sym (ap (is_run_as job) some) ∙ runs)))
 
-run-event : (event : Event) → is_plain_event event ≡ true → is_run_by event (deck_of event) ≡ true → IsRunEvent event (deck_of event)
+run-event : (event : Event) → is_forward_event event ≡ true → is_run_by event (deck_of event) ≡ true → IsRunEvent event (deck_of event)
 run-event (Submitted job cards) plain runs = run-deck job cards runs
 run-event (Selected job initiator earlier step id) plain runs = plain
 run-event (Started job step items) plain runs = tt
@@ -41,7 +41,7 @@ run-event _ plain runs = absurd (false≢true plain)
 
 pub went-on : (layout : Layout) (tables : TablesModel) (event : Event) → goes_on layout tables event (deck_of event) ≡ true → IsRunEvent event (deck_of event)
 went-on layout tables event goes =
-    run-event event (and-first (is_plain_event event) _ goes) (and-first (is_run_by event (deck_of event)) _ (and-second (is_plain_event event) _ goes))
+    run-event event (and-first (is_forward_event event) _ goes) (and-first (is_run_by event (deck_of event)) _ (and-second (is_forward_event event) _ goes))
 
 -- by none of them a run goes back
 pub never-back : (event : Event) (deck : Option Job) → IsRunEvent event deck → goes_back event ≡ false

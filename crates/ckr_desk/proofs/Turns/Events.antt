@@ -20,7 +20,7 @@ use Rattle.ckr_desk_refines.specs.Entries.{HasEntries}
 use Rattle.ckr_desk_refines.specs.RewriteRecord.{RewriteRecord, rewrite_of}
 use Rattle.ckr_desk_refines.specs.Moves.{HasSameRecords}
 use Rattle.ckr_desk_store.specs.OpenImages.{Opens, event_records}
-use Rattle.ckr_points_tables.specs.Invariant.{is_plain_event}
+use Rattle.ckr_desk_memory.specs.ForwardEvents.{is_forward_event}
 use Rattle.ckr_desk_refines.proofs.Events.Turns.{told-committed, told-stands}
 use Rattle.ckr_desk_turn.specs.declared.plan.Plan.{Plan}
 use Rattle.ckr_desk_turn.specs.declared.plan.Plan.TheVariants.{Tell}
@@ -105,7 +105,7 @@ module _ {D : Type 0} (told : Type 0) (content : D → List ℕ) (may_leave : D 
     coming-turn might = record {
       is_event = shape.event;
       goes = subst (λ d. goes_on layout old.jobs.tables.desk event d ≡ true) (sym none)
-          (and_from (is_plain_event event) _ (quiet-plain event quiet-so)
+          (and_from (is_forward_event event) _ (quiet-plain event quiet-so)
           (and_from (is_run_by event None) _ (small-runs event shape.small) might));
       next = subst (λ d. IsNext layout desk.office (event, d)) (sym none) comes;
       office = ap (λ d. office_after (event, d) (office_on layout (content old.store.disk))) (sym none);

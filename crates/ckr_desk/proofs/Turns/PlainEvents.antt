@@ -1,4 +1,4 @@
--- What a turn tells is a plain event.
+-- What a turn tells is a forward event.
 use Rattle.std.proofs.Common.{◌≡◌, ℕ, Bool, true, false, cond, List, refl, subst, sym, Option, Some, None, Result, Ok, Err}
 use Rattle.std.proofs.lemmas.Bool.{false≢true}
 use Rattle.std.specs.Option.{option_map_or}
@@ -19,7 +19,7 @@ use Rattle.ckr_points.specs.Rows.{RunRow, step_of_run}
 use Rattle.ckr_rules.specs.RuleTables.{suppresses}
 use Rattle.ckr_steps.specs.declared.step_run.Worked.{Worked}
 use Rattle.ckr_steps.specs.declared.step_run.Worked.TheVariants.{Went, Rewrite, Abend}
-use Rattle.ckr_points_tables.specs.Invariant.{is_plain_event}
+use Rattle.ckr_desk_memory.specs.ForwardEvents.{is_forward_event}
 use Rattle.ckr_desk_turn.specs.declared.plan.Plan.{Plan}
 use Rattle.ckr_desk_turn.specs.declared.plan.Plan.TheVariants.{Rest, Tell, Work, Pass, Take}
 use Rattle.ckr_desk_turn.specs.declared.reply.Turn.{Turn}
@@ -35,7 +35,7 @@ abbrev pub is_quiet : Event → Bool
 is_quiet (Rewritten job taken writes lengths place image) = false
 is_quiet (Submitted job cards) = false
 is_quiet (Checkpointed job id taken writes lengths place bytes) = false
-is_quiet event = is_plain_event event
+is_quiet event = is_forward_event event
 
 abbrev pub IsQuietPlan : Plan → Type 0
 IsQuietPlan (Rest reply) = Unit {0}
@@ -105,7 +105,7 @@ module _ (layout : Layout) (jobs : TurnJobs) where
   plan-quiet turn = any-quiet (run_on_initiator jobs.tables turn.initiator) (run_plan layout jobs turn.fail) _ (free-quiet turn.initiator turn.fail) (run-quiet turn.fail)
 
 -- and what is quiet is plain
-pub quiet-plain : (event : Event) → is_quiet event ≡ true → is_plain_event event ≡ true
+pub quiet-plain : (event : Event) → is_quiet event ≡ true → is_forward_event event ≡ true
 quiet-plain (Submitted job cards) quiet = refl
 quiet-plain (Rewritten job taken writes lengths place image) quiet = refl
 quiet-plain (Checkpointed job id taken writes lengths place bytes) quiet = absurd (false≢true quiet)

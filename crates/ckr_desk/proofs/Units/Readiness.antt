@@ -13,7 +13,8 @@ use Rattle.ckr_desk_memory.specs.Plans.{IsUnitPlan, is_unit_event}
 use Rattle.ckr_desk_memory.specs.Preparation.{IsPrepared}
 use Rattle.ckr_desk_memory.specs.View.{RunningStepView}
 use Rattle.ckr_points.specs.Rows.{TablesModel}
-use Rattle.ckr_points_tables.specs.Invariant.{HasRoom, is_plain_event}
+use Rattle.ckr_points_tables.specs.Invariant.{HasRoom}
+use Rattle.ckr_desk_memory.specs.ForwardEvents.{is_forward_event}
 use Rattle.ckr_points_tables.specs.View.{RoomyTables}
 use Rattle.ckr_desk_refines.specs.Moves.{event_in}
 use Rattle.ckr_desk_turn.specs.declared.plan.Plan.{Plan}
@@ -24,7 +25,7 @@ use Rattle.ckr_desk.specs.State.{DeskView, need_of}
 use Rattle.ckr_desk.specs.Units.{IsPlainTold}
 
 -- what a unit tells is plain
-plain-event : (event : Event) → is_unit_event event ≡ true → is_plain_event event ≡ true
+plain-event : (event : Event) → is_unit_event event ≡ true → is_forward_event event ≡ true
 plain-event (Rewritten job taken writes lengths place image) its = refl
 plain-event (Ended job ending) its = refl
 plain-event _ its = absurd (false≢true its)

@@ -38,7 +38,7 @@ use Rattle.ckr_steps.specs.declared.step_run.Worked.TheVariants.{Abend, Rewrite,
 use Rattle.ckr_steps.specs.Writes.{Keeps}
 use Rattle.ckr_desk_store.specs.OpenImages.{Opens, event_records}
 use Rattle.ckr_desk_store.specs.State.{StoreView}
-use Rattle.ckr_points_tables.specs.Invariant.{is_plain_event}
+use Rattle.ckr_desk_memory.specs.ForwardEvents.{is_forward_event}
 use Rattle.ckr_desk_refines.proofs.Events.Commits.{committed-moves}
 use Rattle.ckr_desk_turn.specs.Codes.{rule_for}
 use Rattle.ckr_desk_turn.specs.declared.plan.Plan.{Plan}
@@ -74,9 +74,9 @@ use Rattle.ckr_desk.specs.Soundness.{HasKept, IsTrusted, events_in, last_on, off
 use Rattle.ckr_desk.specs.State.{RoomyDesk, DeskView, need_of}
 
 -- what is said of a plan with an event is said of the event
-plain-in : (plan : Plan) → IsPlainPlan plan → (event : Event) → event_in plan ≡ Some event → is_plain_event event ≡ true
+plain-in : (plan : Plan) → IsPlainPlan plan → (event : Event) → event_in plan ≡ Some event → is_forward_event event ≡ true
 plain-in (Rest reply) plain event is = absurd (some-not-none event (sym is))
-plain-in (Tell reply told) plain event is = ap is_plain_event (sym (same_Some told event is)) ∙ plain
+plain-in (Tell reply told) plain event is = ap is_forward_event (sym (same_Some told event is)) ∙ plain
 plain-in (Work job) plain event is = absurd (some-not-none event (sym is))
 plain-in (Pass job reply) plain event is = absurd (some-not-none event (sym is))
 plain-in (Take job) plain event is = absurd (some-not-none event (sym is))
@@ -285,7 +285,7 @@ module _ {D : Type 0} (told : Type 0) (content : D → List ℕ) (may_leave : D 
       abbrev then : DeskModel
       then = (work_of run desk).desk
 
-      unit-plain : is_plain_event event ≡ true
+      unit-plain : is_forward_event event ≡ true
       unit-plain = plain-in plan (subst IsPlainPlan (sym plan-so) (told-plain layout row (running_of office.tables moved) done.worked)) event is
 
       spelled-so : IsSpelled event
@@ -337,7 +337,7 @@ module _ {D : Type 0} (told : Type 0) (content : D → List ℕ) (may_leave : D 
       coming might = record {
         is_event = spelled-so.event;
         goes = subst (λ (d : Option Job). goes_on layout old.jobs.tables.desk event d ≡ true) (sym none-decked)
-            (and_from (is_plain_event event) _ unit-plain (and_from (is_run_by event None) _ (small-runs event spelled-so.small)
+            (and_from (is_forward_event event) _ unit-plain (and_from (is_run_by event None) _ (small-runs event spelled-so.small)
             (ap (λ (tables : TablesModel). follows layout tables event None && may_count event tables.sets) (sym done.tables)
             ∙ ap (λ (l : Layout). follows l mid.jobs.tables.desk event None && may_count event mid.jobs.tables.desk.sets) (sym layout-same)
             ∙ might)));

@@ -35,7 +35,8 @@ use Rattle.ckr_points_invariant.proofs.Library.PassedList.{ended-leaves}
 use Rattle.ckr_points_invariant.proofs.Steps.Events.{on-holds}
 use Rattle.ckr_points_invariant.proofs.WaitingRuns.{tested-run}
 use Rattle.ckr_points_library.specs.Commit.{output_names}
-use Rattle.ckr_points_tables.specs.Invariant.{is_plain_event, is_submission}
+use Rattle.ckr_points_tables.specs.Invariant.{is_submission}
+use Rattle.ckr_desk_memory.specs.ForwardEvents.{is_forward_event}
 use Rattle.ckr_volumes.specs.declared.layout.Layout.{Layout}
 use Rattle.ckr_desk_memory.proofs.Holders.CheckSets.{length-among, not-among}
 use Rattle.ckr_desk_memory.proofs.Holders.Moves.{RowGoesOn, HasRow, by-own, by-row, holders-go, row-accepted, row-as_is, row-next, row-number}
@@ -309,7 +310,7 @@ module _ (tables : TablesModel) (rows : AllByRecursion IsAcceptedRow tables.runs
 
 -- ---- each event
 
-goes-in : (layout : Layout) (tables : TablesModel) → AllByRecursion IsAcceptedRow tables.runs → AreNumbered 1 tables.runs → (event : Event) (deck : Option Job) → is_plain_event event ≡ true → is_submission event ≡ false → follows layout tables event deck ≡ true → RowGoesOn tables (after_event event deck tables) (job_of event)
+goes-in : (layout : Layout) (tables : TablesModel) → AllByRecursion IsAcceptedRow tables.runs → AreNumbered 1 tables.runs → (event : Event) (deck : Option Job) → is_forward_event event ≡ true → is_submission event ≡ false → follows layout tables event deck ≡ true → RowGoesOn tables (after_event event deck tables) (job_of event)
 goes-in layout tables rows numbered (Submitted job cards) deck plain other follow = absurd (false≢true (sym other))
 goes-in layout tables rows numbered (Selected job initiator earlier step id) deck plain other follow =
     tested-run tables job (selected_follows layout tables initiator earlier step id) follow
@@ -358,7 +359,7 @@ goes-in layout tables rows numbered (Purged job) deck plain other follow =
 goes-in layout tables rows numbered _ deck plain other follow = absurd (false≢true plain)
 
 -- by each event but a submission one run goes on
-pub goes-on : (layout : Layout) (tables : TablesModel) (event : Event) (deck : Option Job) → AllByRecursion IsAcceptedRow tables.runs → AreNumbered 1 tables.runs → is_plain_event event ≡ true → is_submission event ≡ false → follows layout tables event deck ≡ true → RowGoesOn tables (after_event event deck tables) (job_of event)
+pub goes-on : (layout : Layout) (tables : TablesModel) (event : Event) (deck : Option Job) → AllByRecursion IsAcceptedRow tables.runs → AreNumbered 1 tables.runs → is_forward_event event ≡ true → is_submission event ≡ false → follows layout tables event deck ≡ true → RowGoesOn tables (after_event event deck tables) (job_of event)
 goes-on layout tables event deck rows numbered plain other follow = goes-in layout tables rows numbered event deck plain other follow
 
 -- ---- one more run
@@ -428,7 +429,7 @@ submission-cases (Submitted job cards) deck tables are rest = holders-submitted 
 submission-cases _ deck tables are rest = rest refl
 
 -- holders stay apart by each event that follows
-pub holders-stay : (layout : Layout) (tables : TablesModel) (event : Event) (deck : Option Job) → AreHolders tables → AllByRecursion IsAcceptedRow tables.runs → AreNumbered 1 tables.runs → is_plain_event event ≡ true → follows layout tables event deck ≡ true → AreHolders (after_event event deck tables)
+pub holders-stay : (layout : Layout) (tables : TablesModel) (event : Event) (deck : Option Job) → AreHolders tables → AllByRecursion IsAcceptedRow tables.runs → AreNumbered 1 tables.runs → is_forward_event event ≡ true → follows layout tables event deck ≡ true → AreHolders (after_event event deck tables)
 holders-stay layout tables event deck are rows numbered plain follow =
     submission-cases event deck tables are
     (λ other. holders-go tables (after_event event deck tables) (job_of event) (goes-on layout tables event deck rows numbered plain other follow) rows are)

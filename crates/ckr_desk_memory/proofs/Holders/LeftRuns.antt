@@ -20,7 +20,8 @@ use Rattle.ckr_points.specs.Restart.{after_event, by_step, place_of, step_in}
 use Rattle.ckr_points.specs.Rows.{RunRow, TablesModel, run_of, step_of_run}
 use Rattle.ckr_points.specs.Tables.{after_cancelled, after_checkpointed, after_rewritten, after_started, after_submitted}
 use Rattle.ckr_points_invariant.proofs.WaitingRuns.{tested-run}
-use Rattle.ckr_points_tables.specs.Invariant.{is_plain_event, is_submission}
+use Rattle.ckr_points_tables.specs.Invariant.{is_submission}
+use Rattle.ckr_desk_memory.specs.ForwardEvents.{is_forward_event}
 use Rattle.ckr_volumes.specs.declared.layout.Layout.{Layout}
 use Rattle.ckr_desk_memory.proofs.Holders.Events.{by-some, goes-on, row-more, tested}
 use Rattle.ckr_desk_memory.proofs.Holders.Moves.{by-own, by-row, row-as_is, row-next, row-number}
@@ -46,14 +47,14 @@ module _ (layout : Layout) (tables : TablesModel) (rows : AllByRecursion IsAccep
       absurd (omega (arith, one, two))
 
   -- a run whose event leaves it running, and the others
-  one_left : (event : Event) (deck : Option Job) → is_plain_event event ≡ true → is_submission event ≡ false → follows layout tables event deck ≡ true → (IsLeft tables (job_of event) → IsLeft (after_event event deck tables) (job_of event))
+  one_left : (event : Event) (deck : Option Job) → is_forward_event event ≡ true → is_submission event ≡ false → follows layout tables event deck ≡ true → (IsLeft tables (job_of event) → IsLeft (after_event event deck tables) (job_of event))
       → (number : ℕ) → IsLeft tables number → IsLeft (after_event event deck tables) number
   one_left event deck plain other follow own number left =
       number-cases number (job_of event) (λ here. subst (IsLeft (after_event event deck tables)) (sym here) (own (subst (IsLeft tables) here left)))
       (λ apart. (left.0, (goes-on layout tables event deck rows numbered plain other follow).rows.others number apart ∙ left.1, left.2))
 
   -- those of which the event isn't
-  rest_left : (event : Event) (deck : Option Job) → is_plain_event event ≡ true → is_submission event ≡ false → follows layout tables event deck ≡ true → (failed : List ℕ) → AllByRecursion (IsOther (job_of event)) failed → AllByRecursion (IsLeft tables) failed
+  rest_left : (event : Event) (deck : Option Job) → is_forward_event event ≡ true → is_submission event ≡ false → follows layout tables event deck ≡ true → (failed : List ℕ) → AllByRecursion (IsOther (job_of event)) failed → AllByRecursion (IsLeft tables) failed
       → AllByRecursion (IsLeft (after_event event deck tables)) failed
   rest_left event deck plain other follow [] apart all = tt
   rest_left event deck plain other follow (number ∷ rest) apart all = (
@@ -71,7 +72,7 @@ module _ (layout : Layout) (tables : TablesModel) (rows : AllByRecursion IsAccep
         and_from (is_in_state On row) true (and-first (is_in_state On row) _ follow) refl,
       ))
 
-  left_on : (event : Event) (deck : Option Job) (failed : List ℕ) → is_plain_event event ≡ true → follows layout tables event deck ≡ true → LeavesLeft event failed → AllByRecursion (IsLeft tables) failed → AllByRecursion (IsLeft (after_event event deck tables)) (failed_behind event failed)
+  left_on : (event : Event) (deck : Option Job) (failed : List ℕ) → is_forward_event event ≡ true → follows layout tables event deck ≡ true → LeavesLeft event failed → AllByRecursion (IsLeft tables) failed → AllByRecursion (IsLeft (after_event event deck tables)) (failed_behind event failed)
   left_on (Submitted job cards) None failed plain follow leaves all = all
   left_on (Submitted job cards) (Some deck) failed plain follow leaves all =
       each-implies (IsLeft tables) (IsLeft (after_submitted job deck tables)) failed (λ number left. (left.0, row-more tables job deck number left.0 left.1, left.2)) all
@@ -151,7 +152,7 @@ module _ (layout : Layout) (tables : TablesModel) (rows : AllByRecursion IsAccep
       (λ left. tested-run tables job (is_in_state Queued) follow (λ row at queued. waits job row at left queued))) all
   left_on _ deck failed plain follow leaves all = absurd (false≢true plain)
 
-pub left-behind : (layout : Layout) (old : JobsView) (now : TablesModel) (marked : List ℕ) (event : Event) (deck : Option Job) → AreJobs layout old → AreNumbered 1 old.tables.desk.runs → is_plain_event event ≡ true → now ≡ after_event event deck old.tables.desk → marked ≡ failed_behind event old.failed
+pub left-behind : (layout : Layout) (old : JobsView) (now : TablesModel) (marked : List ℕ) (event : Event) (deck : Option Job) → AreJobs layout old → AreNumbered 1 old.tables.desk.runs → is_forward_event event ≡ true → now ≡ after_event event deck old.tables.desk → marked ≡ failed_behind event old.failed
     → AreLeft old → follows layout old.tables.desk event deck ≡ true → LeavesLeft event old.failed → AllByRecursion (IsLeft now) marked
 left-behind layout old now marked event deck are numbered plain tables failed left follow leaves =
     subst (λ (t : TablesModel). AllByRecursion (IsLeft t) marked) (sym tables)

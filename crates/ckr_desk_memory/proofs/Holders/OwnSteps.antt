@@ -19,7 +19,7 @@ use Rattle.ckr_points.specs.Restart.{after_event}
 use Rattle.ckr_points.specs.Rows.{RunRow, TablesModel, no_tables, run_of, step_of_run}
 use Rattle.ckr_points.specs.Tables.{after_started}
 use Rattle.ckr_points_invariant.proofs.WaitingRuns.{tested-run}
-use Rattle.ckr_points_tables.specs.Invariant.{is_plain_event}
+use Rattle.ckr_desk_memory.specs.ForwardEvents.{is_forward_event}
 use Rattle.ckr_points_tables.specs.View.{RoomyTables}
 use Rattle.ckr_volumes.specs.declared.layout.Layout.{Layout}
 use Rattle.ckr_desk_memory.proofs.Holders.Events.{by-some, holders-none, holders-stay, tested}
@@ -124,7 +124,7 @@ module _ (layout : Layout) (tables : TablesModel) (rows : AllByRecursion IsAccep
       subst AreSingle (sym new_one.first)
       (subst (λ n. AllByRecursion (IsOfOther n) (without_run job old)) (sym new_one.run) (others-left job old), single-left job old single)))
 
-  single_on : (event : Event) (deck : Option Job) (old new : List RunningStepView) → is_plain_event event ≡ true → follows layout tables event deck ≡ true → AreSingle old → GoesOn event (after_event event deck tables) old new → AreSingle new
+  single_on : (event : Event) (deck : Option Job) (old new : List RunningStepView) → is_forward_event event ≡ true → follows layout tables event deck ≡ true → AreSingle old → GoesOn event (after_event event deck tables) old new → AreSingle new
   single_on (Started job step items) deck old new plain follow single goes =
       tested-run tables job (started_follows layout tables step items.items) follow
       (λ row at passes.
@@ -164,7 +164,7 @@ own-alike old new tables running own = record {
 }
 
 -- behind an event
-pub own-behind : (layout : Layout) (old new : JobsView) (event : Event) (deck : Option Job) → AllByRecursion IsAcceptedRow old.tables.desk.runs → AreNumbered 1 old.tables.desk.runs → is_plain_event event ≡ true → new.tables.desk ≡ after_event event deck old.tables.desk
+pub own-behind : (layout : Layout) (old new : JobsView) (event : Event) (deck : Option Job) → AllByRecursion IsAcceptedRow old.tables.desk.runs → AreNumbered 1 old.tables.desk.runs → is_forward_event event ≡ true → new.tables.desk ≡ after_event event deck old.tables.desk
     → GoesOn event new.tables.desk old.running new.running → HoldTheirOwn old → follows layout old.tables.desk event deck ≡ true → CommitsItsOwn event old.tables.desk old.running → HoldTheirOwn new
 own-behind layout old new event deck rows numbered plain tables goes own follow commits =
     let gone : GoesOn event (after_event event deck old.tables.desk) old.running new.running = subst (λ (t : TablesModel). GoesOn event t old.running new.running) tables goes in

@@ -28,7 +28,8 @@ use Rattle.ckr_points.specs.Tables.{after_cancelled, after_checkpointed, after_r
 use Rattle.ckr_points_invariant.proofs.WaitingRuns.{tested-run}
 use Rattle.ckr_points_library.specs.Commit.{output_names}
 use Rattle.ckr_points_tables.specs.Checkpoint.{checkpoint_name}
-use Rattle.ckr_points_tables.specs.Invariant.{is_plain_event, is_submission}
+use Rattle.ckr_points_tables.specs.Invariant.{is_submission}
+use Rattle.ckr_desk_memory.specs.ForwardEvents.{is_forward_event}
 use Rattle.ckr_volumes.specs.declared.layout.Layout.{Layout}
 use Rattle.ckr_desk_memory.proofs.Extents.{tested as tested-of, tested-step}
 use Rattle.ckr_desk_memory.proofs.Holders.Checkpoints.{check-behind, running-entered}
@@ -85,12 +86,12 @@ on-is PurgedRun e = absurd (false≢true e)
 
 module _ (layout : Layout) (tables : TablesModel) (are : AreHolders tables) (rows : AllByRecursion IsAcceptedRow tables.runs) (numbered : AreNumbered 1 tables.runs) where
   -- those of other runs
-  other-steps : (event : Event) (deck : Option Job) → is_plain_event event ≡ true → is_submission event ≡ false → follows layout tables event deck ≡ true → (on : RunningStepView) → on.run ≢ job_of event → IsRunningOf tables on → IsRunningOf (after_event event deck tables) on
+  other-steps : (event : Event) (deck : Option Job) → is_forward_event event ≡ true → is_submission event ≡ false → follows layout tables event deck ≡ true → (on : RunningStepView) → on.run ≢ job_of event → IsRunningOf tables on → IsRunningOf (after_event event deck tables) on
   other-steps event deck plain other follow on apart is =
       running-other tables (after_event event deck tables) (job_of event) (goes-on layout tables event deck rows numbered plain other follow) rows are on is apart
 
   -- those of all runs, where the run's own go on too
-  all-steps : (event : Event) (deck : Option Job) → is_plain_event event ≡ true → is_submission event ≡ false → follows layout tables event deck ≡ true → ((on : RunningStepView) → on.run ≡ job_of event → IsRunningOf tables on → IsRunningOf (after_event event deck tables) on)
+  all-steps : (event : Event) (deck : Option Job) → is_forward_event event ≡ true → is_submission event ≡ false → follows layout tables event deck ≡ true → ((on : RunningStepView) → on.run ≡ job_of event → IsRunningOf tables on → IsRunningOf (after_event event deck tables) on)
       → (old : List RunningStepView) → AllByRecursion (IsRunningOf tables) old → AllByRecursion (IsRunningOf (after_event event deck tables)) old
   all-steps event deck plain other follow own old all =
       each-implies (IsRunningOf tables) (IsRunningOf (after_event event deck tables)) old
@@ -230,7 +231,7 @@ module _ (layout : Layout) (tables : TablesModel) (are : AreHolders tables) (row
                 rest,
               )
 
-  stay : (event : Event) (deck : Option Job) (old new : List RunningStepView) → is_plain_event event ≡ true → follows layout tables event deck ≡ true → AreHolders (after_event event deck tables) → AllByRecursion (IsRunningOf tables) old
+  stay : (event : Event) (deck : Option Job) (old new : List RunningStepView) → is_forward_event event ≡ true → follows layout tables event deck ≡ true → AreHolders (after_event event deck tables) → AllByRecursion (IsRunningOf tables) old
       → CommitsItsOwn event tables old → GoesOn event (after_event event deck tables) old new → AllByRecursion (IsRunningOf (after_event event deck tables)) new
   stay (Submitted job cards) None old new plain follow holders all commits goes = subst (AllByRecursion (IsRunningOf tables)) (sym goes) all
   stay (Submitted job cards) (Some deck) old new plain follow holders all commits goes =
@@ -273,7 +274,7 @@ module _ (layout : Layout) (tables : TablesModel) (are : AreHolders tables) (row
   stay _ deck old new plain follow holders all commits goes = absurd (false≢true plain)
 
 -- the running steps stay those of their runs
-pub running-stay : (layout : Layout) (tables : TablesModel) (event : Event) (deck : Option Job) (old new : List RunningStepView) → AreHolders tables → AllByRecursion IsAcceptedRow tables.runs → AreNumbered 1 tables.runs → is_plain_event event ≡ true → follows layout tables event deck ≡ true
+pub running-stay : (layout : Layout) (tables : TablesModel) (event : Event) (deck : Option Job) (old new : List RunningStepView) → AreHolders tables → AllByRecursion IsAcceptedRow tables.runs → AreNumbered 1 tables.runs → is_forward_event event ≡ true → follows layout tables event deck ≡ true
     → AllByRecursion (IsRunningOf tables) old → CommitsItsOwn event tables old → GoesOn event (after_event event deck tables) old new → AllByRecursion (IsRunningOf (after_event event deck tables)) new
 running-stay layout tables event deck old new are rows numbered plain follow all commits goes =
     stay layout tables are rows numbered event deck old new plain follow (holders-stay layout tables event deck are rows numbered plain follow) all commits goes

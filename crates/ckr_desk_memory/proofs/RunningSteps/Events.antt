@@ -20,7 +20,7 @@ use Rattle.ckr_points.specs.Restart.{after_event, place_of}
 use Rattle.ckr_points.specs.Rows.{RunRow, TablesModel, holding_of, run_of, standing_of, step_of_run, table_ways}
 use Rattle.ckr_points.specs.Soundness.{AreLaidOut}
 use Rattle.ckr_steps.specs.StepUnit.{AreCounted}
-use Rattle.ckr_points_tables.specs.Invariant.{is_plain_event}
+use Rattle.ckr_desk_memory.specs.ForwardEvents.{is_forward_event}
 use Rattle.ckr_points_tables.specs.View.{seen_by}
 use Rattle.ckr_desk_turn.specs.Queue.{AreNumbered}
 use Rattle.ckr_desk_memory.specs.declared.jobs.RunningStep.{RunningStep}
@@ -103,7 +103,7 @@ module _ (layout : Layout) (old : TablesModel) (numbered : AreNumbered 1 old.run
         numbered = numbered-behind layout old (Checkpointed job id taken writes lengths place bytes) deck refl follow numbered;
       }
 
-  may : (event : Event) (deck : Option Job) (begun : Option RunningStep) (jobs : JobsView) → jobs.tables.desk ≡ old → is_plain_event event ≡ true → follows layout old event deck ≡ true → length old.runs ≤ 9999999 → HasStarted event jobs begun → MayRun event (after_event event deck old) begun jobs.running_room
+  may : (event : Event) (deck : Option Job) (begun : Option RunningStep) (jobs : JobsView) → jobs.tables.desk ≡ old → is_forward_event event ≡ true → follows layout old event deck ≡ true → length old.runs ≤ 9999999 → HasStarted event jobs begun → MayRun event (after_event event deck old) begun jobs.running_room
   may (Started job step items) deck begun jobs is plain follow few has =
       started_may job step items deck begun jobs.running_room follow few (subst (λ t. HasStep t job step begun) is has.step) has.room
   may (Checkpointed job id taken writes lengths place bytes) deck begun jobs is plain follow few has = checkpointed_may job taken writes place bytes id lengths deck begun jobs.running_room follow few
@@ -139,7 +139,7 @@ module _ (layout : Layout) (old : TablesModel) (numbered : AreNumbered 1 old.run
 -- ---- all of the jobs
 
 -- what holds of the jobs holds behind an event that follows
-pub jobs-behind : (layout : Layout) (old new : JobsView) (event : Event) (deck : Option Job) (begun : Option RunningStep) → AreNumbered 1 old.tables.desk.runs → is_plain_event event ≡ true → IsAnyAccepted event deck → follows layout old.tables.desk event deck ≡ true
+pub jobs-behind : (layout : Layout) (old new : JobsView) (event : Event) (deck : Option Job) (begun : Option RunningStep) → AreNumbered 1 old.tables.desk.runs → is_forward_event event ≡ true → IsAnyAccepted event deck → follows layout old.tables.desk event deck ≡ true
     → HasStarted event old begun → new.tables.desk ≡ after_event event deck old.tables.desk → GoesOn event new.tables.desk old.running new.running → AreJobs layout old → AreJobs layout new
 jobs-behind layout old new event deck begun numbered plain is follow has tables goes are = record {
   laid = subst (λ (t : TablesModel). AreLaidOut layout t.sets) (sym tables) (laid-behind layout old.tables.desk are.laid event deck plain follow);
@@ -151,7 +151,7 @@ jobs-behind layout old new event deck begun numbered plain is follow has tables 
 }
 
 -- the step that is prepared may start, by the tables behind the event
-pub may-run : (layout : Layout) (seen : JobsView) (event : Event) (deck : Option Job) (begun : Option RunningStep) (after : TablesModel) → AreNumbered 1 seen.tables.desk.runs → length seen.tables.desk.runs ≤ 9999999 → AreJobs layout seen → is_plain_event event ≡ true
+pub may-run : (layout : Layout) (seen : JobsView) (event : Event) (deck : Option Job) (begun : Option RunningStep) (after : TablesModel) → AreNumbered 1 seen.tables.desk.runs → length seen.tables.desk.runs ≤ 9999999 → AreJobs layout seen → is_forward_event event ≡ true
     → follows layout seen.tables.desk event deck ≡ true → HasStarted event seen begun → after ≡ after_event event deck seen.tables.desk → MayRun event after begun seen.running_room
 may-run layout seen event deck begun after numbered few are plain follow has is =
     subst (λ (t : TablesModel). MayRun event t begun seen.running_room) (sym is)

@@ -1,5 +1,5 @@
 -- The uses of two decks hold against each other where a use of a DD of one keeps out that of a DD of the other.
-use Rattle.std.proofs.Common.{◌≡◌, ℕ, ◌≤◌, ◌&&◌, ◌||◌, Bool, true, false, not, List, [], ◌∷◌, ◌++◌, map, flat_map, slice_get, suc, zero, refl, ap, sym, ◌∙◌, subst, Some, None, Option}
+use Rattle.std.proofs.Common.{◌≡◌, ℕ, ◌&&◌, ◌||◌, Bool, true, false, not, map, flat_map, slice_get, suc, ap, sym, ◌∙◌, Some}
 use Rattle.std.specs.Option.{is_some, option_and_then, option_map_or, option_to_list}
 use Rattle.std.specs.List.{list_all, list_any}
 use Rattle.std.proofs.lemmas.List.Folds.{list_all-map, list_any-append}
@@ -12,7 +12,7 @@ use Rattle.ckr_points.specs.Office.{is_holder}
 use Rattle.ckr_points.specs.Rows.{RunRow, TablesModel, run_of}
 use Rattle.ckr_points_tables.specs.PlainRows.{IsPlainRow}
 use Rattle.ckr_points_tables.specs.View.{line_of}
-use Rattle.ckr_points_follows.specs.DeckConflicts.{holds_beside, may_be_beside}
+use Rattle.ckr_points_follows.specs.DeckConflicts.{may_be_beside}
 use Rattle.ckr_points_follows.proofs.Lists.{all-same, any-flat_mapped, any-option}
 
 -- a test of the uses of a deck, step by step

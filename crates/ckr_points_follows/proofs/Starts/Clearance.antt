@@ -1,6 +1,5 @@
 -- What a step makes is clear of what it made before where it is clear of what was there and of each that the step makes.
 use Rattle.std.proofs.Common.{◌≡◌, ℕ, suc, ◌&&◌, ◌||◌, Bool, true, false, not, cond, List, [], ◌∷◌, ◌++◌, map, refl, ap, sym, ◌∙◌, subst, Some, None, Option}
-use Rattle.std.specs.declared.cmp.Ordering.{Ordering}
 use Rattle.std.specs.declared.cmp.Ordering.TheVariants.{Less, Equal, Greater}
 use Rattle.std.specs.Option.{option_map}
 use Rattle.std.specs.Ordering.{is_eq}
@@ -20,7 +19,7 @@ use Rattle.ckr_library.specs.NameMaps.{Name, Named, entry_at, name_cmp, same_nam
 use Rattle.ckr_library.proofs.Named.{at-with_entry-other, name-same}
 use Rattle.ckr_meaning.specs.Allotments.{AllotmentModel, found, made, refused, DdAllotment, is_made, is_passed}
 use Rattle.ckr_meaning.specs.Dispositions.{Stock}
-use Rattle.ckr_meaning.specs.EffectiveJob.{OwnedStep, is_among, name_of, names_of, placed_from, placed_in, placed_one}
+use Rattle.ckr_meaning.specs.EffectiveJob.{OwnedStep, name_of, names_of, placed_from, placed_in, placed_one}
 use Rattle.ckr_points.specs.Tables.{fresh_table, made_table, made_tables, parts_from}
 use Rattle.ckr_points.specs.Follows.{are_made_clear, is_made_clear, lies_clear, stands_in}
 use Rattle.ckr_points.specs.Rows.{TableSet, table_ways}

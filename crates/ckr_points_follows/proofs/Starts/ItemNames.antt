@@ -1,9 +1,8 @@
 -- The items that name what a step makes.
-use Rattle.std.proofs.Common.{◌≡◌, ℕ, zero, suc, ◌<◌, ◌≤◌, ◌==◌, ◌&&◌, Bool, true, false, if◌then◌else◌, cond, nat_eq, nat_le, List, [], ◌∷◌, ◌++◌, map, length, take, drop, get_or, replicate, sum_by, unwrap_or, refl, ap, sym, ◌∙◌, arith, Some, None, Option}
+use Rattle.std.proofs.Common.{◌≡◌, ℕ, zero, suc, ◌<◌, ◌≤◌, ◌==◌, ◌&&◌, Bool, true, false, if◌then◌else◌, cond, nat_eq, List, [], ◌∷◌, ◌++◌, map, length, take, drop, get_or, replicate, sum_by, unwrap_or, refl, ap, sym, ◌∙◌, arith, Some, None, Option}
 use Rattle.std.specs.Option.{option_map, option_map_or}
-use Rattle.std.specs.List.{cons_option, list_all, list_any}
+use Rattle.std.specs.List.{list_all, list_any}
 use Rattle.std.specs.Cmp.Lexicographic.{pointwise}
-use Rattle.std.proofs.lemmas.Bool.Decides.{nat_tests}
 use Rattle.ckr_base.proofs.Bools.{and-assoc, and-false}
 use Rattle.ckr_base.proofs.Sequences.{any-filter_map}
 use Rattle.ckr_events.specs.declared.event.Made.{Made}

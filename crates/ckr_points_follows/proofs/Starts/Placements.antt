@@ -1,8 +1,8 @@
 -- The DDs of a step, with those that have no data set.
-use Rattle.std.proofs.Common.{◌≡◌, ℕ, suc, ◌+◌, ◌&&◌, Bool, true, false, not, List, [], ◌∷◌, ◌++◌, drop, append_assoc, arith, refl, ap, sym, ◌∙◌, Some, None, Option}
+use Rattle.std.proofs.Common.{◌≡◌, ℕ, suc, ◌+◌, ◌&&◌, true, false, not, List, [], ◌∷◌, ◌++◌, drop, append_assoc, arith, refl, ap, sym, ◌∙◌, Some, None, Option}
 use Rattle.std.proofs.lemmas.List.Elements.{filter_map-append}
 use Rattle.std.specs.Option.{is_some, option_map, option_map_or}
-use Rattle.std.specs.List.{cons_option, filter_map, list_all}
+use Rattle.std.specs.List.{cons_option, list_all}
 use Rattle.ckr_meaning.specs.Allotments.{FlawModel, DdAllotment}
 use Rattle.ckr_jcl.specs.declared.deck.Dd.{Dd}
 use Rattle.ckr_meaning.specs.Dispositions.{Stock}

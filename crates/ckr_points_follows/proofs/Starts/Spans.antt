@@ -1,9 +1,9 @@
 -- What is clear of the spans on a volume lies apart from the data sets.
-use Rattle.std.proofs.Common.{◌≡◌, ℕ, zero, suc, ◌+◌, ◌*◌, ◌≤◌, ◌==◌, ◌&&◌, ◌||◌, Bool, true, false, not, cond, nat_le, List, [], ◌∷◌, ◌++◌, map, filter, flat_map, refl, ap, sym, ◌∙◌, arith}
+use Rattle.std.proofs.Common.{◌≡◌, ℕ, zero, suc, ◌+◌, ◌*◌, ◌≤◌, ◌==◌, ◌&&◌, ◌||◌, Bool, true, false, not, cond, nat_le, List, [], ◌∷◌, map, flat_map, refl, ap, sym, ◌∙◌, arith}
 use Rattle.std.specs.List.{list_all}
 use Rattle.std.proofs.Math.Nat.{mul-le-mul_right}
 use Rattle.std.proofs.lemmas.Bool.Decides.{nat_tests}
-use Rattle.std.proofs.lemmas.List.Folds.{list_all-append, list_all-map}
+use Rattle.std.proofs.lemmas.List.Folds.{list_all-append}
 use Rattle.ckr_base.proofs.Bools.{and-assoc}
 use Rattle.ckr_library.specs.declared.sets.DataSet.{DataSet}
 use Rattle.ckr_library.specs.declared.sets.Extent.{Extent}
@@ -16,7 +16,7 @@ use Rattle.ckr_points.specs.Follows.{lies_clear}
 use Rattle.ckr_points.specs.Rows.{TableSet, holding_of}
 use Rattle.ckr_points_tables.specs.View.{seen_by}
 use Rattle.ckr_volumes.specs.Places.{StretchModel, end_of, stretch_on, stretches_of, stretches_of_part}
-use Rattle.ckr_volumes.specs.Layouts.{are_apart, are_disjoint}
+use Rattle.ckr_volumes.specs.Layouts.{are_apart}
 use Rattle.ckr_points_follows.specs.Clearance.{clears, is_clear_of}
 use Rattle.ckr_points_follows.proofs.Lists.{all-filtered, all-turned, and-swap}
 

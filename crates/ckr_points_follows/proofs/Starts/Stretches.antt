@@ -1,5 +1,5 @@
 -- The data set that a DD makes, by the stretches of its items.
-use Rattle.std.proofs.Common.{◌≡◌, ℕ, suc, ◌+◌, ◌*◌, ◌≤◌, ◌==◌, ◌&&◌, ◌||◌, Bool, true, false, not, cond, nat_le, nat_lt, nat_eq, List, [], ◌∷◌, ◌++◌, length, map, filter, flat_map, sum_by, refl, ap, sym, ◌∙◌, arith, append_assoc}
+use Rattle.std.proofs.Common.{◌≡◌, ℕ, ◌+◌, ◌*◌, ◌≤◌, ◌==◌, ◌&&◌, ◌||◌, Bool, true, false, not, cond, nat_le, nat_lt, List, [], ◌∷◌, ◌++◌, length, map, filter, sum_by, refl, ap, sym, ◌∙◌, arith}
 use Rattle.std.specs.List.{list_all}
 use Rattle.std.proofs.Math.Nat.{mul-le-mul_left}
 use Rattle.std.proofs.lemmas.Bool.Decides.{nat_tests}
@@ -16,8 +16,8 @@ use Rattle.ckr_points.specs.Tables.{part_of, parts_from}
 use Rattle.ckr_points.specs.Follows.{lies_clear, stands_in}
 use Rattle.ckr_points.specs.Rows.{TableSet}
 use Rattle.ckr_volumes.specs.declared.layout.Layout.{Layout}
-use Rattle.ckr_volumes.specs.Places.{StretchModel as StretchOfSet, records_in, stretches_of, stretches_of_part, stretches_of_parts}
-use Rattle.ckr_volumes.specs.Layouts.{all_apart, are_apart, is_inside, lie_apart, lists_apart, sums_up}
+use Rattle.ckr_volumes.specs.Places.{StretchModel as StretchOfSet, records_in, stretches_of_part, stretches_of_parts}
+use Rattle.ckr_volumes.specs.Layouts.{all_apart, are_apart, is_inside, lists_apart, sums_up}
 use Rattle.ckr_points_follows.specs.Clearance.{clears}
 use Rattle.ckr_points_follows.specs.Stretches.{apart_from, each_apart, gathered, records_of_all, stretch_in, stretch_now}
 use Rattle.ckr_points_follows.specs.Placements.{set_made}

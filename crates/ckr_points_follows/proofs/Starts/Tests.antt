@@ -1,6 +1,6 @@
 -- The start of a step, by what the code tests.
-use Rattle.std.proofs.Common.{◌≡◌, ℕ, zero, suc, ◌≤◌, ◌&&◌, Bool, true, false, nat_eq, IsTrue, List, [], ◌∷◌, length, map, slice_get, refl, ap, sym, ◌∙◌, Some, None, Option}
-use Rattle.std.specs.Option.{option_map, option_map_or}
+use Rattle.std.proofs.Common.{◌≡◌, ℕ, zero, suc, ◌&&◌, Bool, true, false, nat_eq, List, [], ◌∷◌, map, slice_get, refl, ap, sym, ◌∙◌, Some}
+use Rattle.std.specs.Option.{option_map_or}
 use Rattle.std.specs.List.{list_all}
 use Rattle.std.specs.Cmp.Lexicographic.{pointwise}
 use Rattle.std.proofs.lemmas.Option.{same_Some}
@@ -14,7 +14,7 @@ use Rattle.ckr_jcl.specs.declared.deck.Step.{Step}
 use Rattle.ckr_meaning.specs.Allotments.{DdAllotment}
 use Rattle.ckr_meaning.specs.EffectiveJob.{HasDistinctNames, OwnedStep, flaws_in, names_of, owned_by, placed_in, plain_job, stamp_of, step_at}
 use Rattle.ckr_meaning.specs.declared.place.Place.{Place}
-use Rattle.ckr_points.specs.Follows.{are_items, are_made_clear, is_empty, is_part_whole, made_dds, may_start}
+use Rattle.ckr_points.specs.Follows.{are_made_clear, is_empty, is_part_whole, made_dds, may_start}
 use Rattle.ckr_points.specs.Restart.{place_of}
 use Rattle.ckr_points.specs.Rows.{TablesModel, standing_of, step_of_run, table_ways}
 use Rattle.ckr_volumes.specs.declared.layout.Layout.{Layout}

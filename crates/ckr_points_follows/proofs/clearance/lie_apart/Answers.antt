@@ -1,4 +1,4 @@
-use Rattle.std.proofs.Common.{ap, sym, ◌∙◌}
+use Rattle.std.proofs.Common.{◌∙◌}
 use Rattle.ckr_points_follows.proofs.Starts.Stretches.{apart-by}
 use Rattle.ckr_points_follows.proofs.clearance.lie_apart.Goals as goal
 

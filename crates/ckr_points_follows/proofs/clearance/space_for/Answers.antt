@@ -1,4 +1,4 @@
-use Rattle.std.proofs.Common.{◌*◌, ◌≤◌, arith}
+use Rattle.std.proofs.Common.{arith}
 use Rattle.ckr_points_follows.proofs.Starts.Stretches.{few-times}
 use Rattle.ckr_points_follows.proofs.clearance.space_for.Goals as goal
 

@@ -1,4 +1,4 @@
-use Rattle.std.proofs.Common.{◌≡◌, ◌+◌, ◌++◌, ◌∷◌, [], length, drop, arith, ap, sym, ◌∙◌, length-append}
+use Rattle.std.proofs.Common.{◌∷◌, [], length, arith, ap, length-append}
 use Rattle.ckr_base.proofs.Sequences.{drop-at}
 use Rattle.ckr_points_library.specs.Holdings.{owned}
 use Rattle.ckr_points.specs.Rows.{standing_of}

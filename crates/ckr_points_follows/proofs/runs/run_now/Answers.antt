@@ -1,4 +1,4 @@
-use Rattle.std.proofs.Common.{◌∙◌, ap, sym, refl}
+use Rattle.std.proofs.Common.{◌∙◌}
 use Rattle.ckr_points_follows.proofs.RunFacts.{is-now, none-seen, row-seen}
 use Rattle.ckr_points_follows.proofs.runs.run_now.Goals as goal
 

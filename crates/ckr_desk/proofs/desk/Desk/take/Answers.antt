@@ -9,7 +9,8 @@ use Rattle.ckr_desk_memory.specs.Preparation.{IsPrepared}
 use Rattle.ckr_desk_memory.specs.View.{JobsView}
 use Rattle.ckr_events.specs.declared.event.Event.{Event}
 use Rattle.ckr_points.specs.Follows.{follows}
-use Rattle.ckr_points_tables.specs.Invariant.{MaySubmit, is_plain_event}
+use Rattle.ckr_points_tables.specs.Invariant.{MaySubmit}
+use Rattle.ckr_desk_memory.specs.ForwardEvents.{is_forward_event}
 use Rattle.ckr_volumes.specs.declared.layout.Layout.{Layout}
 use Rattle.ckr_desk.specs.declared.preparation.Ready.{Ready}
 use Rattle.ckr_desk.specs.Preparation.{IsReady}
@@ -31,7 +32,7 @@ ready-same event old mid ready jobs room is = record {
 }
 
 pub enter-requires-clause-plain : goal.enter-requires-clause-plain
-enter-requires-clause-plain g c κs within = ap is_plain_event c.requires.attempt.its.of.event
+enter-requires-clause-plain g c κs within = ap is_forward_event c.requires.attempt.its.of.event
 
 pub enter-requires-clause-deck : goal.enter-requires-clause-deck
 enter-requires-clause-deck g c κs within = subst (λ (e : Event). MaySubmit e None) (sym c.requires.attempt.its.of.event) tt

@@ -7,55 +7,55 @@ use Rattle.ckr_points_tables.proofs.tables.Tables.change.Goals as goal
 
 pub overflow_sub-place : goal.overflow_sub-place
 overflow_sub-place c =
-    let at = placed_at c.args.self.now.desk c.args.event.now None c.requires.kept c.requires.other (c.requires.follows None) in
+    let at = placed_at c.args.self.now.desk c.args.event.now None c.requires.change (c.requires.follows None) in
     omega (arith, at.0, c.job-number.ensures)
 
 pub index-requires : goal.index-requires
 index-requires c =
-    let inside = inside_lines c.self.inside c.args.self.now c.self.view_is c.self.invariant c.args.event.now c.requires.kept c.requires.other c.requires.follows c.job-number.result c.job-number.ensures in
+    let inside = inside_lines c.self.inside c.args.self.now c.self.view_is c.self.invariant c.args.event.now c.requires.change c.requires.follows c.job-number.result c.job-number.ensures in
     omega (arith, inside, c.self.inside.lines.ok.0)
 
 pub index_mut-requires : goal.index_mut-requires
 index_mut-requires c =
-    let inside = inside_lines c.self.inside c.args.self.now c.self.view_is c.self.invariant c.args.event.now c.requires.kept c.requires.other c.requires.follows c.job-number.result c.job-number.ensures in
+    let inside = inside_lines c.self.inside c.args.self.now c.self.view_is c.self.invariant c.args.event.now c.requires.change c.requires.follows c.job-number.result c.job-number.ensures in
     omega (arith, inside, c.self.inside.lines.ok.0)
 
 pub index_mut-requires-2 : goal.index_mut-requires-2
 index_mut-requires-2 c =
-    let inside = inside_tables c.self.inside c.args.self.now c.self.view_is c.self.invariant c.args.event.now c.requires.kept c.requires.other c.requires.follows c.job-number.result c.job-number.ensures in
+    let inside = inside_tables c.self.inside c.args.self.now c.self.view_is c.self.invariant c.args.event.now c.requires.change c.requires.follows c.job-number.result c.job-number.ensures in
     omega (arith, inside, c.self.inside.tables.ok.0)
 
 pub index_mut-requires-3 : goal.index_mut-requires-3
 index_mut-requires-3 c =
-    let inside = inside_writings c.self.inside c.args.self.now c.self.view_is c.self.invariant c.args.event.now c.requires.kept c.requires.other c.requires.follows c.job-number.result c.job-number.ensures in
+    let inside = inside_writings c.self.inside c.args.self.now c.self.view_is c.self.invariant c.args.event.now c.requires.change c.requires.follows c.job-number.result c.job-number.ensures in
     omega (arith, inside, c.self.inside.writings.ok.0)
 
 pub change_run-requires-clause-run : goal.change_run-requires-clause-run
 change_run-requires-clause-run c =
-    number_ok c.self.inside c.args.self.now c.self.view_is c.self.invariant c.args.event.now c.requires.kept c.requires.other c.requires.follows c.job-number.result c.job-number.ensures
+    number_ok c.self.inside c.args.self.now c.self.view_is c.self.invariant c.args.event.now c.requires.change c.requires.follows c.job-number.result c.job-number.ensures
     c.index_mut.result.now c.index_mut-2.result.now c.index_mut-3.result.now c.index_mut.ensures.value c.index_mut-2.ensures.value c.index_mut-3.ensures.value
 
 pub change_run-requires-clause-limits : goal.change_run-requires-clause-limits
 change_run-requires-clause-limits c =
-    limits_ok c.self.inside c.args.self.now c.self.view_is c.self.invariant c.args.event.now c.requires.kept c.requires.other c.requires.follows c.job-number.result c.job-number.ensures
+    limits_ok c.self.inside c.args.self.now c.self.view_is c.self.invariant c.args.event.now c.requires.change c.requires.follows c.job-number.result c.job-number.ensures
     c.index_mut.result.now c.index_mut-2.result.now c.index_mut-3.result.now c.index_mut.ensures.value c.index_mut-2.ensures.value c.index_mut-3.ensures.value
 
 pub change_run-requires-clause-may : goal.change_run-requires-clause-may
 change_run-requires-clause-may c =
-    may_ok c.self.inside c.args.self.now c.self.view_is c.self.invariant c.args.event.now c.requires.kept c.requires.other c.requires.follows c.job-number.result c.job-number.ensures
+    may_ok c.self.inside c.args.self.now c.self.view_is c.self.invariant c.args.event.now c.requires.change c.requires.follows c.job-number.result c.job-number.ensures
     c.index_mut.result.now c.index_mut-2.result.now c.index_mut-3.result.now c.index_mut.ensures.value c.index_mut-2.ensures.value c.index_mut-3.ensures.value c.requires.count c.requires.room
 
 pub index-requires-2 : goal.index-requires-2
 index-requires-2 c =
-    let inside = inside_lines c.self.inside c.args.self.now c.self.view_is c.self.invariant c.args.event.now c.requires.kept c.requires.other c.requires.follows c.job-number.result c.job-number.ensures in
+    let inside = inside_lines c.self.inside c.args.self.now c.self.view_is c.self.invariant c.args.event.now c.requires.change c.requires.follows c.job-number.result c.job-number.ensures in
     omega (arith, inside, c.self.inside.lines.ok.0)
 
 pub invariant_of-self : goal.invariant_of-self
 invariant_of-self c =
-    let inside : c.job-number.result - 1 < length c.self.inside.lines.items = inside_lines c.self.inside c.args.self.now c.self.view_is c.self.invariant c.args.event.now c.requires.kept c.requires.other c.requires.follows c.job-number.result c.job-number.ensures in
+    let inside : c.job-number.result - 1 < length c.self.inside.lines.items = inside_lines c.self.inside c.args.self.now c.self.view_is c.self.invariant c.args.event.now c.requires.change c.requires.follows c.job-number.result c.job-number.ensures in
     let before : c.index.result.now ≡ c.index_mut.result.now = read-twice c.self.inside.lines.items (c.job-number.result - 1) c.index.result.now c.index_mut.result.now inside c.index.ensures c.index_mut.ensures.value in
     let after : c.index-2.result.now ≡ c.change_run.new.line = read-back c.self.inside.lines.items (c.job-number.result - 1) c.change_run.new.line c.index-2.result.now inside c.index-2.ensures in
-    kept_ok c.self.inside c.args.self.now c.self.view_is c.self.invariant c.args.event.now c.requires.kept c.requires.other c.requires.follows c.job-number.result c.job-number.ensures
+    kept_ok c.self.inside c.args.self.now c.self.view_is c.self.invariant c.args.event.now c.requires.change c.requires.follows c.job-number.result c.job-number.ensures
     c.index_mut.result.now c.index_mut-2.result.now c.index_mut-3.result.now c.index_mut.ensures.value c.index_mut-2.ensures.value c.index_mut-3.ensures.value
     c.change_run.new.line c.change_run.new.table c.change_run.new.library.sets c.change_run.ensures.going
     c.change_run.new.entries c.change_run.new.spare.marks.items c.change_run.ensures.empty
@@ -69,6 +69,6 @@ invariant_of-self c =
 
 pub returns : goal.returns
 returns c =
-    desk_ok c.self.inside c.args.self.now c.self.view_is c.self.invariant c.args.event.now c.requires.kept c.requires.other c.requires.follows c.job-number.result c.job-number.ensures
+    desk_ok c.self.inside c.args.self.now c.self.view_is c.self.invariant c.args.event.now c.requires.change c.requires.follows c.job-number.result c.job-number.ensures
     c.index_mut.result.now c.index_mut-2.result.now c.index_mut-3.result.now c.index_mut.ensures.value c.index_mut-2.ensures.value c.index_mut-3.ensures.value
     c.change_run.new.line c.change_run.new.table c.change_run.new.library.sets c.change_run.ensures.going c.in_order.ensures c.change_run.new.entries c.change_run.ensures.entries
