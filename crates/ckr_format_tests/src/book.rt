@@ -29,36 +29,57 @@ fn stopped(alloc: Global, stop_at: u64, pick: Pick) -> Result<MemDisk, Fail>
     Ok(disk.stop(pick))
 }
 
+/// The room of two records, and of three.
+const WITHOUT: u32 = 51;
+
+const WITH: u32 = 41;
+
+const PICKS: [Pick; 5] = [
+    Pick::Kept,
+    Pick::Lost,
+    Pick::Filled(0),
+    Pick::Filled(1),
+    Pick::Filled(255),
+];
+
+/// A call of the third append, and the room that each pick leaves of a stop there.
+type Stop = (u64, [u32; 5]);
+
+const STOPS: [Stop; 7] = [
+    (14, [WITHOUT, WITHOUT, WITHOUT, WITHOUT, WITHOUT]),
+    (15, [WITHOUT, WITHOUT, WITHOUT, WITHOUT, WITHOUT]),
+    (16, [WITHOUT, WITHOUT, WITHOUT, WITHOUT, WITHOUT]),
+    (17, [WITHOUT, WITHOUT, WITHOUT, WITHOUT, WITHOUT]),
+    (18, [WITHOUT, WITHOUT, WITHOUT, WITH, WITHOUT]),
+    (19, [WITH, WITHOUT, WITHOUT, WITH, WITHOUT]),
+    (20, [WITH, WITH, WITH, WITH, WITH]),
+];
+
+/// The book has this room, and the third record where that is what it has with it.
+fn has_room(disk: &mut MemDisk, room: u32) -> Result<bool, Fail>
+    requires { length (content_of disk.old) ≡ 80 }
+{
+    let book = Book::open_on(disk, 8, 64)?;
+    let mut third = [0; 5];
+    book.read_at(disk, 18, &mut third)?;
+    Ok(book.room() == room && (room == WITHOUT || third == *b"THIRD"))
+}
+
+/// Each pick leaves this room of a stop.
+fn are_left(alloc: Global, stop: &Stop) -> Result<bool, Fail> {
+    let (stop_at, rooms) = stop;
+    for (pick, room) in PICKS.iter().zip(rooms) {
+        if !has_room(&mut stopped(alloc, *stop_at, *pick)?, *room)? {
+            return Ok(false);
+        }
+    }
+    Ok(true)
+}
+
 #[test]
 fn a_stop_leaves_the_record_whole_or_not_at_all(rt: HostRuntime) -> Result<(), Fail> {
-    // The room of two records, and of three.
-    let (without, with) = (51, 41);
-    let picks = [
-        Pick::Kept,
-        Pick::Lost,
-        Pick::Filled(0),
-        Pick::Filled(1),
-        Pick::Filled(255),
-    ];
-    // The calls of the third append, and what each pick leaves of a stop there.
-    let expected = [
-        (14, [without, without, without, without, without]),
-        (15, [without, without, without, without, without]),
-        (16, [without, without, without, without, without]),
-        (17, [without, without, without, without, without]),
-        (18, [without, without, without, with, without]),
-        (19, [with, without, without, with, without]),
-        (20, [with, with, with, with, with]),
-    ];
-    for (stop_at, rooms) in expected {
-        for (pick, room) in picks.iter().zip(rooms) {
-            let mut disk = stopped(rt.alloc(), stop_at, *pick)?;
-            let book = Book::open_on(&mut disk, 8, 64)?;
-            assert!(rt; book.room() == room);
-            let mut third = [0; 5];
-            book.read_at(&mut disk, 18, &mut third)?;
-            assert!(rt; room == without || third == *b"THIRD");
-        }
+    for stop in &STOPS {
+        assert!(rt; are_left(rt.alloc(), stop)?, "call {}", stop.0);
     }
     Ok(())
 }

@@ -18,17 +18,19 @@ use std::process::Abort;
 use std::test::Fail;
 
 /// The layout of `INITIATORS 2`, `UNITS 2`, `BOOK 100000`, `VOLUME VOL001 200000`, `VOLUME VOL002 200000`.
-fn worked() -> Result<Layout, Fail>
+pub(crate) fn worked() -> Result<Layout, Fail>
     ensures { IfOk result (λ layout. IsHeader layout (disk_needed layout)) }
 {
+    let first = Volser::read(b"VOL001").ok_or("the serial is well formed")?;
+    let second = Volser::read(b"VOL002").ok_or("the serial is well formed")?;
     let mut volumes = ArrayVec::new();
     volumes.push(Volume {
-        serial: Volser::read(b"VOL001").ok_or("the serial is well formed")?,
+        serial: first,
         start: 100_512,
         bytes: 200_000,
     });
     volumes.push(Volume {
-        serial: Volser::read(b"VOL002").ok_or("the serial is well formed")?,
+        serial: second,
         start: 300_512,
         bytes: 200_000,
     });
@@ -59,32 +61,66 @@ fn append_three<D: Disk>(disk: &mut D) -> Result<(), Fail>
     Ok(())
 }
 
-/// Reads the events that were appended.
-fn read_three<D: Disk>(rt: &impl Abort, alloc: Global, disk: &mut D) -> Result<(), Fail>
-    requires { 500_512 ≤ D.size disk.old }
+/// Job 2 was released by the event at a place, and this is the place behind it.
+fn is_release<D: Disk>(alloc: Global, disk: &mut D, place: u32, behind: u32) -> bool
+    requires size { 500_512 ≤ D.size disk.old }
+    requires place { place ≤ 100_000 }
     ensures { D.size disk.new ≡ D.size disk.old }
 {
-    assert!(rt;
-        matches!(
-            next_event(alloc, disk, 100_000, 0)?,
+    match next_event(alloc, disk, 100_000, place) {
+        Ok(
             Next::Event {
-                event: Event::Released { job: 2 },
-                next: 10,
-            }
-        )
-    );
-    assert!(rt;
-        matches!(
-            next_event(alloc, disk, 100_000, 10)?,
+                event: Event::Released { job },
+                next,
+            },
+        ) => job == 2 && next == behind,
+        _ => false,
+    }
+}
+
+/// Job 258 was cancelled by the event at a place, and this is the place behind it.
+fn is_cancel<D: Disk>(alloc: Global, disk: &mut D, place: u32, behind: u32) -> bool
+    requires size { 500_512 ≤ D.size disk.old }
+    requires place { place ≤ 100_000 }
+    ensures { D.size disk.new ≡ D.size disk.old }
+{
+    match next_event(alloc, disk, 100_000, place) {
+        Ok(
             Next::Event {
-                event: Event::Cancelled { job: 258 },
-                next: 20,
-            }
-        )
-    );
-    assert!(rt; next_event(alloc, disk, 100_000, 20).err() == Some(NextEventError::Bad));
-    assert!(rt; matches!(next_event(alloc, disk, 100_000, 26)?, Next::End));
-    Ok(())
+                event: Event::Cancelled { job },
+                next,
+            },
+        ) => job == 258 && next == behind,
+        _ => false,
+    }
+}
+
+/// The book ends at a place.
+fn is_end<D: Disk>(alloc: Global, disk: &mut D, place: u32) -> bool
+    requires size { 500_512 ≤ D.size disk.old }
+    requires place { place ≤ 100_000 }
+    ensures { D.size disk.new ≡ D.size disk.old }
+{
+    matches!(next_event(alloc, disk, 100_000, place), Ok(Next::End))
+}
+
+/// No event stands at a place.
+fn is_bad<D: Disk>(alloc: Global, disk: &mut D, place: u32) -> bool
+    requires size { 500_512 ≤ D.size disk.old }
+    requires place { place ≤ 100_000 }
+    ensures { D.size disk.new ≡ D.size disk.old }
+{
+    next_event(alloc, disk, 100_000, place).err() == Some(NextEventError::Bad)
+}
+
+/// The events that were appended are read.
+fn are_read<D: Disk>(alloc: Global, disk: &mut D) -> bool
+    requires { 500_512 ≤ D.size disk.old }
+{
+    is_release(alloc, disk, 0, 10)
+        && is_cancel(alloc, disk, 10, 20)
+        && is_bad(alloc, disk, 20)
+        && is_end(alloc, disk, 26)
 }
 
 /// A disk of so many zeros.
@@ -110,7 +146,8 @@ fn formatted_and_read_back(rt: HostRuntime) -> Result<(), Fail> {
     let mut disk = zeros(alloc, 500_512)?;
     format_and_read(&rt, &mut disk)?;
     append_three(&mut disk)?;
-    read_three(&rt, alloc, &mut disk)
+    assert!(rt; are_read(alloc, &mut disk));
+    Ok(())
 }
 
 /// Writes bytes at a place of the header or the book.
@@ -122,21 +159,26 @@ fn write_front<D: Disk>(disk: &mut D, at: u64, bytes: &[u8]) -> Result<(), Fail>
     Ok(disk.write_at(at, bytes)?)
 }
 
+/// The disk's layout isn't read, for this cause.
+fn is_refused<D: Disk>(disk: &mut D, error: LayoutError) -> bool
+    ensures { D.size disk.new ≡ D.size disk.old }
+{
+    read_layout(disk).err() == Some(error)
+}
+
 /// What stands on a formatted disk is changed, and read.
 fn refusals<D: Disk>(rt: &impl Abort, alloc: Global, disk: &mut D) -> Result<(), Fail>
     requires { 500_512 ≤ D.size disk.old }
 {
     // An open gate and no whole record behind it.
     write_front(disk, BOOK_AT, b"\x01\xff\xff\xff\xff")?;
-    let bad = next_event(alloc, disk, 100_000, 0).err();
-    assert!(rt; bad == Some(NextEventError::Bad));
+    assert!(rt; is_bad(alloc, disk, 0));
     write_front(disk, 8, b"\x00")?;
-    let units = LayoutError::BadHeader { offset: 8 };
-    assert!(rt; read_layout(disk).err() == Some(units));
+    assert!(rt; is_refused(disk, LayoutError::BadHeader { offset: 8 }));
     write_front(disk, 5, b"\x00\x02")?;
-    assert!(rt; read_layout(disk).err() == Some(LayoutError::Version(2)));
+    assert!(rt; is_refused(disk, LayoutError::Version(2)));
     write_front(disk, 0, b"\x00")?;
-    assert!(rt; read_layout(disk).err() == Some(LayoutError::NotFormatted));
+    assert!(rt; is_refused(disk, LayoutError::NotFormatted));
     Ok(())
 }
 
@@ -148,17 +190,23 @@ fn disks_changed_behind_the_desk(rt: HostRuntime) -> Result<(), Fail> {
     refusals(&rt, alloc, &mut disk)
 }
 
-#[test]
-fn disks_too_small(rt: HostRuntime) -> Result<(), Fail> {
-    let layout = worked()?;
-    let mut disk = zeros(rt.alloc(), 500_511)?;
+/// A disk of 500,511 zeros isn't formatted, and stays as it is.
+fn is_too_small(disk: &mut MemDisk, layout: &Layout) -> bool
+    requires { IsHeader layout.now (disk_needed layout.now) }
+{
     let too_small = FormatError::TooSmall {
         need: 500_512,
         size: 500_511,
     };
-    assert!(rt; format(&mut disk, &layout) == Err(too_small));
-    assert!(rt; read_layout(&mut disk).err() == Some(LayoutError::NotFormatted));
+    format(disk, layout) == Err(too_small) && is_refused(disk, LayoutError::NotFormatted)
+}
+
+#[test]
+fn disks_too_small(rt: HostRuntime) -> Result<(), Fail> {
+    let layout = worked()?;
+    let mut disk = zeros(rt.alloc(), 500_511)?;
+    assert!(rt; is_too_small(&mut disk, &layout));
     let mut short = zeros(rt.alloc(), 100)?;
-    assert!(rt; read_layout(&mut short).err() == Some(LayoutError::NotFormatted));
+    assert!(rt; is_refused(&mut short, LayoutError::NotFormatted));
     Ok(())
 }

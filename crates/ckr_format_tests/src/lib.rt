@@ -20,6 +20,8 @@ mod fields;
 #[cfg(test)]
 mod formatting;
 #[cfg(test)]
+mod hexadecimal;
+#[cfg(test)]
 mod installation;
 #[cfg(test)]
 mod journal;

@@ -3,7 +3,7 @@ ghost use Rattle.std.specs.Prelude.{◌≡◌};
 
 use arrayvec::ArrayVec;
 use ckr_base::{DsName, NoMemory};
-use ckr_library::{Content, DataSet, Extent, Library, Part, Stamp};
+use ckr_library::{Content, DataSet, Extent, Library, Part, Span, Stamp};
 use std::test::Fail;
 
 /// A data set of one extent of ten records of 80 bytes.
@@ -65,47 +65,63 @@ fn take_out(library: &mut Library, name: &DsName) {
     }
 }
 
+/// Enters three data sets by their names, and one of them once more, which is refused.
+fn are_entered(library: &mut Library) -> Result<bool, NoMemory> {
+    library.reserve(3)?;
+    Ok(
+        add(library, b"IN.B", set_at(0, 800))?
+            && add(library, b"IN", set_at(1, 0))?
+            && add(library, b"IN.A", set_at(0, 0))?
+            && !add(library, b"IN.A", set_at(0, 0))?,
+    )
+}
+
+/// The places of the two data sets of volume 0.
+fn are_spread(spans: &[Span]) -> bool {
+    match spans {
+        [first, second] => first.start == 0 && second.start == 800,
+        _ => false,
+    }
+}
+
 #[test]
 fn keeps_data_sets_by_name(rt: HostRuntime) -> Result<(), Fail> {
     let mut library = Library::new(rt.alloc());
-    library.reserve(3)?;
-    assert!(rt; add(&mut library, b"IN.B", set_at(0, 800))?);
-    assert!(rt; add(&mut library, b"IN", set_at(1, 0))?);
-    assert!(rt; add(&mut library, b"IN.A", set_at(0, 0))?);
-    assert!(rt; !add(&mut library, b"IN.A", set_at(0, 0))?);
-    let mut starts = 0;
-    for span in library.spans_on(0) {
-        assert!(rt; span.start == starts);
-        starts = 800;
-    }
-    assert!(rt; starts == 800);
+    assert!(rt; are_entered(&mut library)?);
+    assert!(rt; are_spread(library.spans_on(0)));
     Ok(())
+}
+
+/// Enters a data set in the catalog, and stamps it.
+fn change(library: &mut Library, name: &DsName) {
+    mark(library, name);
+    let changed = Stamp {
+        run: 2,
+        step: 3,
+        rewrites: 4,
+    };
+    stamp(library, name, changed);
+}
+
+fn is_changed(library: &Library, name: &DsName) -> bool {
+    match library.get(name) {
+        Some(set) => set.cataloged && set.stamp.rewrites == 4,
+        None => false,
+    }
+}
+
+fn is_gone(library: &Library, name: &DsName) -> bool {
+    library.get(name).is_none() && library.spans_on(0).is_empty()
 }
 
 #[test]
 fn changes_a_data_set(rt: HostRuntime) -> Result<(), Fail> {
     let mut library = Library::new(rt.alloc());
+    let name = DsName::read(b"OUT.K").ok_or("a name")?;
     assert!(rt; add(&mut library, b"OUT.K", set_at(0, 0))?);
-    let Some(name) = DsName::read(b"OUT.K") else {
-        return Ok(());
-    };
-    mark(&mut library, &name);
-    stamp(
-        &mut library,
-        &name,
-        Stamp {
-            run: 2,
-            step: 3,
-            rewrites: 4,
-        },
-    );
-    let Some(set) = library.get(&name) else {
-        return Ok(());
-    };
-    assert!(rt; set.cataloged);
-    assert!(rt; set.stamp.rewrites == 4);
+    change(&mut library, &name);
+    assert!(rt; is_changed(&library, &name));
     take_out(&mut library, &name);
-    assert!(rt; library.get(&name).is_none());
-    assert!(rt; library.spans_on(0).is_empty());
+    assert!(rt; is_gone(&library, &name));
     Ok(())
 }

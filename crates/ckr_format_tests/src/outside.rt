@@ -1,4 +1,7 @@
 //! Objects of the outside that fail in mid-stream, and a disk in a real file.
+ghost use Rattle.std.specs.Prelude.{◌≤◌, length};
+ghost use Rattle.ckr_outside.specs.MemDisk.{content_of};
+
 use ckr_outside::{
     CallKind, Disk, DiskCall, FileDisk, MemDisk, MemSink, MemSource, Sink, Source, StdSink,
     StdSource, put_all,
@@ -41,42 +44,55 @@ impl Write for Unsteady {
     }
 }
 
+/// What one call takes: these bytes, or none where it fails.
+fn takes(source: &mut MemSource, wanted: Option<&[u8]>) -> bool {
+    let mut buf = [0; 3];
+    match source.take(&mut buf) {
+        Ok(taken) => wanted.is_some() && buf.get(..taken) == wanted,
+        Err(_) => wanted.is_none(),
+    }
+}
+
 #[test]
 fn a_source_gives_its_bytes_and_fails_where_listed(rt: HostRuntime) -> Result<(), Fail> {
     let alloc = rt.alloc();
-    let bytes = b"DECK".as_slice().to_vec(alloc)?;
-    let mut source = MemSource::new(bytes, [1].to_vec(alloc)?);
-    let mut buf = [0; 3];
-    // The bytes that each call takes.
-    let expected: [&[u8]; 4] = [b"DEC", b"failed", b"K", b""];
-    for wanted in expected {
-        match source.take(&mut buf) {
-            Ok(taken) => assert!(rt; buf.get(..taken) == Some(wanted)),
-            Err(_) => assert!(rt; wanted == b"failed".as_slice()),
-        }
-    }
+    let mut source = MemSource::new(b"DECK".to_vec(alloc)?, [1].to_vec(alloc)?);
+    assert!(rt; takes(&mut source, Some(b"DEC")));
+    assert!(rt; takes(&mut source, None));
+    assert!(rt; takes(&mut source, Some(b"K")));
+    assert!(rt; takes(&mut source, Some(b"")));
     Ok(())
+}
+
+/// Whether a sink takes the piece.
+fn puts(sink: &mut MemSink, piece: &[u8]) -> bool {
+    put_all(sink, piece).is_ok()
 }
 
 #[test]
 fn a_sink_keeps_what_was_put_and_fails_where_listed(rt: HostRuntime) -> Result<(), Fail> {
     let alloc = rt.alloc();
     let mut sink = MemSink::new(alloc, [1].to_vec(alloc)?);
-    for (piece, fails) in [("I1 ", false), ("LOST", true), ("IDLE", false)] {
-        assert!(rt; put_all(&mut sink, piece.as_bytes()).is_err() == fails);
-    }
+    assert!(rt; puts(&mut sink, b"I1 "));
+    assert!(rt; !puts(&mut sink, b"LOST"));
+    assert!(rt; puts(&mut sink, b"IDLE"));
     assert!(rt; sink.bytes() == b"I1 IDLE".as_slice());
     assert!(rt; sink.lacks() == 0);
     Ok(())
 }
 
 #[test]
-fn adapters_pass_on_what_memory_holds(rt: HostRuntime) -> Result<(), Fail> {
+fn a_source_passes_on_what_memory_holds(rt: HostRuntime) -> Result<(), Fail> {
     let mut source = StdSource::new(b"$T 1 9".as_slice());
     let mut buf = [0; 8];
     assert!(rt; source.take(&mut buf)? == 6);
     assert!(rt; buf.as_slice() == b"$T 1 9\0\0".as_slice());
     assert!(rt; source.take(&mut buf)? == 0);
+    Ok(())
+}
+
+#[test]
+fn a_sink_passes_on_what_memory_holds(rt: HostRuntime) -> Result<(), Fail> {
     let mut text = Vec::new(rt.alloc());
     let mut sink = StdSink::new(&mut text);
     put_all(&mut sink, b"I1 IDLE")?;
@@ -128,22 +144,46 @@ fn without_a_file_each_call_fails(rt: HostRuntime) -> Result<(), Fail> {
     Ok(())
 }
 
+/// Makes four calls of a disk of 8 bytes, of which the second and the fourth fail.
+fn are_answered(disk: &mut MemDisk) -> bool
+    requires { 8 ≤ length (content_of disk.old) }
+{
+    disk.write_at(6, &[5, 5]).is_ok()
+        && disk.sync().is_err()
+        && disk.sync().is_ok()
+        && disk.read(0, &mut [0; 3]).is_err()
+}
+
+/// These calls.
+const CALLS: [DiskCall; 4] = [
+    DiskCall {
+        kind: CallKind::Write,
+        at: 6,
+        length: 2,
+    },
+    DiskCall {
+        kind: CallKind::Sync,
+        at: 0,
+        length: 0,
+    },
+    DiskCall {
+        kind: CallKind::Sync,
+        at: 0,
+        length: 0,
+    },
+    DiskCall {
+        kind: CallKind::Read,
+        at: 0,
+        length: 3,
+    },
+];
+
 #[test]
 fn listed_calls_of_a_disk_fail_and_all_are_recorded(rt: HostRuntime) -> Result<(), Fail> {
     let alloc = rt.alloc();
     let mut disk = MemDisk::new(alloc, 8, [1].to_vec(alloc)?, Some(3))?;
-    disk.write_at(6, &[5, 5])?;
-    assert!(rt; disk.sync().is_err());
-    disk.sync()?;
-    assert!(rt; disk.read(0, &mut [0; 3]).is_err());
+    assert!(rt; are_answered(&mut disk));
     assert!(rt; (disk.faults(), disk.lacks()) == (2, 0));
-    let call = |kind, at, length| DiskCall { kind, at, length };
-    let expected = [
-        call(CallKind::Write, 6, 2),
-        call(CallKind::Sync, 0, 0),
-        call(CallKind::Sync, 0, 0),
-        call(CallKind::Read, 0, 3),
-    ];
-    assert!(rt; disk.calls() == expected.as_slice());
+    assert!(rt; disk.calls() == CALLS.as_slice());
     Ok(())
 }

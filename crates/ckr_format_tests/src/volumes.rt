@@ -3,88 +3,86 @@ ghost use Rattle.std.specs.Prelude.{◌≡◌, IsTrue, length};
 ghost use Rattle.ckr_volumes.specs.Places.{bytes_of};
 ghost use Rattle.ckr_volumes.specs.Layouts.{is_laid_out, disk_needed, StandsIn};
 
+use crate::journal::worked;
 use arrayvec::ArrayVec;
-use ckr_base::{Code, Rec, Volser};
+use ckr_base::{Rec, Volser};
 use ckr_library::{Content, DataSet, Extent, Library, Part, Stamp};
 use ckr_outside::MemDisk;
 use ckr_volumes::{
     HeaderError, Layout, NoSpace, Volume, allocate, header_bytes, read_header, read_record,
     write_record,
 };
+use std::alloc::Global;
 use std::test::Fail;
 
-/// The layout of `INITIATORS 2`, `UNITS 2`, `BOOK 100000`, `VOLUME VOL001 200000`, `VOLUME VOL002 200000`.
-fn worked() -> Option<Layout> {
-    let mut volumes = ArrayVec::new();
-    volumes.push(Volume {
-        serial: Volser::read(b"VOL001")?,
-        start: 100_512,
-        bytes: 200_000,
-    });
-    volumes.push(Volume {
-        serial: Volser::read(b"VOL002")?,
-        start: 300_512,
-        bytes: 200_000,
-    });
-    let mut eligible = ArrayVec::new();
-    eligible.push(Code::System(0x001));
-    eligible.push(Code::System(0x2f3));
-    eligible.push(Code::System(0xb37));
-    Some(Layout {
-        version: 1,
-        initiators: 2,
-        units: 2,
-        volumes,
-        eligible,
-        book: 100_000,
-        image: 0,
-    })
+/// The fields of the worked installation's header.
+const FIELDS: &[u8] =
+    b"\x01CKRD\x00\x01\x02\x02\x02\x03\x00\x01\x86\xa0\x00\x00\x00\x00VOL001\x00\x03\x0d\x40VOL002\x00\x03\x0d\x40S\x00\x01S\x02\xf3S\x0b\x37";
+
+/// The bytes of the worked installation's header.
+fn worked_bytes() -> Result<ArrayVec<u8, 512>, Fail> {
+    Ok(header_bytes(&worked()?))
+}
+
+/// What the bytes are read as on a disk of this size is written so.
+fn is_read_back(bytes: &[u8], size: u64) -> bool {
+    match read_header(bytes, size) {
+        Ok(layout) => header_bytes(&layout).as_slice() == bytes,
+        Err(_) => false,
+    }
+}
+
+/// The bytes are refused on a disk of this size.
+fn is_refused(bytes: &[u8], size: u64, error: HeaderError) -> bool {
+    match read_header(bytes, size) {
+        Ok(_) => false,
+        Err(found) => found == error,
+    }
 }
 
 #[test]
 fn header_both_ways(rt: HostRuntime) -> Result<(), Fail> {
-    let Some(layout) = worked() else {
-        return Ok(());
-    };
-    let bytes = header_bytes(&layout);
-    let fields =
-        b"\x01CKRD\x00\x01\x02\x02\x02\x03\x00\x01\x86\xa0\x00\x00\x00\x00VOL001\x00\x03\x0d\x40VOL002\x00\x03\x0d\x40S\x00\x01S\x02\xf3S\x0b\x37";
-    assert!(rt; bytes.as_slice().starts_with(fields));
+    let bytes = worked_bytes()?;
+    assert!(rt; bytes.as_slice().starts_with(FIELDS));
     assert!(rt; bytes.len() == 512);
-    let read = read_header(bytes.as_slice(), 500_512)?;
-    assert!(rt; header_bytes(&read).as_slice() == bytes.as_slice());
-    assert!(rt;
-        read_header(bytes.as_slice(), 500_511).err() == Some(HeaderError::BadHeader { offset: 11 })
-    );
+    assert!(rt; is_read_back(&bytes, 500_512));
+    assert!(rt; is_refused(&bytes, 500_511, HeaderError::BadHeader { offset: 11 }));
     Ok(())
+}
+
+/// The place of a byte, what it is changed to, and why the header is refused then.
+type Change = (usize, u8, HeaderError);
+
+const CHANGES: [Change; 15] = [
+    (0, 0, HeaderError::NotFormatted),
+    (4, b'X', HeaderError::NotFormatted),
+    (6, 3, HeaderError::Version(3)),
+    (7, 0, HeaderError::BadHeader { offset: 7 }),
+    (8, 17, HeaderError::BadHeader { offset: 8 }),
+    (9, 33, HeaderError::BadHeader { offset: 9 }),
+    (10, 0, HeaderError::BadHeader { offset: 10 }),
+    (12, 0xff, HeaderError::BadHeader { offset: 11 }),
+    (18, 1, HeaderError::BadHeader { offset: 15 }),
+    (20, b' ', HeaderError::BadHeader { offset: 19 }),
+    (34, b'1', HeaderError::BadHeader { offset: 29 }),
+    (39, b'T', HeaderError::BadHeader { offset: 39 }),
+    (43, 0x10, HeaderError::BadHeader { offset: 42 }),
+    (48, 7, HeaderError::BadHeader { offset: 48 }),
+    (511, 7, HeaderError::BadHeader { offset: 511 }),
+];
+
+/// The header with the byte changed is refused so.
+fn is_refused_then(row: &Change) -> Result<bool, Fail> {
+    let (offset, byte, error) = *row;
+    let mut bytes = worked_bytes()?;
+    change(&mut bytes, offset, byte);
+    Ok(is_refused(&bytes, 600_000, error))
 }
 
 #[test]
 fn headers_that_are_refused(rt: HostRuntime) -> Result<(), Fail> {
-    let Some(layout) = worked() else {
-        return Ok(());
-    };
-    let table = [
-        (0, 0, HeaderError::NotFormatted),
-        (4, b'X', HeaderError::NotFormatted),
-        (6, 3, HeaderError::Version(3)),
-        (7, 0, HeaderError::BadHeader { offset: 7 }),
-        (8, 17, HeaderError::BadHeader { offset: 8 }),
-        (9, 33, HeaderError::BadHeader { offset: 9 }),
-        (10, 0, HeaderError::BadHeader { offset: 10 }),
-        (12, 0xff, HeaderError::BadHeader { offset: 11 }),
-        (18, 1, HeaderError::BadHeader { offset: 15 }),
-        (20, b' ', HeaderError::BadHeader { offset: 19 }),
-        (34, b'1', HeaderError::BadHeader { offset: 29 }),
-        (39, b'T', HeaderError::BadHeader { offset: 39 }),
-        (43, 0x10, HeaderError::BadHeader { offset: 42 }),
-        (48, 7, HeaderError::BadHeader { offset: 48 }),
-        (511, 7, HeaderError::BadHeader { offset: 511 }),
-    ];
-    for (offset, byte, error) in table {
-        let mut bytes = header_bytes(&layout);
-        change(&mut bytes, offset, byte);
-        assert!(rt; read_header(bytes.as_slice(), 600_000).err() == Some(error));
+    for row in &CHANGES {
+        assert!(rt; is_refused_then(row)?, "byte {}", row.0);
     }
     Ok(())
 }
@@ -174,20 +172,28 @@ fn records_written_and_read(rt: HostRuntime) -> Result<(), Fail> {
     Ok(())
 }
 
+/// So many records of 80 bytes, 1 to 1,000, have space in one extent at the front of an empty volume.
+fn have_space(alloc: Global, records: u32) -> bool {
+    if records < 1 || 1_000 < records {
+        return false;
+    }
+    match allocate(&small(), &Library::new(alloc), 0, 80, records) {
+        Ok(extents) => match extents.as_slice() {
+            [one] => (one.start, one.records) == (0, records),
+            _ => false,
+        },
+        Err(_) => false,
+    }
+}
+
+/// One record more than it has space for is refused.
+fn is_full(alloc: Global) -> bool {
+    let full = NoSpace { need: 26, free: 25 };
+    allocate(&small(), &Library::new(alloc), 0, 80, 26).err() == Some(full)
+}
+
 #[test]
-fn space_on_an_empty_volume(rt: HostRuntime) -> Result<(), Fail> {
-    let layout = small();
-    let library = Library::new(rt.alloc());
-    let extents = allocate(&layout, &library, 0, 80, 25)?;
-    assert!(rt; extents.len() == 1);
-    assert!(rt;
-        extents
-            .as_slice()
-            .iter()
-            .all(|one| (one.start, one.records) == (0, 25))
-    );
-    assert!(rt;
-        allocate(&layout, &library, 0, 80, 26).err() == Some(NoSpace { need: 26, free: 25 })
-    );
-    Ok(())
+fn space_on_an_empty_volume(rt: HostRuntime) {
+    assert!(rt; have_space(rt.alloc(), 25));
+    assert!(rt; is_full(rt.alloc()));
 }
