@@ -1,19 +1,16 @@
 //! Checkpoints of two jobs, event by event: which follow, and which entries the data set keeps behind each.
-ghost use Rattle.std.specs.Prelude.{◌≡◌, IfOk, IsTrue, None};
+ghost use Rattle.std.specs.Prelude.{IsTrue, None};
 ghost use Rattle.ckr_points_tables.specs.Invariant.{MayCount, MaySubmit, is_plain_event};
-ghost use Rattle.ckr_model_tests.specs.Kinds.{IsCheckpoint, IsStart, IsStepEnd};
 
-use crate::submissions::cards_of;
+use crate::decks::job_of;
 use arrayvec::ArrayVec;
-use ckr_base::{ByteList, CheckId, Code, DsName, Volser};
+use ckr_base::{ByteList, CheckId, Code, DsName, NoMemory, Volser};
 use ckr_events::{Ending, Event, Made, Piece};
 use ckr_jcl::Job;
-use ckr_jcl_decks::read_deck;
 use ckr_points_follows::follows;
 use ckr_points_tables::{Tables, is_submittable};
 use ckr_volumes::{Layout, Volume};
 use std::alloc::Global;
-use std::process::Abort;
 use std::test::Fail;
 
 /// Four records for entries.
@@ -37,15 +34,13 @@ const DELETES: [&[u8]; 6] = [
 ];
 
 /// An installation of one initiator and one volume.
-fn one_volume() -> Layout {
+pub(crate) fn one_volume() -> Layout {
     let mut volumes = ArrayVec::new();
-    if let Some(serial) = Volser::read(b"VOL001") {
-        volumes.push(Volume {
-            serial,
-            start: 4096,
-            bytes: 100_000,
-        });
-    }
+    volumes.push(Volume {
+        serial: Volser::default(),
+        start: 4096,
+        bytes: 100_000,
+    });
     let mut eligible = ArrayVec::new();
     eligible.push(Code::System(1));
     Layout {
@@ -59,61 +54,62 @@ fn one_volume() -> Layout {
     }
 }
 
-fn job_of(alloc: Global, lines: &[&[u8]]) -> Result<Job, Fail> {
-    let cards = cards_of(alloc, lines)?;
-    if cards.len() % 81 != 0 || cards.len() < 81 || 8_100 < cards.len() {
-        return Err("the cards have 81 bytes each".into());
-    }
-    match read_deck(alloc, cards.as_slice()) {
-        Ok(job) => Ok(job),
-        Err(_) => Err("the deck is accepted".into()),
-    }
-}
-
-/// A deck is submitted, where that follows.
-fn submit(
+/// The deck of a job is submitted by an event of one card; false where that doesn't follow.
+fn tell_deck(
     alloc: Global,
     tables: &mut Tables,
     layout: &Layout,
-    number: u32,
-    lines: &[&[u8]],
-) -> Result<(), Fail> {
-    let deck = job_of(alloc, lines)?;
+    job: u32,
+    deck: Job,
+) -> Result<bool, NoMemory> {
     let mut cards = ByteList::new(alloc);
     cards.push(b' ')?;
-    let event = Event::Submitted { job: number, cards };
-    if !is_submittable(number, &deck) || !follows(tables, layout, &event, Some(&deck)) {
-        return Err("the deck may be submitted".into());
+    let event = Event::Submitted { job, cards };
+    if !is_submittable(job, &deck) || !follows(tables, layout, &event, Some(&deck)) {
+        return Ok(false);
     }
     tables.make_room(&event)?;
     tables.apply(&event, Some(deck));
-    Ok(())
+    Ok(true)
 }
 
-/// The tables go on by an event, where it follows.
-fn tell(tables: &mut Tables, layout: &Layout, event: &Event) -> Result<(), Fail>
+/// A deck is submitted; false where that doesn't follow.
+pub(crate) fn submit(
+    alloc: Global,
+    tables: &mut Tables,
+    layout: &Layout,
+    job: u32,
+    lines: &[&[u8]],
+) -> Result<bool, NoMemory> {
+    match job_of(alloc, lines)? {
+        Some(deck) => tell_deck(alloc, tables, layout, job, deck),
+        None => Ok(false),
+    }
+}
+
+/// The tables go on by an event; false where it doesn't follow.
+fn tell(tables: &mut Tables, layout: &Layout, event: &Event) -> Result<bool, NoMemory>
     requires kept { IsTrue (is_plain_event event.now) }
     requires deck { MaySubmit event.now None }
     requires count { MayCount event.now tables.old.desk.sets }
 {
     if !follows(tables, layout, event, None) {
-        return Err("the event follows".into());
+        return Ok(false);
     }
     tables.make_room(event)?;
     tables.apply(event, None);
-    Ok(())
+    Ok(true)
 }
 
-fn selected(job: u32) -> Event
-    ensures { result ≡ Event.Selected job 1 0 0 None }
-{
-    Event::Selected {
+fn select(tables: &mut Tables, layout: &Layout, job: u32) -> Result<bool, NoMemory> {
+    let event = Event::Selected {
         job,
         initiator: 1,
         earlier: 0,
         step: 0,
         id: None,
-    }
+    };
+    tell(tables, layout, &event)
 }
 
 fn made(dd: u8, start: u32, records: u32) -> Made {
@@ -133,37 +129,45 @@ fn two_lengths(first: u32, second: u32) -> ArrayVec<u32, 16> {
     lengths
 }
 
-/// A checkpoint: its identifier, the records taken, the place of its entry and its bytes, the length behind it, and whether it follows.
-type Case = (&'static [u8], u32, u32, u32, u32, bool);
-
-/// In order; those that follow are told: the entry begins behind the last record, ends within the space, has an identifier that isn't there,
-/// and its length is the one behind it.
-const CASES: [Case; 9] = [
-    (b"C0000001", 2, 0, 143, 1, true),
-    (b"C0000001", 4, 1, 143, 2, false),
-    (b"C0000002", 4, 0, 143, 1, false),
-    (b"C0000002", 4, 1, 257, 2, false),
-    (b"C0000002", 1, 1, 257, 3, false),
-    (b"C0000002", 4, 1, 257, 3, true),
-    (b"C0000003", 6, 3, 257, 5, false),
-    (b"C0000003", 6, 3, 256, 3, false),
-    (b"C0000003", 6, 3, 256, 4, true),
-];
-
-/// The data set for the entries.
-fn entries_name() -> Option<DsName> {
-    DsName::read(b"CHK.K")
+/// What a step makes: its output, and a data set for its entries where one is given.
+fn made_by(output: u32, entries: Option<u32>) -> ArrayVec<Made, 80> {
+    let mut items = ArrayVec::new();
+    items.push(made(2, output, 10));
+    if let Some(start) = entries {
+        items.push(made(3, start, 4));
+    }
+    items
 }
 
-/// The checkpoint of a case, of a run.
-fn checkpointed(job: u32, case: &Case) -> Result<Event, Fail>
-    ensures { IfOk result (λ event. IsCheckpoint event) }
-{
-    let (id, taken, place, bytes, end, _) = *case;
-    let Some(id) = CheckId::read(id) else {
-        return Err("an identifier".into());
+fn start(
+    tables: &mut Tables,
+    layout: &Layout,
+    job: u32,
+    output: u32,
+    entries: Option<u32>,
+) -> Result<bool, NoMemory> {
+    let event = Event::Started {
+        job,
+        step: 1,
+        made: made_by(output, entries),
     };
-    Ok(Event::Checkpointed {
+    tell(tables, layout, &event)
+}
+
+/// A checkpoint: its identifier, the records taken, the place of its entry and its bytes, and the length behind it.
+type Checkpoint = (&'static [u8], u32, u32, u32, u32);
+
+fn keep(
+    tables: &mut Tables,
+    layout: &Layout,
+    job: u32,
+    checkpoint: &Checkpoint,
+) -> Result<bool, NoMemory> {
+    let (id, taken, place, bytes, end) = *checkpoint;
+    let Some(id) = CheckId::read(id) else {
+        return Ok(false);
+    };
+    let event = Event::Checkpointed {
         job,
         id,
         taken,
@@ -171,54 +175,194 @@ fn checkpointed(job: u32, case: &Case) -> Result<Event, Fail>
         lengths: two_lengths(taken, end),
         place,
         bytes,
-    })
+    };
+    tell(tables, layout, &event)
 }
 
-/// A step of a run starts, with its output and with a data set for its entries, or with an output alone.
-fn started(job: u32, output: u32, entries: Option<u32>) -> Event
-    ensures { IsStart result }
-{
-    let mut items = ArrayVec::new();
-    items.push(made(2, output, 10));
-    if let Some(start) = entries {
-        items.push(made(3, start, 4));
-    }
-    Event::Started {
-        job,
-        step: 1,
-        made: items,
-    }
+fn cancel(tables: &mut Tables, layout: &Layout, job: u32) -> Result<bool, NoMemory> {
+    tell(tables, layout, &Event::Cancelled { job })
 }
 
-fn step_ended(job: u32, first: u32, second: u32) -> Event
-    ensures { IsStepEnd result }
-{
-    Event::StepEnded {
+fn end_step(
+    tables: &mut Tables,
+    layout: &Layout,
+    job: u32,
+    first: u32,
+    second: u32,
+) -> Result<bool, NoMemory> {
+    let event = Event::StepEnded {
         job,
         step: 1,
         rc: 0,
         writes: first,
         lengths: two_lengths(first, second),
-    }
+    };
+    tell(tables, layout, &event)
 }
 
-/// Tells the cases that follow; false where one follows that isn't to, or the other way round.
-fn tell_cases(
+fn end(tables: &mut Tables, layout: &Layout, job: u32) -> Result<bool, NoMemory> {
+    let event = Event::Ended {
+        job,
+        ending: Ending::Completed,
+    };
+    tell(tables, layout, &event)
+}
+
+/// What comes to a job.
+enum Told {
+    /// Its deck, by lines.
+    Submitted(&'static [&'static [u8]]),
+    Selected,
+    /// Its step starts: where its output begins, and its data set for entries where it makes one.
+    Started(u32, Option<u32>),
+    Checkpointed(Checkpoint),
+    Cancelled,
+    /// Its step ends with these lengths.
+    StepEnded(u32, u32),
+    Ended,
+}
+
+/// The job goes on so; false where that doesn't follow.
+fn go_on(
+    alloc: Global,
     tables: &mut Tables,
     layout: &Layout,
     job: u32,
-    cases: &[Case],
-) -> Result<bool, Fail> {
-    for case in cases {
-        let event = checkpointed(job, case)?;
-        if follows(tables, layout, &event, None) != case.5 {
-            return Ok(false);
-        }
-        if case.5 {
-            tell(tables, layout, &event)?;
-        }
+    told: &Told,
+) -> Result<bool, NoMemory> {
+    match told {
+        Told::Submitted(lines) => submit(alloc, tables, layout, job, *lines),
+        Told::Selected => select(tables, layout, job),
+        Told::Started(output, entries) => start(tables, layout, job, *output, *entries),
+        Told::Checkpointed(checkpoint) => keep(tables, layout, job, checkpoint),
+        Told::Cancelled => cancel(tables, layout, job),
+        Told::StepEnded(first, second) => end_step(tables, layout, job, *first, *second),
+        Told::Ended => end(tables, layout, job),
     }
-    Ok(true)
+}
+
+/// An entry that is kept: its run, its place and its bytes.
+type Entry = (u32, u32, u32);
+
+/// What comes to a job, whether it follows, and the entries that are kept behind it.
+type Row = (u32, Told, bool, &'static [Entry]);
+
+const NONE: &[Entry] = &[];
+
+const ONE: &[Entry] = &[(1, 0, 143)];
+
+const TWO: &[Entry] = &[(1, 0, 143), (1, 1, 257)];
+
+const THREE: &[Entry] = &[(1, 0, 143), (1, 1, 257), (1, 3, 256)];
+
+const AGAIN: &[Entry] = &[(2, 0, 143)];
+
+/// In order; what follows is told. An entry begins behind the last record, ends within the space, has an identifier that
+/// isn't there, and its length is the one behind it.
+const ROWS: [Row; 21] = [
+    (1, Told::Submitted(&WRITES), true, NONE),
+    (1, Told::Selected, true, NONE),
+    (1, Told::Started(0, Some(1024)), true, NONE),
+    (
+        1,
+        Told::Checkpointed((b"C0000001", 2, 0, 143, 1)),
+        true,
+        ONE,
+    ),
+    (
+        1,
+        Told::Checkpointed((b"C0000001", 4, 1, 143, 2)),
+        false,
+        ONE,
+    ),
+    (
+        1,
+        Told::Checkpointed((b"C0000002", 4, 0, 143, 1)),
+        false,
+        ONE,
+    ),
+    (
+        1,
+        Told::Checkpointed((b"C0000002", 4, 1, 257, 2)),
+        false,
+        ONE,
+    ),
+    (
+        1,
+        Told::Checkpointed((b"C0000002", 1, 1, 257, 3)),
+        false,
+        ONE,
+    ),
+    (
+        1,
+        Told::Checkpointed((b"C0000002", 4, 1, 257, 3)),
+        true,
+        TWO,
+    ),
+    (
+        1,
+        Told::Checkpointed((b"C0000003", 6, 3, 257, 5)),
+        false,
+        TWO,
+    ),
+    (
+        1,
+        Told::Checkpointed((b"C0000003", 6, 3, 256, 3)),
+        false,
+        TWO,
+    ),
+    (
+        1,
+        Told::Checkpointed((b"C0000003", 6, 3, 256, 4)),
+        true,
+        THREE,
+    ),
+    (1, Told::Cancelled, true, THREE),
+    (1, Told::StepEnded(6, 3), false, THREE),
+    (1, Told::StepEnded(6, 4), true, THREE),
+    (1, Told::Ended, true, THREE),
+    (2, Told::Submitted(&DELETES), true, THREE),
+    (2, Told::Selected, true, THREE),
+    (2, Told::Started(2048, None), true, NONE),
+    (
+        2,
+        Told::Checkpointed((b"C0000001", 2, 0, 143, 1)),
+        true,
+        AGAIN,
+    ),
+    (2, Told::StepEnded(2, 1), true, NONE),
+];
+
+/// The data set for the entries.
+fn entries_name() -> Option<DsName> {
+    DsName::read(b"CHK.K")
+}
+
+/// The data set for the entries keeps these.
+fn are_kept(tables: &Tables, entries: &[Entry]) -> bool {
+    let Some(name) = entries_name() else {
+        return false;
+    };
+    let kept = tables.library().entries(&name);
+    kept.len() == entries.len()
+        && kept.iter().zip(entries).all(|(kept, entry)| (kept.run, kept.place, kept.bytes)
+            == *entry)
+}
+
+/// There is no data set for the entries.
+fn is_deleted(tables: &Tables) -> bool {
+    entries_name().is_some_and(|name| tables.library().get(&name).is_none())
+}
+
+/// The desk goes on as the row has it.
+fn is_as_told(
+    alloc: Global,
+    tables: &mut Tables,
+    layout: &Layout,
+    row: &Row,
+) -> Result<bool, NoMemory> {
+    let (job, told, goes_on, entries) = row;
+    Ok(go_on(alloc, tables, layout, *job, told)? == *goes_on && are_kept(tables, *entries))
 }
 
 #[test]
@@ -226,39 +370,12 @@ fn entries_are_kept_while_their_data_set_has_them(rt: HostRuntime) -> Result<(),
     let alloc = rt.alloc();
     let layout = one_volume();
     let mut tables = Tables::new(alloc);
-    let set = entries_name().expect(&rt, "a name");
-    submit(alloc, &mut tables, &layout, 1, &WRITES)?;
-    tell(&mut tables, &layout, &selected(1))?;
-    tell(&mut tables, &layout, &started(1, 0, Some(1024)))?;
-    assert!(rt; tell_cases(&mut tables, &layout, 1, &CASES)?);
-    let places: [(u32, u32); 3] = [(0, 143), (1, 257), (3, 256)];
-    assert!(rt; tables.library().entries(&set).len() == 3);
-    assert!(rt;
-        tables.library().entries(&set).iter().zip(&places).all(|(kept, (place, bytes))| kept.run
-            == 1
-            && kept.place == *place
-            && kept.bytes == *bytes)
-    );
-    tell(&mut tables, &layout, &Event::Cancelled { job: 1 })?;
-    assert!(rt; !follows(&tables, &layout, &step_ended(1, 6, 3), None));
-    tell(&mut tables, &layout, &step_ended(1, 6, 4))?;
-    tell(
-        &mut tables,
-        &layout,
-        &Event::Ended {
-            job: 1,
-            ending: Ending::Completed,
-        },
-    )?;
-    assert!(rt; tables.library().entries(&set).len() == 3);
-    submit(alloc, &mut tables, &layout, 2, &DELETES)?;
-    tell(&mut tables, &layout, &selected(2))?;
-    tell(&mut tables, &layout, &started(2, 2048, None))?;
-    assert!(rt; tables.library().entries(&set).is_empty());
-    let again: [Case; 1] = [(b"C0000001", 2, 0, 143, 1, true)];
-    assert!(rt; tell_cases(&mut tables, &layout, 2, &again)?);
-    assert!(rt; tables.library().entries(&set).len() == 1);
-    tell(&mut tables, &layout, &step_ended(2, 2, 1))?;
-    assert!(rt; tables.library().get(&set).is_none());
+    for (place, row) in ROWS.iter().enumerate() {
+        assert!(rt;
+            is_as_told(alloc, &mut tables, &layout, row)?,
+            "row {place}"
+        );
+    }
+    assert!(rt; is_deleted(&tables));
     Ok(())
 }

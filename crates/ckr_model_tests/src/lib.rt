@@ -6,7 +6,11 @@ mod allocation;
 #[cfg(test)]
 mod checkpoints;
 #[cfg(test)]
+mod decks;
+#[cfg(test)]
 mod follows;
+#[cfg(test)]
+mod inputs;
 #[cfg(test)]
 mod matching;
 #[cfg(test)]

@@ -8,9 +8,10 @@ ghost use Rattle.ckr_model_tests.specs.Placed.{EndsBy};
 ghost use Rattle.ckr_steps.specs.StepUnit.{AreCounted};
 ghost use Rattle.ckr_steps.specs.Units.{due_of};
 
+use crate::inputs::parm_of;
 use arrayvec::ArrayVec;
-use ckr_base::{Code, DsName, Name8, NextDue, Rec, Volser};
-use ckr_jcl::{Cards, Conds, Dd, Dds, Disp, Kind, Origin, Role, Status, Step, read_parm};
+use ckr_base::{Code, DsName, Name8, NextDue, NoMemory, Rec, Volser};
+use ckr_jcl::{Cards, Conds, Dd, Dds, Disp, Kind, Origin, Role, Status, Step};
 use ckr_library::{Content, DataSet, Extent, Library, Part, Stamp};
 use ckr_outside::{Disk, MemDisk};
 use ckr_steps::{Files, RecordSource, StepRun, Worked};
@@ -172,10 +173,99 @@ fn are_there(library: &Library, files: &Files) -> bool
         && !are_same_set(&files.rejects, &files.main)
 }
 
-/// A DD of this origin.
-fn dd<R: Abort>(rt: &R, name: &[u8], origin: Origin) -> Dd {
-    Dd {
-        name: Name8::read(name).expect(rt, "a name"),
+/// Where the records of a DD are.
+enum Source {
+    /// In the data set of this name.
+    Set(&'static [u8]),
+    /// In the deck.
+    Deck(&'static [&'static [u8]]),
+}
+
+/// A program, its PARM, the names and sources of its DDs, and how the step ends by its program's rules and by the space of its
+/// data sets.
+type Case = (Kind, &'static [u8], &'static [(&'static [u8], Source)], End);
+
+const FULL: Code = Code::System(0xB37);
+
+const CASES: [Case; 6] = [
+    (
+        Kind::Copy,
+        b"CHK=2,CANCEL=1",
+        &[
+            (b"SYSUT1", Source::Deck(&[b"X1", b"X2", b"X3", b"X4"])),
+            (b"SYSUT2", Source::Set(b"A")),
+        ],
+        End::Abend(FULL, 3),
+    ),
+    (
+        Kind::Copy,
+        b"CHK=2,CANCEL=1",
+        &[
+            (b"SYSUT1", Source::Deck(&[b"1A", b"1B", b"3C"])),
+            (b"SYSUT2", Source::Set(b"B")),
+        ],
+        End::Returned(0, 3),
+    ),
+    (
+        Kind::Select,
+        b"COL=1,VAL=1",
+        &[
+            (b"SYSUT1", Source::Set(b"B")),
+            (b"SYSUT2", Source::Set(b"C")),
+        ],
+        End::Returned(0, 2),
+    ),
+    (
+        Kind::Merge,
+        b"KEY=1:1",
+        &[
+            (b"IN1", Source::Set(b"B")),
+            (b"IN2", Source::Deck(&[b"2D"])),
+            (b"OUT", Source::Set(b"D")),
+        ],
+        End::Abend(FULL, 1),
+    ),
+    // By the second byte of the images of `A`; the rejects go to `D`.
+    (
+        Kind::Update,
+        b"KEY=2:1",
+        &[
+            (b"MASTER", Source::Set(b"A")),
+            (b"TRANS", Source::Deck(&[b"CY2"])),
+            (b"REJECTS", Source::Set(b"D")),
+        ],
+        End::Returned(0, 1),
+    ),
+    (
+        Kind::Update,
+        b"KEY=2:1",
+        &[
+            (b"MASTER", Source::Set(b"A")),
+            (b"TRANS", Source::Deck(&[b"CZ4"])),
+            (b"REJECTS", Source::Set(b"D")),
+        ],
+        End::Abend(FULL, 0),
+    ),
+];
+
+/// These records as cards of the deck.
+fn cards_of<R: Abort>(rt: &R, alloc: Global, records: &[&[u8]]) -> Result<Cards, NoMemory> {
+    let mut cards = Cards::new(alloc);
+    for record in records {
+        assert!(rt; record.len() <= 256);
+        cards.push(Rec::of(record))?;
+    }
+    Ok(cards)
+}
+
+/// A DD of this name and source.
+fn dd_of<R: Abort>(rt: &R, alloc: Global, text: &[u8], source: &Source) -> Result<Dd, NoMemory> {
+    let origin = match source {
+        Source::Set(set) => Origin::Named(name(rt, *set)),
+        Source::Deck(records) => Origin::InStream(cards_of(rt, alloc, *records)?),
+    };
+    Ok(Dd {
+        name: Name8::read(text).expect(rt, "a name"),
         role: Role::Unused,
         origin,
         disp: Disp {
@@ -186,50 +276,37 @@ fn dd<R: Abort>(rt: &R, name: &[u8], origin: Origin) -> Dd {
         volumes: ArrayVec::new(),
         space: None,
         lrecl: 80,
-    }
+    })
 }
 
-/// A DD of a data set.
-fn named<R: Abort>(rt: &R, dd_name: &[u8], set: &[u8]) -> Dd {
-    dd(rt, dd_name, Origin::Named(name(rt, set)))
-}
-
-/// A DD with these records in the deck.
-fn in_deck<R: Abort>(rt: &R, alloc: Global, dd_name: &[u8], records: &[&[u8]]) -> Result<Dd, Fail> {
-    let mut cards = Cards::new(alloc);
-    for record in records {
-        assert!(rt; record.len() <= 256);
-        cards.push(Rec::of(record))?;
-    }
-    Ok(dd(rt, dd_name, Origin::InStream(cards)))
-}
-
-/// A step, and how it is to end.
-#[derive(Drop)]
-struct Case {
-    step: Step,
-    end: End,
-}
-
-fn case_of<R: Abort>(
+/// DDs of these names and sources.
+fn dds_of<R: Abort>(
     rt: &R,
     alloc: Global,
-    program: Kind,
-    parm: &[u8],
-    dds: Dds,
-    end: End,
-) -> Result<Case, Fail> {
-    assert!(rt; parm.len() <= 100);
-    let parm = read_parm(program, parm)?;
-    let step = Step {
+    sources: &[(&'static [u8], Source)],
+) -> Result<Dds, NoMemory> {
+    let mut dds = Dds::new(alloc);
+    for (text, source) in sources {
+        dds.push(dd_of(rt, alloc, *text, source)?)?;
+    }
+    Ok(dds)
+}
+
+/// A step of a program with this PARM and these DDs.
+fn step_with<R: Abort>(rt: &R, alloc: Global, program: Kind, parm: &[u8], dds: Dds) -> Step {
+    Step {
         name: Name8::read(b"S1").expect(rt, "a name"),
         program,
-        parm,
+        parm: parm_of(program, parm).expect(rt, "a PARM"),
         rd: None,
         cond: Conds::new(alloc),
         dds,
-    };
-    Ok(Case { step, end })
+    }
+}
+
+fn step_of<R: Abort>(rt: &R, alloc: Global, case: &Case) -> Result<Step, NoMemory> {
+    let dds = dds_of(rt, alloc, case.2)?;
+    Ok(step_with(rt, alloc, case.0, case.1, dds))
 }
 
 /// Rewrites a record.
@@ -352,7 +429,6 @@ fn run_all<R: Abort, D: Disk>(
     disk: &mut D,
     layout: &Layout,
     library: &mut Library,
-    cases: &[Case],
 ) -> Result<(), Fail>
     requires layout { IsTrue (is_laid_out layout.now) }
     requires fits { disk_needed layout.now ≤ D.size disk.old }
@@ -360,9 +436,10 @@ fn run_all<R: Abort, D: Disk>(
     ensures size { D.size disk.new ≡ D.size disk.old }
     ensures stored { AreStored layout.now library.new }
 {
-    for case in cases {
-        let end = run(rt, alloc, disk, layout, library, &case.step)?;
-        assert!(rt; end == Some(case.end));
+    for case in &CASES {
+        let step = step_of(rt, alloc, case)?;
+        let end = run(rt, alloc, disk, layout, library, &step)?;
+        assert!(rt; end == Some(case.3));
     }
     Ok(())
 }
@@ -390,75 +467,13 @@ fn byte_at<R: Abort, D: Disk>(
     Ok(found.bytes().first().copied())
 }
 
-/// COPY of these records into a data set.
-fn copy<R: Abort>(
-    rt: &R,
-    alloc: Global,
-    records: &[&[u8]],
-    set: &[u8],
-    end: End,
-) -> Result<Case, Fail> {
-    let mut dds = Dds::new(alloc);
-    dds.push(in_deck(rt, alloc, b"SYSUT1", records)?)?;
-    dds.push(named(rt, b"SYSUT2", set))?;
-    case_of(rt, alloc, Kind::Copy, b"CHK=2,CANCEL=1", dds, end)
-}
-
-/// SELECT of the records of `B` that begin with 1, into `C`.
-fn select<R: Abort>(rt: &R, alloc: Global, end: End) -> Result<Case, Fail> {
-    let mut dds = Dds::new(alloc);
-    dds.push(named(rt, b"SYSUT1", b"B"))?;
-    dds.push(named(rt, b"SYSUT2", b"C"))?;
-    case_of(rt, alloc, Kind::Select, b"COL=1,VAL=1", dds, end)
-}
-
-/// MERGE of `B` and of these records by their first byte, into `D`.
-fn merge<R: Abort>(rt: &R, alloc: Global, records: &[&[u8]], end: End) -> Result<Case, Fail> {
-    let mut dds = Dds::new(alloc);
-    dds.push(named(rt, b"IN1", b"B"))?;
-    dds.push(in_deck(rt, alloc, b"IN2", records)?)?;
-    dds.push(named(rt, b"OUT", b"D"))?;
-    case_of(rt, alloc, Kind::Merge, b"KEY=1:1", dds, end)
-}
-
-/// UPDATE of `A` by these transactions, by the second byte of its images; the rejects go to `D`.
-fn update<R: Abort>(rt: &R, alloc: Global, records: &[&[u8]], end: End) -> Result<Case, Fail> {
-    let mut dds = Dds::new(alloc);
-    dds.push(named(rt, b"MASTER", b"A"))?;
-    dds.push(in_deck(rt, alloc, b"TRANS", records)?)?;
-    dds.push(named(rt, b"REJECTS", b"D"))?;
-    case_of(rt, alloc, Kind::Update, b"KEY=2:1", dds, end)
-}
-
-/// The steps, and how each ends by its program's rules and by the space of its data sets.
-fn cases_of<R: Abort>(rt: &R, alloc: Global) -> Result<Vec<Case>, Fail> {
-    let full = Code::System(0xB37);
-    let mut cases = Vec::new(alloc);
-    let masters: [&[u8]; 4] = [b"X1", b"X2", b"X3", b"X4"];
-    cases.push(copy(rt, alloc, &masters, b"A", End::Abend(full, 3))?)?;
-    cases.push(copy(rt, alloc, &[b"1A", b"1B", b"3C"], b"B", End::Returned(0, 3))?)?;
-    cases.push(select(rt, alloc, End::Returned(0, 2))?)?;
-    cases.push(merge(rt, alloc, &[b"2D"], End::Abend(full, 1))?)?;
-    cases.push(update(rt, alloc, &[b"CY2"], End::Returned(0, 1))?)?;
-    cases.push(update(rt, alloc, &[b"CZ4"], End::Abend(full, 0))?)?;
-    Ok(cases)
-}
-
 #[test]
 fn steps_end_as_their_programs_say(rt: HostRuntime) -> Result<(), Fail> {
     let alloc = rt.alloc();
     let layout = small();
     let mut library = library_of(&rt, alloc, &layout)?;
     let mut disk = MemDisk::new(alloc, 3072, Vec::new(alloc), None)?;
-    let cases = cases_of(&rt, alloc)?;
-    run_all(
-        &rt,
-        alloc,
-        &mut disk,
-        &layout,
-        &mut library,
-        cases.as_slice(),
-    )?;
+    run_all(&rt, alloc, &mut disk, &layout, &mut library)?;
     assert!(rt; byte_at(&rt, &mut disk, &layout, &library, 0)? == Some(b'X'));
     assert!(rt; byte_at(&rt, &mut disk, &layout, &library, 1)? == Some(b'Y'));
     Ok(())

@@ -1,9 +1,10 @@
 //! Decks are submitted, kept and read again.
 
+use crate::decks::{are_cards, cards_of};
+use ckr_base::NoMemory;
 use ckr_events::Event;
 use ckr_points_decks::{Submission, is_run, job_of_kept, submission_of, submitted_event};
 use std::alloc::Global;
-use std::process::Abort;
 use std::test::Fail;
 
 /// A job of two steps, as the desk runs it.
@@ -16,76 +17,68 @@ const PLAIN: [&[u8]; 6] = [
     b"//S2 EXEC PGM=IEFBR14",
 ];
 
-/// A job that asks for a restart, which the desk doesn't run yet.
-const RESTARTED: [&[u8]; 2] = [b"//J JOB RESTART=*", b"//S1 EXEC PGM=IEFBR14"];
+/// A deck, and the number of the rule by which it is refused, 0 where the desk doesn't run it, and None where it is accepted.
+type Row = (&'static [&'static [u8]], Option<u8>);
 
-/// The cards of these lines, each of at most 80 columns, as a reader stores them.
-pub(crate) fn cards_of(alloc: Global, lines: &[&[u8]]) -> Result<Vec<u8>, Fail> {
-    let mut cards = Vec::new(alloc);
-    for line in lines {
-        for place in 0..80 {
-            cards.push(match line.get(place) {
-                Some(byte) => *byte,
-                None => b' ',
-            })?;
-        }
-        cards.push(0)?;
-    }
-    Ok(cards)
-}
+const ROWS: [Row; 10] = [
+    (&[b"//J JOB", b"//S1 EXEC PGM=IEFBR14"], None),
+    (&[b"//J JOB", b"//S1 EXEC PGM=IEFBR14,RD=R"], Some(0)),
+    (&[b"//J JOB", b"//S1 EXEC PGM=IEFBR14,RD=RNC"], Some(0)),
+    (&[b"//J JOB", b"//S1 EXEC PGM=IEFBR14,RD=NR"], None),
+    (&[b"//J JOB", b"//S1 EXEC PGM=IEFBR14,RD=NC"], None),
+    (&[b"//J JOB", b"//S1 EXEC PGM=UNKNOWN"], Some(14)),
+    (&[b"//J JOB", b"//S1 EXEC PGM=COPY"], Some(16)),
+    (&[b"//J JOB", b"//S1 EXEC"], Some(14)),
+    (&[b"//J JOB RESTART=*", b"//S1 EXEC PGM=IEFBR14"], Some(0)),
+    (&PLAIN, None),
+];
 
-/// The number of the rule by which a deck is refused, 0 where the desk doesn't run it, and None where it is accepted.
-fn refused(alloc: Global, lines: &[&[u8]]) -> Result<Option<u8>, Fail> {
+/// The deck is refused by that rule, or accepted.
+fn is_answered(alloc: Global, row: &Row) -> Result<bool, NoMemory> {
+    let (lines, wanted) = *row;
     let cards = cards_of(alloc, lines)?;
-    if cards.len() % 81 != 0 || cards.len() < 81 || 8_100 < cards.len() {
-        return Err("the cards have 81 bytes each".into());
+    if !are_cards(&cards) {
+        return Ok(false);
     }
-    match submission_of(alloc, cards.as_slice())? {
-        Submission::Refused { number, .. } => Ok(Some(number)),
-        Submission::Accepted(_) => Ok(None),
-    }
+    Ok(match submission_of(alloc, &cards)? {
+        Submission::Refused { number, .. } => wanted == Some(number),
+        Submission::Accepted(_) => wanted.is_none(),
+    })
 }
 
 #[test]
 fn decks_that_the_desk_runs(rt: HostRuntime) -> Result<(), Fail> {
-    let alloc = rt.alloc();
-    let exec: [(&[u8], Option<u8>); 8] = [
-        (b"//S1 EXEC PGM=IEFBR14", None),
-        (b"//S1 EXEC PGM=IEFBR14,RD=R", Some(0)),
-        (b"//S1 EXEC PGM=IEFBR14,RD=RNC", Some(0)),
-        (b"//S1 EXEC PGM=IEFBR14,RD=NR", None),
-        (b"//S1 EXEC PGM=IEFBR14,RD=NC", None),
-        (b"//S1 EXEC PGM=UNKNOWN", Some(14)),
-        (b"//S1 EXEC PGM=COPY", Some(16)),
-        (b"//S1 EXEC", Some(14)),
-    ];
-    for (card, number) in &exec {
-        assert!(rt; refused(alloc, &[b"//J JOB", *card])? == *number);
+    for (place, row) in ROWS.iter().enumerate() {
+        assert!(rt; is_answered(rt.alloc(), row)?, "row {place}");
     }
-    assert!(rt; refused(alloc, &PLAIN)? == None);
-    assert!(rt; refused(alloc, &[b"//J JOB RESTART=*", b"//S1 EXEC PGM=IEFBR14"])? == Some(0));
     Ok(())
+}
+
+/// The deck's job, as it is read again from the cards that its event keeps.
+fn is_read_again(alloc: Global, kept: &[u8]) -> Result<bool, NoMemory> {
+    if kept.len() != 480 {
+        return Ok(false);
+    }
+    Ok(match job_of_kept(alloc, kept)? {
+        Some(job) => is_run(&job) && job.steps.as_slice().len() == 2,
+        None => false,
+    })
+}
+
+/// The deck is submitted as job 7, and read again.
+fn is_kept(alloc: Global, cards: &[u8]) -> Result<bool, NoMemory> {
+    if !are_cards(cards) {
+        return Ok(false);
+    }
+    match submitted_event(alloc, 7, cards)? {
+        Event::Submitted { job: 7, cards } => is_read_again(alloc, cards.as_slice()),
+        _ => Ok(false),
+    }
 }
 
 #[test]
 fn a_deck_is_kept_and_read_again(rt: HostRuntime) -> Result<(), Fail> {
-    let alloc = rt.alloc();
-    let cards = cards_of(alloc, &PLAIN)?;
-    if cards.len() < 81 || 8_100 < cards.len() {
-        return Err("the cards have 81 bytes each".into());
-    }
-    let Event::Submitted { job, cards: kept } = submitted_event(alloc, 7, cards.as_slice())? else {
-        return Err("a deck is submitted".into());
-    };
-    assert!(rt; job == 7);
-    assert!(rt; kept.as_slice().len() == 480);
-    if 8_000 < kept.as_slice().len() {
-        return Err("the cards are kept".into());
-    }
-    let Some(job) = job_of_kept(alloc, kept.as_slice())? else {
-        return Err("the deck is accepted".into());
-    };
-    assert!(rt; is_run(&job));
-    assert!(rt; job.steps.as_slice().len() == 2);
+    let cards = cards_of(rt.alloc(), &PLAIN)?;
+    assert!(rt; is_kept(rt.alloc(), &cards)?);
     Ok(())
 }

@@ -1,56 +1,43 @@
 //! A deck is submitted, and what the tables have of it. What its later events make is said by clauses.
-ghost use Rattle.std.specs.Prelude.{◌≡◌, None};
-ghost use Rattle.ckr_jcl.specs.declared.deck.Job.{Job as JobOfDeck};
 
-use ckr_base::{ByteList, Name8, NoMemory};
-use ckr_events::Event;
-use ckr_jcl::{Conds, Job, Steps};
+use crate::checkpoints::{one_volume, submit};
+use ckr_base::Name8;
 use ckr_points::RunState;
-use ckr_points_tables::{Tables, is_submittable};
-use std::alloc::Global;
+use ckr_points_tables::Tables;
 use std::test::Fail;
 
-/// A job of no steps.
-fn job(alloc: Global, name: Name8) -> Job
-    ensures { result.restart ≡ None }
-{
-    Job {
-        name,
-        rd: None,
-        cond: Conds::new(alloc),
-        restart: None,
-        syschk: None,
-        steps: Steps::new(alloc),
+/// A job of one step.
+const LINES: [&[u8]; 2] = [b"//J JOB", b"//S1 EXEC PGM=IEFBR14"];
+
+/// The job is the only one, and is queued.
+fn is_queued_alone(tables: &Tables) -> bool {
+    match tables.runs() {
+        [run] => {
+            run.number == 1
+                && Name8::read(b"J").as_ref() == Some(&run.name)
+                && run.initiator.is_none()
+                && matches!(run.state, RunState::Queued)
+        }
+        _ => false,
     }
+}
+
+/// Of all numbers the tables have a run of 1 alone, no initiator has one, and there is no data set.
+fn is_nowhere_else(tables: &Tables) -> bool {
+    tables.run(1).is_some()
+        && tables.run(2).is_none()
+        && tables.on_initiator(1).is_none()
+        && tables.library().name_at(0).is_none()
 }
 
 #[test]
 fn a_deck_is_submitted(rt: HostRuntime) -> Result<(), Fail> {
     let alloc = rt.alloc();
+    let layout = one_volume();
     let mut tables = Tables::new(alloc);
     assert!(rt; tables.runs().is_empty());
-    let name = Name8::read(b"J").expect(&rt, "a name");
-    let deck = job(alloc, name.copied());
-    let mut cards = ByteList::new(alloc);
-    cards.push(b' ')?;
-    let event = Event::Submitted { job: 1, cards };
-    tables.make_room(&event)?;
-    assert!(rt; is_submittable(1, &deck));
-    tables.apply(&event, Some(deck));
-    assert!(rt; tables.run(1).is_some());
-    assert!(rt; tables.run(2).is_none());
-    assert!(rt; tables.on_initiator(1).is_none());
-    assert!(rt; tables.library().name_at(0).is_none());
-    assert!(rt; tables.runs().len() == 1);
-    assert!(rt;
-        tables
-            .runs()
-            .iter()
-            .all(|run| run.number == 1 && run.name == name)
-    );
-    assert!(rt;
-        tables.runs().iter().all(|run| matches!(run.state, RunState::Queued)
-            && run.initiator.is_none())
-    );
+    assert!(rt; submit(alloc, &mut tables, &layout, 1, &LINES)?);
+    assert!(rt; is_queued_alone(&tables));
+    assert!(rt; is_nowhere_else(&tables));
     Ok(())
 }
