@@ -14,7 +14,7 @@ use std::alloc::Global;
 use std::test::Fail;
 
 /// Four records for entries.
-const WRITES: [&[u8]; 6] = [
+pub(crate) const WRITES: [&[u8]; 6] = [
     b"//A JOB",
     b"//S1 EXEC PGM=COPY,PARM='CHK=2'",
     b"//SYSUT1 DD *",
@@ -200,6 +200,38 @@ fn end_step(
     tell(tables, layout, &event)
 }
 
+fn hold(
+    tables: &mut Tables,
+    layout: &Layout,
+    job: u32,
+    first: u32,
+    second: u32,
+) -> Result<bool, NoMemory> {
+    let event = Event::Held {
+        job,
+        code: Code::System(1),
+        writes: first,
+        lengths: two_lengths(first, second),
+    };
+    tell(tables, layout, &event)
+}
+
+fn restart(
+    tables: &mut Tables,
+    layout: &Layout,
+    job: u32,
+    initiator: u8,
+    checkpoint: bool,
+) -> Result<bool, NoMemory> {
+    let event = Event::Restarted {
+        job,
+        initiator,
+        code: Code::System(1),
+        checkpoint,
+    };
+    tell(tables, layout, &event)
+}
+
 fn end(tables: &mut Tables, layout: &Layout, job: u32) -> Result<bool, NoMemory> {
     let event = Event::Ended {
         job,
@@ -209,7 +241,7 @@ fn end(tables: &mut Tables, layout: &Layout, job: u32) -> Result<bool, NoMemory>
 }
 
 /// What comes to a job.
-enum Told {
+pub(crate) enum Told {
     /// Its deck, by lines.
     Submitted(&'static [&'static [u8]]),
     Selected,
@@ -217,6 +249,11 @@ enum Told {
     Started(u32, Option<u32>),
     Checkpointed(Checkpoint),
     Cancelled,
+    /// It is held with these lengths, the first of which are its writes.
+    Held(u32, u32),
+    Released,
+    /// It is restarted on an initiator, at its checkpoint in effect or else at the start of its step.
+    Restarted(u8, bool),
     /// Its step ends with these lengths.
     StepEnded(u32, u32),
     Ended,
@@ -236,22 +273,27 @@ fn go_on(
         Told::Started(output, entries) => start(tables, layout, job, *output, *entries),
         Told::Checkpointed(checkpoint) => keep(tables, layout, job, checkpoint),
         Told::Cancelled => cancel(tables, layout, job),
+        Told::Held(first, second) => hold(tables, layout, job, *first, *second),
+        Told::Released => tell(tables, layout, &Event::Released { job }),
+        Told::Restarted(initiator, checkpoint) => {
+            restart(tables, layout, job, *initiator, *checkpoint)
+        }
         Told::StepEnded(first, second) => end_step(tables, layout, job, *first, *second),
         Told::Ended => end(tables, layout, job),
     }
 }
 
 /// An entry that is kept: its run, its place and its bytes.
-type Entry = (u32, u32, u32);
+pub(crate) type Entry = (u32, u32, u32);
 
 /// What comes to a job, whether it follows, and the entries that are kept behind it.
-type Row = (u32, Told, bool, &'static [Entry]);
+pub(crate) type Row = (u32, Told, bool, &'static [Entry]);
 
-const NONE: &[Entry] = &[];
+pub(crate) const NONE: &[Entry] = &[];
 
-const ONE: &[Entry] = &[(1, 0, 143)];
+pub(crate) const ONE: &[Entry] = &[(1, 0, 143)];
 
-const TWO: &[Entry] = &[(1, 0, 143), (1, 1, 257)];
+pub(crate) const TWO: &[Entry] = &[(1, 0, 143), (1, 1, 257)];
 
 const THREE: &[Entry] = &[(1, 0, 143), (1, 1, 257), (1, 3, 256)];
 
@@ -355,7 +397,7 @@ fn is_deleted(tables: &Tables) -> bool {
 }
 
 /// The desk goes on as the row has it.
-fn is_as_told(
+pub(crate) fn is_as_told(
     alloc: Global,
     tables: &mut Tables,
     layout: &Layout,

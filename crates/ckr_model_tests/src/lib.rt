@@ -18,6 +18,8 @@ mod programs;
 #[cfg(test)]
 mod queue;
 #[cfg(test)]
+mod restarts;
+#[cfg(test)]
 mod rules;
 #[cfg(test)]
 mod steps;

@@ -4,10 +4,10 @@ ghost use Rattle.ckr_volumes.specs.Layouts.{is_laid_out, disk_needed};
 ghost use Rattle.ckr_steps.specs.Inputs.{AreStored, AreThere};
 ghost use Rattle.ckr_steps.specs.StepUnit.{AreCounted};
 
-use super::{End, are_there, case_of, copy, library_of, named, next, run, small};
+use super::{Case, End, Source, are_there, library_of, next, run, small, step_of};
 use ckr_base::Name8;
 use ckr_entry::{Marks, PassedList, Point};
-use ckr_jcl::{Dds, Kind, Step};
+use ckr_jcl::{Kind, Step};
 use ckr_library::Library;
 use ckr_outside::{CallKind, Disk, MemDisk};
 use ckr_steps::StepRun;
@@ -16,14 +16,27 @@ use std::alloc::Global;
 use std::process::Abort;
 use std::test::Fail;
 
+/// COPY of three cards into `B`.
+const FILL: Case = (
+    Kind::Copy,
+    b"",
+    &[
+        (b"SYSUT1", Source::Deck(&[b"1A", b"2B", b"3C"])),
+        (b"SYSUT2", Source::Set(b"B")),
+    ],
+    End::Returned(0, 3),
+);
+
 /// COPY of `B` into `A`, with a checkpoint after two records.
-fn step_of<R: Abort>(rt: &R, alloc: Global) -> Result<Step, Fail> {
-    let mut dds = Dds::new(alloc);
-    dds.push(named(rt, b"SYSUT1", b"B"))?;
-    dds.push(named(rt, b"SYSUT2", b"A"))?;
-    let case = case_of(rt, alloc, Kind::Copy, b"CHK=2", dds, End::Returned(0, 3))?;
-    Ok(case.step)
-}
+const COPY: Case = (
+    Kind::Copy,
+    b"CHK=2",
+    &[
+        (b"SYSUT1", Source::Set(b"B")),
+        (b"SYSUT2", Source::Set(b"A")),
+    ],
+    End::Returned(0, 3),
+);
 
 /// The step before its first record.
 fn begun<R: Abort>(rt: &R, alloc: Global, step: &Step, library: &Library) -> Result<StepRun, Fail>
@@ -116,9 +129,8 @@ fn fill<R: Abort, D: Disk>(
     ensures stored { AreStored layout.now library.new }
     ensures size { D.size disk.new ≡ D.size disk.old }
 {
-    let records: [&[u8]; 3] = [b"1A", b"2B", b"3C"];
-    let filled = copy(rt, alloc, &records, b"B", End::Returned(0, 3))?;
-    run(rt, alloc, disk, layout, library, &filled.step)?;
+    let step = step_of(rt, alloc, &FILL)?;
+    run(rt, alloc, disk, layout, library, &step)?;
     Ok(())
 }
 
@@ -177,7 +189,7 @@ fn in_two_runs<R: Abort, D: Disk>(
     requires stored { AreStored layout.now library.old }
 {
     fill(rt, alloc, disk, layout, library)?;
-    let step = step_of(rt, alloc)?;
+    let step = step_of(rt, alloc, &COPY)?;
     let first = stopped(rt, alloc, disk, layout, library, &step)?;
     gone_on(rt, alloc, disk, layout, library, &step, &first)
 }
@@ -203,7 +215,7 @@ fn a_step_goes_on_behind_its_point(rt: HostRuntime) -> Result<(), Fail> {
     let mut library = library_of(&rt, alloc, &layout)?;
     let mut disk = MemDisk::new(alloc, 3072, Vec::new(alloc), None)?;
     let end = in_two_runs(&rt, alloc, &mut disk, &layout, &mut library)?;
-    assert!(rt; end == Some(End::Returned(0, 3)));
+    assert!(rt; end == Some(COPY.3));
     assert!(rt; reads_are(&disk, &[1264, 1344, 1424]));
     Ok(())
 }
