@@ -1,5 +1,5 @@
 //! Worked streams of jobs that take checkpoints, over memory.
-use crate::service::{CARDS, SIZE, text_of};
+use crate::calls::{CARDS, SIZE, text_of};
 use std::test::Fail;
 
 /// Entries are written under RD=NR: a failure behind one ends the job by rule A1; identifiers by IDS; and the third entry has no space, so that

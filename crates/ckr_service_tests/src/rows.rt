@@ -1,5 +1,5 @@
 //! Worked streams of many jobs, steps and programs over memory.
-use crate::service::{CARDS, SIZE, text_of};
+use crate::calls::{CARDS, SIZE, text_of};
 use std::test::Fail;
 
 /// Without data cards the output is empty.

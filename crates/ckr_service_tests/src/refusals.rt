@@ -1,5 +1,5 @@
 //! Decks that are refused, two for each rule, and the decks that are accepted when one byte of them is changed.
-use crate::service::{NEVER, served};
+use crate::calls::{NEVER, served};
 use std::alloc::Global;
 use std::test::Fail;
 

@@ -1,0 +1,11 @@
+//! Tests of the whole call over memory.
+#![tactic(auto)]
+
+#[cfg(test)]
+mod calls;
+#[cfg(test)]
+mod checkpoints;
+#[cfg(test)]
+mod refusals;
+#[cfg(test)]
+mod rows;
