@@ -1,3 +1,4 @@
+pub mod Codes
 pub mod RunningSteps
 pub mod OtherRuns
 pub mod StepEnd

@@ -27,15 +27,17 @@ use Rattle.ckr_points.specs.Office.{Office}
 use Rattle.ckr_points.specs.Restart.{place_of, step_in}
 use Rattle.ckr_points.specs.Rows.{RunRow, TableSet, run_of, step_of_run}
 use Rattle.ckr_rules.specs.RuleTables.{rule_number}
+use Rattle.ckr_rules.specs.declared.cases.Rule.{Rule}
 use Rattle.ckr_points_invariant.specs.Invariant.{AreAlike, Shape, counted, set_shape, table_shape}
 use Rattle.ckr_points_invariant.proofs.Steps.Commits.{alike_within, in_reach, its_start, place_so, under_way}
 use Rattle.ckr_points_invariant.proofs.Holders.Places.{outputs-among}
-use Rattle.ckr_desk_turn.specs.Codes.{CodePlaceModel, kept_reached, reached_by, rule_for, running_reached}
+use Rattle.ckr_desk_turn.specs.Codes.{CodePlaceModel, kept_reached, reached_by, running_reached, verdict_for}
 use Rattle.ckr_desk_turn.specs.Desk.{DeskModel, DeskStep, jobs_of, seen, seen_from, start_of}
 use Rattle.ckr_desk_turn.specs.Jobs.{TurnStep, running_in}
 use Rattle.ckr_desk_turn.specs.Units.{StepProgress}
 use Rattle.ckr_desk_turn.specs.NextEvents.{Comes, IsWithinStep}
 use Rattle.ckr_desk_turn.specs.Invariant.{IsDesk, IsGoing}
+use Rattle.ckr_desk_turn.proofs.Codes.{may_end}
 use Rattle.ckr_desk_turn.proofs.NextEvents.WithinStep.{by-step, code-comes}
 
 -- ---- a running step as the jobs see it
@@ -141,24 +143,24 @@ module _ (desk : DeskModel) (is : IsDesk desk) (run : ℕ) (row : RunRow) (numbe
       ap (λ w. let reached : CodePlaceModel = record { writes = w; lengths = (kept_reached (jobs_of desk) row).lengths } in reached) writes
       ∙ ap (λ l. let reached : CodePlaceModel = record { writes = committed; lengths = l } in reached) lengths)
 
-  -- a code ends a run within its step
-  pub reached-comes : (code : Code) → Comes desk (EndedEvent run (CodedEnding code (rule_number (rule_for desk.layout row code)) (reached_by (jobs_of desk) row).writes (record { items = (reached_by (jobs_of desk) row).lengths })))
-  reached-comes code =
+  -- a code ends a run within its step, by the rule that denies its restart, or by that of the operator
+  pub reached-comes : (code : Code) (rule : Rule) → may_end rule (verdict_for desk.layout row code) ≡ true → Comes desk (EndedEvent run (CodedEnding code (rule_number rule) (reached_by (jobs_of desk) row).writes (record { items = (reached_by (jobs_of desk) row).lengths })))
+  reached-comes code rule first =
       option-cases (running_in (jobs_of desk) row.number)
       (λ none. subst EndsAt (sym (ap (λ (o : Option TurnStep). option_map_or running_reached o (kept_reached (jobs_of desk) row)) none ∙ kept-reached))
       (by-step desk is run row number committed start within
       (λ leg owned running same spaced.
       code-comes desk is run row number committed start within committed (omega arith)
       (subst (λ s. committed ≤ length (work_at s).writes) (sym same) (under_way desk.layout desk.office run row leg owned number committed is.kept.events running).done)
-      (nothing-between start committed) code)))
+      (nothing-between start committed) code rule first)))
       (λ step some.
       let found : FoundStep desk.office desk.running row.number step = found-step desk.office row.number desk.running step is.going some in
       let at_run : found.on.run ≡ run = found.same ∙ is.kept.events.numbered run row within.row_at in
       let mine : found.going.row ≡ row = same_Some _ _ (sym found.going.row_at ∙ ap (run_of desk.office.tables) at_run ∙ within.row_at) in
       subst EndsAt (sym (ap (λ (o : Option TurnStep). option_map_or running_reached o (kept_reached (jobs_of desk) row)) some ∙ ap running_reached found.is))
-      (subst (λ r. Comes desk (EndedEvent run (CodedEnding code (rule_number (rule_for desk.layout r code)) found.on.progress.writes (record { items = lengths_at found.going.start desk.office.tables.sets found.on.progress.writes })))) mine
-      (subst (λ n. Comes desk (EndedEvent n (CodedEnding code (rule_number (rule_for desk.layout found.going.row code)) found.on.progress.writes (record { items = lengths_at found.going.start desk.office.tables.sets found.on.progress.writes })))) at_run
-      (code-comes desk is found.on.run found.going.row found.going.number found.going.committed found.going.start (going-within desk.office found.on found.going) found.on.progress.writes found.going.behind found.going.fit found.going.plain code))))
+      (subst (λ n. Comes desk (EndedEvent n (CodedEnding code (rule_number rule) found.on.progress.writes (record { items = lengths_at found.going.start desk.office.tables.sets found.on.progress.writes })))) at_run
+      (code-comes desk is found.on.run found.going.row found.going.number found.going.committed found.going.start (going-within desk.office found.on found.going) found.on.progress.writes found.going.behind found.going.fit found.going.plain code rule
+      (subst (λ r. may_end rule (verdict_for desk.layout r code) ≡ true) (sym mine) first))))
     where
       EndsAt : CodePlaceModel → Type 0
-      EndsAt reached = Comes desk (EndedEvent run (CodedEnding code (rule_number (rule_for desk.layout row code)) reached.writes (record { items = reached.lengths })))
+      EndsAt reached = Comes desk (EndedEvent run (CodedEnding code (rule_number rule) reached.writes (record { items = reached.lengths })))

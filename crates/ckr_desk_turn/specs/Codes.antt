@@ -1,8 +1,8 @@
--- A code: the rule by which the run isn't restarted, and its end.
-use Rattle.std.specs.Prelude.{ℕ, false, List, []}
+-- A code: the restart of the run, or the rule by which it isn't restarted, and its end.
+use Rattle.std.specs.Prelude.{ℕ, false, List, [], None}
 use Rattle.std.specs.Option.{option_map_or}
 use Rattle.ckr_base.specs.declared.code.Code.{Code}
-use Rattle.ckr_events.specs.declared.event.Event.TheVariants.{Ended as EndedEvent}
+use Rattle.ckr_events.specs.declared.event.Event.TheVariants.{Ended as EndedEvent, Restarted as RestartedEvent}
 use Rattle.ckr_events.specs.declared.event.Ending.TheVariants.{Coded as CodedEnding}
 use Rattle.ckr_points.specs.RuleCases.{auto_case}
 use Rattle.ckr_points.specs.Restart.{place_of, step_in}
@@ -17,8 +17,8 @@ use Rattle.ckr_volumes.specs.declared.layout.Layout.{Layout}
 use Rattle.ckr_desk_turn.specs.declared.plan.Plan.{Plan}
 use Rattle.ckr_desk_turn.specs.declared.plan.Plan.TheVariants.{Tell}
 use Rattle.ckr_desk_turn.specs.declared.reply.How.TheVariants.{Abended}
-use Rattle.ckr_desk_turn.specs.declared.reply.Reply.TheVariants.{JobEnded}
-use Rattle.ckr_desk_turn.specs.Jobs.{TurnJobs, TurnStep, running_in}
+use Rattle.ckr_desk_turn.specs.declared.reply.Reply.TheVariants.{JobEnded, Restarted}
+use Rattle.ckr_desk_turn.specs.Jobs.{TurnJobs, TurnStep, running_in, step_name_of}
 
 -- how far a run with a code has come: the writes of its running step and the lengths with them, else the committed ones
 pub record CodePlaceModel : Type 0 where
@@ -43,20 +43,24 @@ ended_by row code rule reached =
     Tell (JobEnded row.number (Abended code rule))
     (EndedEvent row.number (CodedEnding code (rule_number rule) reached.writes (record { items = reached.lengths })))
 
--- no deck that the desk runs asks for a restart, and no operator is asked for one
-abbrev pub rule_by : Verdict → Rule
-rule_by (Denied rule) = rule
-rule_by Step = A6
-rule_by Checkpoint = A6
+-- a run is restarted on an initiator, at the start of its step
+abbrev pub restarted_by : RunRow → ℕ → Code → Plan
+restarted_by row initiator code = Tell (Restarted row.number (step_name_of row) None 0) (RestartedEvent row.number initiator code false)
 
 -- what the rules say of a run after a code, where the operator doesn't refuse its restart
 abbrev pub verdict_for : Layout → RunRow → Code → Verdict
 verdict_for layout row code = automatic (auto_case row (step_in (place_of row)) layout.eligible.items code false)
 
--- the rule by which a run isn't restarted after a code
-abbrev pub rule_for : Layout → RunRow → Code → Rule
-rule_for layout row code = rule_by (verdict_for layout row code)
+-- what becomes of the run by that; the desk makes no restart at a checkpoint yet, and ends the run
+abbrev pub judged_plan : RunRow → ℕ → Code → CodePlaceModel → Verdict → Plan
+judged_plan row initiator code reached (Denied rule) = ended_by row code rule reached
+judged_plan row initiator code reached Step = restarted_by row initiator code
+judged_plan row initiator code reached Checkpoint = ended_by row code A6 reached
 
--- a turn in which a run has a code
-abbrev pub code_plan : Layout → RunRow → Code → CodePlaceModel → Plan
-code_plan layout row code reached = ended_by row code (rule_for layout row code) reached
+-- a turn in which a run has a code, on its initiator
+abbrev pub code_plan : Layout → RunRow → ℕ → Code → CodePlaceModel → Plan
+code_plan layout row initiator code reached = judged_plan row initiator code reached (verdict_for layout row code)
+
+-- the initiator that a run is on
+abbrev pub initiator_of : RunRow → ℕ
+initiator_of row = option_map_or (λ initiator. initiator) row.initiator 0

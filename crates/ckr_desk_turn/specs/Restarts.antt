@@ -1,20 +1,26 @@
 -- Automatic restarts at a desk: a run with a code and what the rules say of it, and an event that the desk goes on by.
-use Rattle.std.specs.Prelude.{◌≡◌, ℕ, Bool, None, Some}
+use Rattle.std.specs.Prelude.{◌≡◌, ℕ, Bool, true, if◌then◌else◌, Option, None, Some}
 use Rattle.ckr_base.specs.declared.code.Code.{Code}
 use Rattle.ckr_events.specs.declared.event.Event.{Event}
 use Rattle.ckr_events.specs.declared.event.Event.TheVariants.{Ended as EndedEvent, Restarted as RestartedEvent}
 use Rattle.ckr_events.specs.declared.event.Ending.TheVariants.{Coded as CodedEnding}
 use Rattle.ckr_meaning.specs.StepRun.{StepStart}
+use Rattle.ckr_points.specs.Follows.{is_within}
 use Rattle.ckr_points.specs.Office.{Office}
+use Rattle.ckr_points.specs.Restart.{place_of}
 use Rattle.ckr_points.specs.Rows.{RunRow}
 use Rattle.ckr_rules.specs.RuleTables.{rule_number}
 use Rattle.ckr_rules.specs.declared.cases.Rule.TheVariants.{A6}
 use Rattle.ckr_rules.specs.declared.cases.Verdict.{Verdict}
 use Rattle.ckr_volumes.specs.declared.layout.Layout.{Layout}
+use Rattle.ckr_desk_turn.specs.declared.reply.Turn.{Turn}
 use Rattle.ckr_desk_turn.specs.Codes.{reached_by, verdict_for}
 use Rattle.ckr_desk_turn.specs.Desk.{DeskModel, behind, jobs_of}
 use Rattle.ckr_desk_turn.specs.Invariant.{IsDesk}
+use Rattle.ckr_desk_turn.specs.Jobs.{is_failed}
 use Rattle.ckr_desk_turn.specs.NextEvents.{Comes, IsWithinStep}
+use Rattle.ckr_desk_turn.specs.Plans.{system_failure}
+use Rattle.ckr_desk_turn.specs.Select.{run_on_initiator}
 
 -- a run on its initiator within a step, running or marked since the system failed, and what the rules say of it after a code
 pub record IsJudged (layout : Layout) (office : Office) (row : RunRow) (initiator : ℕ) (code : Code) (verdict : Verdict) : Type 0 where
@@ -24,6 +30,16 @@ pub record IsJudged (layout : Layout) (office : Office) (row : RunRow) (initiato
   pub within : IsWithinStep office row.number row number committed start
   pub lodged : row.initiator ≡ Some initiator
   pub judged : verdict_for layout row code ≡ verdict
+
+-- the code that a run has in its turn: that of the system failure where it is marked, else the one that is given
+abbrev pub code_of : DeskModel → RunRow → Option Code → Option Code
+code_of desk row fail = if is_failed (jobs_of desk) row.number then Some system_failure else fail
+
+-- a turn of an initiator whose run is within a step, and has a code in it
+pub record HasCode (desk : DeskModel) (turn : Turn) (row : RunRow) (code : Code) : Type 0 where
+  pub on : run_on_initiator desk.office.tables turn.initiator ≡ Some row
+  pub within : is_within (place_of row) ≡ true
+  pub coded : code_of desk row turn.fail ≡ Some code
 
 -- the run is restarted on its initiator, at its checkpoint in effect or at the start of its step
 abbrev pub restart_of : RunRow → ℕ → Code → Bool → Event

@@ -1,4 +1,4 @@
--- The events of what the desk runs: decks of its form, and runs that continue no other one; without automatic restarts, and with them.
+-- The events of what the desk runs: decks of its form, and runs that continue no other one.
 use Rattle.std.specs.Prelude.{◌≡◌, ◌==◌, ℕ, true, List, Option, None, Some}
 use Rattle.std.specs.List.{AllByRecursion}
 use Rattle.ckr_events.specs.declared.event.Event.{Event}
@@ -21,17 +21,10 @@ IsRunEvent (Rewritten job taken writes lengths place image) deck = Unit {0}
 IsRunEvent (Checkpointed job id taken writes lengths place bytes) deck = Unit {0}
 IsRunEvent (Cancelled job) deck = Unit {0}
 IsRunEvent (StepEnded job step rc writes lengths) deck = Unit {0}
+IsRunEvent (Restarted job initiator code checkpoint) deck = Unit {0}
 IsRunEvent (Ended job ending) deck = Unit {0}
 IsRunEvent (Purged job) deck = Unit {0}
 IsRunEvent _ deck = ⊥
 
 abbrev pub AreRunEvents : List Decked → Type 0
 AreRunEvents events = AllByRecursion (λ (event : Decked). IsRunEvent event.0 event.1) events
-
--- one of these, or an automatic restart
-abbrev pub IsAnyRunEvent : Event → Option Job → Type 0
-IsAnyRunEvent (Restarted job initiator code checkpoint) deck = Unit {0}
-IsAnyRunEvent event deck = IsRunEvent event deck
-
-abbrev pub AreAnyRunEvents : List Decked → Type 0
-AreAnyRunEvents events = AllByRecursion (λ (event : Decked). IsAnyRunEvent event.0 event.1) events

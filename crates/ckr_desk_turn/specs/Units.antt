@@ -19,7 +19,7 @@ use Rattle.ckr_volumes.specs.declared.layout.Layout.{Layout}
 use Rattle.ckr_desk_turn.specs.declared.plan.Plan.{Plan}
 use Rattle.ckr_desk_turn.specs.declared.plan.Plan.TheVariants.{Rest, Tell}
 use Rattle.ckr_desk_turn.specs.declared.reply.Reply.TheVariants.{Worked}
-use Rattle.ckr_desk_turn.specs.Codes.{code_plan, running_reached}
+use Rattle.ckr_desk_turn.specs.Codes.{code_plan, initiator_of, running_reached}
 use Rattle.ckr_desk_turn.specs.Jobs.{TurnJobs, TurnStep, step_name_of}
 
 -- what a unit comes to: the step goes on, with the rewrite in place that the unit made, if it made one, or it ends with a code
@@ -84,4 +84,4 @@ unit_plan layout jobs row step (went None) = Rest (Worked row.number (step_name_
 unit_plan layout jobs row step (went (Some at)) =
     Tell (Worked row.number (step_name_of row) step.taken)
     (RewrittenEvent row.number step.taken step.writes (record { items = step.lengths }) at.0 (fitted (updated_lrecl jobs row) at.1))
-unit_plan layout jobs row step (abended code) = code_plan layout row code (running_reached step)
+unit_plan layout jobs row step (abended code) = code_plan layout row (initiator_of row) code (running_reached step)

@@ -101,6 +101,20 @@ pub fn completed_event(job: u32) -> Event
     }
 }
 
+/// A job is restarted on an initiator after a code, at its checkpoint in effect or at the start of its step. The code's number is at most 4095.
+pub fn restarted_event(job: u32, initiator: u8, code: Code, checkpoint: bool) -> Event
+    requires code { IsCode code }
+    ensures event { result ≡ Event.Restarted job initiator code checkpoint }
+    ensures spelled { IsSpelled result }
+{
+    Event::Restarted {
+        job,
+        initiator,
+        code,
+        checkpoint,
+    }
+}
+
 /// The number of a rule of automatic restarts.
 fn rule_number(rule: Rule) -> u8
     ensures { result ≡ rule_number rule }

@@ -26,17 +26,17 @@ pub use entry_form_laws::{
 pub use event_laws::{events_between_steps_may_come, events_of_calls_may_come};
 pub use events::{
     allocation_event, cancelled_event, checkpointed_event, coded_event, completed_event,
-    purged_event, rewritten_event, selected_event, started_event, step_ended_event,
+    purged_event, restarted_event, rewritten_event, selected_event, started_event,
+    step_ended_event,
 };
-pub use opening_law::{
-    opened_desks_are_desks, sound_events_open_to_a_desk, sound_events_with_restarts_open_to_a_desk,
-};
+pub use opening_law::{opened_desks_are_desks, sound_events_open_to_a_desk};
 pub use plan::Plan;
 pub use queue_law::the_queue_selects_the_next_run;
 pub use reply::{Chkpt, How, Reply, Submitted, Turn};
 pub use restart_laws::{
-    events_of_restarts_may_come, held_runs_stop, refused_restarts_keep_the_desk,
-    restarted_runs_go_on, restarted_runs_stand_at_their_point, restarts_keep_the_desk,
+    codes_come_to_what_the_rules_say, events_of_restarts_may_come, held_runs_stop,
+    refused_restarts_keep_the_desk, restarted_runs_go_on, restarted_runs_stand_at_their_point,
+    restarts_keep_the_desk,
 };
 pub use step_laws::{
     next_units_keep_the_desk, turns_within_a_step_keep_the_desk, units_keep_the_desk,

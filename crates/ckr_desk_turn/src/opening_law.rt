@@ -4,11 +4,10 @@ ghost use Rattle.ckr_points.specs.Events.{AreSound};
 ghost use Rattle.ckr_points.specs.Office.{Office, no_office, office};
 ghost use Rattle.ckr_points.specs.Restart.{Decked};
 ghost use Rattle.ckr_points_invariant.specs.Invariant.{IsKept};
-ghost use Rattle.ckr_desk_turn.specs.CheckSets.{HaveCheckRecords};
 ghost use Rattle.ckr_desk_turn.specs.Desk.{DeskModel, opened};
 ghost use Rattle.ckr_volumes.specs.declared.layout.Layout.{Layout as LayoutOfDisk};
 ghost use Rattle.ckr_desk_turn.specs.Invariant.{HasRuns, IsDesk};
-ghost use Rattle.ckr_desk_turn.specs.RunEvents.{AreAnyRunEvents, AreRunEvents};
+ghost use Rattle.ckr_desk_turn.specs.RunEvents.{AreRunEvents};
 
 /// A desk that is opened on kept events of plain runs is as its events have brought it about: what was running is marked. The events of a
 /// desk are such ones at any time, and so are no events.
@@ -24,12 +23,4 @@ pub fn sound_events_open_to_a_desk()
     ensures kept { (layout : LayoutOfDisk) (events : List Decked) → AreSound layout events → AreRunEvents events → IsKept layout (office events) }
     ensures runs { (layout : LayoutOfDisk) (events : List Decked) → AreSound layout events → AreRunEvents events → HasRuns (office events) }
     ensures opened_so { (layout : LayoutOfDisk) (events : List Decked) → AreSound layout events → AreRunEvents events → IsDesk (opened layout (office events)) }
-{}
-
-/// So it is with automatic restarts among them.
-pub fn sound_events_with_restarts_open_to_a_desk()
-    ensures kept { (layout : LayoutOfDisk) (events : List Decked) → AreSound layout events → AreAnyRunEvents events → IsKept layout (office events) }
-    ensures runs { (layout : LayoutOfDisk) (events : List Decked) → AreSound layout events → AreAnyRunEvents events → HasRuns (office events) }
-    ensures opened_so { (layout : LayoutOfDisk) (events : List Decked) → AreSound layout events → AreAnyRunEvents events → IsDesk (opened layout (office events)) }
-    ensures checks { (layout : LayoutOfDisk) (events : List Decked) → AreSound layout events → AreAnyRunEvents events → HaveCheckRecords (office events).tables.sets }
 {}

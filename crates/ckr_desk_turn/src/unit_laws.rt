@@ -8,8 +8,8 @@ ghost use Rattle.ckr_desk_turn.specs.Desk.{DeskModel, DeskStep, progress_of, wor
 ghost use Rattle.ckr_desk_turn.specs.Units.{StepProgress, first_rewrite, no_more_space};
 ghost use Rattle.ckr_desk_turn.specs.Invariant.{IsDesk, IsGoing, IsOpen, Keeps, next_writes};
 
-/// The next unit of a running step keeps the desk where its program returns by it, and where a write of it has no space: the run ends
-/// with SB37 behind the writes that fit.
+/// The next unit of a running step keeps the desk where its program returns by it, and where a write of it has no space: the run has the
+/// code SB37 then, behind the writes that fit.
 pub fn last_units_keep_the_desk()
     ensures returning { (desk : DeskModel) (on : DeskStep) (going : IsGoing desk.office on) (rc : ℕ) → IsDesk desk → progress_of desk on.run ≡ Some on.progress → IsOpen going.start on.progress → next_writes going.start on.progress ≤ length (work_at going.start).writes → (program_unit (case_at going.start) on.progress.taken).finish ≡ Some (Returned rc) → Keeps desk (work_of on.run desk) }
     ensures spilling { (desk : DeskModel) (on : DeskStep) (going : IsGoing desk.office on) → IsDesk desk → progress_of desk on.run ≡ Some on.progress → IsOpen going.start on.progress → length (work_at going.start).writes < next_writes going.start on.progress → Keeps desk (work_of on.run desk) }
@@ -25,8 +25,8 @@ pub fn work_keeps_the_desk()
     ensures { (desk : DeskModel) (run : ℕ) (progress : StepProgress) → IsDesk desk → progress_of desk run ≡ Some progress → progress.closed ≡ false → Keeps desk (work_of run desk) }
 {}
 
-/// A unit that ends a run with a code ends it as the step's work ends: with its program's code, or with SB37 where a write of it has
-/// no space.
+/// A unit that comes to a code comes to that with which the step's work ends: its program's code, or SB37 where a write of it has no
+/// space.
 pub fn codes_of_units_are_those_of_the_work()
     ensures abended { (start : StepStart) (progress : StepProgress) (code : Code) → IsOpen start progress → next_writes start progress ≤ length (work_at start).writes → (program_unit (case_at start) progress.taken).finish ≡ Some (Abend code) → (work_at start).finish ≡ Abend code }
     ensures spilled { (start : StepStart) (progress : StepProgress) → IsOpen start progress → length (work_at start).writes < next_writes start progress → (work_at start).finish ≡ Abend no_more_space }

@@ -11,11 +11,11 @@ use Rattle.ckr_jcl_decks.specs.Deck.{stored_deck}
 use Rattle.ckr_points_decks.specs.declared.submit.Submission.{Submission}
 use Rattle.ckr_points_decks.specs.declared.submit.Submission.TheVariants.{Accepted, Refused}
 
--- whether a step runs under the RD in effect, where it takes checkpoints or not: no automatic restart may come of it
+-- whether a step runs under the RD in effect, where it takes checkpoints or not: no automatic restart at a checkpoint may come of it
 abbrev pub is_run_under : Option Rd → Bool → Bool
 is_run_under None takes = not takes
-is_run_under (Some R) takes = false
-is_run_under (Some Rnc) takes = false
+is_run_under (Some R) takes = not takes
+is_run_under (Some Rnc) takes = true
 is_run_under (Some Nr) takes = true
 is_run_under (Some Nc) takes = true
 
@@ -23,7 +23,7 @@ is_run_under (Some Nc) takes = true
 abbrev pub is_run_step : Option Rd → Step → Bool
 is_run_step job step = is_run_under (option_or job step.rd) (not (step.parm.chk == 0))
 
--- the desk makes no restarts yet
+-- the desk makes no deferred restarts, and none at a checkpoint, yet
 abbrev pub is_run : Job → Bool
 is_run job = is_none job.restart && (is_none job.syschk && list_all (is_run_step job.rd) job.steps)
 

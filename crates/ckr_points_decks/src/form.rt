@@ -10,9 +10,8 @@ fn is_run_under(rd: Option<Rd>, takes: bool) -> bool
     ensures { result ≡ is_run_under rd takes }
 {
     match rd {
-        None => !takes,
-        Some(Rd::R) | Some(Rd::Rnc) => false,
-        Some(Rd::Nr) | Some(Rd::Nc) => true,
+        None | Some(Rd::R) => !takes,
+        Some(Rd::Rnc | Rd::Nr | Rd::Nc) => true,
     }
 }
 
@@ -29,8 +28,9 @@ fn are_run(job: Option<Rd>, steps: &[Step]) -> bool
     steps.iter().all(|step| is_run_step(job, step))
 }
 
-/// Whether the desk runs this job. It makes no restarts yet: so neither RESTART nor SYSCHK is there, the RD in effect on no step is R or
-/// RNC, and PARM's item CHK stands only where it is NR or NC, under which no checkpoint is followed by an automatic restart (IBM GC28-6708).
+/// Whether the desk runs this job. It makes no deferred restarts, and no automatic ones at a checkpoint, yet: so neither RESTART nor SYSCHK is
+/// there, and PARM's item CHK stands only where the RD in effect is RNC, NR or NC, under which no checkpoint is followed by such a restart
+/// (IBM GC28-6708).
 pub fn is_run(job: &Job) -> bool
     ensures { result ≡ is_run job.now }
 {

@@ -30,7 +30,7 @@ use Rattle.ckr_points_invariant.proofs.PutBack.Sets.{removed_all-holds}
 use Rattle.ckr_points_invariant.proofs.Start.Event.{by-start}
 use Rattle.ckr_volumes.specs.declared.layout.Layout.{Layout}
 use Rattle.ckr_desk_turn.specs.CheckSets.{HasCheckRecords, HaveCheckRecords}
-use Rattle.ckr_desk_turn.specs.RunEvents.{IsAnyRunEvent}
+use Rattle.ckr_desk_turn.specs.RunEvents.{IsRunEvent}
 use Rattle.ckr_desk_turn.proofs.CheckSets.Changes.{committed-have, disposed_all-have, made_all-have, opened_all-have, passed_ended-have, placed-right, put_back-have}
 use Rattle.ckr_desk_turn.proofs.NextEvents.BetweenSteps.{no_restart, plain_parts}
 use Rattle.ckr_desk_turn.proofs.Runs.Rows.{HasRow, HasRows, has-row}
@@ -135,7 +135,7 @@ module _ (layout : Layout) (now : Office) (kept : IsKept layout now) (has : HasR
       (kept_at now.tables.sets effect.set effect.kept.id) each
       (λ entry. back-has (record (row_on initiator row) { in_effect = Some (effect_restarted effect) }) owned (back_to_entry row owned step entry.point)))
 
-  pub have-next : (event : Event) (deck : Option Job) → IsAnyRunEvent event deck → IsNext layout now (event, deck) → Have (office_after (event, deck) now).tables
+  pub have-next : (event : Event) (deck : Option Job) → IsRunEvent event deck → IsNext layout now (event, deck) → Have (office_after (event, deck) now).tables
   have-next (Submitted job cards) None is next = absurd is
   have-next (Submitted job cards) (Some deck) is next = each
   have-next (Selected job initiator zero step id) deck is next = by now.tables (λ (row : RunRow). after_selected row initiator now.tables) (run_of now.tables job) each (λ row. each)

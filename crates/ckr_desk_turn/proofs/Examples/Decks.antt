@@ -207,6 +207,20 @@ counting rd counts =
     codes "//CHKDD DD DSN=CHK.A,DISP=(NEW,CATLG),SPACE=(256,4)" ∷
     []
 
+-- COPY of four cards under this RD into a space of three
+abbrev pub spilling : List ℕ → List (List ℕ)
+spilling rd =
+    codes "//F JOB" ∷
+    (codes "//S1 EXEC PGM=COPY,RD=" ++ rd) ∷
+    codes "//SYSUT1 DD *" ∷
+    codes "A" ∷
+    codes "B" ∷
+    codes "C" ∷
+    codes "D" ∷
+    codes "/*" ∷
+    codes "//SYSUT2 DD DSN=OUT.A,DISP=(NEW,CATLG),SPACE=(80,3)" ∷
+    []
+
 -- COPY of a card behind the records of IN.A
 abbrev pub extending : List (List ℕ)
 extending =

@@ -2,7 +2,7 @@
 use Rattle.std.specs.Prelude.{◌≡◌, ℕ, zero, suc, Bool, true, false, ◌&&◌, List, [], ◌∷◌, ◌++◌, codes, Option, None, Some, refl}
 use Rattle.std.specs.Option.{option_map, option_map_or}
 use Rattle.ckr_base.specs.declared.code.Code.{Code}
-use Rattle.ckr_base.specs.declared.code.Code.TheVariants.{System}
+use Rattle.ckr_base.specs.declared.code.Code.TheVariants.{System, User}
 use Rattle.ckr_events.specs.declared.event.Event.TheVariants.{Checkpointed, Restarted}
 use Rattle.ckr_jcl_decks.proofs.Definitions.{decks_open}
 use Rattle.ckr_library.specs.NameMaps.{Name}
@@ -13,20 +13,21 @@ use Rattle.ckr_points.specs.Payload.{carries}
 use Rattle.ckr_points.specs.Restart.{Decked}
 use Rattle.ckr_points.specs.Rows.{run_of}
 use Rattle.ckr_points.specs.Soundness.{may_come}
-use Rattle.ckr_rules.specs.declared.cases.Rule.TheVariants.{A1, A5}
+use Rattle.ckr_rules.specs.declared.cases.Rule.TheVariants.{A1, A3, A5}
 use Rattle.ckr_rules.specs.declared.cases.Verdict.{Verdict}
 use Rattle.ckr_rules.specs.declared.cases.Verdict.TheVariants.{Step, Checkpoint, Denied}
 use Rattle.ckr_desk_turn.specs.declared.reply.Chkpt.TheVariants.{Done, Suppressed}
-use Rattle.ckr_desk_turn.specs.declared.reply.How.TheVariants.{Completed}
+use Rattle.ckr_desk_turn.specs.declared.reply.How.TheVariants.{Completed, Abended}
 use Rattle.ckr_desk_turn.specs.declared.reply.Reply.{Reply}
-use Rattle.ckr_desk_turn.specs.declared.reply.Reply.TheVariants.{Idle, Selected, Started, Worked, Checkpointed as CheckpointedReply, Cancelled, StepEnded, JobEnded}
+use Rattle.ckr_desk_turn.specs.declared.reply.Reply.TheVariants.{Idle, Selected, Started, Worked, Checkpointed as CheckpointedReply, Cancelled, StepEnded, Restarted as RestartedReply, JobEnded}
 use Rattle.ckr_desk_turn.specs.Codes.{verdict_for}
 use Rattle.ckr_desk_turn.specs.Desk.{DeskModel, behind as behind_event}
 use Rattle.ckr_desk_turn.specs.EntryStates.{checkpoint_state}
+use Rattle.ckr_desk_turn.specs.Turns.{replies_of, turn_of}
 use Rattle.ckr_desk_turn.specs.Units.{StepProgress}
 use Rattle.ckr_desk_turn.proofs.Definitions.{turns_open}
-use Rattle.ckr_desk_turn.proofs.Examples.Decks.{counting, deck, sixty, under}
-use Rattle.ckr_desk_turn.proofs.Examples.Desks.{behind, fresh, line, listing, reopened, replies, with_deck}
+use Rattle.ckr_desk_turn.proofs.Examples.Decks.{counting, deck, sixty, spilling, under}
+use Rattle.ckr_desk_turn.proofs.Examples.Desks.{all_come as turns_come, behind, failing, fresh, line, listing, reopened, replies, turns_by, with_deck}
 use Rattle.ckr_desk_turn.proofs.Examples.Tables.{ended, in_one, selected, started, step_ended, submitted}
 
 -- ---- the desk behind events
@@ -113,6 +114,53 @@ again_listed : listing (behind 10 from_start)
     ≡ line (codes "CHK.A") 0 true 256 0 4 (1, 1, 0) ∷ line (codes "OUT.A") 0 true 80 4 10 (1, 1, 0) ∷ []
 unfolding decks_open jobs_open turns_open
 again_listed = refl
+
+-- ---- the turns that restart it
+
+abbrev on_start : Reply
+on_start = Started 1 (codes "S1")
+
+abbrev restarted_on_s1 : Reply
+restarted_on_s1 = RestartedReply 1 (codes "S1") None 0
+
+-- the code is given: its turn tells the restart, and the step starts again by the next one
+given_event : (turn_of (behind 6 suppressing) (failing abended)).event ≡ Some (Restarted 1 1 abended false)
+unfolding decks_open jobs_open turns_open
+given_event = refl
+
+given_replies : replies_of (failing abended ∷ turns_by 1 2) (behind 6 suppressing) ≡ restarted_on_s1 ∷ on_start ∷ on_s1 1 ∷ []
+unfolding decks_open jobs_open turns_open
+given_replies = refl
+
+-- the system has failed: the run is restarted by the first turn of its initiator, and isn't marked any more
+failed_replies : replies_of (turns_by 1 3) (reopened (behind 6 suppressing)) ≡ restarted_on_s1 ∷ on_start ∷ on_s1 1 ∷ []
+unfolding decks_open jobs_open turns_open
+failed_replies = refl
+
+-- a code that isn't eligible ends it
+ineligible : replies_of (failing (User 7) ∷ []) (behind 6 suppressing) ≡ JobEnded 1 (Abended (User 7) A3) ∷ []
+unfolding decks_open jobs_open turns_open
+ineligible = refl
+
+-- its own code comes again at each start: it is restarted three times, and ended then
+abbrev spilling_r : DeskModel
+spilling_r = with_deck (deck (spilling (codes "R"))) fresh
+
+abbrev one_start : List Reply
+one_start = on_start ∷ on_s1 1 ∷ on_s1 2 ∷ on_s1 3 ∷ []
+
+spilling_replies : replies 22 spilling_r
+    ≡ Selected 1 ∷ one_start ++ restarted_on_s1 ∷ one_start ++ restarted_on_s1 ∷ one_start ++ restarted_on_s1 ∷ one_start ++ JobEnded 1 (Abended (System 2871) A5) ∷ Idle ∷ []
+unfolding decks_open jobs_open turns_open
+spilling_replies = refl
+
+spilling_comes : turns_come (turns_by 1 22) spilling_r ≡ true
+unfolding decks_open jobs_open turns_open
+spilling_comes = refl
+
+spilling_listed : listing (behind 22 spilling_r) ≡ line (codes "OUT.A") 0 true 80 3 3 (1, 1, 0) ∷ []
+unfolding decks_open jobs_open turns_open
+spilling_listed = refl
 
 -- ---- RD=R, behind the cancel of restarts: at the start of the step
 

@@ -2,7 +2,7 @@
 use Rattle.std.proofs.Common.{◌≡◌, ◌≤◌, ℕ, Bool, true, false, ◌&&◌, ◌||◌, List, length, refl, ap, sym, ◌∙◌, subst, Option, None}
 use Rattle.std.specs.Prelude.{◌==◌}
 use Rattle.std.specs.Option.{option_map, option_map_or}
-use Rattle.std.proofs.lemmas.Bool.{and_from, or_left, or_right}
+use Rattle.std.proofs.lemmas.Bool.{and_from, or_left}
 use Rattle.std.proofs.lemmas.Option.{same_Some}
 use Rattle.ckr_base.specs.declared.code.Code.{Code}
 use Rattle.ckr_base.specs.declared.programs.Finish.TheVariants.{Returned}
@@ -20,32 +20,25 @@ use Rattle.ckr_points.specs.declared.run.RunState.{RunState}
 use Rattle.ckr_points.specs.declared.run.RunState.TheVariants.{Released as ReleasedRun, On}
 use Rattle.ckr_points.specs.Follows.{is_in_state, is_running, is_within, lengths_follow, state_number}
 use Rattle.ckr_points.specs.Payload.{commits, is_returned, lengths_at, of_start, rewrites_nothing, start_in_office}
-use Rattle.ckr_points.specs.RuleCases.{auto_case}
 use Rattle.ckr_points.specs.Office.{Leg, is_holder, leg_of}
 use Rattle.ckr_points.specs.Restart.{place_of, step_in}
 use Rattle.ckr_points.specs.Rows.{RunRow, run_of}
-use Rattle.ckr_points.specs.Soundness.{denying, ending_names_first}
-use Rattle.ckr_rules.specs.RuleTables.{automatic, rule_number}
-use Rattle.ckr_rules.specs.declared.cases.Verdict.{Verdict}
-use Rattle.ckr_rules.specs.declared.cases.Verdict.TheVariants.{Step, Checkpoint, Denied}
+use Rattle.ckr_points.specs.Soundness.{ending_names_first}
+use Rattle.ckr_rules.specs.RuleTables.{rule_number}
+use Rattle.ckr_rules.specs.declared.cases.Rule.{Rule}
 use Rattle.ckr_points_invariant.proofs.Steps.Commits.{IsRunning, its_start}
 use Rattle.ckr_points_invariant.proofs.Steps.Events.{led-by}
 use Rattle.ckr_points_invariant.proofs.Steps.Walks.{start_at-of}
-use Rattle.ckr_desk_turn.specs.Codes.{rule_by, rule_for}
+use Rattle.ckr_desk_turn.specs.Codes.{verdict_for}
 use Rattle.ckr_desk_turn.specs.Desk.{DeskModel, start_of}
 use Rattle.ckr_desk_turn.specs.NextEvents.{Comes, IsWithinStep}
 use Rattle.ckr_desk_turn.specs.Invariant.{IsDesk}
+use Rattle.ckr_desk_turn.proofs.Codes.{may_end}
 use Rattle.ckr_desk_turn.proofs.Units.Outputs.{lengths-carried, lengths-follow}
 
 pub start_at-none : (leg : Leg) (number : ℕ) → step_at leg.job number ≡ None → start_at leg.job leg.start number ≡ None
 unfolding start_at
 start_at-none leg number none = ap (option_map _) none
-
--- the rule that ends a run is the one that denies its restart, or that of the operator
-first_rule : (verdict : Verdict) → (rule_number (rule_by verdict) == 6 || rule_number (rule_by verdict) == denying verdict) ≡ true
-first_rule (Denied rule) = or_right (rule_number rule == 6) _ (equal-itself (rule_number rule))
-first_rule Step = refl
-first_rule Checkpoint = refl
 
 module _ (desk : DeskModel) (is : IsDesk desk) (run : ℕ) (row : RunRow) (number committed : ℕ) (start : StepStart) (within : IsWithinStep desk.office run row number committed start) where
   -- the run of the step, with its leg
@@ -107,13 +100,13 @@ module _ (desk : DeskModel) (is : IsDesk desk) (run : ℕ) (row : RunRow) (numbe
           (ap (is_returned rc) returned ∙ equal-itself rc));
     }
 
-    -- the run ends with a code by the rule that denies its restart
-    pub code-comes : (code : Code) → Comes desk (EndedEvent run (CodedEnding code (rule_number (rule_for desk.layout row code)) to (record { items = lengths_then })))
-    code-comes code = record {
+    -- the run ends with a code by the rule that denies its restart, or by that of the operator
+    pub code-comes : (code : Code) (rule : Rule) → may_end rule (verdict_for desk.layout row code) ≡ true → Comes desk (EndedEvent run (CodedEnding code (rule_number rule) to (record { items = lengths_then })))
+    code-comes code rule first = record {
       may =
           and_from _ _
           (of-run (λ row. (is_running row || is_in_state ReleasedRun row) && lengths_follow desk.office.tables row lengths_then)
           (and_from (is_running row || is_in_state ReleasedRun row) (lengths_follow desk.office.tables row lengths_then) (or_left (is_running row) (is_in_state ReleasedRun row) runs) follow-so))
-          (of-run (λ other. ending_names_first desk.layout other (CodedEnding code (rule_number (rule_for desk.layout row code)) to (record { items = lengths_then }))) (first_rule (automatic (auto_case row (step_in (place_of row)) desk.layout.eligible.items code false))));
+          (of-run (λ other. ending_names_first desk.layout other (CodedEnding code (rule_number rule) to (record { items = lengths_then }))) first);
       carried = of-start (λ row. commits desk.office.tables.sets row to lengths_then) carried-so;
     }

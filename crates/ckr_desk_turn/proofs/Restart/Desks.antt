@@ -3,24 +3,29 @@ use Rattle.std.proofs.Common.{◌≡◌, ◌≢◌, ℕ, Bool, true, false, not,
 use Rattle.std.specs.Prelude.{◌==◌}
 use Rattle.std.specs.List.{list_any}
 use Rattle.std.proofs.lemmas.Bool.{or_left, or_right}
-use Rattle.arrayvec.specs.ArrayVec.{ArrayVec}
 use Rattle.ckr_base.specs.declared.code.Code.{Code}
 use Rattle.ckr_base.proofs.Numbers.{equal-itself}
+use Rattle.ckr_events.specs.declared.event.Event.{Event}
 use Rattle.ckr_events.specs.declared.event.Event.TheVariants.{Ended as EndedEvent}
 use Rattle.ckr_events.specs.declared.event.Ending.TheVariants.{Coded as CodedEnding}
+use Rattle.ckr_meaning.specs.StepRun.{StepStart}
 use Rattle.ckr_points.specs.Follows.{is_running}
 use Rattle.ckr_points.specs.Office.{Office, office_after}
 use Rattle.ckr_points.specs.Rows.{RunRow}
 use Rattle.ckr_points_invariant.proofs.PlainRuns.SoundEvents.{AreKept}
 use Rattle.ckr_rules.specs.RuleTables.{rule_number}
+use Rattle.ckr_rules.specs.declared.cases.Rule.{Rule}
 use Rattle.ckr_rules.specs.declared.cases.Rule.TheVariants.{A6}
 use Rattle.ckr_rules.specs.declared.cases.Verdict.{Verdict}
 use Rattle.ckr_rules.specs.declared.cases.Verdict.TheVariants.{Checkpoint, Step}
-use Rattle.ckr_desk_turn.specs.Codes.{reached_by, rule_by}
-use Rattle.ckr_desk_turn.specs.Desk.{DeskModel, DeskStep, at_entry, behind, jobs_of, without_run}
-use Rattle.ckr_desk_turn.specs.Invariant.{IsDesk, is_accounted}
-use Rattle.ckr_desk_turn.specs.NextEvents.{Comes}
+use Rattle.ckr_desk_turn.specs.declared.plan.Plan.TheVariants.{Tell}
+use Rattle.ckr_desk_turn.specs.declared.reply.Reply.{Reply}
+use Rattle.ckr_desk_turn.specs.Codes.{initiator_of, reached_by, verdict_for}
+use Rattle.ckr_desk_turn.specs.Desk.{DeskModel, DeskStep, at_entry, behind, done_by, jobs_of, without_run}
+use Rattle.ckr_desk_turn.specs.Invariant.{IsDesk, Keeps, is_accounted}
+use Rattle.ckr_desk_turn.specs.NextEvents.{IsWithinStep}
 use Rattle.ckr_desk_turn.specs.Restarts.{GoesOnBy, IsJudged, refusal_of, restart_of}
+use Rattle.ckr_desk_turn.proofs.Codes.{may_end, initiator-its}
 use Rattle.ckr_desk_turn.proofs.OtherRuns.{accounted-then, admitted-then, each_row, failed-rest, failed-same, going-rest, plain-then, row-admitted, row-plain, running-same}
 use Rattle.ckr_desk_turn.proofs.Restart.Checkpoints.{IsBack, back}
 use Rattle.ckr_desk_turn.proofs.Restart.Events.{restart-comes, restart-keeps}
@@ -28,6 +33,21 @@ use Rattle.ckr_desk_turn.proofs.Restart.Points.{running-again}
 use Rattle.ckr_desk_turn.proofs.Restart.Steps.{IsAtStart, start-row}
 use Rattle.ckr_desk_turn.proofs.RunningSteps.{reached-comes}
 use Rattle.ckr_desk_turn.proofs.StepEnd.{code-kept}
+
+-- what the rules say of a run within a step, on its initiator
+pub judged-so : (desk : DeskModel) → IsDesk desk → (row : RunRow) (number committed : ℕ) (start : StepStart) → IsWithinStep desk.office row.number row number committed start → (code : Code) (verdict : Verdict) → verdict_for desk.layout row code ≡ verdict → IsJudged desk.layout desk.office row (initiator_of row) code verdict
+judged-so desk is row number committed start within code verdict judged = record {
+  number = number;
+  committed = committed;
+  start = start;
+  within = within;
+  lodged = initiator-its row within.on (row-admitted desk is row.number row within.row_at);
+  judged = judged;
+}
+
+-- a desk that goes on by the event of a plan
+pub told-keeps : (desk : DeskModel) (reply : Reply) (event : Event) → GoesOnBy desk event → Keeps desk (done_by (Tell reply event) desk)
+told-keeps desk reply event goes = record { comes = goes.comes; kept = goes.kept }
 
 module _ (desk : DeskModel) (is : IsDesk desk) (row : RunRow) (initiator : ℕ) (code : Code) where
   are : AreKept desk.layout desk.office
@@ -110,21 +130,18 @@ module _ (desk : DeskModel) (is : IsDesk desk) (row : RunRow) (initiator : ℕ) 
           (sym (running-again desk.office.tables row then.entry desk.running its.within.row_at then.there)) later-kept;
     }
 
-  -- ---- where the operator refuses it
+  -- ---- where it ends
 
-  pub refusal-goes_on : (verdict : Verdict) → IsJudged desk.layout desk.office row initiator code verdict → rule_by verdict ≡ A6 → GoesOnBy desk (refusal_of desk row code)
-  refusal-goes_on verdict its restarts = record {
-    comes = comes;
-    kept = code-kept desk is row.number row its.number its.committed its.start its.within (row-plain desk is row.number row its.within.row_at) code (rule_number A6) writes lengths comes;
-  }
-    where
-      writes : ℕ
-      writes = (reached_by (jobs_of desk) row).writes
+  module _ (number committed : ℕ) (start : StepStart) (within : IsWithinStep desk.office row.number row number committed start) where
+    -- by the rule that denies its restart, or by that of the operator
+    pub end-goes_on : (rule : Rule) → may_end rule (verdict_for desk.layout row code) ≡ true → GoesOnBy desk (EndedEvent row.number (CodedEnding code (rule_number rule) (reached_by (jobs_of desk) row).writes (record { items = (reached_by (jobs_of desk) row).lengths })))
+    end-goes_on rule first =
+        let comes = reached-comes desk is row.number row number committed start within code rule first in
+        record {
+          comes = comes;
+          kept = code-kept desk is row.number row number committed start within (row-plain desk is row.number row within.row_at) code (rule_number rule) (reached_by (jobs_of desk) row).writes (record { items = (reached_by (jobs_of desk) row).lengths }) comes;
+        }
 
-      lengths : ArrayVec ℕ
-      lengths = record { items = (reached_by (jobs_of desk) row).lengths }
-
-      comes : Comes desk (EndedEvent row.number (CodedEnding code (rule_number A6) writes lengths))
-      comes =
-          subst (λ rule. Comes desk (EndedEvent row.number (CodedEnding code (rule_number rule) writes lengths))) (ap rule_by its.judged ∙ restarts)
-          (reached-comes desk is row.number row its.number its.committed its.start its.within code)
+  -- where the operator refuses it
+  pub refusal-goes_on : (verdict : Verdict) → IsJudged desk.layout desk.office row initiator code verdict → GoesOnBy desk (refusal_of desk row code)
+  refusal-goes_on verdict its = end-goes_on its.number its.committed its.start its.within A6 refl

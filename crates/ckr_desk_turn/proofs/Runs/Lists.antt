@@ -15,7 +15,7 @@ use Rattle.ckr_points_invariant.proofs.PlainRuns.SoundEvents.{AreKept, next-kept
 use Rattle.ckr_desk_turn.specs.CheckSets.{HaveCheckRecords}
 use Rattle.ckr_desk_turn.specs.Desk.{opened}
 use Rattle.ckr_desk_turn.specs.Invariant.{HasRuns, IsDesk}
-use Rattle.ckr_desk_turn.specs.RunEvents.{AreAnyRunEvents, AreRunEvents, IsAnyRunEvent, IsRunEvent}
+use Rattle.ckr_desk_turn.specs.RunEvents.{AreRunEvents, IsRunEvent}
 use Rattle.ckr_desk_turn.proofs.CheckSets.Events.{have-next, none-before}
 use Rattle.ckr_desk_turn.proofs.Opening.{opened-is}
 use Rattle.ckr_desk_turn.proofs.Runs.Ends.{coded-runs, completed-runs, refused-runs}
@@ -24,13 +24,13 @@ use Rattle.ckr_desk_turn.proofs.Runs.Restarts.{restarted-runs}
 use Rattle.ckr_desk_turn.proofs.Runs.Rows.{HasRows, runs-of}
 
 -- no run continues another one
-on-so : (event : Event) (deck : Option Job) → IsAnyRunEvent event deck → continues event ≡ false
+on-so : (event : Event) (deck : Option Job) → IsRunEvent event deck → continues event ≡ false
 on-so (Selected job initiator zero step id) deck is = refl
 on-so (Selected job initiator (suc before) step id) deck is = absurd (none-before before is)
 on-so _ deck is = refl
 
 module _ (layout : Layout) (now : Office) (are : AreKept layout now) (has : HasRows now) where
-  runs-next : (event : Event) (deck : Option Job) → IsAnyRunEvent event deck → IsNext layout now (event, deck) → HasRows (office_after (event, deck) now)
+  runs-next : (event : Event) (deck : Option Job) → IsRunEvent event deck → IsNext layout now (event, deck) → HasRows (office_after (event, deck) now)
   runs-next (Submitted job cards) deck is next = submitted-runs layout now are.kept.events has job cards deck next.may is
   runs-next (Selected job initiator zero step id) deck is next = selected-runs layout now are.kept.events has job initiator step id deck next.may
   runs-next (Selected job initiator (suc before) step id) deck is next = absurd (none-before before is)
@@ -52,7 +52,7 @@ record AreLeft (layout : Layout) (office : Office) : Type 0 where
   pub has : HasRows office
   pub checks : HaveCheckRecords office.tables.sets
 
-left-from : (layout : Layout) (events : List Decked) (now : Office) → AreSoundFrom layout now events → AreAnyRunEvents events → AreLeft layout now → AreLeft layout (office_from events now)
+left-from : (layout : Layout) (events : List Decked) (now : Office) → AreSoundFrom layout now events → AreRunEvents events → AreLeft layout now → AreLeft layout (office_from events now)
 left-from layout [] now are run left = left
 left-from layout (event ∷ rest) now are run left =
     let next : IsNext layout now (event.0, event.1) = record { may = are.0.may; carried = are.0.carried } in
@@ -63,7 +63,7 @@ left-from layout (event ∷ rest) now are run left =
       checks = have-next layout now left.are.kept left.has left.checks event.0 event.1 run.0 next;
     })
 
-left-at : (layout : Layout) (events : List Decked) → AreSound layout events → AreAnyRunEvents events → AreLeft layout (office events)
+left-at : (layout : Layout) (events : List Decked) → AreSound layout events → AreRunEvents events → AreLeft layout (office events)
 left-at layout events are run =
     left-from layout events no_office are run
     (record {
@@ -72,41 +72,19 @@ left-at layout events are run =
       checks = tt;
     })
 
--- ---- events with restarts among them
+-- ---- what they leave
 
-pub any-kept : (layout : Layout) (events : List Decked) → AreSound layout events → AreAnyRunEvents events → IsKept layout (office events)
-any-kept layout events are run = (left-at layout events are run).are.kept
+pub events-kept : (layout : Layout) (events : List Decked) → AreSound layout events → AreRunEvents events → IsKept layout (office events)
+events-kept layout events are run = (left-at layout events are run).are.kept
 
-pub any-run : (layout : Layout) (events : List Decked) → AreSound layout events → AreAnyRunEvents events → HasRuns (office events)
-any-run layout events are run =
+pub events-run : (layout : Layout) (events : List Decked) → AreSound layout events → AreRunEvents events → HasRuns (office events)
+events-run layout events are run =
     let left : AreLeft layout (office events) = left-at layout events are run in
     runs-of (office events) left.has left.are.pointed left.are.ready
 
-pub any-checked : (layout : Layout) (events : List Decked) → AreSound layout events → AreAnyRunEvents events → HaveCheckRecords (office events).tables.sets
-any-checked layout events are run = (left-at layout events are run).checks
+pub events-checked : (layout : Layout) (events : List Decked) → AreSound layout events → AreRunEvents events → HaveCheckRecords (office events).tables.sets
+events-checked layout events are run = (left-at layout events are run).checks
 
 -- a desk that is opened on them
-pub any-opened : (layout : Layout) (events : List Decked) → AreSound layout events → AreAnyRunEvents events → IsDesk (opened layout (office events))
-any-opened layout events are run = opened-is layout (office events) (any-kept layout events are run) (any-run layout events are run)
-
--- ---- and without
-
-any-one : (event : Event) (deck : Option Job) → IsRunEvent event deck → IsAnyRunEvent event deck
-any-one (Restarted job initiator code checkpoint) deck is = tt
-any-one _ deck is = is
-
-any-all : (events : List Decked) → AreRunEvents events → AreAnyRunEvents events
-any-all [] run = tt
-any-all (event ∷ rest) run = (any-one event.0 event.1 run.0, any-all rest run.1)
-
-pub events-kept : (layout : Layout) (events : List Decked) → AreSound layout events → AreRunEvents events → IsKept layout (office events)
-events-kept layout events are run = any-kept layout events are (any-all events run)
-
-pub events-run : (layout : Layout) (events : List Decked) → AreSound layout events → AreRunEvents events → HasRuns (office events)
-events-run layout events are run = any-run layout events are (any-all events run)
-
-pub events-checked : (layout : Layout) (events : List Decked) → AreSound layout events → AreRunEvents events → HaveCheckRecords (office events).tables.sets
-events-checked layout events are run = any-checked layout events are (any-all events run)
-
 pub events-opened : (layout : Layout) (events : List Decked) → AreSound layout events → AreRunEvents events → IsDesk (opened layout (office events))
-events-opened layout events are run = any-opened layout events are (any-all events run)
+events-opened layout events are run = opened-is layout (office events) (events-kept layout events are run) (events-run layout events are run)

@@ -13,7 +13,7 @@ use Rattle.ckr_points.specs.Rows.{RunRow}
 use Rattle.ckr_desk_turn.specs.declared.plan.Plan.{Plan}
 use Rattle.ckr_desk_turn.specs.declared.plan.Plan.TheVariants.{Rest}
 use Rattle.ckr_desk_turn.specs.declared.reply.Reply.TheVariants.{Idle}
-use Rattle.ckr_desk_turn.specs.Codes.{code_plan, reached_by}
+use Rattle.ckr_desk_turn.specs.Codes.{code_plan, initiator_of, reached_by}
 use Rattle.ckr_desk_turn.specs.Desk.{DeskModel, DeskStep, jobs_of, progress_of, seen, seen_from, start_in_run}
 use Rattle.ckr_desk_turn.specs.Due.{next_due}
 use Rattle.ckr_desk_turn.specs.Jobs.{TurnStep, is_failed, running_in}
@@ -65,6 +65,6 @@ plan-due desk row number committed start progress within isnt known =
   where
     planned : Bool → Plan
     planned b = elim b [
-      | true ↦ code_plan desk.layout row system_failure (reached_by (jobs_of desk) row)
+      | true ↦ code_plan desk.layout row (initiator_of row) system_failure (reached_by (jobs_of desk) row)
       | false ↦ fail_plan desk.layout (jobs_of desk) row None
     ]

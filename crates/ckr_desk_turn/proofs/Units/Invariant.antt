@@ -11,6 +11,7 @@ use Rattle.ckr_base.specs.declared.code.Code.{Code}
 use Rattle.ckr_base.proofs.Bools.{bool-cases}
 use Rattle.ckr_base.proofs.Numbers.{equal-itself}
 use Rattle.ckr_base.proofs.Sequences.{all-get, filter-twice}
+use Rattle.ckr_events.specs.declared.event.Event.{Event}
 use Rattle.ckr_events.specs.declared.event.Event.TheVariants.{Ended as EndedEvent}
 use Rattle.ckr_events.specs.declared.event.Ending.TheVariants.{Coded as CodedEnding}
 use Rattle.ckr_meaning.specs.StepRun.{StepStart, work_at}
@@ -19,11 +20,17 @@ use Rattle.ckr_points.specs.Office.{Office}
 use Rattle.ckr_points.specs.Payload.{lengths_at, rewrites_nothing}
 use Rattle.ckr_points.specs.Rows.{RunRow, run_of}
 use Rattle.ckr_rules.specs.RuleTables.{rule_number}
-use Rattle.ckr_desk_turn.specs.Codes.{CodePlaceModel, code_plan, rule_for, running_reached}
-use Rattle.ckr_desk_turn.specs.Desk.{DeskModel, DeskStep, behind as desk_behind, done_by, unit_done, with_change, with_progress, without_run}
+use Rattle.ckr_rules.specs.declared.cases.Verdict.TheVariants.{Step}
+use Rattle.ckr_desk_turn.specs.declared.plan.Plan.TheVariants.{Tell}
+use Rattle.ckr_desk_turn.specs.declared.reply.Reply.{Reply}
+use Rattle.ckr_desk_turn.specs.Codes.{CodePlaceModel, code_plan, initiator_of, running_reached}
+use Rattle.ckr_desk_turn.specs.Desk.{DeskModel, DeskStep, behind as desk_behind, done_by, running_behind, unit_done, with_change, with_progress, without_run}
 use Rattle.ckr_desk_turn.specs.Units.{StepProgress, went, abended}
 use Rattle.ckr_desk_turn.specs.NextEvents.{Comes, IsWithinStep}
 use Rattle.ckr_desk_turn.specs.Invariant.{HasCome, IsDesk, IsGoing, Keeps, is_accounted}
+use Rattle.ckr_desk_turn.specs.Restarts.{GoesOnBy, restart_of}
+use Rattle.ckr_desk_turn.proofs.Codes.{by-verdict}
+use Rattle.ckr_desk_turn.proofs.Restart.Desks.{judged-so, step-goes_on}
 use Rattle.ckr_desk_turn.proofs.StepEnd.{code-kept}
 use Rattle.ckr_desk_turn.proofs.OtherRuns.{all-by, row-plain, running-same}
 use Rattle.ckr_desk_turn.proofs.RunningSteps.{going-within, seen-so}
@@ -103,26 +110,38 @@ pub went-keeps : (desk : DeskModel) → IsDesk desk → (row : RunRow) (progress
 went-keeps desk is row progress going = record { comes = tt; kept = moved-kept desk is row.number progress going }
 
 -- without the step of a run, however far it had come
-without-moved : (run : ℕ) (progress : StepProgress) (running : List DeskStep) → without_run run (record { run = run; progress = progress } ∷ without_run run running) ≡ without_run run running
+pub without-moved : (run : ℕ) (progress : StepProgress) (running : List DeskStep) → without_run run (record { run = run; progress = progress } ∷ without_run run running) ≡ without_run run running
 without-moved run progress running =
     ap (λ b. cond (not b) (record { run = run; progress = progress } ∷ without_run run (without_run run running)) (without_run run (without_run run running))) (equal-itself run)
     ∙ filter-twice (λ (step : DeskStep). not (step.run == run)) running
 
--- a unit by which the step ends with a code, behind writes that rewrite nothing
+-- behind an event by which a step stops, however far it had come
+stopped-keeps : (desk : DeskModel) (run : ℕ) (progress : StepProgress) (reply : Reply) (event : Event) → ((running : List DeskStep) → running_behind desk.office.tables event running ≡ without_run run running) → GoesOnBy desk event → Keeps desk (done_by (Tell reply event) (with_progress run progress desk))
+stopped-keeps desk run progress reply event stops goes = record {
+  comes = goes.comes;
+  kept =
+      subst (λ running. IsDesk (record (desk_behind event None desk) { running = running }))
+      (stops desk.running ∙ sym (without-moved run progress desk.running) ∙ sym (stops (with_progress run progress desk).running)) goes.kept;
+}
+
+-- a unit by which the step ends with a code, behind writes that rewrite nothing: the run ends, or is restarted on its initiator
 pub ended-keeps : (desk : DeskModel) → IsDesk desk → (row : RunRow) (number committed : ℕ) (start : StepStart) → IsWithinStep desk.office row.number row number committed start → (progress : StepProgress) (code : Code) → committed ≤ progress.writes → progress.writes ≤ length (work_at start).writes → rewrites_nothing start committed progress.writes ≡ true → Keeps desk (unit_done row (record { unit = abended code; progress = progress }) desk)
 ended-keeps desk is row number committed start within progress code behind fit plain =
-    let rule : ℕ = rule_number (rule_for desk.layout row code) in
     let lengths : ArrayVec ℕ = record { items = lengths_at start desk.office.tables.sets progress.writes } in
-    let comes : Comes desk (EndedEvent row.number (CodedEnding code rule progress.writes lengths)) = code-comes desk is row.number row number committed start within progress.writes behind fit plain code in
-    subst (λ (s : CodePlaceModel). Keeps desk (done_by (code_plan desk.layout row code s) (with_progress row.number progress desk)))
+    let reached : CodePlaceModel = record { writes = progress.writes; lengths = lengths.items } in
+    subst (λ (s : CodePlaceModel). Keeps desk (done_by (code_plan desk.layout row (initiator_of row) code s) (with_progress row.number progress desk)))
     (sym (ap running_reached (seen-so desk.office row.number progress row start within.row_at within.start_at)))
+    (by-verdict (λ plan. Keeps desk (done_by plan (with_progress row.number progress desk))) desk.layout row (initiator_of row) code reached
+    (λ rule first.
+    let comes : Comes desk (EndedEvent row.number (CodedEnding code (rule_number rule) progress.writes lengths)) = code-comes desk is row.number row number committed start within progress.writes behind fit plain code rule first in
+    stopped-keeps desk row.number progress _ (EndedEvent row.number (CodedEnding code (rule_number rule) progress.writes lengths)) (λ running. refl)
     (record {
       comes = comes;
-      kept =
-          subst (λ running. IsDesk (record (desk_behind (EndedEvent row.number (CodedEnding code rule progress.writes lengths)) None desk) { running = running }))
-          (sym (without-moved row.number progress desk.running))
-          (code-kept desk is row.number row number committed start within (row-plain desk is row.number row within.row_at) code rule progress.writes lengths comes);
-    })
+      kept = code-kept desk is row.number row number committed start within (row-plain desk is row.number row within.row_at) code (rule_number rule) progress.writes lengths comes;
+    }))
+    (λ judged.
+    stopped-keeps desk row.number progress _ (restart_of row (initiator_of row) code false) (λ running. refl)
+    (step-goes_on desk is row (initiator_of row) code (judged-so desk is row number committed start within code Step judged))))
 
 pub abended-keeps : (desk : DeskModel) → IsDesk desk → (row : RunRow) (progress : StepProgress) (code : Code) → run_of desk.office.tables row.number ≡ Some row → IsGoing desk.office (record { run = row.number; progress = progress }) → Keeps desk (unit_done row (record { unit = abended code; progress = progress }) desk)
 abended-keeps desk is row progress code at going =
