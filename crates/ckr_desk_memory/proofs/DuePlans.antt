@@ -23,8 +23,10 @@ use Rattle.ckr_desk_turn.specs.declared.reply.Reply.TheVariants.{Idle}
 use Rattle.ckr_desk_turn.specs.declared.reply.Turn.{Turn}
 use Rattle.ckr_desk_turn.specs.Allocation.{allocation_of}
 use Rattle.ckr_desk_turn.specs.Select.{next_run, run_on_initiator}
+use Rattle.ckr_desk_turn.specs.Codes.{code_plan, initiator_of, reached_by}
 use Rattle.ckr_desk_turn.specs.Jobs.{TurnStep, is_failed, running_in}
-use Rattle.ckr_desk_turn.specs.Plans.{between_plan, chosen_plan, due_plan, fail_plan, free_plan, is_within, placed_plan, plan_of, run_plan, running_plan, suppressed_plan}
+use Rattle.ckr_desk_turn.specs.Plans.{between_plan, chosen_plan, due_plan, fail_plan, free_plan, is_within, placed_plan, plan_of, run_plan, running_plan, suppressed_plan, system_failure}
+use Rattle.ckr_desk_turn.proofs.Codes.{by-verdict}
 use Rattle.ckr_volumes.specs.declared.layout.Layout.{Layout}
 use Rattle.ckr_desk_memory.specs.EventChanges.{is_of_run}
 use Rattle.ckr_desk_memory.specs.Plans.{HasDue, IsDue}
@@ -84,15 +86,18 @@ module _ (layout : Layout) (jobs : JobsView) where
   placed-due row (Opened number) = between-due row number
   placed-due row (Within number writes) = any-due (running_in (jobs_of jobs) row.number) (running_plan row number) _ tt (running-due row number)
 
+  coded-due : (row : RunRow) (initiator : ℕ) (code : Code) → HasDue jobs (code_plan layout row initiator code (reached_by (jobs_of jobs) row))
+  coded-due row initiator code = by-verdict (HasDue jobs) layout row initiator code (reached_by (jobs_of jobs) row) (λ rule ends. tt) (λ judged. tt)
+
   fail-due : (row : RunRow) (fail : Option Code) → HasDue jobs (fail_plan layout (jobs_of jobs) row fail)
   fail-due row None = placed-due row (place_of row)
-  fail-due row (Some code) = if-due (is_within (place_of row)) _ _ tt tt
+  fail-due row (Some code) = if-due (is_within (place_of row)) _ _ (coded-due row (initiator_of row) code) tt
 
   run-due : (fail : Option Code) (row : RunRow) → HasDue jobs (run_plan layout (jobs_of jobs) fail row)
-  run-due fail row = if-due (is_failed (jobs_of jobs) row.number) _ _ tt (fail-due row fail)
+  run-due fail row = if-due (is_failed (jobs_of jobs) row.number) _ _ (coded-due row (initiator_of row) system_failure) (fail-due row fail)
 
   chosen-due : (initiator : ℕ) (row : RunRow) → HasDue jobs (chosen_plan layout (jobs_of jobs) initiator row)
-  chosen-due initiator row = some-due row.code _ _ (λ none. tt) (λ code. tt)
+  chosen-due initiator row = some-due row.code _ _ (λ none. tt) (λ code. coded-due row initiator code)
 
   free-due : (initiator : ℕ) (fail : Option Code) → HasDue jobs (free_plan layout (jobs_of jobs) initiator fail)
   free-due initiator (Some code) = tt

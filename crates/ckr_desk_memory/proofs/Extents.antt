@@ -1,12 +1,12 @@
 -- The data sets stay laid out behind an event that follows.
-use Rattle.std.proofs.Common.{◌≡◌, ◌==◌, ◌&&◌, ℕ, Bool, true, false, cond, List, refl, ap, sym, ◌∙◌, subst, Option, None, Some}
+use Rattle.std.proofs.Common.{◌≡◌, ◌==◌, ◌&&◌, ℕ, Bool, true, false, not, cond, List, refl, ap, sym, ◌∙◌, subst, Option, None, Some}
 use Rattle.std.proofs.lemmas.Bool.{false≢true}
 use Rattle.std.specs.Option.{option_map_or}
 use Rattle.ckr_base.proofs.Bools.{and-first, and-second}
 use Rattle.ckr_base.proofs.Numbers.{equal-true}
 use Rattle.ckr_events.specs.declared.event.Made.{Made}
 use Rattle.ckr_events.specs.declared.event.Event.{Event}
-use Rattle.ckr_events.specs.declared.event.Event.TheVariants.{Submitted, Selected, Started, Rewritten, Checkpointed, Cancelled, StepEnded, Ended, Purged}
+use Rattle.ckr_events.specs.declared.event.Event.TheVariants.{Submitted, Selected, Started, Rewritten, Checkpointed, Cancelled, StepEnded, Restarted, Ended, Purged}
 use Rattle.ckr_events.specs.declared.event.Ending.{Ending}
 use Rattle.ckr_events.specs.declared.event.Ending.TheVariants.{Completed, Coded, Allocation}
 use Rattle.ckr_jcl.specs.declared.deck.Job.{Job}
@@ -17,7 +17,7 @@ use Rattle.ckr_library.specs.declared.sets.DataSet.{DataSet}
 use Rattle.ckr_library.specs.declared.sets.Kept.{Kept}
 use Rattle.ckr_library.specs.declared.sets.Stamp.{Stamp}
 use Rattle.ckr_meaning.specs.Allotments.{DdAllotment}
-use Rattle.ckr_meaning.specs.EffectiveJob.{OwnedStep, flaws_in, placed_in, stamp_of}
+use Rattle.ckr_meaning.specs.EffectiveJob.{OwnedStep, flaws_in, names_of, placed_in, stamp_of}
 use Rattle.ckr_meaning.specs.StepRun.{rewritten_stamp}
 use Rattle.ckr_meaning.specs.declared.place.Place.{Place}
 use Rattle.ckr_meaning.specs.declared.place.Place.TheVariants.{Before, Opened, Within}
@@ -27,10 +27,12 @@ use Rattle.ckr_points_library.specs.Commit.{output_names}
 use Rattle.ckr_points.specs.declared.run.RunState.TheVariants.{On}
 use Rattle.ckr_points.specs.Tables.{after_checkpointed, after_commit, after_dispositions, after_rewritten, after_started, after_step_ended, name_with_role, is_checkpoints, is_updates, run_disposals, own_made, earlier_made, table_rewritten}
 use Rattle.ckr_points.specs.Follows.{are_items, are_lengths, are_made_clear, ended_follows, follows, is_checkpoint, is_empty, is_in_state, is_rewrite, is_running, lengths_follow, may_start, of_run, of_step, started_follows}
-use Rattle.ckr_points.specs.Restart.{after_abnormal, after_ended, after_event, place_of, step_in}
+use Rattle.ckr_points.specs.Marks.{point_at, removed_all}
+use Rattle.ckr_points.specs.Restart.{after_abnormal, after_ended, after_event, after_restarted, by_step, place_of, step_in}
 use Rattle.ckr_points.specs.Rows.{RunRow, TableSet, TablesModel, run_of, standing_of, step_of_run, table_ways}
 use Rattle.ckr_points.specs.Soundness.{AreLaidOut}
 use Rattle.ckr_points_invariant.proofs.Library.Extents.{committed-laid, disposed_all-laid, fit-lengths, laid-changed, made_all-laid, passed_ended-laid}
+use Rattle.ckr_points_invariant.proofs.PutBack.Sets.{put_back-laid, removed_all-laid}
 use Rattle.ckr_desk_memory.specs.ForwardEvents.{is_forward_event}
 use Rattle.ckr_desk_memory.specs.View.{length_in}
 use Rattle.ckr_desk_memory.proofs.Runs.{by-run, by-step}
@@ -118,7 +120,17 @@ module _ (layout : Layout) (tables : TablesModel) (laid : AreLaidOut layout tabl
       subst (λ n. AreLaidOut layout (after_event (Selected job initiator n step id) deck tables).sets) (sym is)
       (by-run (Laid layout tables laid) tables job _ laid (λ row at. laid))
 
-  -- what an event opens, makes, commits and disposes of stays laid out
+  restarted_so : (row : RunRow) (initiator : ℕ) (checkpoint : Bool) → not checkpoint ≡ true → Laid layout tables laid (by_step (λ owned step. after_restarted row owned step initiator checkpoint tables) row tables)
+  restarted_so row initiator true plain = absurd (false≢true plain)
+  restarted_so row initiator false plain =
+      by-step (Laid layout tables laid) tables (step_of_run row (step_in (place_of row))) _ laid
+      (λ owned there.
+      by-step (Laid layout tables laid) tables (point_at row.points (step_in (place_of row))) _ laid
+      (λ point began.
+      let made = own_made row owned (step_in (place_of row)) in
+      put_back-laid layout point.marks (output_names row.job.root owned) (names_of row.job.root owned) (removed_all made tables.sets) (removed_all-laid layout made tables.sets laid)))
+
+  -- what an event opens, makes, commits, disposes of and puts back stays laid out
   pub laid-behind : (event : Event) (deck : Option Job) → is_forward_event event ≡ true → follows layout tables event deck ≡ true → AreLaidOut layout (after_event event deck tables).sets
   laid-behind (Submitted job cards) None plain follow = laid
   laid-behind (Submitted job cards) (Some deck) plain follow = laid
@@ -150,6 +162,7 @@ module _ (layout : Layout) (tables : TablesModel) (laid : AreLaidOut layout tabl
       let its = tested tables job (λ row. is_running row && step_in (place_of row) == step && lengths_follow tables row lengths.items) follow row at in
       by-step (Laid layout tables laid) tables (step_of_run row (step_in (place_of row))) _ laid
       (λ owned there. step_ended_so layout tables laid row rc writes lengths.items (and-second _ (lengths_follow tables row lengths.items) its) owned there (step_in (place_of row))))
+  laid-behind (Restarted job initiator code checkpoint) deck plain follow = by-run (Laid layout tables laid) tables job _ laid (λ row at. restarted_so row initiator checkpoint plain)
   laid-behind (Ended job ending) deck plain follow =
       by-run (Laid layout tables laid) tables job _ laid (λ row at. ended_so layout tables laid row ending (tested tables job (λ row. ended_follows tables row ending) follow row at))
   laid-behind (Purged job) deck plain follow = by-run (Laid layout tables laid) tables job _ laid (λ row at. laid)

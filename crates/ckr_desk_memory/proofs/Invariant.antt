@@ -1,42 +1,46 @@
 -- What holds of the jobs in memory holds behind an event that follows.
-use Rattle.std.proofs.Common.{◌≡◌, ◌+◌, ◌≤◌, ◌==◌, ◌||◌, ℕ, zero, suc, Bool, true, false, not, cond, List, [], ◌∷◌, ◌++◌, map, filter, length, refl, ap, sym, ◌∙◌, slice_set, subst, Option, None, Some, Ok, arith, length-append}
+use Rattle.std.proofs.Common.{◌≡◌, ◌+◌, ◌≤◌, ◌==◌, ◌&&◌, ◌||◌, ℕ, zero, suc, Bool, true, false, not, cond, List, [], ◌∷◌, ◌++◌, map, filter, length, refl, ap, sym, ◌∙◌, slice_set, subst, Option, None, Some, Ok, arith, length-append}
 use Rattle.std.proofs.lemmas.Bool.{false≢true}
+use Rattle.std.specs.Prelude.{if◌then◌else◌}
 use Rattle.std.specs.List.{AllByRecursion}
 use Rattle.std.specs.Option.{is_none, is_some}
-use Rattle.ckr_base.proofs.Bools.{and-first}
+use Rattle.ckr_base.proofs.Bools.{and-first, and-second, if-then, or-cases}
 use Rattle.ckr_base.proofs.Options.{is_some-from}
 use Rattle.ckr_base.proofs.Numbers.{equal-true, nat_le-true}
 use Rattle.ckr_base.proofs.Sequences.{each-append}
 use Rattle.ckr_events.specs.declared.event.Event.{Event}
-use Rattle.ckr_events.specs.declared.event.Event.TheVariants.{Submitted, Selected, Started, Rewritten, Checkpointed, Cancelled, StepEnded, Ended, Purged}
+use Rattle.ckr_events.specs.declared.event.Event.TheVariants.{Submitted, Selected, Started, Rewritten, Checkpointed, Cancelled, StepEnded, Restarted, Ended, Purged}
 use Rattle.ckr_events.specs.declared.event.Ending.{Ending}
 use Rattle.ckr_events.specs.declared.event.Ending.TheVariants.{Completed, Coded, Allocation}
 use Rattle.ckr_jcl.specs.declared.deck.Job.{Job}
-use Rattle.ckr_meaning.specs.EffectiveJob.{OwnedStep, plain_job}
+use Rattle.ckr_meaning.specs.Allotments.{opened_all}
+use Rattle.ckr_meaning.specs.EffectiveJob.{OwnedStep, placed_in, plain_job, stamp_of}
 use Rattle.ckr_meaning.specs.declared.place.Place.{Place}
 use Rattle.ckr_meaning.specs.declared.place.Place.TheVariants.{Before, Opened, Within}
 use Rattle.ckr_volumes.specs.declared.layout.Layout.{Layout}
-use Rattle.ckr_points.specs.Tables.{after_commit, queued_run}
+use Rattle.ckr_points.specs.Marks.{point_at}
+use Rattle.ckr_points.specs.Tables.{after_commit, point_rewritten, queued_run, start_point}
 use Rattle.ckr_points.specs.declared.run.RunState.{RunState}
-use Rattle.ckr_points.specs.declared.run.RunState.TheVariants.{Queued, Purged as PurgedRun}
-use Rattle.ckr_points.specs.Follows.{follows, is_in_state}
-use Rattle.ckr_points.specs.Restart.{after_abnormal, after_coded, after_ended, after_event, place_of, step_in}
-use Rattle.ckr_points.specs.Rows.{RunRow, TablesModel, step_of_run, with_row}
+use Rattle.ckr_points.specs.declared.run.RunState.TheVariants.{Queued, On, Released, Purged as PurgedRun}
+use Rattle.ckr_points.specs.Follows.{ended_follows, follows, is_checkpoint, is_in_state, is_rewrite, is_running, is_within, lengths_follow, of_run, of_step}
+use Rattle.ckr_points.specs.Restart.{after_abnormal, after_coded, after_ended, after_event, after_restarted, by_step, place_of, step_in}
+use Rattle.ckr_points.specs.Rows.{RunRow, StartPoint, TablesModel, run_of, standing_of, step_of_run, table_ways, with_row}
 use Rattle.ckr_queue.specs.declared.entry.QueueEntry.{QueueEntry}
 use Rattle.ckr_points_decks.specs.Form.{is_run}
 use Rattle.ckr_points_invariant.proofs.Holders.Rows.{queued-is}
+use Rattle.ckr_points_invariant.proofs.Marks.Points.{point_at-new}
 use Rattle.ckr_points_tables.specs.Invariant.{MayFollow, MaySubmit, is_submission}
 use Rattle.ckr_desk_memory.specs.ForwardEvents.{is_forward_event}
-use Rattle.ckr_desk_turn.specs.Invariant.{is_on_one}
+use Rattle.ckr_desk_turn.specs.Invariant.{is_on_one, is_plain_state}
 use Rattle.ckr_desk_turn.specs.Queue.{AreNumbered, queue_behind}
 use Rattle.ckr_desk_memory.specs.Invariant.{IsAcceptedRow, IsAnyAccepted, IsPlacedRow}
-use Rattle.ckr_desk_memory.specs.Parts.{AreQueued, step_seen}
+use Rattle.ckr_desk_memory.specs.Parts.{AreQueued, AreUnheld, step_seen}
 use Rattle.ckr_desk_memory.specs.declared.jobs.RunningStep.{RunningStep}
 use Rattle.ckr_desk_memory.specs.View.{RunningStepView}
 use Rattle.ckr_desk_memory.specs.EventChanges.{MayQueue, without_run}
 use Rattle.ckr_desk_memory.proofs.Starts.Steps.{row-among}
 use Rattle.ckr_desk_memory.proofs.Extents.{tested}
-use Rattle.ckr_desk_memory.proofs.Queue.{may-queue, queue-behind}
+use Rattle.ckr_desk_memory.proofs.Queue.{may-queue, queue-behind, released-is, unheld-behind}
 use Rattle.ckr_desk_memory.proofs.Runs.{Kind, by-run, by-step, kind_of, long-stay, numbered-more, numbered-stay, rest_in, runs-stay}
 
 -- an event submits a deck, or does something else
@@ -86,7 +90,8 @@ queued-behind desk after queue now event deck plain follow submits are is queue_
     subst (λ t. AreQueued t now) (sym is) (subst (λ q. AreQueued (after_event event deck desk) q) (sym queue_is) (record {
       numbered = numbered-behind follow.0 desk event deck plain follow.1 are.numbered;
       few = few-behind follow.0 desk event deck plain follow.1 submits are.numbered are.few;
-      same = ap (queue_behind event deck) are.same ∙ sym (queue-behind follow.0 desk event deck are.numbered plain follow.1);
+      unheld = unheld-behind event deck queue plain are.unheld;
+      same = ap (queue_behind event deck) are.same ∙ sym (queue-behind follow.0 desk event deck are.numbered (subst AreUnheld are.same are.unheld) plain follow.1);
     }))
 
 -- what the tables follow as they are seen
@@ -95,7 +100,7 @@ follow-inside desk seen event deck same follow = (follow.0, ap (λ t. follows fo
 
 pub may-go : (desk seen : TablesModel) (queue : List QueueEntry) (event : Event) (deck : Option Job) → desk ≡ seen → AreQueued desk queue → is_forward_event event ≡ true → MayFollow seen event deck → MayQueue event queue
 may-go desk seen queue event deck same are plain follow =
-    subst (MayQueue event) (sym are.same) (may-queue follow.0 desk event deck are.numbered plain (ap (λ t. follows follow.0 t event deck) same ∙ follow.1))
+    subst (MayQueue event) (sym are.same) (may-queue follow.0 desk event deck are.numbered (subst AreUnheld are.same are.unheld) plain (ap (λ t. follows follow.0 t event deck) same ∙ follow.1))
 
 -- ---- the decks of the runs
 
@@ -143,48 +148,107 @@ placed_put rows (suc place) row is placed = at rows place placed
     at (first ∷ rows) zero placed = (is, placed.1)
     at (first ∷ rows) (suc place) placed = (placed.0, at rows place placed.1)
 
+-- a run within a step has the point of its start
+pub begun-within : (row : RunRow) → is_within (place_of row) ≡ true → IsPlacedRow row → is_some (point_at row.points (step_in (place_of row))) ≡ true
+begun-within row within is = if-then (is_within (place_of row)) (is_some (point_at row.points (step_in (place_of row)))) is.begun within
+
+-- a rewrite takes no point away
+rewritten_point : (step at : ℕ) (points : List StartPoint) → is_some (point_at (map (point_rewritten step) points) at) ≡ is_some (point_at points at)
+rewritten_point step at [] = refl
+rewritten_point step at (first ∷ rest) = by (first.step == step) (rewritten_point step at rest)
+  where
+    by : (b : Bool) → is_some (point_at (map (point_rewritten step) rest) at) ≡ is_some (point_at rest at)
+        → is_some (point_at ((if b then record first { rewritten = true } else first) ∷ map (point_rewritten step) rest) at) ≡ is_some (point_at (first ∷ rest) at)
+    by true same = here (first.step == at)
+      where
+        here : (b : Bool) → is_some (cond b (Some (let point : StartPoint = record first { rewritten = true } in point)) (point_at (map (point_rewritten step) rest) at)) ≡ is_some (cond b (Some first) (point_at rest at))
+        here true = refl
+        here false = same
+    by false same = here (first.step == at)
+      where
+        here : (b : Bool) → is_some (cond b (Some first) (point_at (map (point_rewritten step) rest) at)) ≡ is_some (cond b (Some first) (point_at rest at))
+        here true = refl
+        here false = same
+
+running_within : (row : RunRow) → is_running row ≡ true → is_within (place_of row) ≡ true
+running_within row runs = and-second (is_in_state On row) (is_within (place_of row)) runs
+
 placed_abnormal : (row : RunRow) (place : Place) (tables : TablesModel) → IsPlacedRow row → ArePlaced tables → ArePlaced (after_abnormal row place tables)
-placed_abnormal row (Before step) tables is placed = placed_put tables.runs row.number _ (record { place = is.place; state = refl; lodged = refl; code = refl }) placed
-placed_abnormal row (Opened step) tables is placed = placed_put tables.runs row.number _ (record { place = is.place; state = refl; lodged = refl; code = refl }) placed
+placed_abnormal row (Before step) tables is placed = placed_put tables.runs row.number _ (record { place = is.place; state = refl; begun = is.begun; lodged = refl; seated = refl; code = refl }) placed
+placed_abnormal row (Opened step) tables is placed = placed_put tables.runs row.number _ (record { place = is.place; state = refl; begun = is.begun; lodged = refl; seated = refl; code = refl }) placed
 placed_abnormal row (Within step writes) tables is placed =
-    by-step ArePlaced tables (step_of_run row step) _ placed (λ owned there. placed_put tables.runs row.number _ (record { place = is.place; state = refl; lodged = refl; code = refl }) placed)
+    by-step ArePlaced tables (step_of_run row step) _ placed (λ owned there. placed_put tables.runs row.number _ (record { place = is.place; state = refl; begun = is.begun; lodged = refl; seated = refl; code = refl }) placed)
 
-placed_commit : (row : RunRow) (owned : OwnedStep) (step writes : ℕ) (lengths : List ℕ) (tables : TablesModel) → step_of_run row step ≡ Some owned → IsPlacedRow row → ArePlaced tables → ArePlaced (after_commit row owned step writes lengths tables)
-placed_commit row owned step writes lengths tables there is placed =
-    placed_put tables.runs row.number _ (record { place = is_some-from (step_of_run row step) owned there; state = is.state; lodged = is.lodged; code = is.code }) placed
+-- a row that goes on within its step
+placed_within : (row : RunRow) (owned : OwnedStep) (writes : ℕ) → step_of_run row (step_in (place_of row)) ≡ Some owned → is_within (place_of row) ≡ true → IsPlacedRow row → IsPlacedRow (record row { place = Some (Within (step_in (place_of row)) writes) })
+placed_within row owned writes there within is = record {
+  place = is_some-from (step_of_run row (step_in (place_of row))) owned there;
+  state = is.state;
+  begun = begun-within row within is;
+  lodged = is.lodged;
+  seated = is.seated;
+  code = is.code;
+}
 
-placed_coded : (row : RunRow) (writes : ℕ) (lengths : List ℕ) (tables : TablesModel) → IsPlacedRow row → ArePlaced tables → ArePlaced (after_coded row writes lengths tables)
-placed_coded row writes lengths tables is placed =
+placed_commit : (row : RunRow) (owned : OwnedStep) (writes : ℕ) (lengths : List ℕ) (tables : TablesModel) → step_of_run row (step_in (place_of row)) ≡ Some owned → is_within (place_of row) ≡ true → IsPlacedRow row → ArePlaced tables
+    → ArePlaced (after_commit row owned (step_in (place_of row)) writes lengths tables)
+placed_commit row owned writes lengths tables there within is placed = placed_put tables.runs row.number _ (placed_within row owned writes there within is) placed
+
+placed_coded : (row : RunRow) (writes : ℕ) (lengths : List ℕ) (tables : TablesModel) → is_within (place_of row) ≡ true → IsPlacedRow row → ArePlaced tables → ArePlaced (after_coded row writes lengths tables)
+placed_coded row writes lengths tables within is placed =
     by-step ArePlaced tables (step_of_run row (step_in (place_of row))) _ placed
     (λ owned there.
     placed_abnormal (record row { place = Some (Within (step_in (place_of row)) writes) }) (Within (step_in (place_of row)) writes) (after_commit row owned (step_in (place_of row)) writes lengths tables)
-    (record { place = is_some-from (step_of_run row (step_in (place_of row))) owned there; state = is.state; lodged = is.lodged; code = is.code })
-    (placed_commit row owned (step_in (place_of row)) writes lengths tables there is placed))
+    (placed_within row owned writes there within is) (placed_commit row owned writes lengths tables there within is placed))
 
-placed_ended : (row : RunRow) (ending : Ending) (tables : TablesModel) → IsPlacedRow row → ArePlaced tables → ArePlaced (after_ended row ending tables)
-placed_ended row Completed tables is placed = placed_put tables.runs row.number _ (record { place = is.place; state = refl; lodged = refl; code = refl }) placed
-placed_ended row (Coded code rule writes lengths) tables is placed = placed_coded row writes lengths.items tables is placed
-placed_ended row (Allocation dd cause first second) tables is placed = placed_abnormal row (place_of row) tables is placed
+-- a run that ends by a code is within its step: none was held
+coded_within : (row : RunRow) (tables : TablesModel) (lengths : List ℕ) → IsPlacedRow row → ((is_running row || is_in_state Released row) && lengths_follow tables row lengths) ≡ true → is_within (place_of row) ≡ true
+coded_within row tables lengths is follow =
+    or-cases (is_running row) (is_in_state Released row) (and-first (is_running row || is_in_state Released row) _ follow) (running_within row)
+    (λ released. absurd (false≢true (sym (ap is_plain_state (released-is row.state released)) ∙ is.state)))
+
+placed_ended : (row : RunRow) (ending : Ending) (tables : TablesModel) → ended_follows tables row ending ≡ true → IsPlacedRow row → ArePlaced tables → ArePlaced (after_ended row ending tables)
+placed_ended row Completed tables follow is placed = placed_put tables.runs row.number _ (record { place = is.place; state = refl; begun = is.begun; lodged = refl; seated = refl; code = refl }) placed
+placed_ended row (Coded code rule writes lengths) tables follow is placed = placed_coded row writes lengths.items tables (coded_within row tables lengths.items is follow) is placed
+placed_ended row (Allocation dd cause first second) tables follow is placed = placed_abnormal row (place_of row) tables is placed
 
 placed_selected : (tables : TablesModel) (job initiator earlier step : ℕ) (id : Option (List ℕ)) (deck : Option Job) → earlier ≡ 0 → ArePlaced tables → ArePlaced (after_event (Selected job initiator earlier step id) deck tables)
 placed_selected tables job initiator earlier step id deck is placed =
     subst (λ n. ArePlaced (after_event (Selected job initiator n step id) deck tables)) (sym is)
-    (by-run ArePlaced tables job _ placed (λ row at. placed_put tables.runs row.number _ (record { place = tt; state = refl; lodged = refl; code = (row-among IsPlacedRow tables job row placed at).code }) placed))
+    (by-run ArePlaced tables job _ placed (λ row at. placed_put tables.runs row.number _ (record { place = tt; state = refl; begun = refl; lodged = refl; seated = refl; code = (row-among IsPlacedRow tables job row placed at).code }) placed))
 
 placed_submitted : (tables : TablesModel) (job : ℕ) (cards : List ℕ) (deck : Option Job) → ArePlaced tables → ArePlaced (after_event (Submitted job cards) deck tables)
 placed_submitted tables job cards None placed = placed
-placed_submitted tables job cards (Some deck) placed = each-append IsPlacedRow tables.runs (queued_run job deck ∷ []) placed (record { place = tt; state = refl; lodged = refl; code = refl }, tt)
+placed_submitted tables job cards (Some deck) placed = each-append IsPlacedRow tables.runs (queued_run job deck ∷ []) placed (record { place = tt; state = refl; begun = refl; lodged = refl; seated = refl; code = refl }, tt)
 
 -- a run that waits is on no initiator, also where it is purged
 off_purged : (row : RunRow) → is_in_state Queued row ≡ true → IsPlacedRow row → IsPlacedRow (record row { state = PurgedRun })
 off_purged row waits is = record {
   place = is.place;
   state = refl;
+  begun = is.begun;
   lodged = sym (ap (λ (state : RunState). is_none row.initiator || is_on_one state) (queued-is row.state waits)) ∙ is.lodged;
+  seated = refl;
   code = is.code;
 }
 
--- a forward event that follows leaves a run within no step that it hasn't, holds no run, and gives no code
+-- a run that goes back to the start of its step is on its initiator, and isn't within the step
+placed_restarted : (row : RunRow) (initiator : ℕ) (checkpoint : Bool) (tables : TablesModel) → not checkpoint ≡ true → ArePlaced tables → ArePlaced (by_step (λ owned step. after_restarted row owned step initiator checkpoint tables) row tables)
+placed_restarted row initiator true tables plain placed = absurd (false≢true plain)
+placed_restarted row initiator false tables plain placed =
+    by-step ArePlaced tables (step_of_run row (step_in (place_of row))) _ placed
+    (λ owned there.
+    by-step ArePlaced tables (point_at row.points (step_in (place_of row))) _ placed
+    (λ point began. placed_put tables.runs row.number _ (record { place = tt; state = refl; begun = refl; lodged = refl; seated = refl; code = refl }) placed))
+
+step_ended_within : (tables : TablesModel) (job step : ℕ) (lengths : List ℕ) → of_run tables job (λ row. is_running row && step_in (place_of row) == step && lengths_follow tables row lengths) ≡ true → (row : RunRow) → run_of tables job ≡ Some row → is_within (place_of row) ≡ true
+step_ended_within tables job step lengths follow row at =
+    running_within row
+    (and-first (is_running row) _
+    (and-first (is_running row && step_in (place_of row) == step) (lengths_follow tables row lengths) (tested tables job (λ row. is_running row && step_in (place_of row) == step && lengths_follow tables row lengths) follow row at)))
+
+-- A forward event that follows leaves a run within no step that it hasn't or that has no point, holds no run, and gives no code; a run is on an
+-- initiator exactly where it has one.
 pub placed-behind : (layout : Layout) (tables : TablesModel) (event : Event) (deck : Option Job) → is_forward_event event ≡ true → follows layout tables event deck ≡ true → AllByRecursion IsPlacedRow tables.runs → AllByRecursion IsPlacedRow (after_event event deck tables).runs
 placed-behind layout tables (Submitted job cards) deck plain follow placed = placed_submitted tables job cards deck placed
 placed-behind layout tables (Selected job initiator earlier step id) deck plain follow placed = placed_selected tables job initiator earlier step id deck (equal-true earlier 0 plain) placed
@@ -194,38 +258,62 @@ placed-behind layout tables (Started job step items) deck plain follow placed =
     let is = row-among IsPlacedRow tables job row placed at in
     by-step ArePlaced tables (step_of_run row step) _ placed
     (λ owned there.
-    placed_put tables.runs row.number _ (record { place = is_some-from (step_of_run row step) owned there; state = is.state; lodged = is.lodged; code = is.code }) placed))
+    placed_put tables.runs row.number _ (record {
+      place = is_some-from (step_of_run row step) owned there;
+      state = is.state;
+      begun = ap is_some (point_at-new (start_point row step (opened_all table_ways (stamp_of owned step) (placed_in table_ways (standing_of row tables) row.job.root owned) tables.sets)) row.points);
+      lodged = is.lodged;
+      seated = is.seated;
+      code = is.code;
+    }) placed))
 placed-behind layout tables (Rewritten job taken writes lengths place image) deck plain follow placed =
     by-run ArePlaced tables job _ placed
     (λ row at.
     let is = row-among IsPlacedRow tables job row placed at in
     by-step ArePlaced tables (step_of_run row (step_in (place_of row))) _ placed
     (λ owned there.
-    placed_put tables.runs row.number _
-    (record { place = is_some-from (step_of_run row (step_in (place_of row))) owned there; state = is.state; lodged = is.lodged; code = is.code }) placed))
+    let within = running_within row (and-first (is_running row) _ (and-first _ (of_step row (is_rewrite tables place image row)) (tested tables job (λ row. is_running row && lengths_follow tables row lengths.items && of_step row (is_rewrite tables place image row)) follow row at))) in
+    placed_put tables.runs row.number _ (record {
+      place = is_some-from (step_of_run row (step_in (place_of row))) owned there;
+      state = is.state;
+      begun = rewritten_point (step_in (place_of row)) (step_in (place_of row)) row.points ∙ begun-within row within is;
+      lodged = is.lodged;
+      seated = is.seated;
+      code = is.code;
+    }) placed))
 placed-behind layout tables (Checkpointed job id taken writes lengths place bytes) deck plain follow placed =
     by-run ArePlaced tables job _ placed
     (λ row at.
     let is = row-among IsPlacedRow tables job row placed at in
     by-step ArePlaced tables (step_of_run row (step_in (place_of row))) _ placed
     (λ owned there.
-    placed_put tables.runs row.number _
-    (record { place = is_some-from (step_of_run row (step_in (place_of row))) owned there; state = is.state; lodged = is.lodged; code = is.code }) placed))
+    let within = running_within row (and-first (is_running row) _ (and-first _ (of_step row (is_checkpoint tables id lengths.items place bytes row)) (tested tables job (λ row. is_running row && lengths_follow tables row lengths.items && of_step row (is_checkpoint tables id lengths.items place bytes row)) follow row at))) in
+    placed_put tables.runs row.number _ (record {
+      place = is_some-from (step_of_run row (step_in (place_of row))) owned there;
+      state = is.state;
+      begun = begun-within row within is;
+      lodged = is.lodged;
+      seated = is.seated;
+      code = is.code;
+    }) placed))
 placed-behind layout tables (Cancelled job) deck plain follow placed =
     by-run ArePlaced tables job _ placed
     (λ row at.
     let is = row-among IsPlacedRow tables job row placed at in
-    placed_put tables.runs row.number _ (record { place = is.place; state = is.state; lodged = is.lodged; code = is.code }) placed)
+    placed_put tables.runs row.number _ (record { place = is.place; state = is.state; begun = is.begun; lodged = is.lodged; seated = is.seated; code = is.code }) placed)
 placed-behind layout tables (StepEnded job step rc writes lengths) deck plain follow placed =
     by-run ArePlaced tables job _ placed
     (λ row at.
     let is = row-among IsPlacedRow tables job row placed at in
     by-step ArePlaced tables (step_of_run row (step_in (place_of row))) _ placed
     (λ owned there.
-    placed_put (after_commit row owned (step_in (place_of row)) writes lengths.items tables).runs row.number _ (record { place = tt; state = is.state; lodged = is.lodged; code = is.code })
-    (placed_commit row owned (step_in (place_of row)) writes lengths.items tables there is placed)))
+    placed_put (after_commit row owned (step_in (place_of row)) writes lengths.items tables).runs row.number _ (record { place = tt; state = is.state; begun = refl; lodged = is.lodged; seated = is.seated; code = is.code })
+    (placed_commit row owned writes lengths.items tables there (step_ended_within tables job step lengths.items follow row at) is placed)))
+placed-behind layout tables (Restarted job initiator code checkpoint) deck plain follow placed =
+    by-run ArePlaced tables job _ placed (λ row at. placed_restarted row initiator checkpoint tables plain placed)
 placed-behind layout tables (Ended job ending) deck plain follow placed =
-    by-run ArePlaced tables job _ placed (λ row at. placed_ended row ending tables (row-among IsPlacedRow tables job row placed at) placed)
+    by-run ArePlaced tables job _ placed
+    (λ row at. placed_ended row ending tables (tested tables job (λ row. ended_follows tables row ending) follow row at) (row-among IsPlacedRow tables job row placed at) placed)
 placed-behind layout tables (Purged job) deck plain follow placed =
     by-run ArePlaced tables job _ placed
     (λ row at. placed_put tables.runs row.number _ (off_purged row (tested tables job (is_in_state Queued) follow row at) (row-among IsPlacedRow tables job row placed at)) placed)

@@ -12,7 +12,9 @@ use Rattle.ckr_points_library.specs.Allocation.{Allocation}
 use Rattle.ckr_base.specs.declared.code.Code.{Code}
 use Rattle.ckr_base.specs.declared.programs.NextDue.{NextDue}
 use Rattle.ckr_base.specs.declared.programs.NextDue.TheVariants.{Finished}
+use Rattle.ckr_base.proofs.Numbers.{equal-true}
 use Rattle.ckr_base.proofs.Options.{is_some-true, some-not-none}
+use Rattle.ckr_base.proofs.Sequences.{find-passes}
 use Rattle.ckr_events.specs.declared.event.Event.{Event}
 use Rattle.ckr_events.specs.declared.event.Event.TheVariants.{Started as StartedEvent, Ended as EndedEvent}
 use Rattle.ckr_events.specs.declared.event.Ending.TheVariants.{Completed as CompletedEnding, Allocation as AllocationEnding}
@@ -40,7 +42,7 @@ use Rattle.ckr_desk_turn.specs.declared.reply.How.TheVariants.{Completed, Alloca
 use Rattle.ckr_desk_turn.specs.declared.reply.Reply.TheVariants.{Idle, NothingToFail, Started, JobEnded}
 use Rattle.ckr_desk_turn.specs.Allocation.{allocation_of, cause_numbers, items_in}
 use Rattle.ckr_desk_turn.specs.Select.{is_on, next_run, run_on_initiator}
-use Rattle.ckr_desk_turn.specs.Codes.{code_plan, reached_by}
+use Rattle.ckr_desk_turn.specs.Codes.{code_plan, initiator_of, reached_by}
 use Rattle.ckr_desk_turn.specs.Jobs.{TurnJobs, TurnStep, is_failed, running_in}
 use Rattle.ckr_desk_turn.specs.Plans.{allocation_ended, between_plan, chosen_plan, due_plan, fail_plan, finished_plan, free_plan, is_within, placed_plan, run_plan, running_plan, system_failure}
 use Rattle.ckr_desk_turn.specs.Queue.{AreNumbered, queue_of, selection_for}
@@ -51,7 +53,7 @@ use Rattle.ckr_desk_memory.specs.Invariant.{IsAcceptedRow, IsAnyPlaceOf, IsPlace
 use Rattle.ckr_desk_memory.specs.Plans.{next_step, row_for, IsKnown, NeedsRoom}
 use Rattle.ckr_desk_memory.specs.View.{JobsView, RunningStepView, jobs_of, lengths_of_row, running_of}
 use Rattle.ckr_desk_memory.proofs.Starts.Steps.{row-among, step-among}
-use Rattle.ckr_desk_memory.proofs.FoundRuns.{first-step, found-run, known-is, known-row, lengths-known, running-found}
+use Rattle.ckr_desk_memory.proofs.FoundRuns.{first-step, found-run, known-by, known-is, known-row, lengths-known, running-found}
 
 -- a run's mark, by its number
 pub marked-at : (jobs : JobsView) (job : ℕ) (table : RunTable) (known : IsKnown jobs.tables.desk job table) (row : RunRow) → run_of jobs.tables.desk job ≡ Some row → is_failed (jobs_of jobs) job ≡ is_failed (jobs_of jobs) row.number
@@ -78,11 +80,11 @@ module _ (layout : Layout) (jobs : TurnJobs) (row : RunRow) where
   abbrev if_failed : Option Code → Bool → Plan
   if_failed fail failed =
       elim failed [
-        | true ↦ code_plan layout row system_failure (reached_by jobs row)
+        | true ↦ code_plan layout row (initiator_of row) system_failure (reached_by jobs row)
         | false ↦ fail_plan layout jobs row fail
       ]
 
-  pub run-failed : (fail : Option Code) → is_failed jobs row.number ≡ true → run_plan layout jobs fail row ≡ code_plan layout row system_failure (reached_by jobs row)
+  pub run-failed : (fail : Option Code) → is_failed jobs row.number ≡ true → run_plan layout jobs fail row ≡ code_plan layout row (initiator_of row) system_failure (reached_by jobs row)
   run-failed fail failed = ap (if_failed fail) failed
 
   pub run-other : (fail : Option Code) → is_failed jobs row.number ≡ false → run_plan layout jobs fail row ≡ fail_plan layout jobs row fail
@@ -91,11 +93,11 @@ module _ (layout : Layout) (jobs : TurnJobs) (row : RunRow) where
   abbrev if_within : Code → Bool → Plan
   if_within code within =
       elim within [
-        | true ↦ code_plan layout row code (reached_by jobs row)
+        | true ↦ code_plan layout row (initiator_of row) code (reached_by jobs row)
         | false ↦ Rest NothingToFail
       ]
 
-  pub fail-within : (code : Code) → is_within (place_of row) ≡ true → fail_plan layout jobs row (Some code) ≡ code_plan layout row code (reached_by jobs row)
+  pub fail-within : (code : Code) → is_within (place_of row) ≡ true → fail_plan layout jobs row (Some code) ≡ code_plan layout row (initiator_of row) code (reached_by jobs row)
   fail-within code within = ap (if_within code) within
 
   pub fail-between : (code : Code) → is_within (place_of row) ≡ false → fail_plan layout jobs row (Some code) ≡ Rest NothingToFail
@@ -122,6 +124,13 @@ module _ (layout : Layout) (jobs : TurnJobs) (row : RunRow) where
       by : (fail : Option Code) → next_step false fail (place_of row) ≡ Some number → fail_plan layout jobs row fail ≡ between_plan layout jobs row number
       by None is = placed-between (place_of row) number is
       by (Some code) is = absurd (some-not-none number (sym is))
+
+-- what becomes of a run with a code, by what the tables keep of it
+pub code-known : (layout : Layout) (jobs : JobsView) (job : ℕ) (table : RunTable) → IsKnown jobs.tables.desk job table → (initiator : ℕ) (code : Code) (row : RunRow) → run_of jobs.tables.desk job ≡ Some row → initiator_of row ≡ initiator
+    → code_plan layout row (initiator_of row) code (reached_by (jobs_of jobs) row) ≡ code_plan layout (row_for job table) initiator code (reached_by (jobs_of jobs) (row_for job table))
+code-known layout jobs job table known initiator code row at on =
+    ap (λ i. code_plan layout row i code (reached_by (jobs_of jobs) row)) on
+    ∙ known-by jobs.tables.desk job table known (λ r. code_plan layout r initiator code (reached_by (jobs_of jobs) r)) refl row at
 
 -- ---- within a step
 
@@ -319,6 +328,14 @@ pub on-run : (tables : TablesModel) → AreNumbered 1 tables.runs → (initiator
 on-run tables numbered initiator job is =
     let one = numbered-one (run_on_initiator tables initiator) job (is ∙ ap (option_map (λ (row : RunRow). row.number)) (on-same initiator tables.runs)) in
     (one.0, one.1, ap (run_of tables) (sym one.2) ∙ found-run tables _ one.0 numbered one.1)
+
+seat_is : (initiator : ℕ) (seat : Option ℕ) → is_on initiator seat ≡ true → option_map_or (λ initiator. initiator) seat 0 ≡ initiator
+seat_is initiator None on = absurd (false≢true on)
+seat_is initiator (Some other) on = sym (equal-true initiator other on)
+
+-- the run on an initiator has it
+pub on-its : (tables : TablesModel) (initiator : ℕ) (row : RunRow) → run_on_initiator tables initiator ≡ Some row → initiator_of row ≡ initiator
+on-its tables initiator row found = seat_is initiator row.initiator (find-passes (λ (one : RunRow). is_on initiator one.initiator) tables.runs row found)
 
 pub on-none : (tables : TablesModel) (initiator : ℕ) → None ≡ run_on initiator tables → run_on_initiator tables initiator ≡ None
 on-none tables initiator is = none-numbered (run_on_initiator tables initiator) (is ∙ ap (option_map (λ (row : RunRow). row.number)) (on-same initiator tables.runs))

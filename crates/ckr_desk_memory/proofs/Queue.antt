@@ -1,15 +1,18 @@
 -- The queue of the tables' runs goes on by an event that follows.
 use Rattle.std.proofs.Common.{◌≡◌, ◌+◌, ◌==◌, ◌≤◌, ◌&&◌, ◌||◌, nat_le, ℕ, zero, suc, Bool, true, false, cond, IsTrue, List, [], ◌∷◌, find, length, refl, ap, sym, ◌∙◌, subst, Option, None, Some, arith, slice_get}
 use Rattle.std.proofs.lemmas.Option.{same_Some}
-use Rattle.std.proofs.lemmas.Bool.{false≢true}
+use Rattle.std.proofs.lemmas.Bool.{and_from, false≢true}
 use Rattle.std.proofs.lemmas.Bool.Decides.{nat_tests}
+use Rattle.std.specs.Prelude.{nat_eq, not, if◌then◌else◌}
 use Rattle.std.specs.List.{filter_map}
-use Rattle.std.specs.Option.{is_some, option_map, option_map_or}
+use Rattle.std.specs.Option.{is_some, option_eq, option_map, option_map_or}
 use Rattle.ckr_base.proofs.Bools.{and-first, and-second, or-cases}
 use Rattle.ckr_base.proofs.Numbers.{equal-true}
+use Rattle.ckr_base.proofs.Sequences.{find-all}
 use Rattle.ckr_events.specs.declared.event.Event.{Event}
-use Rattle.ckr_events.specs.declared.event.Event.TheVariants.{Submitted, Selected, Started, Rewritten, Checkpointed, Cancelled, StepEnded, Ended, Purged}
+use Rattle.ckr_events.specs.declared.event.Event.TheVariants.{Submitted, Selected, Started, Rewritten, Checkpointed, Cancelled, StepEnded, Restarted, Denied as DeniedEvent, Held as HeldEvent, Released as ReleasedEvent, Ended, Purged}
 use Rattle.arrayvec.specs.ArrayVec.{ArrayVec}
+use Rattle.ckr_base.specs.declared.code.Code.{Code}
 use Rattle.ckr_events.specs.declared.event.Ending.{Ending}
 use Rattle.ckr_events.specs.declared.event.Ending.TheVariants.{Completed, Coded, Allocation}
 use Rattle.ckr_jcl.specs.declared.deck.Job.{Job}
@@ -19,14 +22,16 @@ use Rattle.ckr_volumes.specs.declared.layout.Layout.{Layout}
 use Rattle.ckr_points_library.specs.Commit.{output_names}
 use Rattle.ckr_points.specs.declared.run.RunState.{RunState}
 use Rattle.ckr_points.specs.declared.run.RunState.TheVariants as Runs
-use Rattle.ckr_points.specs.Follows.{are_lengths, ended_follows, follows, is_free, is_in_state, is_running, may_hold, own_step, selected_follows, state_number}
-use Rattle.ckr_points.specs.Restart.{after_event, place_of, step_in}
+use Rattle.ckr_points.specs.Follows.{are_lengths, ended_follows, follows, is_free, is_in_state, is_running, may_hold, may_restart_again, own_step, selected_follows, state_number}
+use Rattle.ckr_points.specs.Marks.{point_at}
+use Rattle.ckr_points.specs.Restart.{after_event, after_restarted, by_step, place_of, step_in}
 use Rattle.ckr_points.specs.Rows.{RunRow, TablesModel, run_of, step_of_run, with_row}
 use Rattle.ckr_points.specs.Tables.{fresh_effect, is_checkpoints, name_with_role}
+use Rattle.ckr_uses.specs.Uses.{uses_of}
 use Rattle.ckr_queue.specs.declared.entry.QueueEntry.{QueueEntry}
 use Rattle.ckr_queue.specs.declared.entry.QueueState.{QueueState}
 use Rattle.ckr_queue.specs.declared.entry.QueueState.TheVariants as InQueue
-use Rattle.ckr_queue.specs.Queue.{has_names, is_in, is_of, is_queued, may_take, passes, starts, state_of}
+use Rattle.ckr_queue.specs.Queue.{has_names, is_below, is_in, is_of, is_queued, may_take, passes, starts, state_of, queued, with_entry, with_state, without}
 use Rattle.ckr_points_invariant.proofs.Holders.Rows.{queued-is}
 use Rattle.ckr_desk_memory.specs.ForwardEvents.{is_forward_event}
 use Rattle.ckr_desk_turn.specs.Queue.{AreNumbered, entry_of, entry_with, queue_behind, queue_of, queue_state}
@@ -36,6 +41,7 @@ use Rattle.ckr_desk_turn.proofs.Queue.Changes.{added, first_in, joined, other_nu
 use Rattle.ckr_desk_turn.proofs.Queue.Select.{let_in}
 use Rattle.ckr_desk_memory.proofs.Runs.{by-run, by-step}
 use Rattle.ckr_desk_memory.specs.EventChanges.{MayQueue}
+use Rattle.ckr_desk_memory.specs.Parts.{AreUnheld, is_unheld}
 
 -- ---- a run in the queue
 
@@ -75,23 +81,23 @@ none-behind tables job numbered is = ap (option_map (λ (entry : QueueEntry). en
 
 -- ---- states by their numbers
 
-on_is : (state : RunState) → (state_number state == 2) ≡ true → state ≡ Runs.On
-on_is Runs.Queued e = absurd (false≢true e)
-on_is Runs.On e = refl
-on_is Runs.Held e = absurd (false≢true e)
-on_is Runs.Released e = absurd (false≢true e)
-on_is Runs.Ended e = absurd (false≢true e)
-on_is Runs.Denied e = absurd (false≢true e)
-on_is Runs.Purged e = absurd (false≢true e)
+pub on-is : (state : RunState) → (state_number state == 2) ≡ true → state ≡ Runs.On
+on-is Runs.Queued e = absurd (false≢true e)
+on-is Runs.On e = refl
+on-is Runs.Held e = absurd (false≢true e)
+on-is Runs.Released e = absurd (false≢true e)
+on-is Runs.Ended e = absurd (false≢true e)
+on-is Runs.Denied e = absurd (false≢true e)
+on-is Runs.Purged e = absurd (false≢true e)
 
-released_is : (state : RunState) → (state_number state == 4) ≡ true → state ≡ Runs.Released
-released_is Runs.Queued e = absurd (false≢true e)
-released_is Runs.On e = absurd (false≢true e)
-released_is Runs.Held e = absurd (false≢true e)
-released_is Runs.Released e = refl
-released_is Runs.Ended e = absurd (false≢true e)
-released_is Runs.Denied e = absurd (false≢true e)
-released_is Runs.Purged e = absurd (false≢true e)
+pub released-is : (state : RunState) → (state_number state == 4) ≡ true → state ≡ Runs.Released
+released-is Runs.Queued e = absurd (false≢true e)
+released-is Runs.On e = absurd (false≢true e)
+released-is Runs.Held e = absurd (false≢true e)
+released-is Runs.Released e = refl
+released-is Runs.Ended e = absurd (false≢true e)
+released-is Runs.Denied e = absurd (false≢true e)
+released-is Runs.Purged e = absurd (false≢true e)
 
 -- a run with its names
 record HasEntry (row : RunRow) : Type 0 where
@@ -100,10 +106,10 @@ record HasEntry (row : RunRow) : Type 0 where
   names : has_names state ≡ true
 
 has_entry_on : (row : RunRow) → is_in_state Runs.On row ≡ true → HasEntry row
-has_entry_on row e = record { state = InQueue.Selected; is = ap queue_state (on_is row.state e); names = refl }
+has_entry_on row e = record { state = InQueue.Selected; is = ap queue_state (on-is row.state e); names = refl }
 
 has_entry_released : (row : RunRow) → is_in_state Runs.Released row ≡ true → HasEntry row
-has_entry_released row e = record { state = InQueue.Released; is = ap queue_state (released_is row.state e); names = refl }
+has_entry_released row e = record { state = InQueue.Released; is = ap queue_state (released-is row.state e); names = refl }
 
 ends_with_names : (tables : TablesModel) (row : RunRow) (ending : Ending) → ended_follows tables row ending ≡ true → HasEntry row
 ends_with_names tables row Completed e = has_entry_on row (and-first (is_in_state Runs.On row) _ (and-first _ _ e))
@@ -123,9 +129,75 @@ run-there tables job test e = by (run_of tables job) refl e
     by None at e = absurd (false≢true e)
     by (Some row) at e = (row, at, e)
 
+-- ---- entries by their states
+
+-- a run that has a state already stays as it is
+pub state-same : (job : ℕ) (state : QueueState) (queue : List QueueEntry) → state_of job queue ≡ Some state → with_state job state queue ≡ queue
+state-same job state [] is = refl
+state-same job state (first ∷ rest) is = by (is_of job first) is (state-same job state rest)
+  where
+    by : (b : Bool) → option_map (λ (entry : QueueEntry). entry.state) (cond b (Some first) (find (is_of job) rest)) ≡ Some state → (state_of job rest ≡ Some state → with_state job state rest ≡ rest)
+        → (if b then record first { state = state } ∷ rest else first ∷ with_state job state rest) ≡ first ∷ rest
+    by true is later = ap (λ (s : QueueState). let entry : QueueEntry = record first { state = s } in entry ∷ rest) (sym (same_Some _ _ is))
+    by false is later = ap (λ (entries : List QueueEntry). first ∷ entries) (later is)
+
+-- so the queue stays by an event that brings none into it, selects none and takes none out
+pub queue-same : (event : Event) (deck : Option Job) (queue : List QueueEntry) → is_forward_event event ≡ true → MayQueue event queue → ((job : ℕ) (cards : List ℕ) → event ≡ Submitted job cards → ⊥)
+    → ((job initiator earlier step : ℕ) (id : Option (List ℕ)) → event ≡ Selected job initiator earlier step id → ⊥) → ((job : ℕ) (ending : Ending) → event ≡ Ended job ending → ⊥) → ((job : ℕ) → event ≡ Purged job → ⊥)
+    → queue ≡ queue_behind event deck queue
+queue-same (Submitted job cards) deck queue plain may submits selects ends purges = absurd (submits job cards refl)
+queue-same (Selected job initiator earlier step id) deck queue plain may submits selects ends purges = absurd (selects job initiator earlier step id refl)
+queue-same (DeniedEvent job rule name) deck queue plain may submits selects ends purges = absurd (false≢true plain)
+queue-same (Restarted job initiator code checkpoint) deck queue plain may submits selects ends purges = sym (state-same job InQueue.Selected queue may)
+queue-same (HeldEvent job code writes lengths) deck queue plain may submits selects ends purges = absurd (false≢true plain)
+queue-same (ReleasedEvent job) deck queue plain may submits selects ends purges = absurd (false≢true plain)
+queue-same (Ended job ending) deck queue plain may submits selects ends purges = absurd (ends job ending refl)
+queue-same (Purged job) deck queue plain may submits selects ends purges = absurd (purges job refl)
+queue-same _ deck queue plain may submits selects ends purges = refl
+
+abbrev Unheld : QueueEntry → Bool
+Unheld entry = is_unheld entry.state
+
+unheld_with : (entry : QueueEntry) (queue : List QueueEntry) → Unheld entry ≡ true → AreUnheld queue → AreUnheld (with_entry entry queue)
+unheld_with entry [] its all = and_from (Unheld entry) true its refl
+unheld_with entry (first ∷ rest) its all = by (is_below entry.number first) (unheld_with entry rest its (and-second (Unheld first) _ all))
+  where
+    by : (b : Bool) → AreUnheld (with_entry entry rest) → AreUnheld (if b then first ∷ with_entry entry rest else entry ∷ first ∷ rest)
+    by true later = and_from (Unheld first) _ (and-first (Unheld first) _ all) later
+    by false later = and_from (Unheld entry) _ its all
+
+unheld_in : (job : ℕ) (state : QueueState) (queue : List QueueEntry) → is_unheld state ≡ true → AreUnheld queue → AreUnheld (with_state job state queue)
+unheld_in job state [] its all = all
+unheld_in job state (first ∷ rest) its all = by (is_of job first) (unheld_in job state rest its (and-second (Unheld first) _ all))
+  where
+    by : (b : Bool) → AreUnheld (with_state job state rest) → AreUnheld (if b then record first { state = state } ∷ rest else first ∷ with_state job state rest)
+    by true later = and_from (is_unheld state) _ its (and-second (Unheld first) _ all)
+    by false later = and_from (Unheld first) _ (and-first (Unheld first) _ all) later
+
+unheld_without : (job : ℕ) (queue : List QueueEntry) → AreUnheld queue → AreUnheld (without job queue)
+unheld_without job [] all = all
+unheld_without job (first ∷ rest) all = by (is_of job first) (unheld_without job rest (and-second (Unheld first) _ all))
+  where
+    by : (b : Bool) → AreUnheld (without job rest) → AreUnheld (if b then rest else first ∷ without job rest)
+    by true later = and-second (Unheld first) _ all
+    by false later = and_from (Unheld first) _ (and-first (Unheld first) _ all) later
+
+-- no run is held by a forward event
+pub unheld-behind : (event : Event) (deck : Option Job) (queue : List QueueEntry) → is_forward_event event ≡ true → AreUnheld queue → AreUnheld (queue_behind event deck queue)
+unheld-behind (Submitted job cards) None queue plain all = all
+unheld-behind (Submitted job cards) (Some deck) queue plain all = unheld_with (queued job (uses_of job deck)) queue refl all
+unheld-behind (Selected job initiator earlier step id) deck queue plain all = unheld_in job InQueue.Selected queue refl all
+unheld-behind (DeniedEvent job rule name) deck queue plain all = absurd (false≢true plain)
+unheld-behind (Restarted job initiator code checkpoint) deck queue plain all = unheld_in job InQueue.Selected queue refl all
+unheld-behind (HeldEvent job code writes lengths) deck queue plain all = absurd (false≢true plain)
+unheld-behind (ReleasedEvent job) deck queue plain all = absurd (false≢true plain)
+unheld-behind (Ended job ending) deck queue plain all = unheld_without job queue all
+unheld-behind (Purged job) deck queue plain all = unheld_without job queue all
+unheld-behind _ deck queue plain all = all
+
 -- ---- what an event asks of the queue
 
-module _ (layout : Layout) (tables : TablesModel) (numbered : AreNumbered 1 tables.runs) where
+module _ (layout : Layout) (tables : TablesModel) (numbered : AreNumbered 1 tables.runs) (unheld : AreUnheld (queue_of tables)) where
   taken : (job initiator earlier step : ℕ) (id : Option (List ℕ)) (row : RunRow) → run_of tables job ≡ Some row → selected_follows layout tables initiator earlier step id row ≡ true → IsTrue (may_take job (queue_of tables))
   taken job initiator earlier step id row at e =
       let asked = and-first (is_in_state Runs.Queued row && is_free layout tables initiator && may_hold tables row) _ e in
@@ -138,11 +210,27 @@ module _ (layout : Layout) (tables : TablesModel) (numbered : AreNumbered 1 tabl
   in_state test job row state at is holds =
       ap (λ (found : Option QueueEntry). passes test (option_map (λ (entry : QueueEntry). entry.state) found)) (found-run tables job row state numbered at is) ∙ holds
 
+  -- a run that is restarted is on its initiator, since none was held
+  restarts_on : (job initiator : ℕ) (checkpoint : Bool) (row : RunRow) → run_of tables job ≡ Some row
+      → ((is_running row && option_eq nat_eq row.initiator (Some initiator) || is_in_state Runs.Released row && is_free layout tables initiator) && may_restart_again checkpoint row) ≡ true → row.state ≡ Runs.On
+  restarts_on job initiator checkpoint row at e =
+      or-cases (is_running row && option_eq nat_eq row.initiator (Some initiator)) (is_in_state Runs.Released row && is_free layout tables initiator) (and-first _ (may_restart_again checkpoint row) e)
+      (λ running. on-is row.state (and-first (is_in_state Runs.On row) _ (and-first (is_running row) _ running)))
+      (λ released.
+      let its = released-is row.state (and-first (is_in_state Runs.Released row) _ released) in
+      absurd (false≢true (find-all (λ (entry : QueueEntry). is_unheld entry.state) (is_of job) (queue_of tables) (entry_with row InQueue.Released) unheld (found-run tables job row InQueue.Released numbered at (ap queue_state its)))))
+
+  selected_there : (job : ℕ) (row : RunRow) → run_of tables job ≡ Some row → row.state ≡ Runs.On → state_of job (queue_of tables) ≡ Some InQueue.Selected
+  selected_there job row at on = ap (option_map (λ (entry : QueueEntry). entry.state)) (found-run tables job row InQueue.Selected numbered at (ap queue_state on))
+
   may : (event : Event) (deck : Option Job) → is_forward_event event ≡ true → follows layout tables event deck ≡ true → MayQueue event (queue_of tables)
   may (Submitted job cards) deck plain e = none-behind tables job numbered (equal-true job (suc (length tables.runs)) (and-first _ _ (and-first _ (is_some deck) e)))
   may (Selected job initiator earlier step id) deck plain e =
       let there = run-there tables job (selected_follows layout tables initiator earlier step id) e in
       taken job initiator earlier step id there.0 there.1 there.2
+  may (Restarted job initiator code checkpoint) deck plain e =
+      let there = run-there tables job (λ row. (is_running row && option_eq nat_eq row.initiator (Some initiator) || is_in_state Runs.Released row && is_free layout tables initiator) && may_restart_again checkpoint row) e in
+      selected_there job there.0 there.1 (restarts_on job initiator checkpoint there.0 there.1 there.2)
   may (Ended job ending) deck plain e =
       let there = run-there tables job (λ row. ended_follows tables row ending) e in
       let entry = ends_with_names tables there.0 ending there.2 in
@@ -190,6 +278,27 @@ module _ (layout : Layout) (tables : TablesModel) (numbered : AreNumbered 1 tabl
       let quiet : RunRow = record row { in_effect = None } in
       ap (λ n. queue_in (with_row quiet n tables.runs)) (run_number tables job row numbered at) ∙ kept_state tables job row quiet at refl refl refl)
 
+  kept_row : (job : ℕ) (row next : RunRow) → run_of tables job ≡ Some row → next.number ≡ row.number → next.deck ≡ row.deck → queue_state next.state ≡ queue_state row.state → queue_in (with_row next next.number tables.runs) ≡ queue_of tables
+  kept_row job row next at number deck state =
+      ap (λ n. queue_in (with_row next n tables.runs)) (number ∙ run_number tables job row numbered at) ∙ kept_state tables job row next at number deck state
+
+  -- so it does by a restart
+  restarted_row : (job initiator : ℕ) (row : RunRow) → run_of tables job ≡ Some row → row.state ≡ Runs.On → (checkpoint : Bool) → not checkpoint ≡ true → queue_of (by_step (λ owned step. after_restarted row owned step initiator checkpoint tables) row tables) ≡ queue_of tables
+  restarted_row job initiator row at on true plain = absurd (false≢true plain)
+  restarted_row job initiator row at on false plain =
+      by-step (λ (other : TablesModel). queue_of other ≡ queue_of tables) tables (step_of_run row (step_in (place_of row))) _ refl
+      (λ owned there.
+      by-step (λ (other : TablesModel). queue_of other ≡ queue_of tables) tables (point_at row.points (step_in (place_of row))) _ refl
+      (λ point began. kept_row job row _ at refl refl (sym (ap queue_state on))))
+
+  restarted_so : (job initiator : ℕ) (code : Code) (checkpoint : Bool) (deck : Option Job) → not checkpoint ≡ true → follows layout tables (Restarted job initiator code checkpoint) deck ≡ true → Behind (Restarted job initiator code checkpoint) deck
+  restarted_so job initiator code checkpoint deck plain e =
+      let there = run-there tables job (λ row. (is_running row && option_eq nat_eq row.initiator (Some initiator) || is_in_state Runs.Released row && is_free layout tables initiator) && may_restart_again checkpoint row) e in
+      let on = restarts_on job initiator checkpoint there.0 there.1 there.2 in
+      ap (λ (o : Option RunRow). queue_of (option_map_or (λ row. by_step (λ owned step. after_restarted row owned step initiator checkpoint tables) row tables) o tables)) there.1
+      ∙ restarted_row job initiator there.0 there.1 on checkpoint plain
+      ∙ sym (state-same job InQueue.Selected (queue_of tables) (selected_there job there.0 there.1 on))
+
   ended_so : (job : ℕ) (ending : Ending) (deck : Option Job) (row : RunRow) → run_of tables job ≡ Some row → ended_follows tables row ending ≡ true → Behind (Ended job ending) deck
   ended_so job Completed deck row at e =
       let entry = ends_with_names tables row Completed e in
@@ -211,6 +320,7 @@ module _ (layout : Layout) (tables : TablesModel) (numbered : AreNumbered 1 tabl
   queue_so (Checkpointed job id taken writes lengths place bytes) deck plain e = checkpointed_so job taken writes place bytes id lengths deck
   queue_so (Cancelled job) deck plain e = cancelled_so job deck
   queue_so (StepEnded job step rc writes lengths) deck plain e = behind.step_ended tables job step rc writes lengths deck numbered
+  queue_so (Restarted job initiator code checkpoint) deck plain e = restarted_so job initiator code checkpoint deck plain e
   queue_so (Ended job ending) deck plain e =
       let there = run-there tables job (λ row. ended_follows tables row ending) e in
       ended_so job ending deck there.0 there.1 there.2
@@ -219,9 +329,9 @@ module _ (layout : Layout) (tables : TablesModel) (numbered : AreNumbered 1 tabl
       behind.purged tables job deck there.0 numbered there.1 (queued-is there.0.state there.2)
   queue_so _ deck plain e = absurd (false≢true plain)
 
-pub may-queue : (layout : Layout) (tables : TablesModel) (event : Event) (deck : Option Job) → AreNumbered 1 tables.runs → is_forward_event event ≡ true → follows layout tables event deck ≡ true → MayQueue event (queue_of tables)
-may-queue layout tables event deck numbered plain e = may layout tables numbered event deck plain e
+pub may-queue : (layout : Layout) (tables : TablesModel) (event : Event) (deck : Option Job) → AreNumbered 1 tables.runs → AreUnheld (queue_of tables) → is_forward_event event ≡ true → follows layout tables event deck ≡ true → MayQueue event (queue_of tables)
+may-queue layout tables event deck numbered unheld plain e = may layout tables numbered unheld event deck plain e
 
-pub queue-behind : (layout : Layout) (tables : TablesModel) (event : Event) (deck : Option Job) → AreNumbered 1 tables.runs → is_forward_event event ≡ true → follows layout tables event deck ≡ true
+pub queue-behind : (layout : Layout) (tables : TablesModel) (event : Event) (deck : Option Job) → AreNumbered 1 tables.runs → AreUnheld (queue_of tables) → is_forward_event event ≡ true → follows layout tables event deck ≡ true
     → queue_of (after_event event deck tables) ≡ queue_behind event deck (queue_of tables)
-queue-behind layout tables event deck numbered plain e = queue_so layout tables numbered event deck plain e
+queue-behind layout tables event deck numbered unheld plain e = queue_so layout tables numbered unheld event deck plain e

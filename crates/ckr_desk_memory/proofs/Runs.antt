@@ -1,26 +1,27 @@
 -- The runs of the tables behind an event: each keeps its number, its deck and its job.
-use Rattle.std.proofs.Common.{◌≡◌, ◌+◌, ℕ, zero, suc, true, false, List, [], ◌∷◌, ◌++◌, map, length, refl, ap, sym, ◌∙◌, subst, Option, None, Some, arith, slice_get, slice_set}
+use Rattle.std.proofs.Common.{◌≡◌, ◌+◌, ℕ, zero, suc, Bool, true, false, not, List, [], ◌∷◌, ◌++◌, map, length, refl, ap, sym, ◌∙◌, subst, Option, None, Some, arith, slice_get, slice_set}
 use Rattle.std.proofs.lemmas.Option.{same_Some}
 use Rattle.std.proofs.lemmas.Bool.{false≢true}
 use Rattle.std.specs.Option.{option_map_or}
 use Rattle.ckr_base.proofs.Numbers.{equal-true}
 use Rattle.ckr_events.specs.declared.event.Event.{Event}
-use Rattle.ckr_events.specs.declared.event.Event.TheVariants.{Submitted, Selected, Started, Rewritten, Checkpointed, Cancelled, StepEnded, Ended, Purged}
+use Rattle.ckr_events.specs.declared.event.Event.TheVariants.{Submitted, Selected, Started, Rewritten, Checkpointed, Cancelled, StepEnded, Restarted, Ended, Purged}
 use Rattle.ckr_events.specs.declared.event.Ending.{Ending}
 use Rattle.ckr_events.specs.declared.event.Ending.TheVariants.{Completed, Coded, Allocation}
 use Rattle.ckr_jcl.specs.declared.deck.Job.{Job}
-use Rattle.ckr_meaning.specs.EffectiveJob.{Effective, OwnedStep}
+use Rattle.ckr_meaning.specs.EffectiveJob.{Effective}
 use Rattle.ckr_meaning.specs.declared.place.Place.{Place}
 use Rattle.ckr_meaning.specs.declared.place.Place.TheVariants.{Before, Opened, Within}
 use Rattle.ckr_points.specs.Tables.{after_commit, queued_run}
-use Rattle.ckr_points.specs.Restart.{after_abnormal, after_coded, after_ended, after_event, by_run, place_of, step_in}
+use Rattle.ckr_points.specs.Marks.{point_at}
+use Rattle.ckr_points.specs.Restart.{after_abnormal, after_coded, after_ended, after_event, after_restarted, by_run, by_step, place_of, step_in}
 use Rattle.ckr_points.specs.Rows.{RunRow, TablesModel, run_of, step_of_run, with_row}
 use Rattle.ckr_points_tables.specs.Invariant.{is_submission}
 use Rattle.ckr_desk_memory.specs.ForwardEvents.{is_forward_event}
 use Rattle.ckr_desk_turn.specs.Queue.{AreNumbered}
 use Rattle.ckr_desk_turn.proofs.Queue.Events.{row_twice, run_number}
 
--- ---- what a run or its step changes, holds of the tables
+-- ---- what a run, its step or the point of the step changes, holds of the tables
 
 pub by-run : (Q : TablesModel → Type 0) (tables : TablesModel) (job : ℕ) (change : RunRow → TablesModel) → Q tables → ((row : RunRow) → run_of tables job ≡ Some row → Q (change row)) → Q (by_run job tables change)
 by-run Q tables job change none each = by (run_of tables job) refl
@@ -29,9 +30,9 @@ by-run Q tables job change none each = by (run_of tables job) refl
     by None at = none
     by (Some row) at = each row at
 
-pub by-step : (Q : TablesModel → Type 0) (tables : TablesModel) (found : Option OwnedStep) (change : OwnedStep → TablesModel) → Q tables → ((owned : OwnedStep) → found ≡ Some owned → Q (change owned)) → Q (option_map_or change found tables)
+pub by-step : {X : Type 0} (Q : TablesModel → Type 0) (tables : TablesModel) (found : Option X) (change : X → TablesModel) → Q tables → ((x : X) → found ≡ Some x → Q (change x)) → Q (option_map_or change found tables)
 by-step Q tables None change none each = none
-by-step Q tables (Some owned) change none each = each owned refl
+by-step Q tables (Some x) change none each = each x refl
 
 -- ---- what stays of a run
 
@@ -90,6 +91,12 @@ module _ (tables : TablesModel) (numbered : AreNumbered 1 tables.runs) where
       subst (λ n. Stay (after_event (Selected job initiator n step id) deck tables)) (sym is)
       (by-run Stay tables job _ refl (λ row at. same_row tables numbered job row at _ refl))
 
+  restarted_same : (job initiator : ℕ) (row : RunRow) → run_of tables job ≡ Some row → (checkpoint : Bool) → not checkpoint ≡ true → Stay (by_step (λ owned step. after_restarted row owned step initiator checkpoint tables) row tables)
+  restarted_same job initiator row at true plain = absurd (false≢true plain)
+  restarted_same job initiator row at false plain =
+      by-step Stay tables (step_of_run row (step_in (place_of row))) _ refl
+      (λ owned there. by-step Stay tables (point_at row.points (step_in (place_of row))) _ refl (λ point began. same_row tables numbered job row at _ refl))
+
   -- each run keeps what it is
   pub runs-stay : (event : Event) (deck : Option Job) → is_forward_event event ≡ true → is_submission event ≡ false → Stay (after_event event deck tables)
   runs-stay (Submitted job cards) deck plain other = absurd (false≢true (sym other))
@@ -103,6 +110,7 @@ module _ (tables : TablesModel) (numbered : AreNumbered 1 tables.runs) where
   runs-stay (Cancelled job) deck plain other = by-run Stay tables job _ refl (λ row at. same_row tables numbered job row at _ refl)
   runs-stay (StepEnded job step rc writes lengths) deck plain other =
       by-run Stay tables job _ refl (λ row at. by-step Stay tables (step_of_run row (step_in (place_of row))) _ refl (λ owned there. same_twice tables numbered job row at _ _ refl refl))
+  runs-stay (Restarted job initiator code checkpoint) deck plain other = by-run Stay tables job _ refl (λ row at. restarted_same job initiator row at checkpoint plain)
   runs-stay (Ended job ending) deck plain other = by-run Stay tables job _ refl (λ row at. ended_same job row at ending)
   runs-stay (Purged job) deck plain other = by-run Stay tables job _ refl (λ row at. same_row tables numbered job row at _ refl)
   runs-stay _ deck plain other = absurd (false≢true plain)

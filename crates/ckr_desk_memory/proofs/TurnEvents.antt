@@ -10,7 +10,7 @@ use Rattle.ckr_base.specs.declared.programs.NextDue.TheVariants.{Unit as OneUnit
 use Rattle.ckr_base.proofs.Options.{option-cases}
 use Rattle.ckr_base.proofs.Sequences.{find-passes}
 use Rattle.ckr_events.specs.declared.event.Event.{Event}
-use Rattle.ckr_events.specs.declared.event.Event.TheVariants.{Cancelled as CancelledEvent, Checkpointed as CheckpointedEvent, Ended as EndedEvent, Rewritten as RewrittenEvent, Selected as SelectedEvent, Started as StartedEvent, StepEnded as StepEndedEvent}
+use Rattle.ckr_events.specs.declared.event.Event.TheVariants.{Cancelled as CancelledEvent, Checkpointed as CheckpointedEvent, Ended as EndedEvent, Restarted as RestartedEvent, Rewritten as RewrittenEvent, Selected as SelectedEvent, Started as StartedEvent, StepEnded as StepEndedEvent}
 use Rattle.ckr_events.specs.declared.event.Ending.TheVariants.{Completed as CompletedEnding}
 use Rattle.ckr_events.specs.declared.event.Made.{Made}
 use Rattle.ckr_meaning.specs.EffectiveJob.{Effective, OwnedStep, stamp_of, step_at}
@@ -32,12 +32,13 @@ use Rattle.ckr_desk_turn.specs.declared.reply.How.TheVariants.{Completed}
 use Rattle.ckr_desk_turn.specs.declared.reply.Reply.TheVariants.{Idle, JobEnded, NothingToFail, Selected, Started}
 use Rattle.ckr_desk_turn.specs.declared.reply.Turn.{Turn}
 use Rattle.ckr_desk_turn.specs.Allocation.{allocation_of, cause_numbers, holdings, items_in}
-use Rattle.ckr_desk_turn.specs.Codes.{CodePlaceModel, code_plan, reached_by}
+use Rattle.ckr_desk_turn.specs.Codes.{CodePlaceModel, code_plan, initiator_of, reached_by}
 use Rattle.ckr_desk_turn.specs.Invariant.{IsTurnOf}
 use Rattle.ckr_desk_turn.specs.Jobs.{TurnJobs, TurnStep, is_failed, running_in}
 use Rattle.ckr_desk_turn.specs.Plans.{allocation_ended, between_plan, chosen_plan, due_plan, fail_plan, free_plan, is_within as is_planned, placed_plan, plan_of, run_plan, running_plan, start_plan, suppressed_plan, system_failure}
 use Rattle.ckr_desk_turn.specs.Queue.{AreNumbered}
 use Rattle.ckr_desk_turn.specs.Select.{is_on, may_select, next_run, run_on_initiator}
+use Rattle.ckr_desk_turn.proofs.Codes.{by-verdict}
 use Rattle.ckr_desk_turn.proofs.NextEvents.BetweenSteps.{completed-follows, lodged-on, refused-follows, selected-follows}
 use Rattle.ckr_desk_turn.proofs.RunEnd.{refused-inside}
 use Rattle.ckr_desk_turn.proofs.Start.Invariant.{started-follows}
@@ -47,11 +48,13 @@ use Rattle.ckr_desk_memory.specs.View.{JobsView, jobs_of}
 use Rattle.ckr_desk_memory.proofs.FoundRuns.{found-run}
 use Rattle.ckr_desk_memory.proofs.Starts.Steps.{row-among}
 
--- whether an event commits what a running step has written: a rewrite in place, a checkpoint, the end of the step, or that of its run by a code
+-- whether an event commits what a running step has written, or puts it back: a rewrite in place, a checkpoint, the end of the step, its restart, or the
+-- end of its run by a code
 abbrev pub is_of_step : Event → Bool
 is_of_step (RewrittenEvent job taken writes lengths place image) = true
 is_of_step (CheckpointedEvent job id taken writes lengths place bytes) = true
 is_of_step (StepEndedEvent job step rc writes lengths) = true
+is_of_step (RestartedEvent job initiator code checkpoint) = true
 is_of_step (EndedEvent job ending) = is_coded ending
 is_of_step _ = false
 
@@ -75,8 +78,8 @@ module _ (layout : Layout) (seen : TurnJobs) (numbered : AreNumbered 1 seen.tabl
   abbrev Follows : Plan → Type 0
   Follows plan = FollowsBetween layout tables plan
 
-  coded-follows : (row : RunRow) (code : Code) (reached : CodePlaceModel) → Follows (code_plan layout row code reached)
-  coded-follows row code reached not = absurd (true≢false not)
+  coded-follows : (row : RunRow) (initiator : ℕ) (code : Code) (reached : CodePlaceModel) → Follows (code_plan layout row initiator code reached)
+  coded-follows row initiator code reached = by-verdict Follows layout row initiator code reached (λ rule ends not. absurd (true≢false not)) (λ judged not. absurd (true≢false not))
 
   -- ---- an initiator that no run is on
 
@@ -87,7 +90,7 @@ module _ (layout : Layout) (seen : TurnJobs) (numbered : AreNumbered 1 seen.tabl
       let accepted : IsAcceptedRow row = row-among IsAcceptedRow tables row.number row rows at in
       subst (λ (o : Option Code). Follows (elim o [
         | None ↦ Tell (Selected row.number) (SelectedEvent row.number i 0 0 None)
-        | Some code ↦ code_plan layout row code (reached_by seen row)
+        | Some code ↦ code_plan layout row i code (reached_by seen row)
       ])) (sym is.code)
       (λ not. selected-follows layout tables i row at is.state accepted.is_run above below free next)
 
@@ -176,12 +179,12 @@ module _ (layout : Layout) (seen : TurnJobs) (numbered : AreNumbered 1 seen.tabl
         plan : Bool → Plan
         plan within =
             elim within [
-              | true ↦ code_plan layout row code (reached_by seen row)
+              | true ↦ code_plan layout row (initiator_of row) code (reached_by seen row)
               | false ↦ Rest NothingToFail
             ]
 
         by : (within : Bool) → Follows (plan within)
-        by true = coded-follows row code (reached_by seen row)
+        by true = coded-follows row (initiator_of row) code (reached_by seen row)
         by false = tt
 
     run-follows : (fail : Option Code) → Follows (run_plan layout seen fail row)
@@ -190,12 +193,12 @@ module _ (layout : Layout) (seen : TurnJobs) (numbered : AreNumbered 1 seen.tabl
         plan : Bool → Plan
         plan failed =
             elim failed [
-              | true ↦ code_plan layout row system_failure (reached_by seen row)
+              | true ↦ code_plan layout row (initiator_of row) system_failure (reached_by seen row)
               | false ↦ fail_plan layout seen row fail
             ]
 
         by : (failed : Bool) → Follows (plan failed)
-        by true = coded-follows row system_failure (reached_by seen row)
+        by true = coded-follows row (initiator_of row) system_failure (reached_by seen row)
         by false = fail-follows fail
 
   plan-seen : (turn : Turn) → 1 ≤ turn.initiator → turn.initiator ≤ layout.initiators → Follows (plan_of layout seen turn)

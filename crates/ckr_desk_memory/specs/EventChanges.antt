@@ -4,7 +4,7 @@ use Rattle.std.specs.Option.{option_map_or}
 use Rattle.ckr_uses.specs.Uses.{uses_of}
 use Rattle.ckr_library.specs.declared.uses.Use.{Use}
 use Rattle.ckr_events.specs.declared.event.Event.{Event}
-use Rattle.ckr_events.specs.declared.event.Event.TheVariants.{Submitted, Selected, Ended, Purged}
+use Rattle.ckr_events.specs.declared.event.Event.TheVariants.{Submitted, Selected, Restarted, Ended, Purged}
 use Rattle.ckr_jcl.specs.declared.deck.Job.{Job}
 use Rattle.ckr_library.specs.Catalog.{Holding, with_length}
 use Rattle.ckr_library.specs.NameMaps.{Name, Named, entry_at, with_changed}
@@ -12,6 +12,7 @@ use Rattle.ckr_points.specs.Follows.{own_step}
 use Rattle.ckr_points.specs.Rows.{RunRow, TablesModel, run_of}
 use Rattle.ckr_points_tables.specs.Checkpoint.{checkpoint_name}
 use Rattle.ckr_queue.specs.declared.entry.QueueEntry.{QueueEntry}
+use Rattle.ckr_queue.specs.declared.entry.QueueState.TheVariants as InQueue
 use Rattle.ckr_queue.specs.Queue.{has_names, is_in, is_queued, may_take, state_of}
 use Rattle.ckr_steps.specs.declared.step_run.StepRun.{StepRun}
 use Rattle.ckr_steps.specs.Units.{entries_of, served_of}
@@ -24,6 +25,7 @@ use Rattle.ckr_desk_memory.specs.View.{RunningStepView}
 abbrev pub MayQueue : Event → List QueueEntry → Type 0
 MayQueue (Submitted job cards) queue = state_of job queue ≡ None
 MayQueue (Selected job initiator earlier step id) queue = IsTrue (may_take job queue)
+MayQueue (Restarted job initiator code checkpoint) queue = state_of job queue ≡ Some InQueue.Selected
 MayQueue (Ended job ending) queue = IsTrue (is_in has_names job queue)
 MayQueue (Purged job) queue = IsTrue (is_in is_queued job queue)
 MayQueue _ queue = Unit {0}

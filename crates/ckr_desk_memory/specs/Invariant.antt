@@ -1,7 +1,7 @@
 -- What holds of the jobs in memory, whatever the disk reads.
-use Rattle.std.specs.Prelude.{◌≡◌, ◌||◌, ℕ, true, IsSome, List, Ok, Option, None, Some}
+use Rattle.std.specs.Prelude.{◌≡◌, ◌||◌, ℕ, Bool, true, not, IsSome, List, Ok, Option, None, Some}
 use Rattle.std.specs.List.{AllByRecursion}
-use Rattle.std.specs.Option.{is_none}
+use Rattle.std.specs.Option.{is_none, is_some}
 use Rattle.ckr_events.specs.declared.event.Event.{Event}
 use Rattle.ckr_events.specs.declared.event.Event.TheVariants.{Submitted}
 use Rattle.ckr_jcl.specs.declared.deck.Job.{Job}
@@ -10,7 +10,9 @@ use Rattle.ckr_meaning.specs.EffectiveJob.{Effective, plain_job, step_at}
 use Rattle.ckr_meaning.specs.declared.place.Place.{Place}
 use Rattle.ckr_meaning.specs.declared.place.Place.TheVariants.{Before, Opened, Within}
 use Rattle.ckr_points.specs.Tables.{queued_run}
-use Rattle.ckr_points.specs.Follows.{follows}
+use Rattle.ckr_points.specs.Follows.{follows, is_within}
+use Rattle.ckr_points.specs.Marks.{point_at}
+use Rattle.ckr_points.specs.Restart.{place_of, step_in}
 use Rattle.ckr_points.specs.Rows.{RunRow}
 use Rattle.ckr_points.specs.Soundness.{AreLaidOut}
 use Rattle.ckr_desk_turn.specs.Invariant.{is_on_one, is_plain_state}
@@ -46,11 +48,17 @@ abbrev pub IsAnyPlaceOf : Effective → Option Place → Type 0
 IsAnyPlaceOf job None = Unit {0}
 IsAnyPlaceOf job (Some place) = IsPlaceOf job place
 
--- so it is with this run; it was never held, it has an initiator only where it is on it, and it has no code
+-- a run within a step has the point of its start
+abbrev pub is_begun : RunRow → Bool
+is_begun row = not (is_within (place_of row)) || is_some (point_at row.points (step_in (place_of row)))
+
+-- so it is with this run; it was never held, it has an initiator exactly where it is on one, and it has no code
 pub record IsPlacedRow (row : RunRow) : Type 0 where
   pub place : IsAnyPlaceOf row.job row.place
   pub state : is_plain_state row.state ≡ true
+  pub begun : is_begun row ≡ true
   pub lodged : (is_none row.initiator || is_on_one row.state) ≡ true
+  pub seated : (not (is_on_one row.state) || is_some row.initiator) ≡ true
   pub code : row.code ≡ None
 
 -- the data sets of a running step are there, and stand apart in the layout; its numbers are in their ranges

@@ -1,5 +1,5 @@
 -- What a turn comes to, by the jobs in memory.
-use Rattle.std.specs.Prelude.{◌≡◌, ◌≤◌, ℕ, Bool, true, false, IsSome, [], find, Option, None, Some, pred, slice_get}
+use Rattle.std.specs.Prelude.{◌≡◌, ◌≤◌, ℕ, Bool, true, false, not, IsSome, [], find, Option, None, Some, pred, slice_get}
 use Rattle.std.specs.List.{AllByRecursion}
 use Rattle.ckr_base.specs.declared.code.Code.{Code}
 use Rattle.ckr_base.specs.declared.programs.NextDue.{NextDue}
@@ -7,7 +7,7 @@ use Rattle.ckr_base.specs.declared.programs.NextDue.TheVariants.{Unit as OneUnit
 use Rattle.ckr_events.specs.declared.event.Ending.{Ending}
 use Rattle.ckr_events.specs.declared.event.Ending.TheVariants.{Coded}
 use Rattle.ckr_events.specs.declared.event.Event.{Event}
-use Rattle.ckr_events.specs.declared.event.Event.TheVariants.{Rewritten as RewrittenEvent, Ended as EndedEvent}
+use Rattle.ckr_events.specs.declared.event.Event.TheVariants.{Rewritten as RewrittenEvent, Restarted as RestartedEvent, Ended as EndedEvent}
 use Rattle.ckr_meaning.specs.EffectiveJob.{OwnedStep, plain_job}
 use Rattle.ckr_meaning.specs.declared.place.Place.{Place}
 use Rattle.ckr_meaning.specs.declared.place.Place.TheVariants.{Before, Opened, Within}
@@ -28,7 +28,7 @@ use Rattle.ckr_desk_turn.specs.declared.reply.How.{How}
 use Rattle.ckr_desk_turn.specs.declared.reply.How.TheVariants.{Completed, Abended, Allocation}
 use Rattle.ckr_desk_turn.specs.declared.reply.Reply.{Reply}
 use Rattle.ckr_desk_turn.specs.declared.reply.Reply.TheVariants.{JobEnded, Worked as WorkedReply}
-use Rattle.ckr_desk_turn.specs.Codes.{CodePlaceModel as ReachedByTurn, code_plan, running_reached}
+use Rattle.ckr_desk_turn.specs.Codes.{CodePlaceModel as ReachedByTurn, code_plan, initiator_of, running_reached}
 use Rattle.ckr_desk_turn.specs.Jobs.{TurnStep, step_name_of}
 use Rattle.ckr_desk_turn.specs.Spelling.{IsCode, IsSpelled}
 use Rattle.ckr_volumes.specs.declared.layout.Layout.{Layout}
@@ -123,9 +123,10 @@ abbrev pub is_coded : Ending → Bool
 is_coded (Coded code rule writes lengths) = true
 is_coded _ = false
 
--- what a unit tells, if it tells an event: a rewrite in place, or the end of its run by a code
+-- what a unit tells, if it tells an event: a rewrite in place, or the end or the restart of its run after a code
 abbrev pub is_unit_event : Event → Bool
 is_unit_event (RewrittenEvent job taken writes lengths place image) = true
+is_unit_event (RestartedEvent job initiator code checkpoint) = not checkpoint
 is_unit_event (EndedEvent job ending) = is_coded ending
 is_unit_event _ = false
 
@@ -161,4 +162,4 @@ told_by layout row step (Went taken) = Rest (WorkedReply row.number (step_name_o
 told_by layout row step (Rewrite place image taken) =
     Tell (WorkedReply row.number (step_name_of row) step.taken)
     (RewrittenEvent row.number step.taken step.writes (record { items = step.lengths }) place image)
-told_by layout row step (Abend code) = code_plan layout row code (running_reached step)
+told_by layout row step (Abend code) = code_plan layout row (initiator_of row) code (running_reached step)

@@ -2,7 +2,7 @@
 use Rattle.std.specs.Prelude.{◌≡◌, ◌≤◌, ◌<◌, ◌+◌, ℕ, List, length, Option, Some}
 use Rattle.std.specs.List.{AllByRecursion}
 use Rattle.ckr_events.specs.declared.event.Event.{Event}
-use Rattle.ckr_events.specs.declared.event.Event.TheVariants.{Started, Checkpointed, Cancelled, StepEnded, Ended}
+use Rattle.ckr_events.specs.declared.event.Event.TheVariants.{Started, Checkpointed, Cancelled, StepEnded, Restarted, Ended}
 use Rattle.ckr_library.specs.Catalog.{records_of}
 use Rattle.ckr_meaning.specs.EffectiveJob.{OwnedStep}
 use Rattle.ckr_points.specs.Rows.{RunRow, TablesModel, holding_of, run_of, step_of_run}
@@ -41,12 +41,13 @@ abbrev pub StepStarts : ℕ → ℕ → TablesModel → List RunningStepView →
 StepStarts job step tables old new =
     (row : RunRow) (owned : OwnedStep) → run_of tables job ≡ Some row → step_of_run row step ≡ Some owned → HasNew job owned tables.sets old new
 
--- The running steps behind an event, by the tables behind it: a step is running from its start to its end, or to that of its run; a checkpoint
--- or a cancel that is due is done, and the data set for checkpoints has the length behind the entry.
+-- The running steps behind an event, by the tables behind it: a step is running from its start to its end, or to the end or a restart of its run;
+-- a checkpoint or a cancel that is due is done, and the data set for checkpoints has the length behind the entry.
 abbrev pub GoesOn : Event → TablesModel → List RunningStepView → List RunningStepView → Type 0
 GoesOn (Started job step items) tables old new = StepStarts job step tables old new
 GoesOn (Checkpointed job id taken writes lengths place bytes) tables old new = HasEntered job (check_name_in tables job) (place + records_of bytes) old new
 GoesOn (Cancelled job) tables old new = new ≡ served_in job old
 GoesOn (StepEnded job step rc writes lengths) tables old new = new ≡ without_run job old
+GoesOn (Restarted job initiator code checkpoint) tables old new = new ≡ without_run job old
 GoesOn (Ended job ending) tables old new = new ≡ without_run job old
 GoesOn _ tables old new = new ≡ old

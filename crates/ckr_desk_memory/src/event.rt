@@ -131,8 +131,9 @@ fn keep_running(
             end_of(*place, *bytes),
         ),
         Event::Cancelled { job } => serve(running, *job),
-        Event::StepEnded { job, .. } => leave(running, *job),
-        Event::Ended { job, .. } => leave(running, *job),
+        Event::StepEnded { job, .. } | Event::Restarted { job, .. } | Event::Ended { job, .. } => {
+            leave(running, *job)
+        }
         _ => {}
     }
 }

@@ -15,7 +15,7 @@ ghost use Rattle.ckr_desk_memory.specs.declared.jobs.RunningStep.{RunningStep as
 ghost use Rattle.ckr_meaning.specs.EffectiveJob.{OwnedStep};
 ghost use Rattle.ckr_points.specs.Payload.{writes_in};
 ghost use Rattle.ckr_points.specs.Rows.{run_of, step_of_run, RunRow};
-ghost use Rattle.ckr_desk_turn.specs.Codes.{reached_by};
+ghost use Rattle.ckr_desk_turn.specs.Codes.{initiator_of, reached_by};
 ghost use Rattle.ckr_desk_turn.specs.Jobs.{is_failed};
 ghost use Rattle.ckr_desk_turn.specs.Queue.{AreNumbered};
 ghost use Rattle.ckr_volumes.specs.declared.layout.Layout.{Layout as LayoutOfDisk};
@@ -25,6 +25,7 @@ use crate::{Jobs, RunningStep};
 use ckr_base::Name8;
 use ckr_jcl::Dd;
 use ckr_meaning::Place;
+use ckr_points::Run;
 use ckr_points_tables::{RunTable, step_at};
 
 /// Whether a run is among these.
@@ -58,6 +59,13 @@ fn dd_at(dds: &[Dd], number: u8) -> Option<&Dd>
     dds.get(number.saturating_sub(1) as usize)
 }
 
+/// The line of a run by its number, from 1.
+fn line_at(lines: &[Run], number: u32) -> Option<&Run>
+    ensures { option_copied result ≡ slice_get lines.now (pred number) }
+{
+    lines.get(number.saturating_sub(1) as usize)
+}
+
 impl Jobs {
     /// What the tables keep of a run. None exactly where there is no such run.
     pub(crate) fn known(&self, job: u32) -> Option<&RunTable>
@@ -67,6 +75,16 @@ impl Jobs {
         ensures numbered { AreNumbered 1 self.now.tables.desk.runs }
     {
         self.tables.run(job)
+    }
+
+    /// The initiator that a run is on, and 0 where it is on none.
+    pub(crate) fn initiator_of(&self, job: u32) -> u8
+        ensures { (row : RunRow) → run_of self.now.tables.desk job ≡ Some row → result ≡ initiator_of row }
+    {
+        match line_at(self.tables.runs(), job) {
+            Some(line) => line.initiator.unwrap_or(0),
+            None => 0,
+        }
     }
 
     /// Whether a run was running when the system failed.

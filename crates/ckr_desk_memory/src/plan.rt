@@ -13,14 +13,14 @@ ghost use Rattle.ckr_points.specs.Restart.{place_of as place_of_row, step_in as 
 ghost use Rattle.ckr_points.specs.Rows.{run_of, step_of_run, RunRow};
 ghost use Rattle.ckr_steps.specs.StepUnit.{AreCounted};
 ghost use Rattle.ckr_points_decks.specs.DeckLimits.{IsWithinLimits};
-ghost use Rattle.ckr_desk_turn.specs.Codes.{code_plan, reached_by};
+ghost use Rattle.ckr_desk_turn.specs.Codes.{code_plan, initiator_of, reached_by};
 ghost use Rattle.ckr_desk_turn.specs.Invariant.{IsTurnOf};
 ghost use Rattle.ckr_desk_turn.specs.Jobs.{is_failed, running_in, step_name_of};
 ghost use Rattle.ckr_desk_turn.specs.Plans.{allocation_ended, between_plan, checkpoint_plan, chosen_plan, fail_plan, free_plan, plan_of, cancelled_plan, run_plan, running_plan, suppressed_plan};
 ghost use Rattle.ckr_desk_turn.specs.Queue.{AreNumbered};
 ghost use Rattle.ckr_desk_turn.specs.Spelling.{IsCode};
 
-use crate::run_code::{Extents, code_plan, is_suppressed, lengths_of, place_of};
+use crate::run_code::{Extents, code_plan, is_suppressed, lengths_of, name_within, place_of};
 use crate::{Jobs, RunningStep};
 use ckr_base::{Code, Name8, NextDue, NoMemory};
 use ckr_desk_turn::{
@@ -59,17 +59,6 @@ fn step_ended(on: &RunningStep, run: u32, table: &RunTable, rc: u16) -> Plan
             on.step.progress().writes,
             lengths_of(&Extents::Now(&on.sets), run, table),
         ),
-    }
-}
-
-/// The name of the step that a run is within.
-fn name_within(run: u32, table: &RunTable) -> Name8
-    requires there { IsSome (own_step (row_for run table.now)) }
-    ensures { result ≡ step_name_of (row_for run table.now) }
-{
-    match step_at(&table.job, step_in(place_of(table))) {
-        Some(own) => own.name.copied(),
-        None => unreachable!(),
     }
 }
 
@@ -120,7 +109,8 @@ fn cancelled(run: u32, table: &RunTable) -> Plan
 
 impl Jobs {
     /// What a turn of an initiator comes to. Nothing has changed behind it, in either case. A system failure comes first, then a code that is
-    /// given, which is at most 4095 (IBM GC28-6708; the order is this project's profile).
+    /// given, which is at most 4095 (IBM GC28-6708; the order is this project's profile). The runs that were running when the system failed are
+    /// within their steps.
     ///
     /// `NoMemory`: there may be none to find the place of what a step makes.
     pub fn plan(&mut self, layout: &Layout, turn: Turn) -> Result<Plan, NoMemory>
@@ -128,6 +118,7 @@ impl Jobs {
         requires turn { IsTurnOf layout.now turn }
         requires code { IsAnyCode turn.fail }
         requires jobs { AreJobs layout.now self.old }
+        requires left { AreLeft self.old }
         ensures plan { IfOk result (λ plan. plan ≡ plan_of layout.now (jobs_of self.old) turn) }
         ensures spelled { IfOk result IsSpelledPlan }
         ensures tables { self.new.tables.desk ≡ self.old.tables.desk }
@@ -154,6 +145,7 @@ impl Jobs {
         requires few { length layout.now.volumes.items ≤ 32 }
         requires code { IsAnyCode turn.fail }
         requires jobs { AreJobs layout.now self.old }
+        requires left { AreLeft self.old }
         ensures numbered { AreNumbered 1 self.old.tables.desk.runs }
         ensures plan { IfOk result (λ plan. plan ≡ plan_of layout.now (jobs_of self.old) turn) }
         ensures spelled { IfOk result IsSpelledPlan }
@@ -163,17 +155,24 @@ impl Jobs {
         ensures takes { IfErr result (λ _. NeedsRoom (plan_of layout.now (jobs_of self.old) turn)) }
     {
         match self.tables.on_initiator(turn.initiator) {
-            Some(job) => self.run_plan(layout, job, turn.fail),
+            Some(job) => self.run_plan(layout, turn.initiator, job, turn.fail),
             None => Ok(self.free_plan(layout, turn.initiator, turn.fail)),
         }
     }
 
     /// The same for an initiator that has a run.
-    fn run_plan(&mut self, layout: &Layout, job: u32, fail: Option<Code>) -> Result<Plan, NoMemory>
+    fn run_plan(
+        &mut self,
+        layout: &Layout,
+        initiator: u8,
+        job: u32,
+        fail: Option<Code>,
+    ) -> Result<Plan, NoMemory>
         requires few { length layout.now.volumes.items ≤ 32 }
         requires code { IsAnyCode fail }
         requires jobs { AreJobs layout.now self.old }
-        ensures plan { (row : RunRow) → run_of self.old.tables.desk job ≡ Some row → IfOk result (λ plan. plan ≡ run_plan layout.now (jobs_of self.old) fail row) }
+        requires left { AreLeft self.old }
+        ensures plan { (row : RunRow) → run_of self.old.tables.desk job ≡ Some row → initiator_of row ≡ initiator → IfOk result (λ plan. plan ≡ run_plan layout.now (jobs_of self.old) fail row) }
         ensures spelled { IfOk result IsSpelledPlan }
         ensures tables { self.new.tables.desk ≡ self.old.tables.desk }
         ensures running { self.new.running ≡ self.old.running }
@@ -182,7 +181,7 @@ impl Jobs {
     {
         match self.next_step(job, fail) {
             Some(number) => self.between(layout, job, number),
-            None => Ok(self.settled(layout, job, fail)),
+            None => Ok(self.settled(layout, initiator, job, fail)),
         }
     }
 
@@ -205,48 +204,64 @@ impl Jobs {
     }
 
     /// The same for a run that is to start no step.
-    fn settled(&self, layout: &Layout, job: u32, fail: Option<Code>) -> Plan
+    fn settled(&self, layout: &Layout, initiator: u8, job: u32, fail: Option<Code>) -> Plan
         requires code { IsAnyCode fail }
         requires jobs { AreJobs layout.now self.now }
+        requires left { AreLeft self.now }
         requires next { (row : RunRow) → run_of self.now.tables.desk job ≡ Some row → next_step (is_failed (jobs_of self.now) row.number) fail (place_of_row row) ≡ None }
-        ensures plan { (row : RunRow) → run_of self.now.tables.desk job ≡ Some row → result ≡ run_plan layout.now (jobs_of self.now) fail row }
+        ensures plan { (row : RunRow) → run_of self.now.tables.desk job ≡ Some row → initiator_of row ≡ initiator → result ≡ run_plan layout.now (jobs_of self.now) fail row }
         ensures spelled { IsSpelledPlan result }
     {
         let Some(table) = self.known(job) else {
             return Plan::Rest(Reply::Idle);
         };
         if self.is_marked(job) {
-            return self.coded(layout, job, table, SYSTEM_FAILURE);
+            return self.coded(layout, initiator, job, table, SYSTEM_FAILURE);
         }
         match fail {
-            Some(code) => self.failing(layout, job, table, code),
+            Some(code) => self.failing(layout, initiator, job, table, code),
             None => self.within(job, table),
         }
     }
 
     /// A code is given for a run: that of its running step, if it is within one.
-    fn failing(&self, layout: &Layout, job: u32, table: &RunTable, code: Code) -> Plan
+    fn failing(
+        &self,
+        layout: &Layout,
+        initiator: u8,
+        job: u32,
+        table: &RunTable,
+        code: Code,
+    ) -> Plan
         requires code { IsCode code }
         requires known { IsKnown self.now.tables.desk job table.now }
-        requires counted { AllByRecursion HasCounts self.now.running }
-        ensures plan { result ≡ fail_plan layout.now (jobs_of self.now) (row_for job table.now) (Some code) }
+        requires jobs { AreJobs layout.now self.now }
+        ensures plan { (row : RunRow) → run_of self.now.tables.desk job ≡ Some row → initiator_of row ≡ initiator → result ≡ fail_plan layout.now (jobs_of self.now) row (Some code) }
         ensures spelled { IsSpelledPlan result }
     {
         match place_of(table) {
-            Place::Within(_, _) => self.coded(layout, job, table, code),
+            Place::Within(_, _) => self.coded(layout, initiator, job, table, code),
             Place::Before(_) | Place::Opened(_) => Plan::Rest(Reply::NothingToFail),
         }
     }
 
-    /// A run has a code, and ends with it.
-    fn coded(&self, layout: &Layout, job: u32, table: &RunTable, code: Code) -> Plan
+    /// A run has a code within its step: it is restarted there, or ends with it.
+    fn coded(&self, layout: &Layout, initiator: u8, job: u32, table: &RunTable, code: Code) -> Plan
         requires code { IsCode code }
         requires known { IsKnown self.now.tables.desk job table.now }
+        requires there { IsSome (own_step (row_for job table.now)) }
         requires counted { AllByRecursion HasCounts self.now.running }
-        ensures plan { let row = row_for job table.now in result ≡ code_plan layout.now row code (reached_by (jobs_of self.now) row) }
+        ensures plan { let row = row_for job table.now in result ≡ code_plan layout.now row initiator code (reached_by (jobs_of self.now) row) }
         ensures spelled { IsSpelledPlan result }
     {
-        code_plan(layout, job, table, code, self.reached(job, table))
+        code_plan(
+            layout,
+            job,
+            initiator,
+            table,
+            code,
+            self.reached(job, table),
+        )
     }
 
     /// A run that is within a step does what is due: the step works on, or a checkpoint is taken or suppressed, or restarts are cancelled, or
@@ -350,7 +365,7 @@ impl Jobs {
                 reply: Reply::Selected { job },
                 event: selected_event(job, initiator),
             },
-            Some(code) => self.coded(layout, job, table, code),
+            Some(code) => self.coded(layout, initiator, job, table, code),
         }
     }
 }

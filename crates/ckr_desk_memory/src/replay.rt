@@ -48,13 +48,14 @@ fn is_run_by(event: &Event, deck: &Option<Job>) -> bool
     }
 }
 
-/// Whether an event is of those by which a desk goes on: none of a run that is held, released, restarted or denied, or continues another
-/// one.
+/// Whether an event is of those by which a desk goes on: none of a run that is held, released, restarted at a checkpoint or denied, or
+/// continues another one.
 fn is_forward(event: &Event) -> bool
     ensures { result ≡ is_forward_event event.now }
 {
     match event {
         Event::Selected { earlier, .. } => *earlier == 0,
+        Event::Restarted { checkpoint, .. } => !*checkpoint,
         Event::Submitted { .. }
         | Event::Started { .. }
         | Event::Rewritten { .. }
@@ -90,9 +91,9 @@ fn goes_on(tables: &Tables, layout: &Layout, event: &Event, deck: &Option<Job>) 
 
 impl Jobs {
     /// Goes on by an event of the desk that is read again, and starts no step. False exactly where it doesn't follow in what the desk
-    /// runs by now: it is of a run that is held, released, restarted or denied, or continues another one, or its cards are no deck of a
-    /// form that the desk runs, or it doesn't follow, or its rewrite can't be counted; then the jobs are as before. An event keeps at
-    /// most 3,355,443 cards (this project's profile).
+    /// runs by now: it is of a run that is held, released, restarted at a checkpoint or denied, or continues another one, or its cards are
+    /// no deck of a form that the desk runs, or it doesn't follow, or its rewrite can't be counted; then the jobs are as before. An event
+    /// keeps at most 3,355,443 cards (this project's profile).
     ///
     /// `NoMemory`: the jobs are as before.
     pub fn replay(&mut self, layout: &Layout, event: &Event) -> Result<bool, NoMemory>

@@ -1,5 +1,5 @@
-//! A run that has a code: how far it has come, and the rule by which it isn't restarted.
-ghost use Rattle.std.specs.Prelude.{◌≡◌, ◌≤◌, false, [], ℕ, length};
+//! A run that has a code: how far it has come, and its restart at the start of its step, or its end by the rule that denies one.
+ghost use Rattle.std.specs.Prelude.{◌≡◌, ◌≤◌, false, [], ℕ, IsSome, length};
 ghost use Rattle.std.specs.List.{list_any, AllByRecursion};
 ghost use Rattle.ckr_base.specs.CodeText.{same_code};
 ghost use Rattle.ckr_points_library.specs.Holdings.{owned};
@@ -8,19 +8,22 @@ ghost use Rattle.ckr_library.specs.Catalog.{fresh_holding};
 ghost use Rattle.ckr_library.specs.NameMaps.{with_entry};
 ghost use Rattle.ckr_library.specs.declared.sets.DataSet.{DataSet as SetOfName};
 ghost use Rattle.ckr_desk_memory.specs.Extents.{sets_of, AreShort};
-ghost use Rattle.ckr_desk_memory.specs.Plans.{reached_seen, row_for, IsSpelledPlan};
+ghost use Rattle.ckr_desk_memory.specs.Plans.{reached_seen, row_for, IsSpelledPlan, IsUnitPlan};
 ghost use Rattle.ckr_desk_memory.specs.View.{length_in, lengths_in, lengths_of_row};
 ghost use Rattle.ckr_points.specs.RuleCases.{auto_case, rd_in_effect, since_point, since_start};
+ghost use Rattle.ckr_points.specs.Follows.{own_step};
 ghost use Rattle.ckr_points.specs.Restart.{place_of as place_of_row, step_in as step_in_place};
+ghost use Rattle.ckr_points.specs.Rows.{RunRow};
 ghost use Rattle.ckr_rules.specs.RuleTables.{is_rnc, rule_number, suppresses};
 ghost use Rattle.ckr_points_decks.specs.DeckLimits.{IsWithinLimits};
-ghost use Rattle.ckr_desk_turn.specs.Codes.{code_plan, rule_for};
+ghost use Rattle.ckr_desk_turn.specs.Codes.{code_plan, ended_by, restarted_by};
+ghost use Rattle.ckr_desk_turn.specs.Jobs.{step_name_of};
 ghost use Rattle.ckr_desk_turn.specs.Spelling.{IsCode};
 
 use crate::RunningStep;
 use arrayvec::ArrayVec;
-use ckr_base::{Code, DsName};
-use ckr_desk_turn::{How, Plan, Reply, coded_event};
+use ckr_base::{Code, DsName, Name8};
+use ckr_desk_turn::{How, Plan, Reply, coded_event, restarted_event};
 use ckr_jcl::{Rd, Step};
 use ckr_library::{DataSet, Library};
 use ckr_meaning::Place;
@@ -204,36 +207,74 @@ fn auto_case(layout: &Layout, table: &RunTable, code: Code) -> AutoCase
     }
 }
 
-/// The rule by which a run isn't restarted after a code: one of A1 to A6.
-fn rule_for(layout: &Layout, table: &RunTable, code: Code) -> Rule
-    ensures rule { (run : ℕ) → result ≡ rule_for layout.now (row_for run table.now) code }
-    ensures low { rule_number result ≤ 6 }
+/// The name of the step that a run is within.
+pub(crate) fn name_within(run: u32, table: &RunTable) -> Name8
+    requires there { IsSome (own_step (row_for run table.now)) }
+    ensures { result ≡ step_name_of (row_for run table.now) }
 {
-    match automatic(&auto_case(layout, table, code)) {
-        Verdict::Denied(rule) => rule,
-        Verdict::Step | Verdict::Checkpoint => Rule::A6,
+    match step_at(&table.job, step_in(place_of(table))) {
+        Some(own) => own.name.copied(),
+        None => unreachable!(),
     }
 }
 
-/// A run ends with a code, by the rule that denies a restart.
-pub(crate) fn code_plan(
-    layout: &Layout,
-    run: u32,
-    table: &RunTable,
-    code: Code,
-    reached: CodePlace,
-) -> Plan
+/// A run ends with a code, by the rule that denies a restart: one of A1 to A6.
+fn ended(run: u32, code: Code, rule: Rule, reached: CodePlace) -> Plan
     requires code { IsCode code }
+    requires rule { rule_number rule ≤ 6 }
     requires lengths { length_list.fits reached.lengths.items }
-    ensures plan { result ≡ code_plan layout.now (row_for run table.now) code (reached_seen reached) }
+    ensures plan { (row : RunRow) → row.number ≡ run → result ≡ ended_by row code rule (reached_seen reached) }
     ensures spelled { IsSpelledPlan result }
+    ensures unit { IsUnitPlan result }
 {
-    let rule = rule_for(layout, table, code);
     Plan::Tell {
         reply: Reply::JobEnded {
             job: run,
             how: How::Abended { code, rule },
         },
         event: coded_event(run, code, rule, reached.writes, reached.lengths),
+    }
+}
+
+/// A run is restarted on its initiator after a code, at the start of the step that it is within.
+fn restarted(run: u32, initiator: u8, table: &RunTable, code: Code) -> Plan
+    requires code { IsCode code }
+    requires there { IsSome (own_step (row_for run table.now)) }
+    ensures plan { result ≡ restarted_by (row_for run table.now) initiator code }
+    ensures spelled { IsSpelledPlan result }
+    ensures unit { IsUnitPlan result }
+{
+    Plan::Tell {
+        reply: Reply::Restarted {
+            job: run,
+            step: name_within(run, table),
+            id: None,
+            taken: 0,
+        },
+        event: restarted_event(run, initiator, code, false),
+    }
+}
+
+/// What becomes of a run with a code that is within a step, on an initiator: it is restarted at the start of the step, or it ends by the rule
+/// that denies that. A restart at a checkpoint isn't authorised yet, and the run ends (IBM GC28-6708; that is this project's profile).
+pub(crate) fn code_plan(
+    layout: &Layout,
+    run: u32,
+    initiator: u8,
+    table: &RunTable,
+    code: Code,
+    reached: CodePlace,
+) -> Plan
+    requires code { IsCode code }
+    requires there { IsSome (own_step (row_for run table.now)) }
+    requires lengths { length_list.fits reached.lengths.items }
+    ensures plan { result ≡ code_plan layout.now (row_for run table.now) initiator code (reached_seen reached) }
+    ensures spelled { IsSpelledPlan result }
+    ensures unit { IsUnitPlan result }
+{
+    match automatic(&auto_case(layout, table, code)) {
+        Verdict::Denied(rule) => ended(run, code, rule, reached),
+        Verdict::Step => restarted(run, initiator, table, code),
+        Verdict::Checkpoint => ended(run, code, Rule::A6, reached),
     }
 }

@@ -1,10 +1,10 @@
 //! What a turn tells of a unit that was worked out.
-ghost use Rattle.std.specs.Prelude.{◌≡◌, ◌≤◌, [], ◌∷◌, IfSome, Some};
+ghost use Rattle.std.specs.Prelude.{◌≡◌, ◌≤◌, [], ◌∷◌, IfSome, IsSome, Some};
 ghost use Rattle.std.specs.List.{AllByRecursion};
 ghost use Rattle.ckr_base.specs.declared.programs.Heads.{Heads as HeadsOfInputs};
 ghost use Rattle.ckr_events.specs.Format.{length_list};
 ghost use Rattle.ckr_desk_memory.specs.Extents.{IsShort};
-ghost use Rattle.ckr_desk_memory.specs.Invariant.{IsAcceptedRow};
+ghost use Rattle.ckr_desk_memory.specs.Invariant.{IsAcceptedRow, IsPlacedRow};
 ghost use Rattle.ckr_desk_memory.specs.OwnSets.{IsRunningOf};
 ghost use Rattle.ckr_desk_memory.specs.OwnSteps.{PlanCommits, PlanFollows, PlanIsOf, PlanLeaves};
 ghost use Rattle.ckr_desk_memory.specs.Parts.{step_seen};
@@ -12,6 +12,7 @@ ghost use Rattle.ckr_desk_memory.specs.Plans.{behind_unit, reached_seen, row_for
 ghost use Rattle.ckr_desk_memory.specs.Start.{AllFit};
 ghost use Rattle.ckr_desk_memory.specs.View.{lengths_of_row, running_of};
 ghost use Rattle.ckr_meaning.specs.EffectiveJob.{OwnedStep};
+ghost use Rattle.ckr_points.specs.Follows.{own_step};
 ghost use Rattle.ckr_points.specs.Restart.{place_of as place_of_row, step_in as step_in_place};
 ghost use Rattle.ckr_points.specs.Rows.{run_of, step_of_run, RunRow};
 ghost use Rattle.ckr_steps.specs.Inputs.{AreThere};
@@ -35,6 +36,7 @@ fn worked_reply(on: &RunningStep, ahead: &UnitAhead, table: &RunTable) -> Option
     requires { AreCounted (behind_ahead on.now.step ahead.now) }
     ensures reply { let row = row_for on.now.run table.now in (own : OwnedStep) → step_of_run row (step_in_place (place_of_row row)) ≡ Some own → result ≡ Some (Reply.Worked on.now.run (step_name_of row) (taken_of (behind_ahead on.now.step ahead.now).state)) }
     ensures told { IfSome result IsToldReply }
+    ensures there { IfSome result (λ _. IsSome (own_step (row_for on.now.run table.now))) }
 {
     let own = step_at(&table.job, step_in(place_of(table)))?;
     Some(Reply::Worked {
@@ -77,8 +79,9 @@ impl Jobs {
     }
 
     /// What a turn tells of a unit that was worked out and isn't done yet, exactly as it tells it behind the unit: the records taken, with
-    /// the rewrite in place if the unit makes one, or the end of the run by the code with which the unit ends it. The code is at most
-    /// 4095. Its run is within a step of its deck; else the turn tells nothing (IBM GC28-6704; the replies are this project's profile).
+    /// the rewrite in place if the unit makes one, or what becomes of the run by the code with which the unit ends the step: its restart at
+    /// the start of the step, or its end. The code is at most 4095. Its run is within a step of its deck; else the turn tells nothing (IBM
+    /// GC28-6704; the replies are this project's profile).
     pub fn told(&self, layout: &Layout, on: &RunningStep, ahead: &UnitAhead) -> Plan
         requires rows { AllByRecursion IsAcceptedRow self.now.tables.desk.runs }
         requires counted { AreCounted (behind_ahead on.now.step ahead.now) }
@@ -89,9 +92,9 @@ impl Jobs {
         ensures spelled { IsSpelledPlan result }
         ensures unit { IsUnitPlan result }
 
-        // Where the step is that of its run, and the unit is its own for some heads, what is told is of its run and follows on any disk. It
-        // commits what the step has behind the unit.
-        ensures own { (heads : HeadsOfInputs) → IsRunningOf self.now.tables.desk (step_seen on.now) → AllFit on.now.sets.sets → AreThere on.now.step.files on.now.sets
+        // Where the step is that of its run, and the unit is its own for some heads, what is told is of its run and follows on any disk: a run
+        // that is restarted is on its initiator, and its step has a point. It commits what the step has behind the unit.
+        ensures own { (heads : HeadsOfInputs) → AllByRecursion IsPlacedRow self.now.tables.desk.runs → IsRunningOf self.now.tables.desk (step_seen on.now) → AllFit on.now.sets.sets → AreThere on.now.step.files on.now.sets
             → IsUnitFor on.now.sets on.now.step heads ahead.now → PlanFollows layout.now self.now.tables.desk result }
         ensures commits { IsRunningOf self.now.tables.desk (step_seen on.now) → PlanCommits self.now.tables.desk (behind_unit (step_seen on.now) ahead.now ∷ []) result }
         ensures of_run { IsRunningOf self.now.tables.desk (step_seen on.now) → PlanIsOf on.now.run result }
@@ -134,7 +137,10 @@ impl Jobs {
                     image.copied(),
                 ),
             },
-            Worked::Abend(code) => code_plan(layout, on.run, table, *code, reached),
+            Worked::Abend(code) => {
+                let initiator = self.initiator_of(on.run);
+                code_plan(layout, on.run, initiator, table, *code, reached)
+            }
         }
     }
 }

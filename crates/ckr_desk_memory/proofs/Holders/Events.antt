@@ -1,8 +1,8 @@
 -- By each event that follows the row of its run alone changes, and what the run's job names: so the holders stay apart.
 use Rattle.std.proofs.Common.{arith, ◌≡◌, ◌≢◌, ◌==◌, ◌+◌, ℕ, zero, suc, Bool, true, false, ◌&&◌, ◌||◌, not, List, [], ◌∷◌, ◌++◌, length, refl, ap, sym, ◌∙◌, subst, Option, Some, None}
-use Rattle.std.specs.Prelude.{slice_get}
+use Rattle.std.specs.Prelude.{nat_eq, slice_get}
 use Rattle.std.specs.List.{AllByRecursion}
-use Rattle.std.specs.Option.{is_some, option_map_or}
+use Rattle.std.specs.Option.{is_some, option_eq, option_map_or}
 use Rattle.std.proofs.lemmas.Bool.{false≢true}
 use Rattle.std.proofs.lemmas.Option.{same_Some}
 use Rattle.ckr_base.proofs.Bools.{and-first, and-second, or-cases}
@@ -12,7 +12,7 @@ use Rattle.ckr_events.specs.Jobs.{job_of}
 use Rattle.ckr_events.specs.declared.event.Ending.{Ending}
 use Rattle.ckr_events.specs.declared.event.Ending.TheVariants.{Allocation, Coded, Completed}
 use Rattle.ckr_events.specs.declared.event.Event.{Event}
-use Rattle.ckr_events.specs.declared.event.Event.TheVariants.{Cancelled, Checkpointed, Ended, Purged, Rewritten, Selected, Started, StepEnded, Submitted}
+use Rattle.ckr_events.specs.declared.event.Event.TheVariants.{Cancelled, Checkpointed, Ended, Purged, Restarted, Rewritten, Selected, Started, StepEnded, Submitted}
 use Rattle.ckr_events.specs.declared.event.Made.{Made}
 use Rattle.ckr_jcl.specs.declared.deck.Job.{Job}
 use Rattle.ckr_library.proofs.Named.{at-with_changed-other}
@@ -26,11 +26,12 @@ use Rattle.ckr_meaning.specs.declared.place.Place.TheVariants.{Before, Opened, W
 use Rattle.ckr_base.proofs.Sequences.{get-inside}
 use Rattle.ckr_points.specs.declared.run.RunState.{RunState}
 use Rattle.ckr_points.specs.declared.run.RunState.TheVariants.{Queued, On, Held as HeldRun, Released as ReleasedRun, Ended as EndedRun, Denied as DeniedRun, Purged as PurgedRun}
-use Rattle.ckr_points.specs.Follows.{follows, is_checkpoint, is_empty, is_free, is_in_state, is_length_of, is_rewrite, is_running, is_update, is_within, lengths_follow, may_hold, may_start, of_step, own_step, selected_follows, started_follows, state_number, ended_follows}
+use Rattle.ckr_points.specs.Follows.{follows, is_checkpoint, is_empty, is_free, is_in_state, is_length_of, is_rewrite, is_running, is_update, is_within, lengths_follow, may_hold, may_restart_again, may_start, of_step, own_step, selected_follows, started_follows, state_number, ended_follows}
 use Rattle.ckr_points.specs.Office.{is_holder, passed_made}
-use Rattle.ckr_points.specs.Restart.{after_abnormal, after_chosen, after_coded, after_ended, after_event, after_passed_ended, by_step, place_of, step_in}
-use Rattle.ckr_points.specs.Rows.{RunRow, TableSet, TablesModel, no_tables, run_of, standing_of, step_of_run, table_ways, with_run}
-use Rattle.ckr_points.specs.Tables.{after_submitted, after_cancelled, after_checkpointed, after_commit, after_dispositions, after_rewritten, after_started, after_step_ended, committed, fresh_effect, is_checkpoints, is_updates, name_with_role, queued_run, row_rewritten, table_rewritten}
+use Rattle.ckr_points.specs.Marks.{point_at, put_back, removed_all, with_point}
+use Rattle.ckr_points.specs.Restart.{after_abnormal, after_chosen, after_coded, after_ended, after_event, after_passed_ended, after_put_back, after_restarted, back_to_start, by_step, place_of, point_restarted, row_on, step_in}
+use Rattle.ckr_points.specs.Rows.{RunRow, StartPoint, TableSet, TablesModel, no_tables, run_of, standing_of, step_of_run, table_ways, with_run}
+use Rattle.ckr_points.specs.Tables.{after_submitted, after_cancelled, after_checkpointed, after_commit, after_dispositions, after_rewritten, after_started, after_step_ended, committed, fresh_effect, is_checkpoints, is_updates, name_with_role, own_made, queued_run, row_rewritten, table_rewritten}
 use Rattle.ckr_points_invariant.proofs.Library.PassedList.{ended-leaves}
 use Rattle.ckr_points_invariant.proofs.Steps.Events.{on-holds}
 use Rattle.ckr_points_invariant.proofs.WaitingRuns.{tested-run}
@@ -41,7 +42,8 @@ use Rattle.ckr_volumes.specs.declared.layout.Layout.{Layout}
 use Rattle.ckr_desk_memory.proofs.Holders.CheckSets.{length-among, not-among}
 use Rattle.ckr_desk_memory.proofs.Holders.Moves.{RowGoesOn, HasRow, by-own, by-row, holders-go, row-accepted, row-as_is, row-next, row-number}
 use Rattle.ckr_desk_memory.proofs.Holders.Names.{changed-named, names-outside, outputs-changed, step-formed}
-use Rattle.ckr_desk_memory.proofs.Holders.Sets.{committed-outside, disposed-outside, passed-outside, started-outside, there-changed, there-committed, there-started, updated-outside}
+use Rattle.ckr_desk_memory.proofs.Holders.Sets.{committed-outside, disposed-outside, passed-outside, passed_back-outside, restarted-outside, started-outside, there-changed, there-committed, there-started, updated-outside}
+use Rattle.ckr_desk_memory.proofs.Runs.{by-step}
 use Rattle.ckr_desk_memory.specs.Invariant.{IsAcceptedRow}
 use Rattle.ckr_desk_turn.specs.Queue.{AreNumbered}
 use Rattle.ckr_desk_memory.specs.Holders.{AreHolders, PassesOwn, changed_names}
@@ -247,6 +249,57 @@ module _ (tables : TablesModel) (rows : AllByRecursion IsAcceptedRow tables.runs
           changed = λ has other name holding within its among. absurd (false≢true within);
         }
 
+    -- a run that goes back to the start of its step isn't within it any more
+    restarted : (initiator : ℕ) (point : StartPoint) → is_holder row.state ≡ true
+        → Goes (after_put_back (record (row_on initiator row) { points = with_point (point_restarted point) row.points; in_effect = None }) owned (back_to_start row owned (step_in (place_of row)) point) tables)
+    restarted initiator point holds =
+        let step : ℕ = step_in (place_of row) in
+        let sets : Named TableSet = put_back point.marks (output_names row.job.root owned) (names_of row.job.root owned) (removed_all (own_made row owned step) tables.sets) in
+        record {
+          row = row;
+          next = _;
+          row_at = at;
+          rows = row-next tables tables job row _ sets (row-as_is tables job row at) mine;
+          number = refl;
+          deck = refl;
+          job_is = refl;
+          begins = λ was now. absurd (false≢true (sym was ∙ holds));
+          passed = λ own name out. passed_back-outside row point.marks sets point.passed name accepted.plain out;
+          still = λ was name. absurd (false≢true (sym was ∙ holds));
+          outside = λ own name out. restarted-outside row owned step name (not_of_step name out) point.marks tables.sets;
+          changed = λ has other name holding within its among. absurd (false≢true within);
+        }
+
+  -- a run that stays as it is
+  unmoved : Goes tables
+  unmoved = record {
+    row = row;
+    next = row;
+    row_at = at;
+    rows = row-as_is tables job row at;
+    number = refl;
+    deck = refl;
+    job_is = refl;
+    begins = λ was now. absurd (false≢true (sym was ∙ now));
+    passed = λ own. own;
+    still = λ was name. refl;
+    outside = λ own name out. refl;
+    changed = λ has. has;
+  }
+
+  restarts : (layout : Layout) (initiator : ℕ) (checkpoint : Bool) → not checkpoint ≡ true
+      → ((is_running row && option_eq nat_eq row.initiator (Some initiator) || is_in_state ReleasedRun row && is_free layout tables initiator) && may_restart_again checkpoint row) ≡ true
+      → Goes (by_step (λ owned step. after_restarted row owned step initiator checkpoint tables) row tables)
+  restarts layout initiator true plain follow = absurd (false≢true plain)
+  restarts layout initiator false plain follow =
+      by-step Goes tables (own_step row) _ unmoved
+      (λ owned found. by-step Goes tables (point_at row.points (step_in (place_of row))) _ unmoved (λ point began. restarted owned found initiator point holds))
+    where
+      holds : is_holder row.state ≡ true
+      holds =
+          or-cases (is_running row && option_eq nat_eq row.initiator (Some initiator)) (is_in_state ReleasedRun row && is_free layout tables initiator) (and-first _ (may_restart_again false row) follow)
+          (λ runs. running-holds row (and-first (is_running row) _ runs)) (λ released. released-holds row.state (and-first (is_in_state ReleasedRun row) _ released))
+
   -- ---- the end of a run
 
   completed : is_holder row.state ≡ true → Goes (after_passed_ended row tables)
@@ -350,6 +403,11 @@ goes-in layout tables rows numbered (StepEnded job step rc writes lengths) deck 
     by-row (λ after. RowGoesOn tables after job) tables job (λ row. by_step (λ owned step. after_step_ended row owned step rc writes lengths.items tables) row tables) row at
     (by-own (λ after. RowGoesOn tables after job) tables (λ owned step. after_step_ended row owned step rc writes lengths.items tables) row owned found
     (step_ended tables rows numbered job row at owned found rc writes lengths.items (and-first (is_running row) _ (and-first (is_running row && step_in (place_of row) == step) _ passes))))))
+goes-in layout tables rows numbered (Restarted job initiator code checkpoint) deck plain other follow =
+    tested-run tables job (λ row. (is_running row && option_eq nat_eq row.initiator (Some initiator) || is_in_state ReleasedRun row && is_free layout tables initiator) && may_restart_again checkpoint row) follow
+    (λ row at passes.
+    by-row (λ after. RowGoesOn tables after job) tables job (λ row. by_step (λ owned step. after_restarted row owned step initiator checkpoint tables) row tables) row at
+    (restarts tables rows numbered job row at layout initiator checkpoint plain passes))
 goes-in layout tables rows numbered (Ended job ending) deck plain other follow =
     tested-run tables job (λ row. ended_follows tables row ending) follow
     (λ row at passes. by-row (λ after. RowGoesOn tables after job) tables job (λ row. after_ended row ending tables) row at (ended tables rows numbered job row at ending passes))

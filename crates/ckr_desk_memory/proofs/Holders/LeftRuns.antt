@@ -9,7 +9,7 @@ use Rattle.ckr_base.proofs.Options.{some-one}
 use Rattle.ckr_base.proofs.Sequences.{each-implies}
 use Rattle.ckr_events.specs.Jobs.{job_of}
 use Rattle.ckr_events.specs.declared.event.Event.{Event}
-use Rattle.ckr_events.specs.declared.event.Event.TheVariants.{Cancelled, Checkpointed, Ended, Purged, Rewritten, Selected, Started, StepEnded, Submitted}
+use Rattle.ckr_events.specs.declared.event.Event.TheVariants.{Cancelled, Checkpointed, Ended, Purged, Restarted, Rewritten, Selected, Started, StepEnded, Submitted}
 use Rattle.ckr_events.specs.declared.event.Made.{Made}
 use Rattle.ckr_jcl.specs.declared.deck.Job.{Job}
 use Rattle.ckr_library.specs.declared.sets.Kept.{Kept}
@@ -32,6 +32,24 @@ use Rattle.ckr_desk_memory.specs.View.{JobsView}
 use Rattle.ckr_desk_turn.specs.Desk.{failed_behind, is_running as is_lodged}
 use Rattle.ckr_desk_turn.specs.Invariant.{is_on_one}
 use Rattle.ckr_desk_turn.specs.Queue.{AreNumbered}
+
+-- ---- without the mark of a run
+
+others-marked : (job : ℕ) (failed : List ℕ) → AllByRecursion (IsOther job) (filter (λ number. not (number == job)) failed)
+others-marked job [] = tt
+others-marked job (number ∷ rest) = by (number == job) refl (others-marked job rest)
+  where
+    by : (b : Bool) → (number == job) ≡ b → AllByRecursion (IsOther job) (filter (λ number. not (number == job)) rest) → AllByRecursion (IsOther job) (cond (not b) (number ∷ filter (λ number. not (number == job)) rest) (filter (λ number. not (number == job)) rest))
+    by true e later = later
+    by false e later = (equal-false number job e, later)
+
+marks-kept : (P : ℕ → Type 0) (job : ℕ) (failed : List ℕ) → AllByRecursion P failed → AllByRecursion P (filter (λ number. not (number == job)) failed)
+marks-kept P job [] all = tt
+marks-kept P job (number ∷ rest) all = by (number == job) (marks-kept P job rest all.1)
+  where
+    by : (b : Bool) → AllByRecursion P (filter (λ number. not (number == job)) rest) → AllByRecursion P (cond (not b) (number ∷ filter (λ number. not (number == job)) rest) (filter (λ number. not (number == job)) rest))
+    by true later = later
+    by false later = (all.0, later)
 
 -- ---- behind an event
 
@@ -128,24 +146,10 @@ module _ (layout : Layout) (tables : TablesModel) (rows : AllByRecursion IsAccep
       by-row (λ after. IsLeft after job) tables job (λ row. after_cancelled row tables) left.0 left.1
       (record left.0 { in_effect = None }, (row-next tables tables job left.0 _ tables.sets (row-as_is tables job left.0 left.1) (row-number tables job left.0 numbered left.1)).now, left.2))) all
   left_on (StepEnded job step rc writes lengths) deck failed plain follow leaves all = rest_left (StepEnded job step rc writes lengths) deck plain refl follow failed leaves all
+  left_on (Restarted job initiator code checkpoint) deck failed plain follow leaves all =
+      rest_left (Restarted job initiator code checkpoint) deck plain refl follow (failed_behind (Restarted job initiator code checkpoint) failed) (others-marked job failed) (marks-kept (IsLeft tables) job failed all)
   left_on (Ended job ending) deck failed plain follow leaves all =
-      rest_left (Ended job ending) deck plain refl follow (failed_behind (Ended job ending) failed) (others job failed) (kept job failed all)
-    where
-      others : (job : ℕ) (failed : List ℕ) → AllByRecursion (IsOther job) (filter (λ number. not (number == job)) failed)
-      others job [] = tt
-      others job (number ∷ rest) = by (number == job) refl (others job rest)
-        where
-          by : (b : Bool) → (number == job) ≡ b → AllByRecursion (IsOther job) (filter (λ number. not (number == job)) rest) → AllByRecursion (IsOther job) (cond (not b) (number ∷ filter (λ number. not (number == job)) rest) (filter (λ number. not (number == job)) rest))
-          by true e later = later
-          by false e later = (equal-false number job e, later)
-
-      kept : (job : ℕ) (failed : List ℕ) → AllByRecursion (IsLeft tables) failed → AllByRecursion (IsLeft tables) (filter (λ number. not (number == job)) failed)
-      kept job [] all = tt
-      kept job (number ∷ rest) all = by (number == job) (kept job rest all.1)
-        where
-          by : (b : Bool) → AllByRecursion (IsLeft tables) (filter (λ number. not (number == job)) rest) → AllByRecursion (IsLeft tables) (cond (not b) (number ∷ filter (λ number. not (number == job)) rest) (filter (λ number. not (number == job)) rest))
-          by true later = later
-          by false later = (all.0, later)
+      rest_left (Ended job ending) deck plain refl follow (failed_behind (Ended job ending) failed) (others-marked job failed) (marks-kept (IsLeft tables) job failed all)
   left_on (Purged job) deck failed plain follow leaves all =
       each-implies (IsLeft tables) (IsLeft (after_event (Purged job) deck tables)) failed
       (one_left (Purged job) deck plain refl follow

@@ -1,13 +1,15 @@
--- An event that a running step brings about follows.
+-- An event that a running step brings about follows, and so does a restart.
 use Rattle.std.proofs.Common.{◌≡◌, ◌≤◌, ◌==◌, ℕ, Bool, true, false, ◌&&◌, ◌||◌, List, [], ◌∷◌, map, length, refl, ap, sym, ◌∙◌, subst, Option, Some, None, arith}
-use Rattle.std.specs.Prelude.{nat_le, nat_lt, option_and_then, slice_get}
+use Rattle.std.specs.Prelude.{nat_eq, nat_le, nat_lt, option_and_then, slice_get}
 use Rattle.std.specs.List.{AllByRecursion}
-use Rattle.std.specs.Option.{is_some, option_map, option_map_or}
+use Rattle.std.specs.Option.{is_some, option_eq, option_map, option_map_or}
 use Rattle.std.proofs.lemmas.Bool.{and_from, or_left, or_right, false≢true}
+use Rattle.std.proofs.lemmas.Bool.Decides.{nat_tests}
 use Rattle.std.proofs.lemmas.Option.{same_Some}
-use Rattle.ckr_base.proofs.Bools.{and-first, and-second}
+use Rattle.ckr_base.proofs.Bools.{and-first, and-second, if-then}
 use Rattle.ckr_base.specs.declared.code.Code.{Code}
 use Rattle.ckr_points.specs.Soundness.{AreLaidOut}
+use Rattle.ckr_points_invariant.proofs.Restart.Verdicts.{restarts-again}
 use Rattle.ckr_points_invariant.proofs.Steps.Events.{on-holds}
 use Rattle.ckr_volumes.specs.Layouts.{StandsIn}
 use Rattle.arrayvec.specs.ArrayVec.{ArrayVec}
@@ -18,7 +20,7 @@ use Rattle.ckr_base.proofs.Options.{some-not-none}
 use Rattle.ckr_events.specs.declared.event.Ending.{Ending}
 use Rattle.ckr_events.specs.declared.event.Ending.TheVariants.{Allocation, Coded, Completed}
 use Rattle.ckr_events.specs.declared.event.Event.{Event}
-use Rattle.ckr_events.specs.declared.event.Event.TheVariants.{Cancelled, Ended, Rewritten, StepEnded}
+use Rattle.ckr_events.specs.declared.event.Event.TheVariants.{Cancelled, Ended, Restarted, Rewritten, StepEnded}
 use Rattle.ckr_jcl.specs.declared.deck.Dd.{Dd}
 use Rattle.ckr_jcl.specs.declared.deck.Job.{Job}
 use Rattle.ckr_jcl.specs.declared.deck.Origin.{Origin}
@@ -30,8 +32,9 @@ use Rattle.ckr_library.specs.declared.sets.DataSet.{DataSet}
 use Rattle.ckr_meaning.specs.EffectiveJob.{Effective, OwnedStep, is_among, name_of}
 use Rattle.ckr_meaning.specs.StepRun.{input_names, output_dd}
 use Rattle.ckr_base.specs.declared.programs.Output.TheVariants.{InPlace}
-use Rattle.ckr_points.specs.Follows.{are_lengths, follows, is_in_state, is_rewrite, is_running, is_update, is_within, lengths_follow, of_run, state_number, ended_follows}
-use Rattle.ckr_points.specs.Payload.{is_formed_step}
+use Rattle.ckr_points.specs.Follows.{are_lengths, follows, is_free, is_in_state, is_rewrite, is_running, is_update, is_within, lengths_follow, may_restart_again, of_run, state_number, ended_follows}
+use Rattle.ckr_points.specs.Marks.{point_at}
+use Rattle.ckr_points.specs.Payload.{is_formed_step, is_verdict}
 use Rattle.ckr_points.specs.Restart.{place_of, step_in}
 use Rattle.ckr_points.specs.Rows.{RunRow, TableSet, TablesModel, run_of}
 use Rattle.ckr_points.specs.Tables.{is_updates, name_with_role}
@@ -46,9 +49,14 @@ use Rattle.ckr_desk_memory.proofs.Holders.OwnSets.{up_to-itself}
 use Rattle.ckr_desk_memory.proofs.Holders.Rewrites.{AsksForRewrite, IsRewriteIn, rewrite-asked}
 use Rattle.ckr_desk_memory.proofs.Holders.Units.{step-owner, update-is}
 use Rattle.ckr_desk_memory.proofs.Holders.Masters.{updated-changed, updated-dd}
-use Rattle.ckr_desk_memory.specs.Invariant.{IsAcceptedRow}
+use Rattle.ckr_desk_memory.proofs.Invariant.{begun-within}
+use Rattle.ckr_desk_memory.proofs.Queue.{on-is}
+use Rattle.ckr_desk_memory.specs.Invariant.{IsAcceptedRow, IsPlacedRow}
 use Rattle.ckr_desk_memory.specs.Start.{AllFit}
 use Rattle.ckr_desk_memory.specs.View.{RunningStepView, length_in, lengths_in}
+use Rattle.ckr_rules.specs.declared.cases.Verdict.TheVariants.{Step}
+use Rattle.ckr_desk_turn.specs.Codes.{initiator_of, verdict_for}
+use Rattle.ckr_desk_turn.specs.Invariant.{is_on_one}
 use Rattle.ckr_desk_turn.specs.Queue.{AreNumbered}
 use Rattle.ckr_desk_memory.specs.Holders.{AreHolders}
 use Rattle.ckr_desk_memory.specs.OwnEvents.{IsLeftWithin, HasOwnLengths, IsOwnEnding, IsOwnEvent, IsOwnRewrite, IsOwnStepEnd}
@@ -232,3 +240,36 @@ left-follows layout tables job rule writes code lengths deck are laid is =
     (λ name among.
     are.changed job is.row is.row_at is.owned name (on-holds is.row.state (and-first (is_in_state On is.row) (is_within (place_of is.row)) is.running)) (and-second (is_in_state On is.row) (is_within (place_of is.row)) is.running) is.found
     (outputs-changed is.row.job.root is.owned name among)))
+
+-- ---- a restart
+
+seat_same : (seat : Option ℕ) → is_some seat ≡ true → option_eq nat_eq seat (Some (option_map_or (λ initiator. initiator) seat 0)) ≡ true
+seat_same None some = absurd (false≢true some)
+seat_same (Some initiator) some = grind (arith, nat_tests)
+
+-- The restart of a run within its step follows, where the rules say so: it is on its initiator, and its step has a point with fewer than three
+-- restarts. So it is with a running step, and with a run that was running when the system failed.
+pub restarts-follow : (layout : Layout) (tables : TablesModel) (row : RunRow) (code : Code) (deck : Option Job) → run_of tables row.number ≡ Some row → is_running row ≡ true → IsPlacedRow row → verdict_for layout row code ≡ Step
+    → follows layout tables (Restarted row.number (initiator_of row) code false) deck ≡ true
+restarts-follow layout tables row code deck at running placed judged =
+    ap (λ (o : Option RunRow). option_map_or test o false) at
+    ∙ and_from (sits row || waits row) (may_restart_again false row)
+    (or_left (sits row) (waits row) (and_from (is_running row) _ running (seat_same row.initiator seated)))
+    (restarts-again row layout.eligible.items code false begun (ap (is_verdict false) judged))
+  where
+    sits : RunRow → Bool
+    sits its = is_running its && option_eq nat_eq its.initiator (Some (initiator_of row))
+
+    waits : RunRow → Bool
+    waits its = is_in_state Released its && is_free layout tables (initiator_of row)
+
+    test : RunRow → Bool
+    test its = (is_running its && option_eq nat_eq its.initiator (Some (initiator_of row)) || is_in_state Released its && is_free layout tables (initiator_of row)) && may_restart_again false its
+
+    seated : is_some row.initiator ≡ true
+    seated =
+        if-then (is_on_one row.state) (is_some row.initiator) placed.seated
+        (ap is_on_one (on-is row.state (and-first (is_in_state On row) (is_within (place_of row)) running)))
+
+    begun : is_some (point_at row.points (step_in (place_of row))) ≡ true
+    begun = begun-within row (and-second (is_in_state On row) (is_within (place_of row)) running) placed

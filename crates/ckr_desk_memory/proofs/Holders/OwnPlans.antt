@@ -1,5 +1,5 @@
 -- What a turn tells follows on any disk, what it commits is its step's own, and it ends no step of a run that was running when the system failed.
-use Rattle.std.proofs.Common.{◌≡◌, ◌==◌, ◌||◌, ℕ, true, false, List, [], ◌∷◌, find, map, refl, ap, sym, ◌∙◌, subst, Option, Some, None}
+use Rattle.std.proofs.Common.{◌≡◌, ◌==◌, ◌||◌, ℕ, true, false, List, [], ◌∷◌, find, map, IsSome, refl, ap, sym, ◌∙◌, subst, Option, Some, None}
 use Rattle.std.specs.List.{AllByRecursion, list_any}
 use Rattle.std.specs.Option.{option_map, option_map_or}
 use Rattle.std.proofs.lemmas.Bool.{and_from, false≢true, true≢false}
@@ -22,18 +22,21 @@ use Rattle.ckr_points.specs.Restart.{place_of, step_in}
 use Rattle.ckr_points.specs.Rows.{RunRow, TablesModel, run_of}
 use Rattle.ckr_volumes.specs.declared.layout.Layout.{Layout}
 use Rattle.ckr_rules.specs.RuleTables.{rule_number}
+use Rattle.ckr_rules.specs.declared.cases.Rule.{Rule}
 use Rattle.ckr_desk_turn.specs.declared.plan.Plan.{Plan}
 use Rattle.ckr_desk_turn.specs.declared.plan.Plan.TheVariants.{Rest, Tell, Work, Pass, Take}
 use Rattle.ckr_desk_turn.specs.declared.reply.Turn.{Turn}
-use Rattle.ckr_desk_turn.specs.Codes.{code_plan, kept_reached, reached_by, rule_for, running_reached}
+use Rattle.ckr_desk_turn.specs.Codes.{CodePlaceModel, code_plan, ended_by, initiator_of, kept_reached, reached_by, running_reached}
 use Rattle.ckr_desk_turn.specs.Invariant.{IsTurnOf}
-use Rattle.ckr_desk_turn.specs.Jobs.{TurnJobs, TurnStep, running_in}
+use Rattle.ckr_points_tables.specs.declared.run_table.RunTable.{RunTable}
+use Rattle.ckr_desk_turn.specs.Jobs.{is_failed, TurnJobs, TurnStep, running_in}
 use Rattle.ckr_desk_turn.specs.Plans.{finished_plan, is_within as is_planned, plan_of, system_failure}
 use Rattle.ckr_desk_turn.specs.Queue.{AreNumbered}
 use Rattle.ckr_desk_turn.specs.Select.{is_on, may_select, run_on_initiator}
+use Rattle.ckr_desk_turn.proofs.Codes.{by-verdict}
 use Rattle.ckr_desk_turn.proofs.NextEvents.BetweenSteps.{lodged-on}
-use Rattle.ckr_desk_memory.proofs.FoundRuns.{find-map, found-run}
-use Rattle.ckr_desk_memory.proofs.Holders.OwnEvents.{left-follows, own-follows}
+use Rattle.ckr_desk_memory.proofs.FoundRuns.{find-map, found-run, known-by}
+use Rattle.ckr_desk_memory.proofs.Holders.OwnEvents.{left-follows, own-follows, restarts-follow}
 use Rattle.ckr_desk_memory.proofs.Holders.PlanCases.{PlanCases, plan-cases}
 use Rattle.ckr_desk_memory.proofs.Holders.Rooms.{stored-fit}
 use Rattle.ckr_desk_memory.proofs.Plans.{within-there}
@@ -44,7 +47,7 @@ use Rattle.ckr_desk_memory.specs.Invariant.{AreJobs, IsPlacedRow, IsRunnable}
 use Rattle.ckr_desk_memory.specs.OwnEvents.{HasOwnLengths, IsOwnEvent}
 use Rattle.ckr_desk_memory.specs.OwnSets.{CommitsItsOwn, IsRunningOf}
 use Rattle.ckr_desk_memory.specs.OwnSteps.{AreLeft, HoldTheirOwn, IsLeft, IsOther, LeavesLeft, PlanCommits, PlanFollows, PlanLeaves}
-use Rattle.ckr_desk_memory.specs.Plans.{next_step}
+use Rattle.ckr_desk_memory.specs.Plans.{next_step, row_for, IsKnown}
 use Rattle.ckr_desk_memory.specs.View.{JobsView, RunningStepView, jobs_of, lengths_of_row, running_of}
 
 -- ---- runs that were running when the system failed
@@ -90,6 +93,14 @@ planned_within (Before number) within = within
 planned_within (Opened number) within = within
 planned_within (Within number writes) within = within
 
+-- so a run that was running then is within a step that it has
+pub left-there : (jobs : JobsView) (run : ℕ) (table : RunTable) → IsKnown jobs.tables.desk run table → AllByRecursion IsPlacedRow jobs.tables.desk.runs → AreLeft jobs → is_failed (jobs_of jobs) run ≡ true → IsSome (own_step (row_for run table))
+unfolding jobs_of
+left-there jobs run table known placed left failed =
+    let its = any_left jobs.tables.desk run jobs.failed failed left in
+    subst IsSome (known-by jobs.tables.desk run table known own_step refl its.0 its.1)
+    (within-there its.0 (row-among IsPlacedRow jobs.tables.desk run its.0 placed its.1) (not_next (place_of its.0) (and-second (is_in_state On its.0) (is_within (place_of its.0)) its.2)))
+
 module _ (layout : Layout) (jobs : JobsView) (numbered : AreNumbered 1 jobs.tables.desk.runs) (are : AreJobs layout jobs) (own : HoldTheirOwn jobs) (left : AreLeft jobs) where
   abbrev tables : TablesModel
   tables = jobs.tables.desk
@@ -125,15 +136,15 @@ module _ (layout : Layout) (jobs : JobsView) (numbered : AreNumbered 1 jobs.tabl
           })
 
     -- its end by a code, with the lengths of its running step or with those that are committed
-    coded : is_running row ≡ true → is_within (place_of row) ≡ true → (code : Code) → Follows (code_plan layout row code (reached_by seen row))
-    coded running within code =
+    ended_coded : is_running row ≡ true → is_within (place_of row) ≡ true → (code : Code) (rule : Rule) → Follows (ended_by row code rule (reached_by seen row))
+    ended_coded running within code rule =
         option-cases (find (is_of_run row.number) jobs.running)
         (λ none.
-        subst (λ (o : Option TurnStep). Follows (code_plan layout row code (option_map_or running_reached o (kept_reached seen row)))) (sym (seen_in row.number None none))
+        subst (λ (o : Option TurnStep). Follows (ended_by row code rule (option_map_or running_reached o (kept_reached seen row)))) (sym (seen_in row.number None none))
         (λ it.
         is_some-true (own_step row) (within-there row (row-among IsPlacedRow tables row.number row are.placed at) (not_next (place_of row) within))
         (λ owned there.
-        left-follows layout tables row.number (rule_number (rule_for layout row code)) (kept_reached seen row).writes code (record { items = (kept_reached seen row).lengths }) None own.holders are.laid (record {
+        left-follows layout tables row.number (rule_number rule) (kept_reached seen row).writes code (record { items = (kept_reached seen row).lengths }) None own.holders are.laid (record {
           row = row;
           owned = owned;
           row_at = at;
@@ -142,9 +153,15 @@ module _ (layout : Layout) (jobs : JobsView) (numbered : AreNumbered 1 jobs.tabl
           kept = ap (λ (o : Option OwnedStep). option_map_or (λ owned. lengths_kept row.job.root owned tables.sets) o []) there;
         }))))
         (λ on found.
-        subst (λ (o : Option TurnStep). Follows (code_plan layout row code (option_map_or running_reached o (kept_reached seen row)))) (sym (seen_in row.number (Some on) found))
+        subst (λ (o : Option TurnStep). Follows (ended_by row code rule (option_map_or running_reached o (kept_reached seen row)))) (sym (seen_in row.number (Some on) found))
         (λ it.
-        own_in on found (Ended row.number (Coded code (rule_number (rule_for layout row code)) on.step.writes (record { items = (running_of tables on).lengths }))) (sym (same_run on found), lengths_of on)))
+        own_in on found (Ended row.number (Coded code (rule_number rule) on.step.writes (record { items = (running_of tables on).lengths }))) (sym (same_run on found), lengths_of on)))
+
+    -- a code of it: its restart, or its end
+    coded : is_running row ≡ true → is_within (place_of row) ≡ true → (code : Code) → Follows (code_plan layout row (initiator_of row) code (reached_by seen row))
+    coded running within code =
+        by-verdict Follows layout row (initiator_of row) code (reached_by seen row) (λ rule ends. ended_coded running within code rule)
+        (λ judged it. restarts-follow layout tables row code None at running (row-among IsPlacedRow tables row.number row are.placed at) judged)
 
   -- the run on an initiator
   module _ (i : ℕ) (row : RunRow) (found : run_on_initiator tables i ≡ Some row) where
@@ -194,6 +211,9 @@ between_commits now running (Rewritten job taken writes lengths place image) out
 between_commits now running (Checkpointed job id taken writes lengths place bytes) out = absurd (true≢false out)
 between_commits now running _ out = tt
 
+coded_commits : (layout : Layout) (now : TablesModel) (running : List RunningStepView) (row : RunRow) (initiator : ℕ) (code : Code) (reached : CodePlaceModel) → PlanCommits now running (code_plan layout row initiator code reached)
+coded_commits layout now running row initiator code reached = by-verdict (PlanCommits now running) layout row initiator code reached (λ rule ends. tt) (λ judged. tt)
+
 -- it tells no rewrite
 pub plan-commits : (layout : Layout) (jobs : JobsView) (turn : Turn) (running : List RunningStepView) → PlanCommits jobs.tables.desk running (plan_of layout (jobs_of jobs) turn)
 plan-commits layout jobs turn running =
@@ -204,14 +224,17 @@ plan-commits layout jobs turn running =
       take = λ job. tt;
       between = λ reply event out. between_commits jobs.tables.desk running event out;
       ended = λ row found sound number writes is step there rc. tt;
-      failed = λ row found failed. tt;
-      given = λ row found within code. tt;
-      chosen = λ row next code has. tt;
+      failed = λ row found failed. coded_commits layout jobs.tables.desk running row (initiator_of row) system_failure (reached_by (jobs_of jobs) row);
+      given = λ row found within code. coded_commits layout jobs.tables.desk running row (initiator_of row) code (reached_by (jobs_of jobs) row);
+      chosen = λ row next code has. coded_commits layout jobs.tables.desk running row turn.initiator code (reached_by (jobs_of jobs) row);
     })
 
 between_leaves : (failed : List ℕ) (event : Event) → is_of_step event ≡ false → LeavesLeft event failed
 between_leaves failed (StepEnded job step rc writes lengths) out = absurd (true≢false out)
 between_leaves failed _ out = tt
+
+coded_leaves : (layout : Layout) (failed : List ℕ) (row : RunRow) (initiator : ℕ) (code : Code) (reached : CodePlaceModel) → PlanLeaves failed (code_plan layout row initiator code reached)
+coded_leaves layout failed row initiator code reached = by-verdict (PlanLeaves failed) layout row initiator code reached (λ rule ends. tt) (λ judged. tt)
 
 -- a step that it ends is of no run that was running when the system failed
 pub plan-leaves : (layout : Layout) (jobs : JobsView) (turn : Turn) → PlanLeaves jobs.failed (plan_of layout (jobs_of jobs) turn)
@@ -224,7 +247,7 @@ plan-leaves layout jobs turn =
       take = λ job. tt;
       between = λ reply event out. between_leaves jobs.failed event out;
       ended = λ row found sound number writes is step there rc. none_left row.number jobs.failed sound;
-      failed = λ row found failed. tt;
-      given = λ row found within code. tt;
-      chosen = λ row next code has. tt;
+      failed = λ row found failed. coded_leaves layout jobs.failed row (initiator_of row) system_failure (reached_by (jobs_of jobs) row);
+      given = λ row found within code. coded_leaves layout jobs.failed row (initiator_of row) code (reached_by (jobs_of jobs) row);
+      chosen = λ row next code has. coded_leaves layout jobs.failed row turn.initiator code (reached_by (jobs_of jobs) row);
     })

@@ -8,7 +8,7 @@ use Rattle.ckr_base.proofs.Bools.{and-second}
 use Rattle.ckr_base.proofs.Numbers.{equal-false, equal-true}
 use Rattle.ckr_base.proofs.Sequences.{find-holds, find-passes}
 use Rattle.ckr_events.specs.declared.event.Event.{Event}
-use Rattle.ckr_events.specs.declared.event.Event.TheVariants.{Cancelled, Checkpointed, Ended, Purged, Rewritten, Selected, Started, StepEnded, Submitted}
+use Rattle.ckr_events.specs.declared.event.Event.TheVariants.{Cancelled, Checkpointed, Ended, Purged, Restarted, Rewritten, Selected, Started, StepEnded, Submitted}
 use Rattle.ckr_events.specs.declared.event.Made.{Made}
 use Rattle.ckr_jcl.specs.declared.deck.Job.{Job}
 use Rattle.ckr_library.specs.Catalog.{records_of}
@@ -134,6 +134,7 @@ module _ (layout : Layout) (tables : TablesModel) (rows : AllByRecursion IsAccep
       single-entered job (check_name_in (after_event (Checkpointed job id taken writes lengths place bytes) deck tables) job) (place + records_of bytes) old new single goes
   single_on (Cancelled job) deck old new plain follow single goes = subst AreSingle (sym goes) (single-served job old single)
   single_on (StepEnded job step rc writes lengths) deck old new plain follow single goes = subst AreSingle (sym goes) (single-left job old single)
+  single_on (Restarted job initiator code checkpoint) deck old new plain follow single goes = subst AreSingle (sym goes) (single-left job old single)
   single_on (Ended job ending) deck old new plain follow single goes = subst AreSingle (sym goes) (single-left job old single)
   single_on (Submitted job cards) deck old new plain follow single goes = subst AreSingle (sym goes) single
   single_on (Selected job initiator earlier step id) deck old new plain follow single goes = subst AreSingle (sym goes) single

@@ -1,8 +1,8 @@
 -- What a turn tells of a unit of a running step follows on any disk, and commits what the step has behind it.
-use Rattle.std.proofs.Common.{◌≡◌, ◌+◌, ℕ, Bool, true, false, cond, List, [], ◌∷◌, refl, ap, sym, ◌∙◌, subst, Option, Some, None}
+use Rattle.std.proofs.Common.{◌≡◌, ◌==◌, ◌+◌, ℕ, Bool, true, false, cond, List, [], ◌∷◌, refl, ap, sym, ◌∙◌, subst, Option, Some, None}
 use Rattle.std.specs.List.{AllByRecursion}
 use Rattle.std.specs.Option.{option_map_or}
-use Rattle.std.proofs.lemmas.Bool.{false≢true}
+use Rattle.std.proofs.lemmas.Bool.{and_from, false≢true}
 use Rattle.ckr_base.specs.declared.programs.Heads.{Heads}
 use Rattle.ckr_base.proofs.Numbers.{equal-false}
 use Rattle.ckr_events.specs.Jobs.{job_of}
@@ -12,6 +12,8 @@ use Rattle.ckr_events.specs.declared.event.Event.TheVariants.{Checkpointed, Ende
 use Rattle.ckr_library.specs.Catalog.{Holding, records_of}
 use Rattle.ckr_library.specs.NameMaps.{Named}
 use Rattle.ckr_meaning.specs.EffectiveJob.{OwnedStep}
+use Rattle.ckr_points.specs.declared.run.RunState.TheVariants.{On}
+use Rattle.ckr_points.specs.Follows.{is_in_state, is_running, is_within, state_number}
 use Rattle.ckr_points.specs.Restart.{place_of, step_in}
 use Rattle.ckr_points.specs.Rows.{RunRow, TablesModel, run_of, step_of_run}
 use Rattle.ckr_points_library.specs.Commit.{output_names}
@@ -26,16 +28,18 @@ use Rattle.ckr_steps.specs.declared.unit_ahead.UnitAhead.{UnitAhead}
 use Rattle.ckr_volumes.specs.declared.layout.Layout.{Layout}
 use Rattle.ckr_desk_turn.specs.declared.plan.Plan.{Plan}
 use Rattle.ckr_desk_turn.specs.declared.plan.Plan.TheVariants.{Pass, Rest, Take, Tell, Work}
-use Rattle.ckr_desk_turn.specs.Codes.{rule_for}
+use Rattle.ckr_desk_turn.specs.Codes.{initiator_of, running_reached}
 use Rattle.ckr_desk_turn.specs.Queue.{AreNumbered}
+use Rattle.ckr_desk_turn.proofs.Codes.{by-verdict}
 use Rattle.ckr_desk_memory.proofs.Holders.Moves.{row-number}
-use Rattle.ckr_desk_memory.proofs.Holders.OwnEvents.{own-committed, own-follows}
+use Rattle.ckr_desk_memory.proofs.Holders.OwnEvents.{own-committed, own-follows, restarts-follow}
 use Rattle.ckr_desk_memory.proofs.Holders.Rewrites.{nothing-before}
 use Rattle.ckr_desk_memory.proofs.Holders.Rooms.{unit-fits}
 use Rattle.ckr_desk_memory.proofs.Holders.Units.{running-unit}
 use Rattle.ckr_desk_memory.proofs.RunningSteps.First.{all-without}
 use Rattle.ckr_desk_memory.specs.EventChanges.{is_of_run, with_entry_end, without_first}
-use Rattle.ckr_desk_memory.specs.Invariant.{IsAcceptedRow}
+use Rattle.ckr_desk_memory.proofs.Starts.Steps.{row-among}
+use Rattle.ckr_desk_memory.specs.Invariant.{IsAcceptedRow, IsPlacedRow}
 use Rattle.ckr_desk_memory.specs.OwnEvents.{HasOwnLengths}
 use Rattle.ckr_desk_memory.specs.OwnSets.{AreUpTo, CommitsItsOwn, IsCommitted, IsCommittedWith, IsRunningOf}
 use Rattle.ckr_desk_memory.specs.OwnSteps.{IsOfOther, LeavesLeft, PlanCommits, PlanFollows, PlanIsOf, PlanLeaves}
@@ -102,7 +106,7 @@ module _ (layout : Layout) (tables : TablesModel) (on : RunningStepView) (ahead 
       by : (worked : Worked) → PlanCommits tables (moved ∷ []) (told_by layout is.row (running_of tables moved) worked)
       by (Went taken) = tt
       by (Rewrite place image taken) = (own-committed tables moved is.row.number (running_of tables moved).lengths lengths_of, tt)
-      by (Abend code) = tt
+      by (Abend code) = by-verdict (PlanCommits tables (moved ∷ [])) layout is.row (initiator_of is.row) code (running_reached (running_of tables moved)) (λ rule ends. tt) (λ judged. tt)
 
   pub told-of : PlanIsOf on.run plan
   told-of = by-told (PlanIsOf on.run) (by ahead.worked)
@@ -110,9 +114,12 @@ module _ (layout : Layout) (tables : TablesModel) (on : RunningStepView) (ahead 
       by : (worked : Worked) → PlanIsOf on.run (told_by layout is.row (running_of tables moved) worked)
       by (Went taken) = tt
       by (Rewrite place image taken) = number
-      by (Abend code) = number
+      by (Abend code) = by-verdict (PlanIsOf on.run) layout is.row (initiator_of is.row) code (running_reached (running_of tables moved)) (λ rule ends. number) (λ judged. number)
 
-  module _ (heads : Heads) (fits : AllFit on.sets.sets) (there : AreThere on.step.files on.sets) (unit : IsUnitFor on.sets on.step heads ahead) where
+  running : is_running is.row ≡ true
+  running = and_from (is_in_state On is.row) (is_within (place_of is.row)) (ap (λ s. state_number s == state_number On) is.state) is.within
+
+  module _ (heads : Heads) (placed : AllByRecursion IsPlacedRow tables.runs) (fits : AllFit on.sets.sets) (there : AreThere on.step.files on.sets) (unit : IsUnitFor on.sets on.step heads ahead) where
     done : HasDone heads on.step moved.step on.sets moved.sets ahead.worked
     done = record { answer = unit.answer; step = unit.behind; lengths = ap (λ writes. grown on.step.files writes on.sets.sets) unit.writes }
 
@@ -135,9 +142,12 @@ module _ (layout : Layout) (tables : TablesModel) (on : RunningStepView) (ahead 
               asks = asks;
             })
         by (Abend code) same =
+            by-verdict (PlanFollows layout tables) layout is.row (initiator_of is.row) code (running_reached (running_of tables moved))
+            (λ rule ends.
             own-follows layout tables
-            (Ended is.row.number (Coded code (rule_number (rule_for layout is.row code)) (running_of tables moved).writes (record { items = (running_of tables moved).lengths })))
-            None moved rows numbered (running-unit tables on moved heads ahead.worked rows numbered refl done is) (unit-fits on moved heads ahead.worked there fits done) (number, lengths_of)
+            (Ended is.row.number (Coded code (rule_number rule) (running_of tables moved).writes (record { items = (running_of tables moved).lengths })))
+            None moved rows numbered (running-unit tables on moved heads ahead.worked rows numbered refl done is) (unit-fits on moved heads ahead.worked there fits done) (number, lengths_of))
+            (λ judged. restarts-follow layout tables is.row code None (ap (run_of tables) number ∙ is.row_at) running (row-among IsPlacedRow tables on.run is.row placed is.row_at) judged)
 
 -- it ends no step
 pub told-leaves : (failed : List ℕ) (plan : Plan) → IsUnitPlan plan → PlanLeaves failed plan

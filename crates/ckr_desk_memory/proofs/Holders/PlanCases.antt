@@ -1,4 +1,4 @@
--- What a turn comes to, by its cases: between the steps of a run, where a step ends, and where a run ends by a code.
+-- What a turn comes to, by its cases: between the steps of a run, where a step ends, and where a run has a code.
 use Rattle.std.proofs.Common.{◌≡◌, ℕ, Bool, true, false, List, refl, Option, Some, None, Result, Ok, Err}
 use Rattle.std.specs.Prelude.{if◌then◌else◌}
 use Rattle.std.specs.Option.{option_map_or}
@@ -19,7 +19,7 @@ use Rattle.ckr_desk_turn.specs.declared.plan.Plan.TheVariants.{Rest, Tell, Work,
 use Rattle.ckr_desk_turn.specs.declared.reply.Reply.{Reply}
 use Rattle.ckr_desk_turn.specs.declared.reply.Turn.{Turn}
 use Rattle.ckr_desk_turn.specs.Allocation.{allocation_of}
-use Rattle.ckr_desk_turn.specs.Codes.{code_plan, reached_by}
+use Rattle.ckr_desk_turn.specs.Codes.{code_plan, initiator_of, reached_by}
 use Rattle.ckr_desk_turn.specs.Jobs.{TurnJobs, TurnStep, is_failed, running_in}
 use Rattle.ckr_desk_turn.specs.Plans.{between_plan, checkpoint_plan, chosen_plan, due_plan, fail_plan, finished_plan, free_plan, is_within, placed_plan, plan_of, run_plan, running_plan, suppressed_plan, system_failure}
 use Rattle.ckr_desk_turn.specs.Select.{next_run, run_on_initiator}
@@ -63,9 +63,9 @@ pub record PlanCases (layout : Layout) (seen : TurnJobs) (initiator : ℕ) (Q : 
   pub between : (reply : Reply) (event : Event) → is_of_step event ≡ false → Q (Tell reply event)
   pub ended : (row : RunRow) → run_on_initiator seen.tables initiator ≡ Some row → is_failed seen row.number ≡ false → (number writes : ℕ) → place_of row ≡ Within number writes
       → (step : TurnStep) → running_in seen row.number ≡ Some step → (rc : ℕ) → Q (finished_plan row number step rc)
-  pub failed : (row : RunRow) → run_on_initiator seen.tables initiator ≡ Some row → is_failed seen row.number ≡ true → Q (code_plan layout row system_failure (reached_by seen row))
-  pub given : (row : RunRow) → run_on_initiator seen.tables initiator ≡ Some row → is_within (place_of row) ≡ true → (code : Code) → Q (code_plan layout row code (reached_by seen row))
-  pub chosen : (row : RunRow) → next_run seen.tables ≡ Some row → (code : Code) → row.code ≡ Some code → Q (code_plan layout row code (reached_by seen row))
+  pub failed : (row : RunRow) → run_on_initiator seen.tables initiator ≡ Some row → is_failed seen row.number ≡ true → Q (code_plan layout row (initiator_of row) system_failure (reached_by seen row))
+  pub given : (row : RunRow) → run_on_initiator seen.tables initiator ≡ Some row → is_within (place_of row) ≡ true → (code : Code) → Q (code_plan layout row (initiator_of row) code (reached_by seen row))
+  pub chosen : (row : RunRow) → next_run seen.tables ≡ Some row → (code : Code) → row.code ≡ Some code → Q (code_plan layout row initiator code (reached_by seen row))
 
 module _ (layout : Layout) (seen : TurnJobs) (initiator : ℕ) (Q : Plan → Type 0) (cases : PlanCases layout seen initiator Q) where
   between_case : (row : RunRow) (number : ℕ) → Q (between_plan layout seen row number)

@@ -12,15 +12,14 @@ use Rattle.ckr_base.proofs.Options.{some-one}
 use Rattle.ckr_base.proofs.Sequences.{each-implies, find-holds, find-passes}
 use Rattle.ckr_events.specs.Jobs.{job_of}
 use Rattle.ckr_events.specs.declared.event.Event.{Event}
-use Rattle.ckr_events.specs.declared.event.Event.TheVariants.{Cancelled, Checkpointed, Ended, Purged, Rewritten, Selected, Started, StepEnded, Submitted}
+use Rattle.ckr_events.specs.declared.event.Event.TheVariants.{Cancelled, Checkpointed, Ended, Purged, Restarted, Rewritten, Selected, Started, StepEnded, Submitted}
 use Rattle.ckr_events.specs.declared.event.Made.{Made}
 use Rattle.ckr_jcl.specs.declared.deck.Job.{Job}
 use Rattle.ckr_library.specs.Catalog.{records_of}
 use Rattle.ckr_library.specs.NameMaps.{Name, entry_at}
 use Rattle.ckr_library.specs.declared.sets.Kept.{Kept}
 use Rattle.ckr_meaning.specs.EffectiveJob.{Effective}
-use Rattle.ckr_points.specs.declared.run.RunState.{RunState}
-use Rattle.ckr_points.specs.declared.run.RunState.TheVariants.{Queued, On, Held as HeldRun, Released as ReleasedRun, Ended as EndedRun, Denied as DeniedRun, Purged as PurgedRun}
+use Rattle.ckr_points.specs.declared.run.RunState.TheVariants.{Queued, On}
 use Rattle.ckr_points.specs.Follows.{follows, is_checkpoint, is_free, is_in_state, is_length_of, is_running, lengths_follow, may_hold, of_step, own_step, selected_follows, started_follows, state_number}
 use Rattle.ckr_points.specs.Restart.{after_event, by_step, kept_at, place_of, step_in}
 use Rattle.ckr_points.specs.Rows.{RunRow, TableSet, TablesModel, run_of, step_of_run}
@@ -36,6 +35,7 @@ use Rattle.ckr_desk_memory.proofs.Holders.Checkpoints.{check-behind, running-ent
 use Rattle.ckr_desk_memory.proofs.Holders.Events.{by-some, goes-on, holders-stay, row-more, tested}
 use Rattle.ckr_desk_memory.proofs.Holders.Moves.{by-own, by-row, row-accepted, row-as_is, row-next, row-number}
 use Rattle.ckr_desk_memory.proofs.Holders.OwnSets.{running-new, running-other, running-rewritten, running-same, running-served}
+use Rattle.ckr_desk_memory.proofs.Queue.{on-is}
 use Rattle.ckr_desk_memory.proofs.RunningSteps.Served.{without-none}
 use Rattle.ckr_desk_memory.specs.EventChanges.{FirstEnters, HasEntered, IsEntered, check_name_in, is_of_run, served_in, served_step, with_entry_end, without_first, without_run}
 use Rattle.ckr_desk_memory.specs.Invariant.{IsAcceptedRow}
@@ -70,17 +70,6 @@ each-without_first Q job (on ∷ rest) all =
     by : (b : Bool) → AllByRecursion Q (without_first job rest) → AllByRecursion Q (cond b rest (on ∷ without_first job rest))
     by true others = all.1
     by false others = (all.0, others)
-
--- ---- states
-
-on-is : (state : RunState) → (state_number state == 2) ≡ true → state ≡ On
-on-is Queued e = absurd (false≢true e)
-on-is On e = refl
-on-is HeldRun e = absurd (false≢true e)
-on-is ReleasedRun e = absurd (false≢true e)
-on-is EndedRun e = absurd (false≢true e)
-on-is DeniedRun e = absurd (false≢true e)
-on-is PurgedRun e = absurd (false≢true e)
 
 -- ---- each event
 
@@ -264,6 +253,9 @@ module _ (layout : Layout) (tables : TablesModel) (are : AreHolders tables) (row
   stay (StepEnded job step rc writes lengths) deck old new plain follow holders all commits goes =
       subst (AllByRecursion (IsRunningOf (after_event (StepEnded job step rc writes lengths) deck tables))) (sym goes)
       (each-without_run (IsRunningOf tables) (IsRunningOf (after_event (StepEnded job step rc writes lengths) deck tables)) job old (other-steps (StepEnded job step rc writes lengths) deck plain refl follow) all)
+  stay (Restarted job initiator code checkpoint) deck old new plain follow holders all commits goes =
+      subst (AllByRecursion (IsRunningOf (after_event (Restarted job initiator code checkpoint) deck tables))) (sym goes)
+      (each-without_run (IsRunningOf tables) (IsRunningOf (after_event (Restarted job initiator code checkpoint) deck tables)) job old (other-steps (Restarted job initiator code checkpoint) deck plain refl follow) all)
   stay (Ended job ending) deck old new plain follow holders all commits goes =
       subst (AllByRecursion (IsRunningOf (after_event (Ended job ending) deck tables))) (sym goes)
       (each-without_run (IsRunningOf tables) (IsRunningOf (after_event (Ended job ending) deck tables)) job old (other-steps (Ended job ending) deck plain refl follow) all)

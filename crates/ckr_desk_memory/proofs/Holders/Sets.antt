@@ -1,25 +1,34 @@
 -- What an event of a run makes of the data sets: those that its job doesn't name stay as they are, and what its step may change stays there.
-use Rattle.std.proofs.Common.{◌≡◌, ℕ, suc, Bool, true, false, cond, ◌&&◌, ◌||◌, List, [], ◌∷◌, refl, ap, sym, ◌∙◌, subst, Option, Some, None}
+use Rattle.std.proofs.Common.{◌≡◌, ℕ, suc, Bool, true, false, cond, ◌&&◌, ◌||◌, List, [], ◌∷◌, ◌++◌, filter, map, refl, ap, sym, ◌∙◌, subst, Option, Some, None}
+use Rattle.std.specs.Prelude.{flat_map}
 use Rattle.std.specs.List.{AllByRecursion, cons_option, filter_map, list_any}
 use Rattle.std.specs.Option.{is_none, is_some, option_map}
 use Rattle.std.proofs.lemmas.Bool.{false≢true, or_parts}
 use Rattle.ckr_base.proofs.Bools.{bool-cases}
+use Rattle.ckr_base.proofs.Sequences.{any-filter}
+use Rattle.ckr_entry.specs.declared.point.Mark.{Mark}
+use Rattle.ckr_entry.specs.declared.point.Passed.{Passed}
 use Rattle.ckr_events.specs.declared.event.Made.{Made}
 use Rattle.ckr_jcl.specs.declared.deck.Dd.{Dd}
+use Rattle.ckr_jcl.specs.declared.deck.Job.{Job}
+use Rattle.ckr_jcl.specs.declared.deck.Step.{Step}
 use Rattle.ckr_library.proofs.Named.{at-with_changed, at-with_changed-other, at-with_entry, name-same}
 use Rattle.ckr_library.specs.NameMaps.{Name, Named, entry_at, same_name, with_changed}
 use Rattle.ckr_library.specs.declared.sets.Stamp.{Stamp}
 use Rattle.ckr_meaning.specs.Allotments.{AllotmentModel, DdAllotment, found, made, refused, is_made, is_output, is_passed, opened_all, opened_by, opened_one}
 use Rattle.ckr_meaning.specs.Dispositions.{Disposal, Stock}
-use Rattle.ckr_meaning.specs.EffectiveJob.{OwnedStep, flaws_in, is_among, name_of, names_of, placed_from, placed_in, placed_one, stamp_of}
+use Rattle.ckr_meaning.specs.EffectiveJob.{Effective, OwnedStep, flaws_in, is_among, name_of, names_of, names_of_job, names_of_steps, owned_by, placed_from, placed_in, placed_one, plain_job, stamp_of}
 use Rattle.ckr_points.specs.Follows.{is_update}
+use Rattle.ckr_points.specs.Marks.{deck_names, put_back, put_back_passed, removed_all, still_exists}
 use Rattle.ckr_points.specs.Office.{passed_made}
 use Rattle.ckr_points.specs.Payload.{is_formed_step}
 use Rattle.ckr_points.specs.Rows.{RunRow, TableSet, TablesModel, cut_set, standing_of, table_ways}
 use Rattle.ckr_points.specs.Tables.{after_dispositions, after_started, committed, earlier_made, fresh_table, is_updates, made_table, made_tables, name_with_role, own_made, parts_from, run_disposal, run_disposals}
 use Rattle.ckr_points_invariant.proofs.Holders.Places.{outputs-among}
 use Rattle.ckr_points_invariant.proofs.Library.Likeness.{made_all-apart, opened_all-apart, placed-apart}
-use Rattle.ckr_points_invariant.proofs.Library.PassedList.{apart-unmade, disposed-apart, disposed-made}
+use Rattle.ckr_points_invariant.proofs.Library.PassedList.{among-made, apart-unmade, disposed-apart, disposed-made}
+use Rattle.ckr_points_invariant.proofs.Marks.Points.{own_made-out}
+use Rattle.ckr_points_invariant.proofs.PutBack.Sets.{at-removed_all, put_back-apart}
 use Rattle.ckr_points_invariant.proofs.StepEnd.Disposals.{flawless-first, flawless-rest, makes}
 use Rattle.ckr_points_invariant.proofs.Writes.Likeness.{committed-other}
 use Rattle.ckr_points_library.specs.Commit.{output_names}
@@ -189,3 +198,54 @@ module _ (row : RunRow) (owned : OwnedStep) (step : ℕ) (name : Name) (out : is
   passed-outside abnormal tables none =
       disposed-made table_ways name (run_disposals row owned (own_made row owned step) (earlier_made tables row step) abnormal) (standing_of row tables)
       (apart-unmade (run_disposals row owned (own_made row owned step) (earlier_made tables row step) abnormal) name (apart_from abnormal tables)) none
+
+  -- what the step made goes by its restart, and what it wrote is put back
+  pub restarted-outside : (marks : List Mark) (sets : Named TableSet) → entry_at (put_back marks (output_names row.job.root owned) (names_of row.job.root owned) (removed_all (own_made row owned step) sets)) name ≡ entry_at sets name
+  restarted-outside marks sets =
+      put_back-apart marks (output_names row.job.root owned) (names_of row.job.root owned) (removed_all (own_made row owned step) sets) name
+      (bool-cases (is_among (output_names row.job.root owned) name) (λ among. absurd (false≢true (sym out ∙ outputs-among row.job.root owned name among))) (λ e. e)) out
+      ∙ at-removed_all (own_made row owned step) sets name
+      ∙ ap (λ b. cond b None (entry_at sets name)) (own_made-out row owned step name out)
+
+-- ---- what is passed on at a point
+
+any_none : {X : Type 0} (test : X → Bool) (xs : List X) → ((x : X) → test x ≡ false) → list_any test xs ≡ false
+any_none test [] none = refl
+any_none test (first ∷ rest) none = ap (λ b. b || list_any test rest) (none first) ∙ any_none test rest none
+
+deck_names-are : (root run : ℕ) (deck : Job) (steps : List Step) → flat_map (λ step. names_of root (owned_by run deck step)) steps ≡ names_of_steps root (map (owned_by run deck) steps)
+deck_names-are root run deck [] = refl
+deck_names-are root run deck (first ∷ rest) = ap (λ names. names_of root (owned_by run deck first) ++ names) (deck_names-are root run deck rest)
+
+-- nothing is put back into the passed list but names of the job's own deck
+pub passed_back-outside : (row : RunRow) (marks : List Mark) (sets : Named TableSet) (passed : List Passed) (name : Name) → row.job ≡ plain_job row.number row.deck → is_among (names_of_job row.job) name ≡ false
+    → is_among (passed_made (put_back_passed marks (deck_names row.job.root row.number row.deck) sets passed)) name ≡ false
+passed_back-outside row marks sets passed name plain out =
+    among-made (filter kept passed) name
+    ∙ any-filter kept (λ (one : Passed). one.made && same_name name one.name) passed
+    ∙ any_none (λ (one : Passed). kept one && (one.made && same_name name one.name)) passed none
+  where
+    named : List Name
+    named = deck_names row.job.root row.number row.deck
+
+    kept : Passed → Bool
+    kept entry = still_exists marks (deck_names row.job.root row.number row.deck) sets entry.name
+
+    unnamed : is_among (deck_names row.job.root row.number row.deck) name ≡ false
+    unnamed =
+        ap (λ names. is_among names name) (deck_names-are row.job.root row.number row.deck row.deck.steps)
+        ∙ ap (λ (job : Effective). is_among (names_of_steps row.job.root job.steps) name) (sym plain) ∙ out
+
+    none : (one : Passed) → (still_exists marks (deck_names row.job.root row.number row.deck) sets one.name && (one.made && same_name name one.name)) ≡ false
+    none one =
+        bool-cases (same_name name one.name)
+        (λ same. neither _ (one.made && same_name name one.name) (ap (λ n. is_among (deck_names row.job.root row.number row.deck) n) (sym (name-same name one.name same)) ∙ unnamed))
+        (λ apart. ap (λ b. still_exists marks (deck_names row.job.root row.number row.deck) sets one.name && (one.made && b)) apart ∙ last (still_exists marks (deck_names row.job.root row.number row.deck) sets one.name) one.made)
+      where
+        last : (a b : Bool) → (a && (b && false)) ≡ false
+        last true true = refl
+        last true false = refl
+        last false b = refl
+
+        neither : (there other : Bool) → is_among (deck_names row.job.root row.number row.deck) one.name ≡ false → ((is_among (deck_names row.job.root row.number row.deck) one.name && there) && other) ≡ false
+        neither there other e = ap (λ b. (b && there) && other) e

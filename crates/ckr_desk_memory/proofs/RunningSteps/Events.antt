@@ -7,7 +7,7 @@ use Rattle.ckr_base.proofs.Bools.{and-second}
 use Rattle.ckr_base.proofs.Options.{some-not-none}
 use Rattle.arrayvec.specs.ArrayVec.{ArrayVec}
 use Rattle.ckr_events.specs.declared.event.Event.{Event}
-use Rattle.ckr_events.specs.declared.event.Event.TheVariants.{Started, Checkpointed, Cancelled, StepEnded, Ended}
+use Rattle.ckr_events.specs.declared.event.Event.TheVariants.{Started, Checkpointed, Cancelled, StepEnded, Restarted, Ended}
 use Rattle.ckr_events.specs.declared.event.Made.{Made}
 use Rattle.ckr_jcl.specs.declared.deck.Job.{Job}
 use Rattle.ckr_library.specs.Catalog.{records_of}
@@ -133,6 +133,7 @@ module _ (layout : Layout) (old : TablesModel) (numbered : AreNumbered 1 old.run
       entered-all layout job (check_name_in (after_event (Checkpointed job id taken writes lengths place bytes) deck old) job) (place + records_of bytes) before now goes all
   runnable (Cancelled job) deck begun jobs before now is follow has goes all = subst (AllByRecursion (IsRunnable layout)) (sym goes) (served-runnable layout job before all)
   runnable (StepEnded job step rc writes lengths) deck begun jobs before now is follow has goes all = subst (AllByRecursion (IsRunnable layout)) (sym goes) (all-filtered (IsRunnable layout) _ before all)
+  runnable (Restarted job initiator code checkpoint) deck begun jobs before now is follow has goes all = subst (AllByRecursion (IsRunnable layout)) (sym goes) (all-filtered (IsRunnable layout) _ before all)
   runnable (Ended job ending) deck begun jobs before now is follow has goes all = subst (AllByRecursion (IsRunnable layout)) (sym goes) (all-filtered (IsRunnable layout) _ before all)
   runnable _ deck begun jobs before now is follow has goes all = subst (AllByRecursion (IsRunnable layout)) (sym goes) all
 

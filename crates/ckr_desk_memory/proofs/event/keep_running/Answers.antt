@@ -1,4 +1,5 @@
-use Rattle.std.proofs.Common.{ap, sym, ◌∙◌, map, arith, subst, ◌+◌, ◌-◌, vec_len, vec_capacity}
+use Rattle.std.proofs.Common.{ap, sym, ◌∙◌, map, inl, inr, arith, subst, ◌+◌, ◌-◌, vec_len, vec_capacity}
+use Rattle.ckr_events.specs.declared.event.Event.{Event}
 use Rattle.ckr_library.specs.Catalog.{records_of}
 use Rattle.ckr_desk_memory.specs.EventChanges.{HasEntered}
 use Rattle.ckr_desk_memory.specs.RunningSteps.{GoesOn, MayRun}
@@ -28,13 +29,16 @@ returns-in-Cancelled c =
 
 pub returns-in-StepEnded : goal.returns-in-StepEnded
 returns-in-StepEnded c =
-    subst (λ event. GoesOn event c.args.tables.now.desk (map step_seen c.args.running.now.items) (map step_seen c.leave.new.running.items)) (sym c.in-StepEnded.is)
-    (ap (map step_seen) c.leave.ensures.items ∙ seen-without c.in-StepEnded.job c.args.running.now.items)
-
-pub returns-in-Ended : goal.returns-in-Ended
-returns-in-Ended c =
-    subst (λ event. GoesOn event c.args.tables.now.desk (map step_seen c.args.running.now.items) (map step_seen c.leave-in-Ended.new.running.items)) (sym c.in-Ended.is)
-    (ap (map step_seen) c.leave-in-Ended.ensures.items ∙ seen-without c.in-Ended.job c.args.running.now.items)
+    let Goes : Event → Type 0 = λ event. GoesOn event c.args.tables.now.desk (map step_seen c.args.running.now.items) (map step_seen c.leave.new.running.items) in
+    let leaves = ap (map step_seen) c.leave.ensures.items ∙ seen-without c.in-StepEnded.job c.args.running.now.items in
+    elim c.in-StepEnded.is [
+      | inl step ↦ subst Goes (sym step.4) leaves
+      | inr run ↦
+          elim run [
+            | inl restart ↦ subst Goes (sym restart.3) leaves
+            | inr end ↦ subst Goes (sym end.1) leaves
+          ]
+    ]
 
 pub returns-in-Checkpointed : goal.returns-in-Checkpointed
 returns-in-Checkpointed c =

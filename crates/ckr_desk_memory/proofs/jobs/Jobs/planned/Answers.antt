@@ -7,7 +7,7 @@ use Rattle.ckr_desk_turn.specs.Plans.{free_plan, plan_of, run_plan}
 use Rattle.ckr_desk_memory.specs.Plans.{NeedsRoom}
 use Rattle.ckr_desk_turn.specs.Queue.{AreNumbered}
 use Rattle.ckr_desk_memory.specs.View.{jobs_of}
-use Rattle.ckr_desk_memory.proofs.Plans.{on-none, on-run}
+use Rattle.ckr_desk_memory.proofs.Plans.{on-its, on-none, on-run}
 use Rattle.ckr_desk_memory.proofs.jobs.Jobs.planned.Goals as goal
 
 pub returns-in-Some-clause-numbered : goal.returns-in-Some-clause-numbered
@@ -26,7 +26,7 @@ returns-in-Some-clause-plan c =
     let one = on-run c.args.self.now.tables.desk numbered c.args.turn.initiator c.in-Some.job (c.in-Some.ensures ∙ ap (run_on c.args.turn.initiator) desk) in
     IfOk-weaker c.run_plan.result _ _
     (λ plan is. is ∙ sym (ap (λ found. option_map_or (run_plan layout jobs c.args.turn.fail) found (free_plan layout jobs c.args.turn.initiator c.args.turn.fail)) one.1))
-    (c.run_plan.ensures.plan one.0 one.2)
+    (c.run_plan.ensures.plan one.0 one.2 (on-its c.args.self.now.tables.desk c.args.turn.initiator one.0 one.1))
 
 pub returns-in-Some-clause-takes : goal.returns-in-Some-clause-takes
 unfolding plan_of jobs_of

@@ -7,7 +7,7 @@ use Rattle.ckr_desk_memory.proofs.Plans.{run-between}
 use Rattle.ckr_desk_memory.proofs.jobs.Jobs.run_plan.Goals as goal
 
 pub returns-in-Some-clause-plan : goal.returns-in-Some-clause-plan
-returns-in-Some-clause-plan c = λ row at.
+returns-in-Some-clause-plan c = λ row at on.
     IfOk-weaker c.between.result _ _
     (λ plan is. is ∙ sym (run-between c.args.layout.now (jobs_of c.args.self.now) row c.args.fail c.in-Some.number (sym (c.in-Some.ensures row at))))
     (c.between.ensures.plan row at)

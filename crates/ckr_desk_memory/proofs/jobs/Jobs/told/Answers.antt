@@ -3,8 +3,8 @@ use Rattle.ckr_desk_memory.proofs.Holders.OwnUnits.{told-commits, told-leaves, t
 use Rattle.ckr_desk_memory.proofs.jobs.Jobs.told.Goals as goal
 
 pub returns-clause-own : goal.returns-clause-own
-returns-clause-own c = λ heads is fits there unit.
-    told-own c.args.layout.now c.args.self.now.tables.desk (step_seen c.args.on.now) c.args.ahead.now c.answered.result c.answered.ensures.numbered c.requires.rows is c.answered.ensures.plan heads fits there unit
+returns-clause-own c = λ heads placed is fits there unit.
+    told-own c.args.layout.now c.args.self.now.tables.desk (step_seen c.args.on.now) c.args.ahead.now c.answered.result c.answered.ensures.numbered c.requires.rows is c.answered.ensures.plan heads placed fits there unit
 
 pub returns-clause-commits : goal.returns-clause-commits
 returns-clause-commits c = λ is.

@@ -5,7 +5,7 @@ use Rattle.ckr_meaning.specs.EffectiveJob.{OwnedStep, plain_job, step_at}
 use Rattle.ckr_points.specs.Follows.{own_step}
 use Rattle.ckr_points.specs.Restart.{place_of, step_in}
 use Rattle.ckr_desk_memory.specs.Plans.{row_for}
-use Rattle.ckr_desk_memory.proofs.plan.name_within.Goals as goal
+use Rattle.ckr_desk_memory.proofs.run_code.name_within.Goals as goal
 
 pub unreachable-requires : goal.unreachable-requires
 unreachable-requires c =
