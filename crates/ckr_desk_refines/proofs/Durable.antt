@@ -5,6 +5,7 @@ pub mod StepEnd
 pub mod OtherSets
 pub mod Office
 pub mod Events
+pub mod Restart
 pub mod Start
 pub mod Fellows
 pub mod Extents

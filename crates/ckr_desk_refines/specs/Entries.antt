@@ -1,5 +1,5 @@
 -- The entries that the tables keep, as an image has them: the records of each at its place, within its data set.
-use Rattle.std.specs.Prelude.{◌≡◌, ◌≢◌, Bool, true, false, ℕ, zero, suc, IsTrue, List, [], length, map, slice_get, find, option_and_then, Option, None, Some, Ok}
+use Rattle.std.specs.Prelude.{◌≡◌, ◌≢◌, ◌≤◌, ◌==◌, Bool, true, false, ℕ, zero, suc, IsTrue, List, [], length, map, slice_get, find, option_and_then, Option, None, Some, Ok}
 use Rattle.std.specs.Option.{option_map}
 use Rattle.std.specs.List.{AllByRecursion}
 use Rattle.ckr_entry.specs.declared.point.State.{State}
@@ -14,13 +14,18 @@ use Rattle.ckr_library.specs.declared.sets.Kept.{Kept}
 use Rattle.ckr_library.specs.Catalog.{ends_within}
 use Rattle.ckr_library.specs.NameMaps.{Name, Named, entry_at}
 use Rattle.ckr_meaning.specs.EffectiveJob.{Effective, OwnedStep, name_of, step_at}
+use Rattle.ckr_meaning.specs.JobRun.{start_at}
+use Rattle.ckr_meaning.specs.StepRun.{StepStart, case_at}
+use Rattle.ckr_meaning.specs.States.{StandsFor}
 use Rattle.ckr_points_library.specs.Commit.{output_names}
+use Rattle.ckr_points.specs.Office.{Leg, Office}
 use Rattle.ckr_points.specs.Restart.{place_of, step_in}
-use Rattle.ckr_points.specs.Rows.{KeptEntry, RunRow, TableSet, TablesModel, run_of, step_of_run}
+use Rattle.ckr_points.specs.Rows.{EffectPoint, KeptEntry, RunRow, TableSet, TablesModel, run_of, step_of_run}
 use Rattle.ckr_points.specs.Tables.{committed, entry_point, is_checkpoints, kept_entry, name_with_role}
 use Rattle.ckr_desk_turn.specs.Checkpoints.{entry_with}
+use Rattle.ckr_desk_turn.specs.EntryStates.{checkpoint_state}
 use Rattle.ckr_steps.specs.EntryRecords.{HasEntry, bytes_on}
-use Rattle.ckr_steps.specs.Units.{program_of}
+use Rattle.ckr_steps.specs.Units.{AreServed, is_closed, program_of}
 use Rattle.ckr_volumes.specs.declared.layout.Layout.{Layout}
 use Rattle.ckr_volumes.specs.Records.{records_on}
 use Rattle.ckr_volumes.specs.SamePlaces.{SamePlaces}
@@ -42,18 +47,31 @@ program_at jobs run step = option_map (λ owned. owned.step.program) (option_and
 
 -- ---- entries that are there
 
--- With the state of some program its point is an entry, as many bytes long as is kept, and the image has its records at its place in
--- the data set. The program is that of the step at which its run took it.
-pub record IsEntryThere (layout : Layout) (jobs : List Effective) (image : List ℕ) (set : DataSet) (entry : KeptEntry) : Type 0 where
+-- its state is the one that the program of its step had there, in the job of the run that took it
+pub record IsStateOfJob (legs : List Leg) (entry : KeptEntry) (state : State) : Type 0 where
+  pub leg : Leg
+  pub led : find (λ leg. leg.number == entry.point.run) legs ≡ Some leg
+  pub start : StepStart
+  pub begun : start_at leg.job leg.start entry.point.step ≡ Some start
+  pub entries : ℕ
+  pub least : 1 ≤ entries
+  pub most : entries ≤ 1000000
+  pub is : state ≡ checkpoint_state (case_at start) entry.point.taken entries
+
+-- With the state that its job had there its point is an entry, as many bytes long as is kept, and the image has its records at its place
+-- in the data set. The program is that of the step at which its run took it.
+pub record IsEntryThere (layout : Layout) (legs : List Leg) (jobs : List Effective) (image : List ℕ) (set : DataSet) (entry : KeptEntry) : Type 0 where
   pub state : State
+  pub of_job : IsStateOfJob legs entry state
   pub fits : IsEntry (entry_with entry.kept.id state entry.point)
   pub bytes : length (spelling (entry_with entry.kept.id state entry.point)) ≡ entry.kept.bytes
   pub there : HasEntry image layout set entry.kept.place (spelling (entry_with entry.kept.id state entry.point))
   pub program : program_at jobs entry.point.run entry.point.step ≡ Some (program_of state)
 
--- the bytes at its place are read as its point
-pub record IsReadBack (layout : Layout) (jobs : List Effective) (image : List ℕ) (set : DataSet) (entry : KeptEntry) : Type 0 where
+-- the bytes at its place are read as its point, with the state that its job had there
+pub record IsReadBack (layout : Layout) (legs : List Leg) (jobs : List Effective) (image : List ℕ) (set : DataSet) (entry : KeptEntry) : Type 0 where
   pub state : State
+  pub of_job : IsStateOfJob legs entry state
   pub program : program_at jobs entry.point.run entry.point.step ≡ Some (program_of state)
   pub read : entry_in (bytes_on image layout set entry.kept.place entry.kept.bytes) ≡ Ok (entry_with entry.kept.id state entry.point)
 
@@ -62,12 +80,27 @@ abbrev pub UnderEachName : {X : Type 0} → (X → Type 0) → Named X → Type 
 UnderEachName {X} Q named = (name : Name) (entry : X) → entry_at named name ≡ Some entry → Q entry
 
 -- each entry of a data set is there
-abbrev pub AreThere : Layout → List Effective → List ℕ → TableSet → Type 0
-AreThere layout jobs image table = AllByRecursion (IsEntryThere layout jobs image table.set) table.entries
+abbrev pub AreThere : Layout → List Leg → List Effective → List ℕ → TableSet → Type 0
+AreThere layout legs jobs image table = AllByRecursion (IsEntryThere layout legs jobs image table.set) table.entries
 
 -- under each name of the tables the image has each entry that they keep
-abbrev pub HasEntries : Layout → TablesModel → List ℕ → Type 0
-HasEntries layout tables image = UnderEachName (AreThere layout (jobs_of tables) image) tables.sets
+abbrev pub HasEntries : Layout → Office → List ℕ → Type 0
+HasEntries layout office image = UnderEachName (AreThere layout office.legs (jobs_of office.tables) image) office.tables.sets
+
+-- ---- the checkpoint in effect
+
+-- The bytes at the place of the entry of a run's checkpoint in effect are read as its point, with a state that stands for the records taken
+-- in the run's step: its program isn't closed, the checkpoint is done, and a cancel isn't.
+pub record IsReadInEffect (layout : Layout) (office : Office) (image : List ℕ) (row : RunRow) (entry : KeptEntry) (start : StepStart) : Type 0 where
+  pub effect : EffectPoint
+  pub got : row.in_effect ≡ Some effect
+  pub table : TableSet
+  pub at : entry_at office.tables.sets effect.set ≡ Some table
+  pub state : State
+  pub read : entry_in (bytes_on image layout table.set entry.kept.place entry.kept.bytes) ≡ Ok (entry_with entry.kept.id state entry.point)
+  pub stands : StandsFor state (case_at start) entry.point.taken
+  pub unclosed : is_closed state ≡ false
+  pub served : AreServed true false state
 
 -- ---- entries within their data sets
 
@@ -98,16 +131,17 @@ entry_taken tables row owned kept taken writes lengths =
     kept_entry kept (entry_point row owned (step_in (place_of row)) taken writes (committed (output_names row.job.root owned) lengths tables.sets))
 
 -- the image has the entry in the data set for checkpoints of the run's step
-abbrev pub HasNewEntry : Layout → TablesModel → Kept → ℕ → ℕ → List ℕ → List ℕ → Type 0
-HasNewEntry layout tables kept taken writes lengths image =
-    (row : RunRow) (owned : OwnedStep) (table : TableSet) → run_of tables kept.run ≡ Some row → step_of_run row (step_in (place_of row)) ≡ Some owned
-    → entry_at tables.sets (name_with_role row.job.root owned is_checkpoints) ≡ Some table
-    → IsEntryThere layout (jobs_of tables) image table.set (entry_taken tables row owned kept taken writes lengths)
+abbrev pub HasNewEntry : Layout → Office → Kept → ℕ → ℕ → List ℕ → List ℕ → Type 0
+HasNewEntry layout now kept taken writes lengths image =
+    (row : RunRow) (owned : OwnedStep) (table : TableSet) → run_of now.tables kept.run ≡ Some row → step_of_run row (step_in (place_of row)) ≡ Some owned
+    → entry_at now.tables.sets (name_with_role row.job.root owned is_checkpoints) ≡ Some table
+    → IsEntryThere layout now.legs (jobs_of now.tables) image table.set (entry_taken now.tables row owned kept taken writes lengths)
 
--- With the state of the step's program its point is an entry, as many bytes long as is kept, whose records the image has in a data set
--- that lies where the tables have this one.
-pub record HasWritten (layout : Layout) (image : List ℕ) (table : DataSet) (owned : OwnedStep) (entry : KeptEntry) : Type 0 where
+-- With the state that the step's program had there its point is an entry, as many bytes long as is kept, whose records the image has in a
+-- data set that lies where the tables have this one.
+pub record HasWritten (layout : Layout) (legs : List Leg) (image : List ℕ) (table : DataSet) (owned : OwnedStep) (entry : KeptEntry) : Type 0 where
   pub state : State
+  pub of_job : IsStateOfJob legs entry state
   pub set : DataSet
   pub places : SamePlaces table set
   pub fits : IsEntry (entry_with entry.kept.id state entry.point)

@@ -62,7 +62,7 @@ entry_refusal layout tables image = first_fault (run_fault layout tables image) 
 
 -- ---- what the events give
 
--- The checkpoint in effect of a run is one of the step that the run is in. Its data set keeps its entry, with a point of that step.
+-- The checkpoint in effect of a run is one that it took in the step that it is in. Its data set keeps its entry, with a point of that step.
 pub record IsInEffect (tables : TablesModel) (row : RunRow) (effect : EffectPoint) : Type 0 where
   pub holds : is_holder row.state ≡ true
   pub within : is_within (place_of row) ≡ true
@@ -72,6 +72,7 @@ pub record IsInEffect (tables : TablesModel) (row : RunRow) (effect : EffectPoin
   pub entry : KeptEntry
   pub at : kept_at tables.sets effect.set effect.kept.id ≡ Some entry
   pub kept : entry.kept ≡ effect.kept
+  pub run : entry.point.run ≡ row.number
   pub owner : entry.point.owner ≡ owned.owner
   pub step : entry.point.step ≡ step_in (place_of row)
   pub program : program_at (jobs_of tables) entry.point.run entry.point.step ≡ Some owned.step.program

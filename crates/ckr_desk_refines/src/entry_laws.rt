@@ -12,14 +12,17 @@ ghost use Rattle.ckr_library.specs.declared.sets.Kept.{Kept};
 ghost use Rattle.ckr_library.specs.Catalog.{Catalog};
 ghost use Rattle.ckr_library.specs.NameMaps.{Name, Named, entry_at};
 ghost use Rattle.ckr_points.specs.Events.{AreSound, IsNext};
-ghost use Rattle.ckr_points.specs.Office.{Office, office, office_after};
+ghost use Rattle.ckr_points.specs.Office.{Office, no_office, office, office_after};
 ghost use Rattle.ckr_meaning.specs.EffectiveJob.{OwnedStep};
+ghost use Rattle.ckr_meaning.specs.StepRun.{StepStart};
 ghost use Rattle.ckr_points.specs.Restart.{Decked, after_event, place_of, step_in};
-ghost use Rattle.ckr_points.specs.Rows.{RunRow, TableSet, TablesModel, no_tables, run_of, step_of_run};
+ghost use Rattle.ckr_points.specs.Rows.{KeptEntry, RunRow, TableSet, no_tables, run_of, step_of_run};
 ghost use Rattle.ckr_points.specs.Soundness.{AreLaidOut, may_come};
 ghost use Rattle.ckr_points.specs.Tables.{is_checkpoints, name_with_role};
-ghost use Rattle.ckr_points_invariant.specs.Continuations.{NoneGoesBack, goes_back};
 ghost use Rattle.ckr_points_invariant.specs.Invariant.{IsKept};
+ghost use Rattle.ckr_points_invariant.specs.PlainRuns.{NoneContinues, continues};
+ghost use Rattle.ckr_points_invariant.specs.Points.{ArePointed};
+ghost use Rattle.ckr_points_invariant.specs.Readiness.{AreReady};
 ghost use Rattle.ckr_steps.specs.EntryRecords.{HasEntry, SameRecordsOutside};
 ghost use Rattle.ckr_steps.specs.Writes.{Keeps};
 ghost use Rattle.ckr_volumes.specs.declared.layout.Layout.{Layout};
@@ -27,28 +30,29 @@ ghost use Rattle.ckr_volumes.specs.Layouts.{StandsIn, lie_apart};
 ghost use Rattle.ckr_volumes.specs.Records.{records_on};
 ghost use Rattle.ckr_volumes.specs.SamePlaces.{SamePlaces};
 ghost use Rattle.ckr_desk_turn.specs.Checkpoints.{MayCheckpoint, check_set, entry_place, office_behind, written_entry};
-ghost use Rattle.ckr_desk_turn.specs.Desk.{DeskStep};
+ghost use Rattle.ckr_desk_turn.specs.Desk.{DeskStep, effect_entry, start_of};
 ghost use Rattle.ckr_desk_turn.specs.Invariant.{HasRuns};
 ghost use Rattle.ckr_desk_turn.specs.RunEvents.{AreRunEvents};
 ghost use Rattle.ckr_desk_refines.specs.StepSets.{HasSets};
 ghost use Rattle.ckr_desk_refines.specs.SharedSets.{LeavesOthers};
-ghost use Rattle.ckr_desk_refines.specs.Entries.{AreWithin, HasCheckDd, HasCheckSet, HasEntries, HasNewEntry, IsReadBack, HasWritten, OnlyCheckSetsKeep, SameKept, entry_taken, jobs_of, takes_checkpoint};
+ghost use Rattle.ckr_desk_refines.specs.Entries.{AreWithin, HasCheckDd, HasCheckSet, HasEntries, HasNewEntry, IsReadBack, IsReadInEffect, HasWritten, OnlyCheckSetsKeep, SameKept, entry_taken, jobs_of, takes_checkpoint};
 ghost use Rattle.ckr_desk_refines.specs.EntryRefusal.{AreInEffect, HasStepNames, LeavesReach, entry_refusal};
 
 /// The tables of no events keep no entry, and no run has a checkpoint in effect.
 pub fn no_events_keep_no_entry()
-    ensures there { (layout : Layout) (image : List ℕ) → HasEntries layout no_tables image }
+    ensures there { (layout : Layout) (image : List ℕ) → HasEntries layout no_office image }
     ensures within { AreWithin no_tables.sets }
     ensures plain { OnlyCheckSetsKeep no_tables.sets }
     ensures effect { AreInEffect no_tables }
 {}
 
-/// An event that takes no checkpoint, and by which no run goes back, leaves the entries that the tables keep: those of a data set that
-/// is emptied, cut or deleted go, and the others stand where they stood, within their data sets, which are data sets for checkpoints.
+/// An event that may come, takes no checkpoint, and by which no run continues another one, a restart too, leaves the entries that the tables
+/// keep: those of a data set that is emptied or deleted go, and those that end behind the length to which one is cut; the others stand where
+/// they stood, within their data sets, which are data sets for checkpoints.
 pub fn events_leave_entries()
-    ensures there { (layout : Layout) (now : Office) (image : List ℕ) (event : Event) (deck : Option Job) → goes_back event ≡ false → takes_checkpoint event ≡ false → IsKept layout now → HasEntries layout now.tables image → HasEntries layout (after_event event deck now.tables) image }
-    ensures within { (layout : Layout) (now : Office) (event : Event) (deck : Option Job) → goes_back event ≡ false → takes_checkpoint event ≡ false → IsKept layout now → AreWithin now.tables.sets → AreWithin (after_event event deck now.tables).sets }
-    ensures plain { (layout : Layout) (now : Office) (event : Event) (deck : Option Job) → goes_back event ≡ false → takes_checkpoint event ≡ false → IsKept layout now → OnlyCheckSetsKeep now.tables.sets → OnlyCheckSetsKeep (after_event event deck now.tables).sets }
+    ensures there { (layout : Layout) (now : Office) (image : List ℕ) (event : Event) (deck : Option Job) → continues event ≡ false → takes_checkpoint event ≡ false → IsKept layout now → may_come layout now (event, deck) ≡ true → HasEntries layout now image → HasEntries layout (office_after (event, deck) now) image }
+    ensures within { (layout : Layout) (now : Office) (event : Event) (deck : Option Job) → continues event ≡ false → takes_checkpoint event ≡ false → IsKept layout now → AreWithin now.tables.sets → AreWithin (after_event event deck now.tables).sets }
+    ensures plain { (layout : Layout) (now : Office) (event : Event) (deck : Option Job) → continues event ≡ false → takes_checkpoint event ≡ false → IsKept layout now → OnlyCheckSetsKeep now.tables.sets → OnlyCheckSetsKeep (after_event event deck now.tables).sets }
 {}
 
 /// An entry that a step has written, with the state of its program, is the new one of its checkpoint's event. The event adds the entry
@@ -56,8 +60,8 @@ pub fn events_leave_entries()
 /// and where that is one for checkpoints, only those keep entries.
 pub fn checkpoints_add_their_entry()
     ensures written { (layout : Layout) (now : Office) (image : List ℕ) (kept : Kept) (taken writes : ℕ) (lengths : List ℕ) (row : RunRow) (owned : OwnedStep) (table : TableSet) → IsKept layout now → run_of now.tables kept.run ≡ Some row → step_of_run row (step_in (place_of row)) ≡ Some owned → entry_at now.tables.sets (name_with_role row.job.root owned is_checkpoints) ≡ Some table
-        → HasWritten layout image table.set owned (entry_taken now.tables row owned kept taken writes lengths) → HasNewEntry layout now.tables kept taken writes lengths image }
-    ensures there { (layout : Layout) (now : Office) (image : List ℕ) (job taken writes place bytes : ℕ) (id : Name) (lengths : ArrayVec ℕ) (deck : Option Job) → IsKept layout now → HasEntries layout now.tables image → HasNewEntry layout now.tables (record { id = id; run = job; place = place; bytes = bytes }) taken writes lengths.items image → HasEntries layout (after_event (Checkpointed job id taken writes lengths place bytes) deck now.tables) image }
+        → HasWritten layout now.legs image table.set owned (entry_taken now.tables row owned kept taken writes lengths) → HasNewEntry layout now kept taken writes lengths image }
+    ensures there { (layout : Layout) (now : Office) (image : List ℕ) (job taken writes place bytes : ℕ) (id : Name) (lengths : ArrayVec ℕ) (deck : Option Job) → IsKept layout now → HasEntries layout now image → HasNewEntry layout now (record { id = id; run = job; place = place; bytes = bytes }) taken writes lengths.items image → HasEntries layout (office_after (Checkpointed job id taken writes lengths place bytes, deck) now) image }
     ensures within { (layout : Layout) (now : Office) (job taken writes place bytes : ℕ) (id : Name) (lengths : ArrayVec ℕ) (deck : Option Job) → IsKept layout now → may_come layout now (Checkpointed job id taken writes lengths place bytes, deck) ≡ true → AreWithin now.tables.sets → AreWithin (after_event (Checkpointed job id taken writes lengths place bytes) deck now.tables).sets }
     ensures plain { (layout : Layout) (now : Office) (job taken writes place bytes : ℕ) (id : Name) (lengths : ArrayVec ℕ) (deck : Option Job) → IsKept layout now → HasCheckSet now.tables job → OnlyCheckSetsKeep now.tables.sets → OnlyCheckSetsKeep (after_event (Checkpointed job id taken writes lengths place bytes) deck now.tables).sets }
 {}
@@ -66,7 +70,7 @@ pub fn checkpoints_add_their_entry()
 /// committed: where the records of each data set stay, or those that a running step's data sets have; where only records behind the last
 /// one of a data set are written; and where a record of a data set is rewritten that keeps none.
 pub fn entries_stay_in_images()
-    ensures entries { (layout : Layout) (tables : TablesModel) (old new : List ℕ) → AreWithin tables.sets → SameKept layout tables.sets old new → HasEntries layout tables old → HasEntries layout tables new }
+    ensures entries { (layout : Layout) (office : Office) (old new : List ℕ) → AreWithin office.tables.sets → SameKept layout office.tables.sets old new → HasEntries layout office old → HasEntries layout office new }
     ensures moved { (layout : Layout) (sets : Named TableSet) (old new : List ℕ) → AreLaidOut layout sets → ((set : DataSet) (n : ℕ) → StandsIn layout set → n ≤ set.space → records_on new layout set n ≡ records_on old layout set n) → SameKept layout sets old new }
     ensures kept { (layout : Layout) (sets : Named TableSet) (names : List Name) (library : Catalog) (old new : List ℕ) → AreLaidOut layout sets → HasSets sets names library → Keeps layout library old new → SameKept layout sets old new }
     ensures behind { (layout : Layout) (sets : Named TableSet) (name : Name) (table : TableSet) (set : DataSet) (place count : ℕ) (old new : List ℕ) → AreLaidOut layout sets → entry_at sets name ≡ Some table → SamePlaces table.set set → table.set.length ≤ place → table.set.length ≤ set.space
@@ -75,22 +79,30 @@ pub fn entries_stay_in_images()
         → ((other : DataSet) (n : ℕ) → StandsIn layout other → IsTrue (lie_apart set other) → n ≤ other.space → records_on new layout other n ≡ records_on old layout other n) → SameKept layout sets old new }
 {}
 
-/// The bytes at the place of each entry that the tables keep are read as its point, with a state of the program of its step.
+/// The bytes at the place of each entry that the tables keep are read as its point, with the state that the program of its step had there.
 pub fn kept_entries_are_read()
-    ensures { (layout : Layout) (tables : TablesModel) (image : List ℕ) → HasEntries layout tables image → (name : Name) (table : TableSet) → entry_at tables.sets name ≡ Some table → AllByRecursion (IsReadBack layout (jobs_of tables) image table.set) table.entries }
+    ensures { (layout : Layout) (office : Office) (image : List ℕ) → HasEntries layout office image → (name : Name) (table : TableSet) → entry_at office.tables.sets name ≡ Some table → AllByRecursion (IsReadBack layout office.legs (jobs_of office.tables) image table.set) table.entries }
+{}
+
+/// The bytes at the place of the entry of a run's checkpoint in effect are read as its point, with a state that stands for the records taken
+/// in the run's own job: its program isn't closed, the checkpoint is done, and a cancel isn't.
+pub fn entries_in_effect_have_the_state_of_their_job()
+    ensures { (layout : Layout) (office : Office) (image : List ℕ) (number : ℕ) (row : RunRow) (entry : KeptEntry) (start : StepStart) → IsKept layout office → AreReady office → AreInEffect office.tables → HasEntries layout office image
+        → run_of office.tables number ≡ Some row → effect_entry office.tables row ≡ Some entry → start_of office row ≡ Some start → IsReadInEffect layout office image row entry start }
 {}
 
 /// Where an image has the entries that the tables keep, and each checkpoint in effect is one of the step that its run is in, no entry is
-/// refused. So none of sound events is by which no run goes back.
+/// refused. So none of sound events is by which no run continues another one.
 pub fn kept_entries_are_not_refused()
-    ensures sound { (layout : Layout) (events : List Decked) (image : List ℕ) → AreSound layout events → NoneGoesBack events → HasEntries layout (office events).tables image → entry_refusal layout (office events).tables image ≡ None }
-    ensures effect { (layout : Layout) (tables : TablesModel) (image : List ℕ) → HasEntries layout tables image → AreInEffect tables → entry_refusal layout tables image ≡ None }
+    ensures sound { (layout : Layout) (events : List Decked) (image : List ℕ) → AreSound layout events → NoneContinues events → HasEntries layout (office events) image → entry_refusal layout (office events).tables image ≡ None }
+    ensures effect { (layout : Layout) (office : Office) (image : List ℕ) → HasEntries layout office image → AreInEffect office.tables → entry_refusal layout office.tables image ≡ None }
 {}
 
-/// An event by which no run goes back, and which leaves what other selected runs reach, leaves each checkpoint in effect of those and that
-/// of its own run, until the step ends, its run ends or the restarts are cancelled. A checkpoint that is taken comes into effect.
+/// Where all runs are ready to restart, an event by which no run continues another one, and which leaves what other selected runs reach,
+/// leaves each checkpoint in effect of those and that of its own run, also where the run restarts at it, until the step ends or is
+/// restarted from its start, its run ends or the restarts are cancelled. A checkpoint that is taken comes into effect.
 pub fn events_leave_checkpoints_in_effect()
-    ensures { (layout : Layout) (now : Office) (event : Event) (deck : Option Job) → goes_back event ≡ false → IsKept layout now → may_come layout now (event, deck) ≡ true → AreWithin now.tables.sets
+    ensures { (layout : Layout) (now : Office) (event : Event) (deck : Option Job) → continues event ≡ false → IsKept layout now → AreReady now → may_come layout now (event, deck) ≡ true → AreWithin now.tables.sets
         → LeavesReach now (job_of event) (after_event event deck now.tables).sets → AreInEffect now.tables → AreInEffect (after_event event deck now.tables) }
 {}
 
@@ -101,15 +113,16 @@ pub fn checkpoints_leave_others()
     ensures others { (layout : Layout) (now : Office) (job taken writes place bytes : ℕ) (id : Name) (lengths : ArrayVec ℕ) (deck : Option Job) → IsKept layout now → may_come layout now (Checkpointed job id taken writes lengths place bytes, deck) ≡ true → LeavesOthers now job (office_after (Checkpointed job id taken writes lengths place bytes, deck) now) }
 {}
 
-/// At every prefix of sound events by which no run goes back each entry that the tables keep ends within its data set, and each checkpoint
-/// in effect is one of the step that its run is in. For one more event leaves what other selected runs reach. Where they are those of what
-/// the desk runs, whose decks are accepted ones, only data sets for checkpoints keep entries, and the step of a checkpoint has a DD for them.
+/// At every prefix of sound events by which no run continues another one each entry that the tables keep ends within its data set, and
+/// each checkpoint in effect is one of the step that its run is in. For one more event, a restart too, leaves what other selected runs
+/// reach. Where they are those of what the desk runs, whose decks are accepted ones, only data sets for checkpoints keep entries, and the
+/// step of a checkpoint has a DD for them.
 pub fn sound_events_keep_entries_within()
-    ensures within { (layout : Layout) (front more : List Decked) → AreSound layout (front ++ more) → NoneGoesBack (front ++ more) → AreWithin (office front).tables.sets }
-    ensures effect { (layout : Layout) (front more : List Decked) → AreSound layout (front ++ more) → NoneGoesBack (front ++ more) → AreInEffect (office front).tables }
+    ensures within { (layout : Layout) (front more : List Decked) → AreSound layout (front ++ more) → NoneContinues (front ++ more) → AreWithin (office front).tables.sets }
+    ensures effect { (layout : Layout) (front more : List Decked) → AreSound layout (front ++ more) → NoneContinues (front ++ more) → AreInEffect (office front).tables }
     ensures plain { (layout : Layout) (front more : List Decked) → AreSound layout (front ++ more) → AreRunEvents (front ++ more) → OnlyCheckSetsKeep (office front).tables.sets }
     ensures checks { (layout : Layout) (now : Office) (job taken writes place bytes : ℕ) (id : Name) (lengths : ArrayVec ℕ) (deck : Option Job) → IsKept layout now → HasRuns now → may_come layout now (Checkpointed job id taken writes lengths place bytes, deck) ≡ true → HasCheckDd now.tables job }
-    ensures others { (layout : Layout) (now : Office) (event : Event) (deck : Option Job) → goes_back event ≡ false → IsKept layout now → IsNext layout now (event, deck) → LeavesReach now (job_of event) (after_event event deck now.tables).sets }
+    ensures others { (layout : Layout) (now : Office) (event : Event) (deck : Option Job) → continues event ≡ false → IsKept layout now → ArePointed now → AreReady now → IsNext layout now (event, deck) → LeavesReach now (job_of event) (after_event event deck now.tables).sets }
 {}
 
 /// Where an image has the records of the entry that the checkpoint of a running step writes, in a data set that lies where the tables have
@@ -117,5 +130,5 @@ pub fn sound_events_keep_entries_within()
 pub fn checkpoints_write_their_entry()
     ensures { (layout : Layout) (office : Office) (step : DeskStep) (may : MayCheckpoint layout office step) (image : List ℕ) (set : Name) (table : TableSet) (there : DataSet) → check_set may.going.start ≡ Some set → entry_at office.tables.sets set ≡ Some table → SamePlaces table.set there
         → IsEntry (written_entry layout office step may) → HasEntry image layout there (entry_place office.tables.sets may.going.start) (spelling (written_entry layout office step may))
-        → HasEntries layout office.tables image → HasEntries layout (office_behind layout office step may).tables image }
+        → HasEntries layout office image → HasEntries layout (office_behind layout office step may) image }
 {}

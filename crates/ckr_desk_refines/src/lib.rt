@@ -26,13 +26,13 @@ pub use durable_laws::{
 };
 pub use entry_laws::{
     checkpoints_add_their_entry, checkpoints_leave_others, checkpoints_write_their_entry,
-    entries_stay_in_images, events_leave_checkpoints_in_effect, events_leave_entries,
-    kept_entries_are_not_refused, kept_entries_are_read, no_events_keep_no_entry,
-    sound_events_keep_entries_within,
+    entries_in_effect_have_the_state_of_their_job, entries_stay_in_images,
+    events_leave_checkpoints_in_effect, events_leave_entries, kept_entries_are_not_refused,
+    kept_entries_are_read, no_events_keep_no_entry, sound_events_keep_entries_within,
 };
 pub use event_laws::{
-    desks_behind_calls_stand, desks_behind_codes_stand, desks_behind_turns_that_tell_stand,
-    events_are_committed,
+    desks_behind_calls_stand, desks_behind_codes_stand, desks_behind_restarts_stand,
+    desks_behind_turns_that_tell_stand, events_are_committed,
 };
 pub use rewrite_laws::{
     desks_behind_rewrites_stand, rewrites_are_committed_once_they_are_written, rewrites_are_told,

@@ -58,19 +58,19 @@ module _ (layout : Layout) (old : JobsView) (before : List ℕ) (desk : DeskMode
       (keeps-from layout old before desk turn run on to from image count behind
       (content-so layout old before desk turn run on to fits behind.name (check_is layout old before desk turn run on to from image count behind) behind.table behind.at)) desk.office refl had
 
-  pub entries-before : (from image : List ℕ) (count : ℕ) → AreWithin desk.office.tables.sets → HasEntries desk.layout desk.office.tables from → IsWrittenBehind layout desk.office run count from image → HasEntries desk.layout desk.office.tables image
+  pub entries-before : (from image : List ℕ) (count : ℕ) → AreWithin desk.office.tables.sets → HasEntries desk.layout desk.office from → IsWrittenBehind layout desk.office run count from image → HasEntries desk.layout desk.office image
   entries-before from image count within had behind =
       let stands : StandsIn desk.layout behind.table.set = each-at (λ (table : TableSet). StandsIn desk.layout table.set) desk.office.tables.sets to.stands.is_desk.kept.events.extents.stand behind.name behind.table behind.at in
       let most = stands.length_fits in
       let space = behind.space in
-      has-then desk.layout desk.office.tables from image within
+      has-then desk.layout desk.office from image within
       (outside-kept desk.layout desk.office.tables.sets to.stands.is_desk.kept.events.extents from image behind.name behind.table behind.set behind.table.set.length count behind.at behind.places (omega arith) (omega (arith, most, space))
       (subst (λ (l : Layout). SameRecordsOutside l behind.set behind.table.set.length count from image) (sym to.stands.layout_is) behind.outside)) had
 
   -- with the records of the entry it has the entries that the event leaves
   pub entries-behind : (written image : List ℕ) (count : ℕ) (behind : IsWrittenBehind layout desk.office run count before written) (progress : StepProgress) → progress_of desk run ≡ Some progress
       → IsEntry (next_entry desk.office.tables.sets behind.row behind.start progress) → HasEntry image desk.layout behind.set behind.table.set.length (spelling (next_entry desk.office.tables.sets behind.row behind.start progress))
-      → HasEntries desk.layout desk.office.tables image → HasEntries desk.layout (taken_of run desk).desk.office.tables image
+      → HasEntries desk.layout desk.office image → HasEntries desk.layout (taken_of run desk).desk.office image
   entries-behind written image count behind progress known is_entry there had =
       let p = pair layout old before desk turn run on to in
       let named : check_set p.going.start ≡ Some behind.name = check_is layout old before desk turn run on to before written count behind in
@@ -79,7 +79,7 @@ module _ (layout : Layout) (old : JobsView) (before : List ℕ) (desk : DeskMode
       let place : entry_place desk.office.tables.sets p.going.start ≡ behind.table.set.length =
       ap (λ (o : Option Name). option_map_or (λ (table : TableSet). table.set.length) (option_and_then (entry_at desk.office.tables.sets) o) 0) named
       ∙ ap (λ (o : Option TableSet). option_map_or (λ (table : TableSet). table.set.length) o 0) behind.at in
-      subst (λ (done : TurnDone). HasEntries desk.layout done.desk.office.tables image) (sym (taken-by layout old before desk turn run on to true fits))
+      subst (λ (done : TurnDone). HasEntries desk.layout done.desk.office image) (sym (taken-by layout old before desk turn run on to true fits))
       (has-behind desk.layout desk.office p.step (may desk to.stands.is_desk p.step p.going (unclosed layout old before desk turn run on to) fits) image behind.name behind.table behind.set named behind.at behind.places
       (subst IsEntry entry_is is_entry)
       (subst (λ n. HasEntry image desk.layout behind.set n (spelling (next_entry desk.office.tables.sets p.going.row p.going.start p.step.progress))) (sym place)

@@ -32,7 +32,7 @@ use Rattle.ckr_points.specs.Rows.{RunRow, StartPoint, TablesModel, run_of, stand
 use Rattle.ckr_points.specs.Tables.{after_cancelled, after_checkpointed, after_commit, after_dispositions, after_held, after_rewritten, after_selected, after_started, after_step_ended, earlier_made, fresh_effect, is_checkpoints, is_updates, name_with_role, own_made, row_rewritten, run_disposals, table_rewritten}
 use Rattle.ckr_volumes.specs.declared.layout.Layout.{Layout}
 use Rattle.ckr_desk_refines.specs.Counts.{added_by, added_by_all}
-use Rattle.ckr_desk_refines.proofs.Entries.SoundEvents.{tables-behind}
+use Rattle.ckr_desk_refines.proofs.Entries.Legs.{tables-behind}
 use Rattle.ckr_desk_refines.proofs.Counts.Sets.{AreFew, few-committed, few-disposed_all, few-made_all, few-more, few-opened_all, few-passed_ended, few-put_back, few-with_changed}
 
 -- the data sets of the tables

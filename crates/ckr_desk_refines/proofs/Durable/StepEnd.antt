@@ -28,21 +28,26 @@ part-twice one two three first second = record {
   shorter = let a = first.shorter in let b = second.shorter in omega (arith, a, b);
 }
 
-without-from : (name other : Name) (sets : Named TableSet) (table : TableSet) → entry_at (without_entry other sets) name ≡ Some table → StaysFrom sets name table
+pub without-from : (name other : Name) (sets : Named TableSet) (table : TableSet) → entry_at (without_entry other sets) name ≡ Some table → StaysFrom sets name table
 without-from name other sets table e = by (same_name name other) (sym (at-without_entry other name sets) ∙ e)
   where
     by : (same : Bool) → cond same None (entry_at sets name) ≡ Some table → StaysFrom sets name table
     by true its = absurd (some-not-none table (sym its))
     by false its = (table, its, part-itself table)
 
-marked-from : (name other : Name) (on : Bool) (sets : Named TableSet) (table : TableSet) → entry_at (with_changed other (table_ways.marked on) sets) name ≡ Some table → StaysFrom sets name table
-marked-from name other on sets table e =
-    by (same_name name other) (entry_at sets name) refl (sym (at-with_changed other name (table_ways.marked on) sets) ∙ e)
+-- a data set is changed to a part of itself
+pub changed-from : (name other : Name) (change : TableSet → TableSet) → ((table : TableSet) → IsPartOf (change table).set table.set) → (sets : Named TableSet) (table : TableSet) → entry_at (with_changed other change sets) name ≡ Some table → StaysFrom sets name table
+changed-from name other change part sets table e =
+    by (same_name name other) (entry_at sets name) refl (sym (at-with_changed other name change sets) ∙ e)
   where
-    by : (same : Bool) (entry : Option TableSet) → entry_at sets name ≡ entry → cond same (option_map (table_ways.marked on) entry) entry ≡ Some table → StaysFrom sets name table
+    by : (same : Bool) (entry : Option TableSet) → entry_at sets name ≡ entry → cond same (option_map change entry) entry ≡ Some table → StaysFrom sets name table
     by true None e its = absurd (some-not-none table (sym its))
-    by true (Some old) e its = (old, e, subst (λ (t : TableSet). IsPartOf t.set old.set) (same_Some (table_ways.marked on old) table its) (record { parts = refl; lrecl = refl; stamp = refl; content = refl; shorter = omega arith }))
+    by true (Some old) e its = (old, e, subst (λ (t : TableSet). IsPartOf t.set old.set) (same_Some (change old) table its) (part old))
     by false entry e its = (table, e ∙ its, part-itself table)
+
+pub marked-from : (name other : Name) (on : Bool) (sets : Named TableSet) (table : TableSet) → entry_at (with_changed other (table_ways.marked on) sets) name ≡ Some table → StaysFrom sets name table
+marked-from name other on sets table e =
+    changed-from name other (table_ways.marked on) (λ old. record { parts = refl; lrecl = refl; stamp = refl; content = refl; shorter = omega arith }) sets table e
 
 after-from : (name : Name) (after : After) (other : Name) (sets : Named TableSet) (table : TableSet) → entry_at (sets_after table_ways after other sets) name ≡ Some table → StaysFrom sets name table
 after-from name Delete other sets table e = without-from name other sets table e

@@ -2,33 +2,31 @@
 -- entries of what the desk runs.
 use Rattle.std.proofs.Common.{◌≡◌, ℕ, zero, suc, Bool, true, false, ◌&&◌, List, [], ◌∷◌, ◌++◌, refl, ap, sym, ◌∙◌, subst, Option, Some, None, arith}
 use Rattle.std.specs.Prelude.{◌+◌, ◌==◌, find}
-use Rattle.std.specs.List.{AllByRecursion, list_all}
 use Rattle.std.specs.Option.{option_map_or}
-use Rattle.std.proofs.lemmas.Bool.{false≢true}
 use Rattle.std.proofs.lemmas.List.{append-nil, append_assoc}
 use Rattle.std.proofs.lemmas.Option.{same_Some}
 use Rattle.arrayvec.specs.ArrayVec.{ArrayVec}
-use Rattle.ckr_base.proofs.Bools.{and-first, and-second, bool-cases, false-not-true}
+use Rattle.ckr_base.proofs.Bools.{and-first, and-second, false-not-true}
 use Rattle.ckr_base.proofs.Numbers.{equal-true}
 use Rattle.ckr_base.proofs.Options.{some-not-none}
 use Rattle.ckr_base.proofs.Sequences.{all-get, each-get}
 use Rattle.ckr_events.specs.declared.event.Event.{Event}
-use Rattle.ckr_events.specs.declared.event.Event.TheVariants.{Checkpointed, Restarted, Selected}
+use Rattle.ckr_events.specs.declared.event.Event.TheVariants.{Checkpointed, Selected}
 use Rattle.ckr_jcl.specs.declared.deck.Dd.{Dd}
 use Rattle.ckr_jcl.specs.declared.deck.Job.{Job}
 use Rattle.ckr_library.specs.Catalog.{records_of}
 use Rattle.ckr_library.specs.NameMaps.{Name}
-use Rattle.ckr_meaning.specs.EffectiveJob.{Effective, OwnedStep, is_among, name_of, names_of, plain_job}
+use Rattle.ckr_meaning.specs.EffectiveJob.{OwnedStep, is_among, name_of, names_of, plain_job}
 use Rattle.ckr_points_library.specs.Commit.{is_named, output_names}
 use Rattle.ckr_points.specs.Events.{AreSound, AreSoundFrom, IsNext}
 use Rattle.ckr_points.specs.Follows.{is_checkpoint, is_length_of, is_running, lengths_follow, of_step, own_step}
 use Rattle.ckr_points.specs.Office.{Office, no_office, office, office_after, office_from}
-use Rattle.ckr_points.specs.Restart.{Decked, after_event, place_of}
+use Rattle.ckr_points.specs.Restart.{Decked, after_event}
 use Rattle.ckr_points.specs.Rows.{RunRow, TablesModel, run_of}
 use Rattle.ckr_points.specs.Soundness.{may_come}
 use Rattle.ckr_points.specs.Tables.{is_checkpoints, name_with_role}
-use Rattle.ckr_points_invariant.specs.Continuations.{goes_back}
 use Rattle.ckr_points_invariant.specs.Invariant.{IsKept, step_now}
+use Rattle.ckr_points_invariant.specs.PlainRuns.{continues}
 use Rattle.ckr_points_invariant.proofs.EventList.{office-more, sound-front}
 use Rattle.ckr_points_invariant.proofs.Holders.Places.{outputs-among}
 use Rattle.ckr_points_invariant.proofs.Holders.Rows.{step-all}
@@ -38,13 +36,13 @@ use Rattle.ckr_desk_turn.specs.Invariant.{HasRuns, IsAdmitted, is_plain_row}
 use Rattle.ckr_desk_turn.specs.RunEvents.{AreRunEvents, IsRunEvent}
 use Rattle.ckr_desk_turn.proofs.NextEvents.BetweenSteps.{no_restart, plain_parts}
 use Rattle.ckr_desk_turn.proofs.Runs.Lists.{events-kept, events-run}
-use Rattle.ckr_desk_refines.specs.Entries.{HasCheckDd, IsCheckDd, OnlyCheckSetsKeep, takes_checkpoint}
+use Rattle.ckr_desk_refines.specs.Entries.{HasCheckDd, IsCheckDd, OnlyCheckSetsKeep}
 use Rattle.ckr_desk_refines.proofs.Entries.Checkpoint.{plain-taken}
 use Rattle.ckr_desk_refines.proofs.Entries.DeckNames.{among-named, is_named_job, is_named_step, job-named}
 use Rattle.ckr_desk_refines.proofs.Entries.EffectEvents.{length-among, of-found}
 use Rattle.ckr_desk_refines.proofs.Entries.Events.{plain-next}
 use Rattle.ckr_desk_refines.proofs.Entries.RunningStep.{checkpoint-checks, running-by}
-use Rattle.ckr_desk_refines.proofs.Entries.SoundEvents.{tables-behind}
+use Rattle.ckr_desk_refines.proofs.Entries.Legs.{tables-behind}
 
 -- ---- a DD with a name
 
@@ -100,7 +98,7 @@ module _ (layout : Layout) (now : Office) (kept : IsKept layout now) (has : HasR
           (among-named row.job.root owned owned.step.dds set (step-all (is_named_step row.job.root) row.job (step_now row) owned (admitted-named job row e plain) found) among))
 
   -- one more event of what the desk runs
-  plain-event : (event : Event) (deck : Option Job) → goes_back event ≡ false → IsNext layout now (event, deck) → OnlyCheckSetsKeep now.tables.sets → OnlyCheckSetsKeep (after_event event deck now.tables).sets
+  plain-event : (event : Event) (deck : Option Job) → continues event ≡ false → IsNext layout now (event, deck) → OnlyCheckSetsKeep now.tables.sets → OnlyCheckSetsKeep (after_event event deck now.tables).sets
   plain-event (Checkpointed job id taken writes lengths place bytes) deck on next only =
       plain-taken now.tables kept.events.numbered id job taken writes place bytes lengths deck
       (checkpoint-checks layout now kept.events job taken writes place bytes id lengths deck next.may (check-dd job taken writes place bytes id lengths deck next.may)) only
@@ -112,11 +110,10 @@ module _ (layout : Layout) (now : Office) (kept : IsKept layout now) (has : HasR
 none-before : (before : ℕ) → (suc before == 0) ≡ true → ⊥
 none-before before e = let same : suc before ≡ 0 = equal-true (suc before) 0 e in omega (arith, same)
 
--- no run goes back
-run-on : (event : Event) (deck : Option Job) → IsRunEvent event deck → goes_back event ≡ false
+-- no run continues another one
+run-on : (event : Event) (deck : Option Job) → IsRunEvent event deck → continues event ≡ false
 run-on (Selected job initiator zero step id) deck is = refl
 run-on (Selected job initiator (suc before) step id) deck is = absurd (none-before before is)
-run-on (Restarted job initiator code checkpoint) deck is = absurd is
 run-on _ deck is = refl
 
 next-at : (layout : Layout) (front more : List Decked) (event : Decked) (now : Office) → AreSoundFrom layout now (front ++ event ∷ more) → IsNext layout (office_from front now) event

@@ -22,7 +22,7 @@ use Rattle.ckr_meaning.specs.Allotments.{is_output}
 use Rattle.ckr_meaning.specs.EffectiveJob.{Effective, OwnedStep, is_among, name_of, names_of}
 use Rattle.ckr_points_library.specs.Commit.{output_names}
 use Rattle.ckr_points.specs.Follows.{is_checkpoint, is_in_state, is_length_of, is_running, is_within, lengths_follow, of_step}
-use Rattle.ckr_points.specs.Office.{Office}
+use Rattle.ckr_points.specs.Office.{Office, office_after}
 use Rattle.ckr_points.specs.Payload.{is_formed_step, writes_in}
 use Rattle.ckr_points.specs.declared.run.RunState.TheVariants.{On}
 use Rattle.ckr_points.specs.Restart.{after_event, place_of}
@@ -166,21 +166,28 @@ module _ (E : TableSet → Type 0) (stays : sets.Stays E) (tables : TablesModel)
 plain-checks : Plain ≡ Checkpoints → ⊥
 plain-checks e = cc
 
+module _ (layout : Layout) (now : Office) (numbered : AreNumbered now.tables) (id : Name) (job taken writes place bytes : ℕ) (lengths : ArrayVec ℕ) (deck : Option Job) (image : List ℕ) where
+  abbrev told : Kept
+  told = record { id = id; run = job; place = place; bytes = bytes }
+
+  abbrev E : TableSet → Type 0
+  E = AreThere layout now.legs (jobs_of now.tables) image
+
+  pub has-taken : HasEntries layout now image → HasNewEntry layout now told taken writes lengths.items image → HasEntries layout (office_after (Checkpointed job id taken writes lengths place bytes, deck) now) image
+  has-taken has new =
+      let holds =
+      checkpointed-stays E (there-stays layout now.legs (jobs_of now.tables) image) now.tables numbered has told taken writes lengths.items id job place bytes lengths deck refl refl
+      (λ row owned e found table at each.
+      let before = committed-from (output_names row.job.root owned) lengths.items now.tables.sets (name_with_role row.job.root owned is_checkpoints) table at in
+      let entry : KeptEntry = entry_taken now.tables row owned told taken writes lengths.items in
+      each-append (IsEntryThere layout now.legs (jobs_of now.tables) image table.set) table.entries (entry ∷ []) each
+      (there-moved layout now.legs (jobs_of now.tables) image before.0.set table.set (same-record image layout before.0.set table.set before.2.places) entry (new row owned before.0 e found before.1), tt)) in
+      let later : TablesModel = after_event (Checkpointed job id taken writes lengths place bytes) deck now.tables in
+      subst (λ jobs. UnderEachName (AreThere layout now.legs jobs image) later.sets) (sym holds.jobs_are) holds.each
+
 module _ (tables : TablesModel) (numbered : AreNumbered tables) (id : Name) (job taken writes place bytes : ℕ) (lengths : ArrayVec ℕ) (deck : Option Job) where
   abbrev kept : Kept
   kept = record { id = id; run = job; place = place; bytes = bytes }
-
-  pub has-taken : (layout : Layout) (image : List ℕ) → HasEntries layout tables image → HasNewEntry layout tables kept taken writes lengths.items image → HasEntries layout (after_event (Checkpointed job id taken writes lengths place bytes) deck tables) image
-  has-taken layout image has new =
-      let holds =
-      checkpointed-stays (AreThere layout (jobs_of tables) image) (there-stays layout (jobs_of tables) image) tables numbered has kept taken writes lengths.items id job place bytes lengths deck refl refl
-      (λ row owned e found table at each.
-      let before = committed-from (output_names row.job.root owned) lengths.items tables.sets (name_with_role row.job.root owned is_checkpoints) table at in
-      let entry : KeptEntry = entry_taken tables row owned kept taken writes lengths.items in
-      each-append (IsEntryThere layout (jobs_of tables) image table.set) table.entries (entry ∷ []) each
-      (there-moved layout (jobs_of tables) image before.0.set table.set (same-record image layout before.0.set table.set before.2.places) entry (new row owned before.0 e found before.1), tt)) in
-      let later : TablesModel = after_event (Checkpointed job id taken writes lengths place bytes) deck tables in
-      subst (λ jobs. UnderEachName (AreThere layout jobs image) later.sets) (sym holds.jobs_are) holds.each
 
   -- its data set is one for checkpoints
   pub plain-taken : HasCheckSet tables job → OnlyCheckSetsKeep tables.sets → OnlyCheckSetsKeep (after_event (Checkpointed job id taken writes lengths place bytes) deck tables).sets

@@ -4,8 +4,7 @@ use Rattle.std.specs.List.{AllByRecursion, cons_option, filter_map, list_all}
 use Rattle.std.specs.Option.{option_map, option_map_or}
 use Rattle.ckr_base.specs.Grammar.{is_ds_name, is_name8}
 use Rattle.ckr_base.proofs.Bools.{and-first, and-second, bool-cases, false-not-true}
-use Rattle.ckr_base.proofs.Options.{option-cases, some-not-none}
-use Rattle.ckr_base.proofs.Sequences.{all-get, each-implies}
+use Rattle.ckr_base.proofs.Sequences.{each-implies}
 use Rattle.ckr_jcl.specs.declared.deck.Cond.{Cond}
 use Rattle.ckr_jcl.specs.declared.deck.Dd.{Dd}
 use Rattle.ckr_jcl.specs.declared.deck.Job.{Job}

@@ -147,6 +147,7 @@ module _ (layout : Layout) (now : Office) (agreed : IsAgreed layout now) (job : 
         entry = its.entry;
         at = its.at;
         kept = its.kept;
+        run = its.run;
         owner = its.owner;
         step = its.step;
         program = keeps its.entry.point.run its.entry.point.step its.owned.step.program its.program;
@@ -173,9 +174,9 @@ module _ (layout : Layout) (now : Office) (agreed : IsAgreed layout now) (job : 
   module _ (within : AreWithin tables.sets) where
     -- behind the commit the row's effect is what it was
     own-then : (row : RunRow) (owned : OwnedStep) (lengths : List ℕ) (writes : ℕ) (later : TablesModel) (next : RunRow) (effect other : EffectPoint) → (its : IsInEffect tables row effect) → own_step row ≡ Some owned → are_lengths tables.sets (output_names row.job.root owned) lengths ≡ true
-        → effects.KeepsPrograms layout now agreed job are later → is_holder next.state ≡ true → next.job ≡ row.job → place_of next ≡ Within (step_now row) writes → other.set ≡ effect.set → other.kept ≡ effect.kept
+        → effects.KeepsPrograms layout now agreed job are later → is_holder next.state ≡ true → next.number ≡ row.number → next.job ≡ row.job → place_of next ≡ Within (step_now row) writes → other.set ≡ effect.set → other.kept ≡ effect.kept
         → kept_at later.sets effect.set effect.kept.id ≡ kept_at (committed (output_names row.job.root owned) lengths tables.sets) effect.set effect.kept.id → IsInEffect later next other
-    own-then row owned lengths writes later next effect other its found lengths_are keeps holds same stands set kept sets = record {
+    own-then row owned lengths writes later next effect other its found lengths_are keeps holds number same stands set kept sets = record {
       holds = holds;
       within = ap is_within stands;
       owned = its.owned;
@@ -185,6 +186,7 @@ module _ (layout : Layout) (now : Office) (agreed : IsAgreed layout now) (job : 
       at = ap (λ (set : Name). kept_at later.sets set other.kept.id) set ∙ ap (λ (kept : Kept). kept_at later.sets effect.set kept.id) kept
           ∙ sets ∙ effects.own-committed layout now agreed job are within row owned effect lengths its found lengths_are;
       kept = its.kept ∙ sym kept;
+      run = its.run ∙ sym number;
       owner = its.owner;
       step = its.step ∙ sym (ap step_in stands);
       program = keeps its.entry.point.run its.entry.point.step its.owned.step.program its.program;
@@ -213,7 +215,7 @@ module _ (layout : Layout) (now : Office) (agreed : IsAgreed layout now) (job : 
         effects.by-own layout now agreed job are later next
         (effects.row-next layout now agreed job are _ row next (agreed.numbered job row e)
         (effects.row-sets layout now agreed job are tables row (committed (output_names row.job.root owned) lengths.items tables.sets) (effects.row-first layout now agreed job are row e)))
-        (λ keeps effect f. own-then row owned lengths.items writes later next effect effect (are job row effect e f) found lengths_are keeps refl refl refl refl refl refl))
+        (λ keeps effect f. own-then row owned lengths.items writes later next effect effect (are job row effect e f) found lengths_are keeps refl refl refl refl refl refl refl))
 
     pub stays-rewritten : (taken writes place : ℕ) (lengths : ArrayVec ℕ) (image : List ℕ) (deck : Option Job) → follows layout tables (Rewritten job taken writes lengths place image) deck ≡ true → Stays (after_event (Rewritten job taken writes lengths place image) deck tables)
     stays-rewritten taken writes place lengths image deck may =
@@ -234,7 +236,7 @@ module _ (layout : Layout) (now : Office) (agreed : IsAgreed layout now) (job : 
         let is : effect_rewritten was ≡ effect = same_Some (effect_rewritten was) effect (sym (ap (option_map effect_rewritten) at) ∙ f) in
         let its : IsInEffect tables row was = are job row was e at in
         subst (λ (effect : EffectPoint). IsInEffect later next effect) is
-        (own-then row owned lengths.items writes later next was (effect_rewritten was) its found lengths_are keeps its.holds refl refl refl refl
+        (own-then row owned lengths.items writes later next was (effect_rewritten was) its found lengths_are keeps its.holds refl refl refl refl refl
         (kept_at-same (name_with_role row.job.root owned is_updates) was.set was.kept.id (table_rewritten owned.owner (step_now row)) done.sets (λ table. refl))))))
       where
         passes : (row : RunRow) → run_of tables job ≡ Some row → (is_running row && lengths_follow tables row lengths.items && of_step row (is_rewrite tables place image row)) ≡ true
@@ -274,6 +276,7 @@ module _ (layout : Layout) (now : Office) (agreed : IsAgreed layout now) (job : 
               kept-then (output_names row.job.root owned) lengths.items tables.sets set table new at
               (is_none-true (kept_at tables.sets set id) (tested-also _ (is_none (kept_at tables.sets set id)) (entry_at tables.sets set) free)));
           kept = refl;
+          run = refl;
           owner = refl;
           step = refl;
           program = keeps row.number (step_now row) owned.step.program (program-now tables row owned (step_now row) (ap (run_of tables) (agreed.numbered job row e) ∙ e) found);
@@ -374,6 +377,7 @@ module _ (layout : Layout) (now : Office) (agreed : IsAgreed layout now) (job : 
             entry = its.entry;
             at = its.at;
             kept = its.kept;
+            run = its.run;
             owner = its.owner;
             step = its.step;
             program = keeps its.entry.point.run its.entry.point.step its.owned.step.program its.program;

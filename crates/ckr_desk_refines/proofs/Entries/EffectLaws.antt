@@ -14,8 +14,9 @@ use Rattle.ckr_points.specs.Restart.{after_event}
 use Rattle.ckr_points.specs.Rows.{RunRow, TableSet, TablesModel}
 use Rattle.ckr_points.specs.Soundness.{may_come}
 use Rattle.ckr_points.specs.Tables.{queued_run}
-use Rattle.ckr_points_invariant.specs.Continuations.{goes_back}
 use Rattle.ckr_points_invariant.specs.Invariant.{IsAgreed}
+use Rattle.ckr_points_invariant.specs.PlainRuns.{continues}
+use Rattle.ckr_points_invariant.specs.Readiness.{AreReady}
 use Rattle.ckr_points_invariant.proofs.WaitingRuns.{follows-of}
 use Rattle.ckr_volumes.specs.declared.layout.Layout.{Layout}
 use Rattle.ckr_desk_refines.specs.Entries.{AreWithin, jobs_of, program_at, takes_checkpoint}
@@ -23,6 +24,7 @@ use Rattle.ckr_desk_refines.specs.EntryRefusal.{AreInEffect, HasStepNames, Leave
 use Rattle.ckr_desk_refines.proofs.Entries.Checkpoint.{checkpointed-stays}
 use Rattle.ckr_desk_refines.proofs.Entries.EffectEvents as events
 use Rattle.ckr_desk_refines.proofs.Entries.Events.{brings_job, event-stays}
+use Rattle.ckr_desk_refines.proofs.Entries.Restart.{stays-checkpoint, stays-step}
 use Rattle.ckr_desk_refines.proofs.Entries.Sets.{Stays}
 use Rattle.ckr_desk_refines.proofs.Entries.There.{program-more}
 
@@ -41,7 +43,7 @@ programs-by : (tables later : TablesModel) → jobs_of later ≡ jobs_of tables 
 programs-by tables later same run step kind is = ap (λ jobs. program_at jobs run step) same ∙ is
 
 module _ (layout : Layout) (now : Office) (agreed : IsAgreed layout now) where
-  programs-event : (event : Event) (deck : Option Job) → goes_back event ≡ false → takes_checkpoint event ≡ false → brings_job event ≡ false → SamePrograms now.tables (after_event event deck now.tables)
+  programs-event : (event : Event) (deck : Option Job) → continues event ≡ false → takes_checkpoint event ≡ false → brings_job event ≡ false → SamePrograms now.tables (after_event event deck now.tables)
   programs-event event deck on plain old =
       programs-by now.tables (after_event event deck now.tables) (event-stays Anything anything now.tables agreed.numbered (λ name table e. tt) event deck on plain old).jobs_are
 
@@ -59,8 +61,8 @@ module _ (layout : Layout) (now : Office) (agreed : IsAgreed layout now) where
 
   -- ---- by event
 
-  module _ (are : AreInEffect now.tables) (within : AreWithin now.tables.sets) where
-    pub effects-next : (event : Event) (deck : Option Job) → goes_back event ≡ false → may_come layout now (event, deck) ≡ true → (takes_checkpoint event ≡ true → HasStepNames now.tables (job_of event)) → LeavesReach now (job_of event) (after_event event deck now.tables).sets → AreInEffect (after_event event deck now.tables)
+  module _ (ready : AreReady now) (are : AreInEffect now.tables) (within : AreWithin now.tables.sets) where
+    pub effects-next : (event : Event) (deck : Option Job) → continues event ≡ false → may_come layout now (event, deck) ≡ true → (takes_checkpoint event ≡ true → HasStepNames now.tables (job_of event)) → LeavesReach now (job_of event) (after_event event deck now.tables).sets → AreInEffect (after_event event deck now.tables)
     effects-next (Submitted job cards) deck on may names leaves = events.stays-submitted layout now agreed job are cards deck leaves (programs-submitted job cards deck)
     effects-next (Selected job initiator zero step id) deck on may names leaves =
         events.stays-selected layout now agreed job are initiator step id deck (follows-of layout now (Selected job initiator 0 step id) deck may) leaves (programs-event (Selected job initiator 0 step id) deck on refl refl)
@@ -78,7 +80,10 @@ module _ (layout : Layout) (now : Office) (agreed : IsAgreed layout now) where
     effects-next (Cancelled job) deck on may names leaves = events.stays-cancelled layout now agreed job are deck leaves (programs-event (Cancelled job) deck on refl refl)
     effects-next (StepEnded job step rc writes lengths) deck on may names leaves =
         events.stays-step_ended layout now agreed job are step rc writes lengths deck leaves (programs-event (StepEnded job step rc writes lengths) deck on refl refl)
-    effects-next (Restarted job initiator code checkpoint) deck on may names leaves = absurd (false≢true (sym on))
+    effects-next (Restarted job initiator code false) deck on may names leaves =
+        stays-step layout now agreed job are initiator code deck leaves (programs-event (Restarted job initiator code false) deck on refl refl)
+    effects-next (Restarted job initiator code true) deck on may names leaves =
+        stays-checkpoint layout now agreed job are ready initiator code deck leaves (programs-event (Restarted job initiator code true) deck on refl refl)
     effects-next (Held job code writes lengths) deck on may names leaves =
         events.stays-held layout now agreed job are within writes code lengths deck (follows-of layout now (Held job code writes lengths) deck may) leaves (programs-event (Held job code writes lengths) deck on refl refl)
     effects-next (Released job) deck on may names leaves = events.stays-released layout now agreed job are deck leaves (programs-event (Released job) deck on refl refl)

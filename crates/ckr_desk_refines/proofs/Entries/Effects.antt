@@ -65,6 +65,7 @@ module _ (layout : Layout) (now : Office) (agreed : IsAgreed layout now) (job : 
     entry = its.entry;
     at = ap (kept_in effect.kept.id) same ∙ its.at;
     kept = its.kept;
+    run = its.run;
     owner = its.owner;
     step = its.step;
     program = keeps its.entry.point.run its.entry.point.step its.owned.step.program its.program;

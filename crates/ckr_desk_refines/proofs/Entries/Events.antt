@@ -1,4 +1,4 @@
--- One more event leaves what holds of each data set, where it takes no checkpoint and no run goes back.
+-- One more event leaves what holds of each data set, where it takes no checkpoint and no run continues another one.
 use Rattle.std.proofs.Common.{◌≡◌, ℕ, zero, suc, Bool, true, false, List, [], ◌∷◌, refl, sym, subst, Option, Some, None}
 use Rattle.std.specs.Option.{option_map_or}
 use Rattle.std.proofs.lemmas.Bool.{false≢true}
@@ -16,16 +16,19 @@ use Rattle.ckr_meaning.specs.EffectiveJob.{Effective, placed_in, stamp_of}
 use Rattle.ckr_meaning.specs.declared.place.Place.TheVariants.{Before, Within}
 use Rattle.ckr_points.specs.declared.run.RunState.TheVariants.{Held as HeldRun, Released as ReleasedRun, Denied as DeniedRun, Purged as PurgedRun, On}
 use Rattle.ckr_points.specs.Marks.{with_point}
-use Rattle.ckr_points.specs.Restart.{after_ended, after_event}
+use Rattle.ckr_points.specs.Office.{Office, office_after}
+use Rattle.ckr_points.specs.Restart.{after_ended, after_event, after_restarted}
 use Rattle.ckr_points.specs.Rows.{RunRow, TableSet, TablesModel, run_of, standing_of, step_of_run, table_ways, with_run}
+use Rattle.ckr_points.specs.Soundness.{may_come}
 use Rattle.ckr_points.specs.Tables.{after_commit, after_held, after_rewritten, after_started, after_step_ended, is_updates, made_tables, name_with_role, queued_run, row_rewritten, start_point}
-use Rattle.ckr_points_invariant.specs.Continuations.{goes_back}
-use Rattle.ckr_points_invariant.specs.Invariant.{step_now}
+use Rattle.ckr_points_invariant.specs.Invariant.{IsAgreed, step_now}
+use Rattle.ckr_points_invariant.specs.PlainRuns.{continues}
 use Rattle.ckr_volumes.specs.declared.layout.Layout.{Layout}
 use Rattle.ckr_desk_refines.specs.Entries.{AreThere, AreWithin, EndWithin, KeepsNoneIfPlain, OnlyCheckSetsKeep, HasEntries, UnderEachName, jobs_of, takes_checkpoint}
+use Rattle.ckr_desk_refines.proofs.Entries.Legs.{legs-stay, tables-behind}
 use Rattle.ckr_desk_refines.proofs.Entries.Rows as rows
 use Rattle.ckr_desk_refines.proofs.Entries.Sets as sets
-use Rattle.ckr_desk_refines.proofs.Entries.There.{has-more, plain-stays, there-stays, within-stays}
+use Rattle.ckr_desk_refines.proofs.Entries.There.{has-legs, has-more, plain-stays, there-stays, within-stays}
 
 -- each run has the number of its place
 abbrev pub AreNumbered : TablesModel → Type 0
@@ -73,6 +76,11 @@ module _ (E : TableSet → Type 0) (stays : sets.Stays E) (tables : TablesModel)
       rows.by-step jobs E stays tables numbered now job (λ row owned step. after_step_ended row owned step rc writes lengths.items tables)
       (λ row owned e found mine. rows.step_ended-holds jobs E stays tables row owned (step_now row) rc writes lengths.items now mine)
 
+  restarted-stays : (job initiator : ℕ) (code : Code) (checkpoint : Bool) (deck : Option Job) → Hold (after_event (Restarted job initiator code checkpoint) deck tables)
+  restarted-stays job initiator code checkpoint deck =
+      rows.by-step jobs E stays tables numbered now job (λ row owned step. after_restarted row owned step initiator checkpoint tables)
+      (λ row owned e found mine. rows.restarted-holds jobs E stays tables row owned (step_now row) initiator checkpoint now mine)
+
   ended-stays : (job : ℕ) (ending : Ending) (deck : Option Job) → Hold (after_event (Ended job ending) deck tables)
   ended-stays job ending deck =
       rows.by-row jobs E stays tables numbered now job (λ row. after_ended row ending tables)
@@ -94,7 +102,7 @@ module _ (E : TableSet → Type 0) (stays : sets.Stays E) (tables : TablesModel)
       now)
 
   -- no event but one that submits a deck brings a job
-  pub event-stays : (event : Event) (deck : Option Job) → goes_back event ≡ false → takes_checkpoint event ≡ false → brings_job event ≡ false → Hold (after_event event deck tables)
+  pub event-stays : (event : Event) (deck : Option Job) → continues event ≡ false → takes_checkpoint event ≡ false → brings_job event ≡ false → Hold (after_event event deck tables)
   event-stays (Submitted job cards) deck on plain old = absurd (false≢true (sym old))
   event-stays (Selected job initiator zero step id) deck on plain old = selected-stays job initiator step id deck
   event-stays (Selected job initiator (suc before) step id) deck on plain old = absurd (false≢true (sym on))
@@ -104,7 +112,7 @@ module _ (E : TableSet → Type 0) (stays : sets.Stays E) (tables : TablesModel)
   event-stays (Checkpointed job id taken writes lengths place bytes) deck on plain old = absurd (false≢true (sym plain))
   event-stays (Cancelled job) deck on plain old = row-same job (λ row. record row { in_effect = None }) (λ row mine. mine)
   event-stays (StepEnded job step rc writes lengths) deck on plain old = step_end-stays job step rc writes lengths deck
-  event-stays (Restarted job initiator code checkpoint) deck on plain old = absurd (false≢true (sym on))
+  event-stays (Restarted job initiator code checkpoint) deck on plain old = restarted-stays job initiator code checkpoint deck
   event-stays (Held job code writes lengths) deck on plain old = held-stays job writes code lengths deck
   event-stays (Released job) deck on plain old = row-same job (λ row. record row { state = ReleasedRun }) (λ row mine. mine)
   event-stays (Ended job ending) deck on plain old = ended-stays job ending deck
@@ -112,32 +120,34 @@ module _ (E : TableSet → Type 0) (stays : sets.Stays E) (tables : TablesModel)
 
 -- ---- entries
 
-module _ (layout : Layout) (tables : TablesModel) (numbered : AreNumbered tables) (image : List ℕ) (has : HasEntries layout tables image) where
-  submitted-has : (job : ℕ) (cards : List ℕ) (deck : Option Job) → HasEntries layout (after_event (Submitted job cards) deck tables) image
+module _ (layout : Layout) (now : Office) (agreed : IsAgreed layout now) (image : List ℕ) (has : HasEntries layout now image) where
+  submitted-has : (job : ℕ) (cards : List ℕ) (deck : Option Job) → HasEntries layout (office_after (Submitted job cards, deck) now) image
   submitted-has job cards None = has
   submitted-has job cards (Some deck) =
-      subst (λ jobs. UnderEachName (AreThere layout jobs image) tables.sets) (sym (map-append (λ (row : RunRow). row.job) tables.runs (queued_run job deck ∷ [])))
-      (has-more layout (jobs_of tables) ((queued_run job deck).job ∷ []) image tables.sets has)
+      subst (λ jobs. UnderEachName (AreThere layout now.legs jobs image) now.tables.sets) (sym (map-append (λ (row : RunRow). row.job) now.tables.runs (queued_run job deck ∷ [])))
+      (has-more layout now.legs (jobs_of now.tables) ((queued_run job deck).job ∷ []) image now.tables.sets has)
 
-  event-has : (event : Event) (deck : Option Job) → goes_back event ≡ false → takes_checkpoint event ≡ false → brings_job event ≡ false → HasEntries layout (after_event event deck tables) image
-  event-has event deck on plain old =
-      let later : TablesModel = after_event event deck tables in
-      let holds = event-stays (AreThere layout (jobs_of tables) image) (there-stays layout (jobs_of tables) image) tables numbered has event deck on plain old in
-      subst (λ jobs. UnderEachName (AreThere layout jobs image) later.sets) (sym holds.jobs_are) holds.each
+  event-has : (event : Event) (deck : Option Job) → continues event ≡ false → takes_checkpoint event ≡ false → brings_job event ≡ false → may_come layout now (event, deck) ≡ true → HasEntries layout (office_after (event, deck) now) image
+  event-has event deck on plain old may =
+      let later : Office = office_after (event, deck) now in
+      let holds = event-stays (AreThere layout now.legs (jobs_of now.tables) image) (there-stays layout now.legs (jobs_of now.tables) image) now.tables agreed.numbered has event deck on plain old in
+      has-legs layout now.legs later.legs (jobs_of later.tables) image later.tables.sets (legs-stay layout now agreed event deck on may)
+      (subst (λ (tables : TablesModel). UnderEachName (AreThere layout now.legs (jobs_of tables) image) tables.sets) (sym (tables-behind now event deck))
+      (subst (λ jobs. UnderEachName (AreThere layout now.legs jobs image) (after_event event deck now.tables).sets) (sym holds.jobs_are) holds.each))
 
-  pub has-next : (event : Event) (deck : Option Job) → goes_back event ≡ false → takes_checkpoint event ≡ false → HasEntries layout (after_event event deck tables) image
-  has-next (Submitted job cards) deck on plain = submitted-has job cards deck
-  has-next (Selected job initiator earlier step id) deck on plain = event-has (Selected job initiator earlier step id) deck on plain refl
-  has-next event deck on plain = event-has event deck on plain refl
+  pub has-next : (event : Event) (deck : Option Job) → continues event ≡ false → takes_checkpoint event ≡ false → may_come layout now (event, deck) ≡ true → HasEntries layout (office_after (event, deck) now) image
+  has-next (Submitted job cards) deck on plain may = submitted-has job cards deck
+  has-next (Selected job initiator earlier step id) deck on plain may = event-has (Selected job initiator earlier step id) deck on plain refl may
+  has-next event deck on plain may = event-has event deck on plain refl may
 
 -- entries within their data sets
-pub within-next : (tables : TablesModel) → AreNumbered tables → AreWithin tables.sets → (event : Event) (deck : Option Job) → goes_back event ≡ false → takes_checkpoint event ≡ false → AreWithin (after_event event deck tables).sets
+pub within-next : (tables : TablesModel) → AreNumbered tables → AreWithin tables.sets → (event : Event) (deck : Option Job) → continues event ≡ false → takes_checkpoint event ≡ false → AreWithin (after_event event deck tables).sets
 within-next tables numbered within (Submitted job cards) None on plain = within
 within-next tables numbered within (Submitted job cards) (Some deck) on plain = within
 within-next tables numbered within event deck on plain = (event-stays EndWithin within-stays tables numbered within event deck on plain refl).each
 
 -- entries in data sets for checkpoints
-pub plain-next : (tables : TablesModel) → AreNumbered tables → OnlyCheckSetsKeep tables.sets → (event : Event) (deck : Option Job) → goes_back event ≡ false → takes_checkpoint event ≡ false → OnlyCheckSetsKeep (after_event event deck tables).sets
+pub plain-next : (tables : TablesModel) → AreNumbered tables → OnlyCheckSetsKeep tables.sets → (event : Event) (deck : Option Job) → continues event ≡ false → takes_checkpoint event ≡ false → OnlyCheckSetsKeep (after_event event deck tables).sets
 plain-next tables numbered only (Submitted job cards) None on plain = only
 plain-next tables numbered only (Submitted job cards) (Some deck) on plain = only
 plain-next tables numbered only event deck on plain = (event-stays KeepsNoneIfPlain plain-stays tables numbered only event deck on plain refl).each

@@ -11,7 +11,8 @@ use Rattle.ckr_library.specs.declared.sets.DataSet.{DataSet}
 use Rattle.ckr_library.specs.Catalog.{Catalog}
 use Rattle.ckr_library.specs.NameMaps.{Name, Named, entry_at, same_name}
 use Rattle.ckr_library.proofs.Named.{each-at, name-same}
-use Rattle.ckr_points.specs.Rows.{TableSet, TablesModel}
+use Rattle.ckr_points.specs.Office.{Office}
+use Rattle.ckr_points.specs.Rows.{TableSet}
 use Rattle.ckr_points.specs.Soundness.{AreLaidOut}
 use Rattle.ckr_steps.specs.EntryRecords.{SameRecordsOutside, bytes_on}
 use Rattle.ckr_steps.specs.Writes.{Keeps}
@@ -69,11 +70,12 @@ module _ (layout : Layout) (sets : Named TableSet) (laid : AreLaidOut layout set
 
 -- ---- what is read
 
-pub read-back : (layout : Layout) (tables : TablesModel) (image : List ℕ) → HasEntries layout tables image → (name : Name) (table : TableSet) → entry_at tables.sets name ≡ Some table → AllByRecursion (IsReadBack layout (jobs_of tables) image table.set) table.entries
-read-back layout tables image has name table e =
-    each-implies (IsEntryThere layout (jobs_of tables) image table.set) (IsReadBack layout (jobs_of tables) image table.set) table.entries
+pub read-back : (layout : Layout) (office : Office) (image : List ℕ) → HasEntries layout office image → (name : Name) (table : TableSet) → entry_at office.tables.sets name ≡ Some table → AllByRecursion (IsReadBack layout office.legs (jobs_of office.tables) image table.set) table.entries
+read-back layout office image has name table e =
+    each-implies (IsEntryThere layout office.legs (jobs_of office.tables) image table.set) (IsReadBack layout office.legs (jobs_of office.tables) image table.set) table.entries
     (λ entry its. record {
       state = its.state;
+      of_job = its.of_job;
       program = its.program;
       read = ap (λ (bytes : ℕ). entry_in (bytes_on image layout table.set entry.kept.place bytes)) (sym its.bytes)
           ∙ ap entry_in (bytes-back image layout table.set entry.kept.place _ its.there) ∙ entry_again _ its.fits;

@@ -1,4 +1,4 @@
--- The first entry of an identifier that a data set keeps, through a commit.
+-- The first entry of an identifier that a data set keeps, through a commit and where data sets are put back.
 use Rattle.std.proofs.Common.{◌≡◌, ◌≤◌, ℕ, ◌+◌, Bool, true, false, cond, ◌&&◌, List, [], ◌∷◌, filter, refl, ap, sym, ◌∙◌, Option, Some, None, arith}
 use Rattle.std.specs.Prelude.{IsTrue, find, nat_le}
 use Rattle.std.specs.Option.{option_map, option_map_or, is_some}
@@ -6,13 +6,18 @@ use Rattle.std.proofs.lemmas.Bool.{false≢true}
 use Rattle.std.proofs.lemmas.Option.{same_Some}
 use Rattle.ckr_base.proofs.Bools.{and-first, and-second}
 use Rattle.ckr_base.proofs.Numbers.{nat_le-from, nat_le-true}
+use Rattle.ckr_entry.specs.declared.point.Mark.{Mark}
+use Rattle.ckr_entry.specs.declared.point.Present.{Present}
 use Rattle.ckr_library.specs.Catalog.{ends_within, records_of}
 use Rattle.ckr_library.specs.NameMaps.{Name, Named, entry_at, same_name, with_changed}
 use Rattle.ckr_library.proofs.Named.{at-with_changed, at-with_changed-keeps, name-same}
+use Rattle.ckr_meaning.specs.EffectiveJob.{is_among}
 use Rattle.ckr_points.specs.Follows.{are_lengths}
+use Rattle.ckr_points.specs.Marks.{present_at, put_back, put_back_length}
 use Rattle.ckr_points.specs.Restart.{kept_at}
 use Rattle.ckr_points.specs.Rows.{KeptEntry, TableSet, cut_set}
 use Rattle.ckr_points.specs.Tables.{committed}
+use Rattle.ckr_points_invariant.proofs.PutBack.Sets.{back_to, changed_if, put_back-marked, put_back-none, to_catalog, to_length}
 
 -- ---- what a search finds
 
@@ -82,3 +87,32 @@ there-committed (name ∷ names) (now ∷ lengths) sets set there =
     by true None there = there
     by true (Some table) there = refl
     by false found there = there
+
+-- ---- put back
+
+length-back : (most : ℕ) (id : Name) (entry : KeptEntry) (table : TableSet) → ends_within most entry.kept ≡ true → find (has_id id) table.entries ≡ Some entry → find (has_id id) (put_back_length most table).entries ≡ Some entry
+length-back most id entry table ends at = by (nat_le most table.set.length)
+  where
+    by : (shorter : Bool) → find (has_id id) (cond shorter (cut_set most table) table).entries ≡ Some entry
+    by true = find-kept (has_id id) (λ (one : KeptEntry). ends_within most one.kept) table.entries entry at ends
+    by false = at
+
+catalog-back : (needed : Bool) (present : Present) (id : Name) (entry : KeptEntry) (table : TableSet) → find (has_id id) table.entries ≡ Some entry → find (has_id id) (changed_if needed (to_catalog present) table).entries ≡ Some entry
+catalog-back true present id entry table at = at
+catalog-back false present id entry table at = at
+
+table-back : (output needed : Bool) (present : Present) (id : Name) (entry : KeptEntry) (found : Option TableSet) → ends_within present.length entry.kept ≡ true → kept_in id found ≡ Some entry → kept_in id (option_map (back_to output needed present) found) ≡ Some entry
+table-back output needed present id entry None ends at = at
+table-back true needed present id entry (Some table) ends at = catalog-back needed present id entry (to_length present table) (length-back present.length id entry table ends at)
+table-back false needed present id entry (Some table) ends at = catalog-back needed present id entry table at
+
+-- an entry stays that ends within the mark to which its data set is put back
+pub kept_at-put_back : (marks : List Mark) (outputs needed : List Name) (sets : Named TableSet) (set id : Name) (entry : KeptEntry) → ((present : Present) → present_at marks set ≡ Some present → ends_within present.length entry.kept ≡ true)
+    → kept_at sets set id ≡ Some entry → kept_at (put_back marks outputs needed sets) set id ≡ Some entry
+kept_at-put_back marks outputs needed sets set id entry ends at = by (present_at marks set) refl
+  where
+    by : (present : Option Present) → present_at marks set ≡ present → kept_at (put_back marks outputs needed sets) set id ≡ Some entry
+    by None has = ap (kept_in id) (put_back-none marks outputs needed sets set has) ∙ at
+    by (Some present) has =
+        ap (kept_in id) (put_back-marked marks outputs needed sets present set has)
+        ∙ table-back (is_among outputs set) (is_among needed set) present id entry (entry_at sets set) (ends present has) at

@@ -14,7 +14,7 @@ use Rattle.ckr_entry.specs.Parts.{Entry}
 use Rattle.ckr_library.specs.declared.sets.Kept.{Kept}
 use Rattle.ckr_library.specs.NameMaps.{Name, Named, entry_at, same_name}
 use Rattle.ckr_meaning.specs.EffectiveJob.{OwnedStep, names_of}
-use Rattle.ckr_points.specs.Office.{is_holder}
+use Rattle.ckr_points.specs.Office.{Office, is_holder}
 use Rattle.ckr_points.specs.Restart.{kept_at, place_of, step_in}
 use Rattle.ckr_points.specs.Rows.{EffectPoint, KeptEntry, RunRow, TableSet, TablesModel}
 use Rattle.ckr_points.specs.Statements.{kind_number}
@@ -39,9 +39,12 @@ kept-table sets set id entry at = by (entry_at sets set) refl
           (sym (ap (λ (o : Option TableSet). option_map_or (λ table. find (λ (one : KeptEntry). same_name one.kept.id id) table.entries) o None) e) ∙ at),
     )
 
-module _ (layout : Layout) (tables : TablesModel) (image : List ℕ) (has : HasEntries layout tables image) (are : AreInEffect tables) where
+module _ (layout : Layout) (office : Office) (image : List ℕ) (has : HasEntries layout office image) (are : AreInEffect office.tables) where
+  abbrev tables : TablesModel
+  tables = office.tables
+
   module _ (row : RunRow) (effect : EffectPoint) (its : IsInEffect tables row effect) where
-    right : (entry : KeptEntry) → entry ≡ its.entry → (read : Entry) → (set : TableSet) → (back : IsReadBack layout (jobs_of tables) image set.set entry) → read ≡ entry_with entry.kept.id back.state entry.point → is_of_run row read ≡ true
+    right : (entry : KeptEntry) → entry ≡ its.entry → (read : Entry) → (set : TableSet) → (back : IsReadBack layout office.legs (jobs_of tables) image set.set entry) → read ≡ entry_with entry.kept.id back.state entry.point → is_of_run row read ≡ true
     right entry is read set back same =
         ap (λ (o : Option OwnedStep). option_map_or (λ owned. is_of_step row.job.root owned (step_in (place_of row)) read) o false) its.found
         ∙ ap (is_of_step row.job.root its.owned (step_in (place_of row))) same
@@ -58,7 +61,7 @@ module _ (layout : Layout) (tables : TablesModel) (image : List ℕ) (has : HasE
     effect-right =
         let there = kept-table tables.sets effect.set effect.kept.id its.entry its.at in
         let table : TableSet = there.0 in
-        let back : IsReadBack layout (jobs_of tables) image table.set its.entry = there.2 (IsReadBack layout (jobs_of tables) image table.set) (read-back layout tables image has effect.set table there.1) in
+        let back : IsReadBack layout office.legs (jobs_of tables) image table.set its.entry = there.2 (IsReadBack layout office.legs (jobs_of tables) image table.set) (read-back layout office image has effect.set table there.1) in
         ap (λ (o : Option TableSet). option_map_or (λ table. fault_in (is_of_run row) (entry_in (bytes_on image layout table.set effect.kept.place effect.kept.bytes))) o (Some 0)) there.1
         ∙ ap (λ (kept : Kept). fault_in (is_of_run row) (entry_in (bytes_on image layout table.set kept.place kept.bytes))) (sym its.kept)
         ∙ ap (fault_in (is_of_run row)) back.read

@@ -14,7 +14,8 @@ use Rattle.ckr_meaning.specs.declared.place.Place.{Place}
 use Rattle.ckr_meaning.specs.declared.place.Place.TheVariants.{Before, Opened, Within}
 use Rattle.ckr_points_library.specs.Commit.{output_names}
 use Rattle.ckr_points.specs.declared.run.RunState.TheVariants.{Ended as EndedRun}
-use Rattle.ckr_points.specs.Restart.{after_abnormal, after_ended, after_passed_ended, by_step, place_of}
+use Rattle.ckr_points.specs.Marks.{deck_names, point_at, put_back, put_back_passed, removed_all, with_point}
+use Rattle.ckr_points.specs.Restart.{Back, after_abnormal, after_ended, after_passed_ended, after_put_back, after_restarted, back_to_entry, back_to_start, by_step, effect_restarted, kept_at, place_of, point_restarted, row_on}
 use Rattle.ckr_points.specs.Rows.{RunRow, TableSet, TablesModel, run_of, standing_of, step_of_run, with_row, with_run}
 use Rattle.ckr_points.specs.Tables.{after_commit, after_dispositions, after_step_ended, committed, earlier_made, own_made, run_disposals}
 use Rattle.ckr_points_invariant.specs.Invariant.{step_now}
@@ -113,3 +114,34 @@ module _ (jobs : List Effective) (E : TableSet → Type 0) (stays : sets.Stays E
       (commit-holds tables row owned (step_now row) writes lengths.items holds mine) mine)
       holds
   ended-holds row (Allocation dd cause first second) tables holds mine = abnormal-holds row (place_of row) tables holds mine
+
+  -- ---- a run goes back
+
+  put_back-holds : (tables : TablesModel) (row : RunRow) (owned : OwnedStep) (back : Back) → Hold tables → Fits row → Hold (after_put_back row owned back tables)
+  put_back-holds tables row owned back holds mine =
+      let left : Named TableSet = removed_all back.removed tables.sets in
+      let there : Named TableSet = put_back back.marks (output_names row.job.root owned) back.needed left in
+      run-holds (record row { place = Some back.place; count = back.count; passed = put_back_passed back.marks (deck_names row.job.root row.number row.deck) there back.passed }) (record tables { sets = there }) mine
+      (sets-hold tables there
+      (sets.put_back-stays E stays back.marks (output_names row.job.root owned) back.needed left (sets.removed_all-stays E stays back.removed tables.sets holds.each)) holds)
+
+  pub restarted-holds : (tables : TablesModel) (row : RunRow) (owned : OwnedStep) (step initiator : ℕ) (checkpoint : Bool) → Hold tables → Fits row → Hold (after_restarted row owned step initiator checkpoint tables)
+  restarted-holds tables row owned step initiator false holds mine =
+      by tables
+      (λ point. after_put_back (record (row_on initiator row) { points = with_point (point_restarted point) row.points; in_effect = None }) owned (back_to_start row owned step point) tables)
+      (point_at row.points step)
+      (λ point got.
+      put_back-holds tables (record (row_on initiator row) { points = with_point (point_restarted point) row.points; in_effect = None }) owned (back_to_start row owned step point) holds mine)
+      holds
+  restarted-holds tables row owned step initiator true holds mine =
+      by tables
+      (λ effect.
+      option_map_or (λ entry. after_put_back (record (row_on initiator row) { in_effect = Some (effect_restarted effect) }) owned (back_to_entry row owned step entry.point) tables)
+      (kept_at tables.sets effect.set effect.kept.id) tables)
+      row.in_effect
+      (λ effect got.
+      by tables (λ entry. after_put_back (record (row_on initiator row) { in_effect = Some (effect_restarted effect) }) owned (back_to_entry row owned step entry.point) tables)
+      (kept_at tables.sets effect.set effect.kept.id)
+      (λ entry there. put_back-holds tables (record (row_on initiator row) { in_effect = Some (effect_restarted effect) }) owned (back_to_entry row owned step entry.point) holds mine)
+      holds)
+      holds

@@ -1,10 +1,13 @@
 -- What holds of the data set of each name goes on to hold through what an event does to data sets, where it holds of one that is cut,
 -- marked, stamped or made.
 use Rattle.std.proofs.Common.{◌≡◌, ℕ, Bool, true, false, cond, if◌then◌else◌, List, [], ◌∷◌, refl, sym, ◌∙◌, subst, Option, Some, None}
-use Rattle.std.specs.Option.{option_map}
+use Rattle.std.specs.Prelude.{nat_le}
+use Rattle.std.specs.Option.{option_map, option_map_or}
 use Rattle.std.proofs.lemmas.Option.{same_Some}
 use Rattle.ckr_base.proofs.Options.{some-not-none}
+use Rattle.ckr_entry.specs.declared.point.Mark.{Mark}
 use Rattle.ckr_entry.specs.declared.point.Passed.{Passed}
+use Rattle.ckr_entry.specs.declared.point.Present.{Present}
 use Rattle.ckr_events.specs.declared.event.Made.{Made}
 use Rattle.ckr_jcl.specs.declared.deck.After.{After}
 use Rattle.ckr_jcl.specs.declared.deck.After.TheVariants.{Delete, Keep, Pass, Catlg, Uncatlg}
@@ -16,6 +19,7 @@ use Rattle.ckr_library.specs.NameMaps.{Name, Named, entry_at, same_name, with_ch
 use Rattle.ckr_library.proofs.Named.{at-with_changed, at-with_entry, at-without_entry}
 use Rattle.ckr_meaning.specs.Allotments.{AllotmentModel, found, made, refused, DdAllotment, is_output, opened_all, opened_by, opened_one}
 use Rattle.ckr_meaning.specs.Dispositions.{Disposal, Stock, disposed_all, disposed_one, passed_ended, sets_after}
+use Rattle.ckr_points.specs.Marks.{present_at, put_back, put_back_catalogs, put_back_length, put_back_lengths, removed_all}
 use Rattle.ckr_points.specs.Tables.{committed, fresh_table, made_table, made_tables, parts_from, table_rewritten}
 use Rattle.ckr_points.specs.Rows.{TableSet, cut_set, table_ways}
 use Rattle.ckr_desk_refines.specs.Entries.{UnderEachName}
@@ -110,3 +114,34 @@ module _ (E : TableSet → Type 0) (stays : Stays E) where
   pub passed_ended-stays : (passed : List Passed) (sets : Named TableSet) → UnderEachName E sets → UnderEachName E (passed_ended passed sets)
   passed_ended-stays [] sets each = each
   passed_ended-stays (one ∷ rest) sets each = passed_ended-stays rest _ (ended-stays one.made one.name sets each)
+
+  -- ---- put back
+
+  pub removed_all-stays : (names : List Name) (sets : Named TableSet) → UnderEachName E sets → UnderEachName E (removed_all names sets)
+  removed_all-stays [] sets each = each
+  removed_all-stays (name ∷ names) sets each = removed_all-stays names (without_entry name sets) (under-without_entry E name sets each)
+
+  length-stays : (most : ℕ) (table : TableSet) → E table → E (put_back_length most table)
+  length-stays most table its = by (nat_le most table.set.length)
+    where
+      by : (shorter : Bool) → E (if shorter then cut_set most table else table)
+      by true = stays.cut most table its
+      by false = its
+
+  -- a data set is changed by its mark, if it has one
+  by_mark-stays : (change : Present → TableSet → TableSet) → ((present : Present) (table : TableSet) → E table → E (change present table)) → (present : Option Present) (name : Name) (sets : Named TableSet) → UnderEachName E sets → UnderEachName E (option_map_or (λ present. with_changed name (change present) sets) present sets)
+  by_mark-stays change keeps None name sets each = each
+  by_mark-stays change keeps (Some present) name sets each = under-changed E name (change present) sets (keeps present) each
+
+  lengths-stays : (marks : List Mark) (names : List Name) (sets : Named TableSet) → UnderEachName E sets → UnderEachName E (put_back_lengths marks names sets)
+  lengths-stays marks [] sets each = each
+  lengths-stays marks (name ∷ names) sets each =
+      lengths-stays marks names _ (by_mark-stays (λ present. put_back_length present.length) (λ present. length-stays present.length) (present_at marks name) name sets each)
+
+  catalogs-stays : (marks : List Mark) (names : List Name) (sets : Named TableSet) → UnderEachName E sets → UnderEachName E (put_back_catalogs marks names sets)
+  catalogs-stays marks [] sets each = each
+  catalogs-stays marks (name ∷ names) sets each =
+      catalogs-stays marks names _ (by_mark-stays (λ present. table_ways.marked present.cataloged) (λ present. stays.marked present.cataloged) (present_at marks name) name sets each)
+
+  pub put_back-stays : (marks : List Mark) (outputs needed : List Name) (sets : Named TableSet) → UnderEachName E sets → UnderEachName E (put_back marks outputs needed sets)
+  put_back-stays marks outputs needed sets each = catalogs-stays marks needed (put_back_lengths marks outputs sets) (lengths-stays marks outputs sets each)

@@ -14,12 +14,14 @@ use Rattle.ckr_library.specs.Catalog.{ends_within, records_of}
 use Rattle.ckr_library.specs.NameMaps.{Named}
 use Rattle.ckr_entry.specs.Entry.{spelling}
 use Rattle.ckr_meaning.specs.EffectiveJob.{Effective, OwnedStep, step_at}
-use Rattle.ckr_points.specs.Rows.{KeptEntry, TableSet, TablesModel}
+use Rattle.ckr_points.specs.Office.{Leg, Office}
+use Rattle.ckr_points.specs.Rows.{KeptEntry, TableSet}
 use Rattle.ckr_volumes.specs.declared.layout.Layout.{Layout}
 use Rattle.ckr_volumes.specs.Records.{record_at, records_on}
 use Rattle.ckr_volumes.specs.SamePlaces.{SamePlaces, same_places}
 use Rattle.ckr_desk_turn.specs.Checkpoints.{entry_with}
 use Rattle.ckr_desk_refines.specs.Entries.{AreThere, AreWithin, EndWithin, HasEntries, IsEntryThere, KeepsNoneIfPlain, SameKept, UnderEachName, job_at, jobs_of, program_at}
+use Rattle.ckr_desk_refines.proofs.Entries.Legs.{KeepLegs}
 use Rattle.ckr_desk_refines.proofs.Entries.Sets.{Stays}
 
 -- ---- lists
@@ -64,24 +66,25 @@ records-below old new layout set (suc count) place same less =
 
 -- ---- one data set
 
-module _ (layout : Layout) (jobs : List Effective) (image : List ℕ) where
-  pub there-moved : (one other : DataSet) → ((n : ℕ) → record_at image layout other n ≡ record_at image layout one n) → (entry : KeptEntry) → IsEntryThere layout jobs image one entry → IsEntryThere layout jobs image other entry
+module _ (layout : Layout) (legs : List Leg) (jobs : List Effective) (image : List ℕ) where
+  pub there-moved : (one other : DataSet) → ((n : ℕ) → record_at image layout other n ≡ record_at image layout one n) → (entry : KeptEntry) → IsEntryThere layout legs jobs image one entry → IsEntryThere layout legs jobs image other entry
   there-moved one other same entry its = record {
     state = its.state;
+    of_job = its.of_job;
     fits = its.fits;
     bytes = its.bytes;
     there = λ n less. same (entry.kept.place + n) ∙ its.there n less;
     program = its.program;
   }
 
-  all-moved : (one other : DataSet) (entries : List KeptEntry) → ((n : ℕ) → record_at image layout other n ≡ record_at image layout one n) → AllByRecursion (IsEntryThere layout jobs image one) entries → AllByRecursion (IsEntryThere layout jobs image other) entries
-  all-moved one other entries same each = each-implies (IsEntryThere layout jobs image one) (IsEntryThere layout jobs image other) entries (there-moved one other same) each
+  all-moved : (one other : DataSet) (entries : List KeptEntry) → ((n : ℕ) → record_at image layout other n ≡ record_at image layout one n) → AllByRecursion (IsEntryThere layout legs jobs image one) entries → AllByRecursion (IsEntryThere layout legs jobs image other) entries
+  all-moved one other entries same each = each-implies (IsEntryThere layout legs jobs image one) (IsEntryThere layout legs jobs image other) entries (there-moved one other same) each
 
-  pub there-stays : Stays (AreThere layout jobs image)
+  pub there-stays : Stays (AreThere layout legs jobs image)
   there-stays = record {
     cut = λ most table its.
         all-moved table.set (record table.set { length = most }) (filter (λ entry. ends_within most entry.kept) table.entries) (λ n. refl)
-        (filtered (IsEntryThere layout jobs image table.set) (λ entry. ends_within most entry.kept) table.entries its);
+        (filtered (IsEntryThere layout legs jobs image table.set) (λ entry. ends_within most entry.kept) table.entries its);
     marked = λ on table its. all-moved table.set (record table.set { cataloged = on }) table.entries (λ n. refl) its;
     stamped = λ stamp table its. all-moved table.set (record table.set { stamp = stamp }) table.entries (λ n. refl) its;
     fresh = λ stamp placed parts. tt;
@@ -126,11 +129,12 @@ program-more jobs more run step kind is =
 -- ---- all data sets
 
 -- with the jobs of later runs
-pub has-more : (layout : Layout) (jobs more : List Effective) (image : List ℕ) (sets : Named TableSet) → UnderEachName (AreThere layout jobs image) sets → UnderEachName (AreThere layout (jobs ++ more) image) sets
-has-more layout jobs more image sets each name table e =
-    each-implies (IsEntryThere layout jobs image table.set) (IsEntryThere layout (jobs ++ more) image table.set) table.entries
+pub has-more : (layout : Layout) (legs : List Leg) (jobs more : List Effective) (image : List ℕ) (sets : Named TableSet) → UnderEachName (AreThere layout legs jobs image) sets → UnderEachName (AreThere layout legs (jobs ++ more) image) sets
+has-more layout legs jobs more image sets each name table e =
+    each-implies (IsEntryThere layout legs jobs image table.set) (IsEntryThere layout legs (jobs ++ more) image table.set) table.entries
     (λ entry its. record {
       state = its.state;
+      of_job = its.of_job;
       fits = its.fits;
       bytes = its.bytes;
       there = its.there;
@@ -138,26 +142,50 @@ has-more layout jobs more image sets each name table e =
     })
     (each name table e)
 
+-- with the legs of later runs
+pub has-legs : (layout : Layout) (legs later : List Leg) (jobs : List Effective) (image : List ℕ) (sets : Named TableSet) → KeepLegs legs later → UnderEachName (AreThere layout legs jobs image) sets → UnderEachName (AreThere layout later jobs image) sets
+has-legs layout legs later jobs image sets keep each name table e =
+    each-implies (IsEntryThere layout legs jobs image table.set) (IsEntryThere layout later jobs image table.set) table.entries
+    (λ entry its. record {
+      state = its.state;
+      of_job = record {
+        leg = its.of_job.leg;
+        led = keep entry.point.run its.of_job.leg its.of_job.led;
+        start = its.of_job.start;
+        begun = its.of_job.begun;
+        entries = its.of_job.entries;
+        least = its.of_job.least;
+        most = its.of_job.most;
+        is = its.of_job.is;
+      };
+      fits = its.fits;
+      bytes = its.bytes;
+      there = its.there;
+      program = its.program;
+    })
+    (each name table e)
+
 -- in another image that has the records which are committed
-module _ (layout : Layout) (jobs : List Effective) (old new : List ℕ) (table : TableSet) where
+module _ (layout : Layout) (legs : List Leg) (jobs : List Effective) (old new : List ℕ) (table : TableSet) where
   below : (entry : KeptEntry) → IsTrue (ends_within table.set.length entry.kept) → (bytes : ℕ) → bytes ≡ entry.kept.bytes → (n : ℕ) → n < records_of bytes → entry.kept.place + n < table.set.length
   below entry ends bytes same n less =
       let end : entry.kept.place + records_of entry.kept.bytes ≤ table.set.length = nat_le-true _ _ ends in
       let less_kept : n < records_of entry.kept.bytes = subst (λ bytes. n < records_of bytes) same less in
       omega (arith, end, less_kept)
 
-  table-then : EndWithin table → (table.entries ≢ [] → records_on new layout table.set table.set.length ≡ records_on old layout table.set table.set.length) → AreThere layout jobs old table → AreThere layout jobs new table
+  table-then : EndWithin table → (table.entries ≢ [] → records_on new layout table.set table.set.length ≡ records_on old layout table.set table.set.length) → AreThere layout legs jobs old table → AreThere layout legs jobs new table
   table-then within same each = by table.entries refl
     where
       some : (first : KeptEntry) (rest : List KeptEntry) → table.entries ≡ first ∷ rest → table.entries ≢ []
       some first rest is none = absurd cc
 
-      by : (entries : List KeptEntry) → table.entries ≡ entries → AreThere layout jobs new table
-      by [] is = subst (λ entries. AllByRecursion (IsEntryThere layout jobs new table.set) entries) (sym is) tt
+      by : (entries : List KeptEntry) → table.entries ≡ entries → AreThere layout legs jobs new table
+      by [] is = subst (λ entries. AllByRecursion (IsEntryThere layout legs jobs new table.set) entries) (sym is) tt
       by (first ∷ rest) is =
-          each-both (λ (entry : KeptEntry). IsTrue (ends_within table.set.length entry.kept)) (IsEntryThere layout jobs old table.set) (IsEntryThere layout jobs new table.set) table.entries
+          each-both (λ (entry : KeptEntry). IsTrue (ends_within table.set.length entry.kept)) (IsEntryThere layout legs jobs old table.set) (IsEntryThere layout legs jobs new table.set) table.entries
           (λ entry ends its. record {
             state = its.state;
+            of_job = its.of_job;
             fits = its.fits;
             bytes = its.bytes;
             there = λ n less.
@@ -168,5 +196,6 @@ module _ (layout : Layout) (jobs : List Effective) (old new : List ℕ) (table :
           })
           within each
 
-pub has-then : (layout : Layout) (tables : TablesModel) (old new : List ℕ) → AreWithin tables.sets → SameKept layout tables.sets old new → HasEntries layout tables old → HasEntries layout tables new
-has-then layout tables old new within same has name table e = table-then layout (jobs_of tables) old new table (within name table e) (same name table e) (has name table e)
+pub has-then : (layout : Layout) (office : Office) (old new : List ℕ) → AreWithin office.tables.sets → SameKept layout office.tables.sets old new → HasEntries layout office old → HasEntries layout office new
+has-then layout office old new within same has name table e =
+    table-then layout office.legs (jobs_of office.tables) old new table (within name table e) (same name table e) (has name table e)

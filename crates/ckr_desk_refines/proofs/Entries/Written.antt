@@ -1,49 +1,39 @@
 -- The entry that a checkpoint of a running step writes is there behind its event.
-use Rattle.std.proofs.Common.{◌≡◌, ℕ, Bool, true, false, List, [], length, refl, ap, sym, ◌∙◌, subst, Option, Some, None}
+use Rattle.std.proofs.Common.{◌≡◌, ℕ, suc, List, [], length, refl, ap, sym, ◌∙◌, subst, Option, Some, None, arith}
 use Rattle.std.specs.Prelude.{find, option_and_then}
 use Rattle.std.specs.Option.{option_map_or}
+use Rattle.ckr_base.proofs.Bools.{and-second}
 use Rattle.ckr_base.proofs.Options.{some-not-none}
 use Rattle.ckr_entry.specs.Entry.{IsEntry, spelling}
 use Rattle.ckr_entry.specs.Parts.{Entry}
 use Rattle.ckr_jcl.specs.declared.deck.Dd.{Dd}
 use Rattle.ckr_library.specs.declared.sets.DataSet.{DataSet}
 use Rattle.ckr_library.specs.NameMaps.{Name, Named, entry_at}
-use Rattle.ckr_match.specs.State.{has_two_inputs}
 use Rattle.ckr_meaning.specs.EffectiveJob.{Effective, OwnedStep, name_of}
-use Rattle.ckr_meaning.specs.Program.{ProgramCase}
+use Rattle.ckr_meaning.specs.JobRun.{start_at}
 use Rattle.ckr_meaning.specs.StepRun.{StepStart, case_at}
 use Rattle.ckr_meaning.specs.declared.place.Place.{Place}
 use Rattle.ckr_meaning.specs.declared.place.Place.TheVariants.{Before}
 use Rattle.ckr_points_library.specs.Commit.{output_names}
-use Rattle.ckr_points.specs.Office.{Leg, Office}
+use Rattle.ckr_points.specs.Office.{Leg, Office, leg_of}
 use Rattle.ckr_points.specs.Restart.{place_of, step_in}
 use Rattle.ckr_points.specs.Rows.{EntryPoint, RunRow, TableSet, run_of, step_of_run}
 use Rattle.ckr_points.specs.Tables.{committed, entry_point, is_checkpoints, name_with_role}
+use Rattle.ckr_points_invariant.specs.Invariant.{IsHolder}
 use Rattle.ckr_points_invariant.proofs.Steps.Commits.{IsRunning, its_start, place_so}
 use Rattle.ckr_steps.specs.EntryRecords.{HasEntry}
-use Rattle.ckr_steps.specs.Units.{program_of}
 use Rattle.ckr_volumes.specs.declared.layout.Layout.{Layout}
 use Rattle.ckr_volumes.specs.SamePlaces.{SamePlaces}
-use Rattle.ckr_desk_turn.specs.Checkpoints.{MayCheckpoint, check_set, entry_bytes, entry_end, entry_place, entry_with, lengths_with, next_id, office_behind, written_entry}
+use Rattle.ckr_desk_turn.specs.Checkpoints.{MayCheckpoint, check_set, entry_bytes, entry_end, entry_place, entry_with, lengths_with, next_id, office_behind, step_entries, written_entry}
 use Rattle.ckr_desk_turn.specs.Desk.{DeskStep}
-use Rattle.ckr_desk_turn.specs.EntryStates.{checkpoint_state, state_by}
 use Rattle.ckr_desk_turn.specs.NextEvents.{IsWithinStep}
 use Rattle.ckr_desk_turn.proofs.Checkpoints.Bytes.{ending-size}
 use Rattle.ckr_desk_turn.proofs.Checkpoints.Events.{by-leg, kept_now}
+use Rattle.ckr_desk_turn.proofs.Checkpoints.Ranges.{entry-range}
 use Rattle.ckr_desk_refines.specs.Entries.{HasEntries, HasNewEntry, entry_taken}
 use Rattle.ckr_desk_refines.proofs.Entries.Checkpoint.{has-taken}
 use Rattle.ckr_desk_refines.proofs.Entries.NewEntry.{new-written}
-
--- ---- its state
-
-program-by : (two : Bool) (case : ProgramCase) (taken entries : ℕ) → program_of (state_by two case taken entries) ≡ case.program
-program-by true case taken entries = refl
-program-by false case taken entries = refl
-
--- it is one of the step's program
-state-program : (start : StepStart) (taken entries : ℕ) → program_of (checkpoint_state (case_at start) taken entries) ≡ start.owned.step.program
-unfolding checkpoint_state case_at
-state-program start taken entries = program-by (has_two_inputs start.owned.step.program) (case_at start) taken entries
+use Rattle.ckr_desk_refines.proofs.Entries.States.{state-most, state-program}
 
 -- ---- its data set
 
@@ -80,14 +70,24 @@ module _ (layout : Layout) (office : Office) (step : DeskStep) (may : MayCheckpo
 
   module _ (image : List ℕ) (set : Name) (table : TableSet) (there : DataSet) (is : check_set start ≡ Some set) (at : entry_at sets set ≡ Some table) (places : SamePlaces table.set there) (fits : IsEntry (written_entry layout office step may))
       (has : HasEntry image layout there (entry_place sets start) (spelling (written_entry layout office step may))) where
-    by-step : (leg : Leg) (owned : OwnedStep) → IsRunning office step.run row leg owned may.going.number may.going.committed → start ≡ its_start leg owned may.going.number → HasNewEntry layout office.tables (kept_now layout office step may) step.progress.taken step.progress.writes told image
+    by-step : (leg : Leg) (owned : OwnedStep) → IsRunning office step.run row leg owned may.going.number may.going.committed → start ≡ its_start leg owned may.going.number → HasNewEntry layout office (kept_now layout office step may) step.progress.taken step.progress.writes told image
     by-step leg owned running same =
-        new-written layout office.tables may.kept.events.numbered image (kept_now layout office step may) step.progress.taken step.progress.writes told row owned table
+        new-written layout office may.kept.events.numbered image (kept_now layout office step may) step.progress.taken step.progress.writes told row owned table
         (ap (run_of office.tables) number_is ∙ may.going.row_at)
         (ap (λ (place : Place). step_of_run row (step_in place)) running.stands ∙ running.found)
         (ap (entry_at sets) named ∙ at)
         (record {
           state = (written_entry layout office step may).state;
+          of_job = record {
+            leg = leg;
+            led = led leg running.holder;
+            start = start;
+            begun = sym (ap (λ (o : Option Leg). option_map_or (λ leg. start_at leg.job leg.start (step_in (place_of row))) o None) (led leg running.holder)) ∙ may.going.start_at;
+            entries = suc (step_entries row start.number);
+            least = omega arith;
+            most = state-most (case_at start) step.progress.taken (suc (step_entries row start.number)) (and-second _ _ (entry-range (written_entry layout office step may) fits));
+            is = refl;
+          };
           set = there;
           places = places;
           fits = subst IsEntry entry_is fits;
@@ -96,6 +96,9 @@ module _ (layout : Layout) (office : Office) (step : DeskStep) (may : MayCheckpo
           program = state-program start step.progress.taken _ ∙ ap (λ (s : StepStart). s.owned.step.program) same;
         })
       where
+        led : (leg : Leg) → IsHolder office step.run row leg → leg_of office row.number ≡ Some leg
+        led leg holder = ap (leg_of office) number_is ∙ holder.leg_at
+
         job : leg.job ≡ row.job
         job = (place_so layout office step.run row leg owned may.going.number may.going.committed may.kept.events running).job
 
@@ -114,7 +117,7 @@ module _ (layout : Layout) (office : Office) (step : DeskStep) (may : MayCheckpo
         entry_is : written_entry layout office step may ≡ entry_with (next_id row start) (written_entry layout office step may).state (entry_taken office.tables row owned (kept_now layout office step may) step.progress.taken step.progress.writes told).point
         entry_is = ap (entry_with (next_id row start) (written_entry layout office step may).state) points
 
-    pub has-behind : HasEntries layout office.tables image → HasEntries layout (office_behind layout office step may).tables image
+    pub has-behind : HasEntries layout office image → HasEntries layout (office_behind layout office step may) image
     has-behind had =
-        has-taken office.tables may.kept.events.numbered (next_id row start) row.number step.progress.taken step.progress.writes (entry_place sets start) (entry_bytes sets row start step.progress) (record { items = told }) None layout image had
+        has-taken layout office may.kept.events.numbered (next_id row start) row.number step.progress.taken step.progress.writes (entry_place sets start) (entry_bytes sets row start step.progress) (record { items = told }) None image had
         (by-leg layout office step.run row may.going.number may.going.committed start within may.kept may.spaced (λ leg owned running same spaced. by-step leg owned running same))

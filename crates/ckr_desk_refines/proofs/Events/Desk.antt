@@ -1,12 +1,12 @@
 -- What each event of a turn brings about is committed, and the jobs in memory stand for the desk behind it.
-use Rattle.std.proofs.Common.{◌≡◌, ℕ, true, not, List, refl, ap, sym, ◌∙◌, subst, Option, Some, None}
+use Rattle.std.proofs.Common.{◌≡◌, ℕ, true, false, not, List, refl, ap, sym, ◌∙◌, subst, Option, Some, None}
 use Rattle.std.proofs.lemmas.Bool.{and_from}
 use Rattle.arrayvec.specs.ArrayVec.{ArrayVec}
 use Rattle.ckr_base.specs.declared.code.Code.{Code}
 use Rattle.ckr_events.specs.declared.event.Ending.{Ending}
 use Rattle.ckr_events.specs.declared.event.Ending.TheVariants.{Allocation, Coded, Completed}
 use Rattle.ckr_events.specs.declared.event.Event.{Event}
-use Rattle.ckr_events.specs.declared.event.Event.TheVariants.{Cancelled, Ended, Selected, Started}
+use Rattle.ckr_events.specs.declared.event.Event.TheVariants.{Cancelled, Ended, Restarted, Selected, Started}
 use Rattle.ckr_events.specs.declared.event.Made.{Made}
 use Rattle.ckr_jcl.specs.declared.deck.Job.{Job}
 use Rattle.ckr_desk_memory.specs.EventChanges.{without_run}
@@ -19,6 +19,7 @@ use Rattle.ckr_desk_refines.specs.Commits.{HasCommitted, HasWithinRun}
 use Rattle.ckr_desk_refines.specs.SharedSets.{LeavesOthers}
 use Rattle.ckr_desk_refines.proofs.Durable.Events.{cancelled-stays, coded-stays, completed-stays, refused-stays, step-ended-stays}
 use Rattle.ckr_desk_refines.proofs.Durable.Fellows.{others-coded, others-completed, others-refused, others-started, others-step-ended}
+use Rattle.ckr_desk_refines.proofs.Durable.Restart.{others-restarted, restarted-stays}
 use Rattle.ckr_desk_refines.proofs.Durable.Start.{selected-stays, started-stays}
 use Rattle.ckr_meaning.specs.EffectiveJob.{OwnedStep}
 use Rattle.ckr_points.specs.Office.{office_after}
@@ -31,7 +32,7 @@ use Rattle.ckr_volumes.specs.declared.layout.Layout.{Layout}
 use Rattle.ckr_desk_refines.proofs.Events.Cancel.{cancelled-differ, cancelled-running}
 use Rattle.ckr_desk_refines.proofs.Events.OtherSteps.{all-stand, left-differ, left-none, left-stand, rest-stand}
 use Rattle.ckr_desk_refines.proofs.Events.Plans.{OfEach}
-use Rattle.ckr_desk_refines.proofs.Events.OtherRows.{Enters, LeavesRuns, ended-leaves, selected-enters, started-leaves, step_ended-leaves}
+use Rattle.ckr_desk_refines.proofs.Events.OtherRows.{Enters, LeavesRuns, ended-leaves, restarted-leaves, selected-enters, started-leaves, step_ended-leaves}
 use Rattle.ckr_desk_refines.proofs.Events.Start.{new-stand, started-place}
 
 -- ---- what is committed
@@ -50,6 +51,7 @@ each-committed desk is image had = record {
   started = λ job step items comes later. started-stays desk.layout desk.office image job step items None is.kept comes.may comes.carried later.kept had;
   cancelled = λ job step some is_due comes later. cancelled-stays desk.layout desk.office image job None is.kept later.kept had;
   step_ended = λ job step rc writes lengths has comes later. step-ended-stays desk.layout desk.office image job step rc writes lengths None is.kept comes.may comes.carried later.kept had has;
+  restarted = λ job initiator code comes later. restarted-stays desk.layout desk.office image job initiator code false None is.kept later.kept had;
   completed = λ job comes later. completed-stays desk.layout desk.office image job None is.kept later.kept had;
   refused = λ job dd cause first second comes later. refused-stays desk.layout desk.office image job dd cause first second None is.kept later.kept had;
   coded = λ job rule writes code lengths has. coded-committed desk is image had job rule writes code lengths has;
@@ -153,6 +155,10 @@ module _ (layout : Layout) (old new : JobsView) (before after : List ℕ) (desk 
         ended-stands layout old new before after desk _ job stands.layout_is stands.is_desk stands.tables stands.failed stands.differ_so (rest job) moved records refl later
         (step_ended-leaves desk.layout desk.office job step rc writes lengths stands.is_desk.kept.events)
         (others-step-ended desk.layout desk.office job step rc writes lengths None stands.is_desk.kept comes.may comes.carried) moved.running refl committed;
+    restarted = λ job initiator code comes later moved committed.
+        ended-stands layout old new before after desk (Restarted job initiator code false) job stands.layout_is stands.is_desk stands.tables stands.failed stands.differ_so (rest job) moved records refl later
+        (restarted-leaves desk.layout desk.office job initiator code false stands.is_desk.kept.events)
+        (others-restarted desk.layout desk.office job initiator code false None stands.is_desk.kept stands.is_desk.pointed stands.is_desk.ready comes.may comes.carried) moved.running refl committed;
     completed = λ job comes later moved committed.
         run-ended job Completed later moved (others-completed desk.layout desk.office job None stands.is_desk.kept comes.may) committed;
     refused = λ job dd cause first second comes later moved committed.

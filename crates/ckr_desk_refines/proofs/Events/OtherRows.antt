@@ -1,14 +1,15 @@
 -- The rows and the legs of the other runs are as they were behind an event of a run.
-use Rattle.std.proofs.Common.{◌≡◌, ◌≢◌, ℕ, zero, suc, true, false, List, [], ◌∷◌, ◌++◌, length, refl, ap, sym, ◌∙◌, subst, Option, Some, None, arith}
+use Rattle.std.proofs.Common.{◌≡◌, ◌≢◌, ℕ, zero, suc, Bool, true, false, List, [], ◌∷◌, ◌++◌, length, refl, ap, sym, ◌∙◌, subst, Option, Some, None, arith}
 use Rattle.std.specs.Prelude.{◌==◌, slice_get}
 use Rattle.std.specs.Option.{option_map_or}
 use Rattle.std.proofs.lemmas.Bool.{false≢true}
 use Rattle.std.proofs.lemmas.Option.{same_Some, slice_get_past}
+use Rattle.ckr_base.specs.declared.code.Code.{Code}
 use Rattle.ckr_base.proofs.Options.{option-cases, some-not-none}
 use Rattle.arrayvec.specs.ArrayVec.{ArrayVec}
 use Rattle.ckr_events.specs.declared.event.Ending.{Ending}
 use Rattle.ckr_events.specs.declared.event.Ending.TheVariants.{Allocation, Coded, Completed}
-use Rattle.ckr_events.specs.declared.event.Event.TheVariants.{Cancelled, Ended, Purged, Selected, Started, StepEnded, Submitted}
+use Rattle.ckr_events.specs.declared.event.Event.TheVariants.{Cancelled, Ended, Purged, Restarted, Selected, Started, StepEnded, Submitted}
 use Rattle.ckr_events.specs.declared.event.Made.{Made}
 use Rattle.ckr_jcl.specs.declared.deck.Job.{Job}
 use Rattle.ckr_points_library.specs.Commit.{output_names}
@@ -22,9 +23,9 @@ use Rattle.ckr_points.specs.declared.run.RunState.{RunState}
 use Rattle.ckr_points.specs.declared.run.RunState.TheVariants.{Ended as EndedRun, On, Purged as PurgedRun, Queued}
 use Rattle.ckr_points.specs.Tables.{after_commit, after_dispositions, after_started, after_step_ended, committed, made_tables, queued_run, start_point}
 use Rattle.ckr_points.specs.Follows.{state_number}
-use Rattle.ckr_points.specs.Marks.{with_point}
+use Rattle.ckr_points.specs.Marks.{deck_names, point_at, put_back, put_back_passed, removed_all, with_point}
 use Rattle.ckr_points.specs.Office.{Office, leg_of, office_after}
-use Rattle.ckr_points.specs.Restart.{after_abnormal, after_ended, after_passed_ended, by_run, place_of, step_in}
+use Rattle.ckr_points.specs.Restart.{Back, after_abnormal, after_ended, after_passed_ended, after_put_back, after_restarted, back_to_entry, back_to_start, by_run, effect_restarted, kept_at, place_of, point_restarted, row_on, step_in}
 use Rattle.ckr_points.specs.Rows.{RunRow, TableSet, TablesModel, run_of, standing_of, step_of_run, table_ways, with_run}
 use Rattle.ckr_points.specs.Soundness.{may_come}
 use Rattle.ckr_points_invariant.specs.Invariant.{IsAgreed}
@@ -60,9 +61,9 @@ run-stays run now change each =
     (λ none. subst (λ (o : Option RunRow). RowsStay run now (option_map_or change o now)) (sym none) (λ other apart. refl))
     (λ row at. subst (λ (o : Option RunRow). RowsStay run now (option_map_or change o now)) (sym at) (each row at))
 
-step-stays : (run : ℕ) (now : TablesModel) (change : OwnedStep → TablesModel) → ((owned : OwnedStep) → RowsStay run now (change owned)) → (found : Option OwnedStep) → RowsStay run now (option_map_or change found now)
-step-stays run now change each None = λ other apart. refl
-step-stays run now change each (Some owned) = each owned
+found-stays : {X : Type 0} (run : ℕ) (now : TablesModel) (change : X → TablesModel) → ((x : X) → RowsStay run now (change x)) → (found : Option X) → RowsStay run now (option_map_or change found now)
+found-stays run now change each None = λ other apart. refl
+found-stays run now change each (Some x) = each x
 
 commit-stays : (run : ℕ) (now : TablesModel) (row : RunRow) (owned : OwnedStep) (step writes : ℕ) (lengths : List ℕ) → row.number ≡ run → RowsStay run now (after_commit row owned step writes lengths now)
 commit-stays run now row owned step writes lengths same =
@@ -87,7 +88,7 @@ ending-stays : (run : ℕ) (now : TablesModel) (row : RunRow) (ending : Ending) 
 ending-stays run now row Completed same = ended-stays run now now row same (λ other apart. refl)
 ending-stays run now row (Allocation dd cause first second) same = abnormal-stays run now now row (place_of row) same (λ other apart. refl)
 ending-stays run now row (Coded code rule writes lengths) same =
-    step-stays run now _
+    found-stays run now _
     (λ owned.
     abnormal-stays run now (after_commit row owned (step_in (place_of row)) writes lengths.items now) (record row { place = Some (Within (step_in (place_of row)) writes) }) (Within (step_in (place_of row)) writes) same
     (commit-stays run now row owned (step_in (place_of row)) writes lengths.items same))
@@ -101,6 +102,26 @@ step_end-stays run now row owned step rc writes lengths same =
     (record row { place = Some (Before (suc step)); rcs = row.rcs ++ (step, rc) ∷ []; in_effect = None; passed = disposed.passed }) same
     (commit-stays run now row owned step writes lengths same)
 
+back-stays : (run : ℕ) (now : TablesModel) (row : RunRow) (owned : OwnedStep) (back : Back) → row.number ≡ run → RowsStay run now (after_put_back row owned back now)
+back-stays run now row owned back same =
+    let sets : Named TableSet = put_back back.marks (output_names row.job.root owned) back.needed (removed_all back.removed now.sets) in
+    put-stays run now (record now { sets = sets })
+    (record row { place = Some back.place; count = back.count; passed = put_back_passed back.marks (deck_names row.job.root row.number row.deck) sets back.passed }) same
+    (λ other apart. refl)
+
+restart-stays : (run : ℕ) (now : TablesModel) (row : RunRow) (owned : OwnedStep) (step initiator : ℕ) (checkpoint : Bool) → row.number ≡ run → RowsStay run now (after_restarted row owned step initiator checkpoint now)
+restart-stays run now row owned step initiator false same =
+    found-stays run now _
+    (λ point. back-stays run now (record (row_on initiator row) { points = with_point (point_restarted point) row.points; in_effect = None }) owned (back_to_start row owned step point) same)
+    (point_at row.points step)
+restart-stays run now row owned step initiator true same =
+    found-stays run now _
+    (λ effect.
+    found-stays run now _
+    (λ entry. back-stays run now (record (row_on initiator row) { in_effect = Some (effect_restarted effect) }) owned (back_to_entry row owned step entry.point) same)
+    (kept_at now.sets effect.set effect.kept.id))
+    row.in_effect
+
 -- ---- the events of a run on an initiator
 
 pub started-leaves : (layout : Layout) (now : Office) (job step : ℕ) (items : ArrayVec Made) → IsAgreed layout now → LeavesRuns now (office_after (Started job step items, None) now) job
@@ -108,7 +129,7 @@ started-leaves layout now job step items kept = record {
   rows =
       run-stays job now.tables _
       (λ row at.
-      step-stays job now.tables (λ owned. after_started row owned step items.items now.tables)
+      found-stays job now.tables (λ owned. after_started row owned step items.items now.tables)
       (λ owned.
       let opened : Named TableSet = opened_all table_ways (stamp_of owned step) (placed_in table_ways (standing_of row now.tables) row.job.root owned) now.tables.sets in
       put-stays job now.tables (record now.tables { sets = made_tables (stamp_of owned step) items.items (placed_in table_ways (standing_of row now.tables) row.job.root owned) opened })
@@ -122,8 +143,19 @@ step_ended-leaves layout now job step rc writes lengths kept = record {
   rows =
       run-stays job now.tables _
       (λ row at.
-      step-stays job now.tables (λ owned. after_step_ended row owned (step_in (place_of row)) rc writes lengths.items now.tables)
+      found-stays job now.tables (λ owned. after_step_ended row owned (step_in (place_of row)) rc writes lengths.items now.tables)
       (λ owned. step_end-stays job now.tables row owned (step_in (place_of row)) rc writes lengths.items (kept.numbered job row at))
+      (step_of_run row (step_in (place_of row))));
+  legs = λ other apart. refl;
+}
+
+pub restarted-leaves : (layout : Layout) (now : Office) (job initiator : ℕ) (code : Code) (checkpoint : Bool) → IsAgreed layout now → LeavesRuns now (office_after (Restarted job initiator code checkpoint, None) now) job
+restarted-leaves layout now job initiator code checkpoint kept = record {
+  rows =
+      run-stays job now.tables _
+      (λ row at.
+      found-stays job now.tables (λ owned. after_restarted row owned (step_in (place_of row)) initiator checkpoint now.tables)
+      (λ owned. restart-stays job now.tables row owned (step_in (place_of row)) initiator checkpoint (kept.numbered job row at))
       (step_of_run row (step_in (place_of row))));
   legs = λ other apart. refl;
 }

@@ -13,11 +13,12 @@ use Rattle.ckr_base.proofs.Options.{is_none-true, option-cases}
 use Rattle.ckr_base.proofs.Sequences.{find-all}
 use Rattle.ckr_events.specs.declared.event.Ending.TheVariants.{Allocation, Coded, Completed}
 use Rattle.ckr_events.specs.declared.event.Event.{Event}
-use Rattle.ckr_events.specs.declared.event.Event.TheVariants.{Cancelled, Ended, Selected, Started, StepEnded}
+use Rattle.ckr_events.specs.declared.event.Event.TheVariants.{Cancelled, Ended, Restarted, Selected, Started, StepEnded}
 use Rattle.ckr_events.specs.declared.event.Made.{Made}
 use Rattle.ckr_desk_memory.specs.View.{RunningStepView}
 use Rattle.ckr_desk_turn.specs.NextEvents.{IsWithinStep}
 use Rattle.ckr_desk_turn.specs.Invariant.{IsDesk, is_accounted}
+use Rattle.ckr_desk_turn.proofs.Codes.{by-verdict}
 use Rattle.ckr_desk_turn.proofs.NextEvents.BetweenSteps.{plain_found, plain_parts, row_of_found, state_on}
 use Rattle.ckr_desk_turn.proofs.Opening.{running-stands}
 use Rattle.ckr_desk_turn.proofs.Start.Invariant.{not-failed, planned-within}
@@ -42,7 +43,7 @@ use Rattle.ckr_desk_turn.specs.declared.reply.Reply.TheVariants.{Idle, JobEnded,
 use Rattle.ckr_desk_turn.specs.declared.reply.Turn.{Turn}
 use Rattle.ckr_desk_turn.specs.Allocation.{allocation_of, cause_numbers}
 use Rattle.ckr_desk_turn.specs.Select.{is_on, may_select, next_run, run_on_initiator}
-use Rattle.ckr_desk_turn.specs.Codes.{code_plan, reached_by, rule_for}
+use Rattle.ckr_desk_turn.specs.Codes.{code_plan, initiator_of, reached_by}
 use Rattle.ckr_desk_turn.specs.Desk.{DeskModel, jobs_of}
 use Rattle.ckr_desk_turn.specs.Jobs.{TurnStep, is_failed, running_in}
 use Rattle.ckr_desk_turn.specs.Plans.{allocation_ended, between_plan, checkpoint_plan, chosen_plan, due_plan, fail_plan, free_plan, is_within as is_planned, placed_plan, plan_of, run_plan, running_plan, start_plan, suppressed_plan, system_failure}
@@ -54,6 +55,7 @@ pub record OfEach (desk : DeskModel) (image : List ℕ) (Q : Event → Type 0) :
   pub started : (job step : ℕ) (items : ArrayVec Made) → Q (Started job step items)
   pub cancelled : (job : ℕ) (step : TurnStep) → running_in (jobs_of desk) job ≡ Some step → step.due ≡ Cancel → Q (Cancelled job)
   pub step_ended : (job step rc writes : ℕ) (lengths : ArrayVec ℕ) → HasWithinRun desk.layout desk.office job writes image → Q (StepEnded job step rc writes lengths)
+  pub restarted : (job initiator : ℕ) (code : Code) → Q (Restarted job initiator code false)
   pub completed : (job : ℕ) → Q (Ended job Completed)
   pub refused : (job dd cause first second : ℕ) → Q (Ended job (Allocation dd cause first second))
   pub coded : (job rule writes : ℕ) (code : Code) (lengths : ArrayVec ℕ) → HasWithinRun desk.layout desk.office job writes image → Q (Ended job (Coded code rule writes lengths))
@@ -71,10 +73,13 @@ module _ (desk : DeskModel) (is : IsDesk desk) (image : List ℕ) (seen : List R
   -- ---- a run within a step
 
   module _ (row : RunRow) (number committed : ℕ) (start : StepStart) (within : IsWithinStep desk.office row.number row number committed start) where
-    code-tells : (code : Code) → OfPlan Q (code_plan desk.layout row code (reached_by (jobs_of desk) row))
-    code-tells code =
-        each.coded row.number (rule_number (rule_for desk.layout row code)) (reached_by (jobs_of desk) row).writes code (record { items = (reached_by (jobs_of desk) row).lengths })
-        (reached-written desk is image seen all had row.number row number committed start within)
+    code-tells : (initiator : ℕ) (code : Code) → OfPlan Q (code_plan desk.layout row initiator code (reached_by (jobs_of desk) row))
+    code-tells initiator code =
+        by-verdict (OfPlan Q) desk.layout row initiator code (reached_by (jobs_of desk) row)
+        (λ rule ends.
+        each.coded row.number (rule_number rule) (reached_by (jobs_of desk) row).writes code (record { items = (reached_by (jobs_of desk) row).lengths })
+        (reached-written desk is image seen all had row.number row number committed start within))
+        (λ judged. each.restarted row.number initiator code)
 
     checkpoint-tells : (number : ℕ) → OfPlan Q (checkpoint_plan row number)
     checkpoint-tells number = by (suppresses (rd_in_effect row number))
@@ -101,18 +106,18 @@ module _ (desk : DeskModel) (is : IsDesk desk) (image : List ℕ) (seen : List R
     fail-tells None = placed-tells
     fail-tells (Some code) =
         subst (λ place. OfPlan Q (elim (is_planned place) [
-          | true ↦ code_plan desk.layout row code (reached_by (jobs_of desk) row)
+          | true ↦ code_plan desk.layout row (initiator_of row) code (reached_by (jobs_of desk) row)
           | false ↦ Rest NothingToFail
-        ])) (sym within.place) (code-tells code)
+        ])) (sym within.place) (code-tells (initiator_of row) code)
 
     step-tells : (fail : Option Code) → OfPlan Q (run_plan desk.layout (jobs_of desk) fail row)
     step-tells fail = by (is_failed (jobs_of desk) row.number)
       where
         by : (b : Bool) → OfPlan Q (elim b [
-          | true ↦ code_plan desk.layout row system_failure (reached_by (jobs_of desk) row)
+          | true ↦ code_plan desk.layout row (initiator_of row) system_failure (reached_by (jobs_of desk) row)
           | false ↦ fail_plan desk.layout (jobs_of desk) row fail
         ])
-        by true = code-tells system_failure
+        by true = code-tells (initiator_of row) system_failure
         by false = fail-tells fail
 
   -- ---- a run between two steps
@@ -140,7 +145,7 @@ module _ (desk : DeskModel) (is : IsDesk desk) (image : List ℕ) (seen : List R
   out-tells : (row : RunRow) → run_of desk.office.tables row.number ≡ Some row → is_within (place_of row) ≡ false → (fail : Option Code) → OfPlan Q (run_plan desk.layout (jobs_of desk) fail row)
   out-tells row at out fail =
       subst (λ b. OfPlan Q (elim b [
-        | true ↦ code_plan desk.layout row system_failure (reached_by (jobs_of desk) row)
+        | true ↦ code_plan desk.layout row (initiator_of row) system_failure (reached_by (jobs_of desk) row)
         | false ↦ fail_plan desk.layout (jobs_of desk) row fail
       ])) (sym (not-failed desk is row at out)) (by fail)
     where
@@ -153,7 +158,7 @@ module _ (desk : DeskModel) (is : IsDesk desk) (image : List ℕ) (seen : List R
       by None = placed (place_of row) out
       by (Some code) =
           subst (λ b. OfPlan Q (elim b [
-            | true ↦ code_plan desk.layout row code (reached_by (jobs_of desk) row)
+            | true ↦ code_plan desk.layout row (initiator_of row) code (reached_by (jobs_of desk) row)
             | false ↦ Rest NothingToFail
           ])) (sym (planned-within (place_of row) ∙ out)) tt
 
@@ -173,7 +178,7 @@ module _ (desk : DeskModel) (is : IsDesk desk) (image : List ℕ) (seen : List R
   chosen-tells i row no_code =
       subst (λ (o : Option Code). OfPlan Q (elim o [
         | None ↦ Tell (SelectedReply row.number) (Selected row.number i 0 0 None)
-        | Some code ↦ code_plan desk.layout row code (reached_by (jobs_of desk) row)
+        | Some code ↦ code_plan desk.layout row i code (reached_by (jobs_of desk) row)
       ])) (sym no_code) (each.selected row.number i)
 
   free-tells : (i : ℕ) (fail : Option Code) → OfPlan Q (free_plan desk.layout (jobs_of desk) i fail)

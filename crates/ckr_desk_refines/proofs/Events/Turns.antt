@@ -1,10 +1,10 @@
--- The jobs in memory stand for the desk behind the event of a turn, of another call, and of a code.
-use Rattle.std.proofs.Common.{◌≡◌, ◌≤◌, ℕ, suc, true, List, length, refl, subst, Some, None, Ok}
+-- The jobs in memory stand for the desk behind the event of a turn, of another call, and of a code: the end of a run, and its restart.
+use Rattle.std.proofs.Common.{◌≡◌, ◌≤◌, ℕ, suc, true, false, List, length, refl, subst, Some, None, Ok}
 use Rattle.arrayvec.specs.ArrayVec.{ArrayVec}
 use Rattle.ckr_base.specs.declared.code.Code.{Code}
 use Rattle.ckr_events.specs.declared.event.Ending.TheVariants.{Coded}
 use Rattle.ckr_events.specs.declared.event.Event.{Event}
-use Rattle.ckr_events.specs.declared.event.Event.TheVariants.{Ended, Purged, Submitted}
+use Rattle.ckr_events.specs.declared.event.Event.TheVariants.{Ended, Purged, Restarted, Submitted}
 use Rattle.ckr_jcl.specs.declared.deck.Job.{Job}
 use Rattle.ckr_jcl_decks.specs.Deck.{stored_deck}
 use Rattle.ckr_desk_memory.specs.View.{JobsView}
@@ -15,6 +15,7 @@ use Rattle.ckr_desk_turn.proofs.Turns.Initiator.{turn-keeps}
 use Rattle.ckr_desk_refines.specs.Commits.{HasCommitted, HasWithinRun}
 use Rattle.ckr_desk_refines.proofs.Durable.Events.{purged-stays, submitted-stays}
 use Rattle.ckr_desk_refines.proofs.Durable.Fellows.{others-coded}
+use Rattle.ckr_desk_refines.proofs.Durable.Restart.{others-restarted, restarted-stays}
 use Rattle.ckr_points.specs.declared.run.RunState.TheVariants.{Queued}
 use Rattle.ckr_points.specs.Rows.{RunRow, run_of}
 use Rattle.ckr_desk_refines.specs.Moves.{HasSameRecords, HaveMoved}
@@ -32,7 +33,7 @@ use Rattle.ckr_volumes.specs.declared.layout.Layout.{Layout}
 use Rattle.ckr_desk_refines.proofs.Events.Desk.{BehindStands, IsCommitted, coded-committed, each-committed, each-stands, ended-stands, entered-stands}
 use Rattle.ckr_desk_refines.proofs.Events.Commits.{committed-moves}
 use Rattle.ckr_desk_refines.proofs.Events.Plans.{OfPlan, turn-tells}
-use Rattle.ckr_desk_refines.proofs.Events.OtherRows.{ended-leaves, purged-enters, submitted-enters}
+use Rattle.ckr_desk_refines.proofs.Events.OtherRows.{ended-leaves, purged-enters, restarted-leaves, submitted-enters}
 
 -- ---- a turn
 
@@ -107,3 +108,21 @@ code-stands layout old new before after desk run rule writes code lengths stands
     (ended-leaves desk.layout desk.office run (Coded code rule writes lengths) stands.is_desk.kept.events)
     (others-coded desk.layout desk.office run rule writes code lengths None stands.is_desk.kept comes.may comes.carried) moved.running refl
     (code-committed layout old before desk run rule writes code lengths stands comes later has after same)
+
+-- ---- a restart at the start of the step, whatever the step has come to
+
+pub restart-committed : (layout : Layout) (jobs : JobsView) (before : List ℕ) (desk : DeskModel) (run initiator : ℕ) (code : Code) → StandsBut run layout jobs before desk → Comes desk (Restarted run initiator code false)
+    → IsDesk (behind (Restarted run initiator code false) None desk)
+    → (image : List ℕ) → HasSameRecords desk.layout before image → HasCommitted desk.layout (behind (Restarted run initiator code false) None desk).office image
+restart-committed layout jobs before desk run initiator code stands comes later image same =
+    committed-moves desk.layout (behind (Restarted run initiator code false) None desk).office before image later.kept same
+    (restarted-stays desk.layout desk.office before run initiator code false None stands.is_desk.kept later.kept stands.committed)
+
+pub restart-stands : (layout : Layout) (old new : JobsView) (before after : List ℕ) (desk : DeskModel) (run initiator : ℕ) (code : Code) → StandsBut run layout old before desk → Comes desk (Restarted run initiator code false)
+    → IsDesk (behind (Restarted run initiator code false) None desk)
+    → HaveMoved (Restarted run initiator code false) None old new → HasSameRecords desk.layout before after → StandsForDesk layout new after (behind (Restarted run initiator code false) None desk)
+restart-stands layout old new before after desk run initiator code stands comes later moved same =
+    ended-stands layout old new before after desk (Restarted run initiator code false) run stands.layout_is stands.is_desk stands.tables stands.failed stands.differ_so stands.running moved same refl later
+    (restarted-leaves desk.layout desk.office run initiator code false stands.is_desk.kept.events)
+    (others-restarted desk.layout desk.office run initiator code false None stands.is_desk.kept stands.is_desk.pointed stands.is_desk.ready comes.may comes.carried) moved.running refl
+    (restart-committed layout old before desk run initiator code stands comes later after same)

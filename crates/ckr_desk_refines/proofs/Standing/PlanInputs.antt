@@ -8,7 +8,7 @@ use Rattle.ckr_meaning.specs.declared.place.Place.TheVariants.{Before, Opened, W
 use Rattle.ckr_points.specs.Restart.{place_of}
 use Rattle.ckr_points.specs.Rows.{RunRow, TablesModel}
 use Rattle.ckr_desk_turn.specs.Select.{next_run, run_on_initiator}
-use Rattle.ckr_desk_turn.specs.Codes.{code_plan, kept_reached, reached_by, running_reached}
+use Rattle.ckr_desk_turn.specs.Codes.{code_plan, initiator_of, kept_reached, reached_by, running_reached}
 use Rattle.ckr_desk_turn.specs.Jobs.{TurnJobs, TurnStep, is_failed}
 use Rattle.ckr_desk_turn.specs.Plans.{chosen_plan, fail_plan, free_plan, is_within, placed_plan, plan_of, run_plan, running_plan, system_failure}
 use Rattle.ckr_desk_turn.specs.declared.plan.Plan.{Plan}
@@ -30,8 +30,8 @@ module _ (layout : Layout) (tables : TablesModel) (failed : List ℕ) (one two :
   same-reached : (row : RunRow) → reached_by first row ≡ reached_by second row
   same-reached row = ap (λ (o : Option TurnStep). option_map_or running_reached o (kept_reached first row)) (same row.number)
 
-  same-coded : (row : RunRow) (code : Code) → code_plan layout row code (reached_by first row) ≡ code_plan layout row code (reached_by second row)
-  same-coded row code = ap (code_plan layout row code) (same-reached row)
+  same-coded : (row : RunRow) (initiator : ℕ) (code : Code) → code_plan layout row initiator code (reached_by first row) ≡ code_plan layout row initiator code (reached_by second row)
+  same-coded row initiator code = ap (code_plan layout row initiator code) (same-reached row)
 
   same-placed : (row : RunRow) (place : Place) → placed_plan layout first row place ≡ placed_plan layout second row place
   same-placed row (Before number) = refl
@@ -41,15 +41,15 @@ module _ (layout : Layout) (tables : TablesModel) (failed : List ℕ) (one two :
   same-failing : (row : RunRow) (fail : Option Code) → fail_plan layout first row fail ≡ fail_plan layout second row fail
   same-failing row None = same-placed row (place_of row)
   same-failing row (Some code) =
-      ap (λ (plan : Plan). elim (is_within (place_of row)) as (λ _. Plan) [ true ↦ plan | false ↦ Rest NothingToFail ]) (same-coded row code)
+      ap (λ (plan : Plan). elim (is_within (place_of row)) as (λ _. Plan) [ true ↦ plan | false ↦ Rest NothingToFail ]) (same-coded row (initiator_of row) code)
 
   same-run : (fail : Option Code) (row : RunRow) → run_plan layout first fail row ≡ run_plan layout second fail row
   same-run fail row =
       by (is_failed first row.number)
     where
-      by : (b : Bool) → (elim b as (λ _. Plan) [ true ↦ code_plan layout row system_failure (reached_by first row) | false ↦ fail_plan layout first row fail ])
-          ≡ (elim b as (λ _. Plan) [ true ↦ code_plan layout row system_failure (reached_by second row) | false ↦ fail_plan layout second row fail ])
-      by true = same-coded row system_failure
+      by : (b : Bool) → (elim b as (λ _. Plan) [ true ↦ code_plan layout row (initiator_of row) system_failure (reached_by first row) | false ↦ fail_plan layout first row fail ])
+          ≡ (elim b as (λ _. Plan) [ true ↦ code_plan layout row (initiator_of row) system_failure (reached_by second row) | false ↦ fail_plan layout second row fail ])
+      by true = same-coded row (initiator_of row) system_failure
       by false = same-failing row fail
 
   same-chosen : (initiator : ℕ) (row : RunRow) → chosen_plan layout first initiator row ≡ chosen_plan layout second initiator row
@@ -57,7 +57,7 @@ module _ (layout : Layout) (tables : TablesModel) (failed : List ℕ) (one two :
     where
       by : (code : Option Code) → chosen_plan layout first initiator (record row { code = code }) ≡ chosen_plan layout second initiator (record row { code = code })
       by None = refl
-      by (Some code) = same-coded (record row { code = Some code }) code
+      by (Some code) = same-coded (record row { code = Some code }) initiator code
 
   same-free : (initiator : ℕ) (fail : Option Code) → free_plan layout first initiator fail ≡ free_plan layout second initiator fail
   same-free initiator (Some code) = refl

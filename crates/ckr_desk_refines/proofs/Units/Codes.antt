@@ -1,17 +1,18 @@
--- A unit by which a step ends with a code: what the desk tells, and what stands until its run ends in memory too.
-use Rattle.std.proofs.Common.{◌≡◌, ◌≤◌, ◌<◌, ℕ, true, not, cond, List, ◌∷◌, length, refl, ap, sym, ◌∙◌, subst, Some, None, arith}
+-- A unit by which a step ends with a code: what the desk tells, and what stands until its run ends, or is restarted, in memory too.
+use Rattle.std.proofs.Common.{◌≡◌, ◌≤◌, ◌<◌, ℕ, true, false, not, cond, List, ◌∷◌, length, refl, ap, sym, ◌∙◌, subst, Some, None, arith}
 use Rattle.std.specs.Prelude.{◌==◌}
 use Rattle.std.proofs.lemmas.Option.{same_Some}
 use Rattle.ckr_base.specs.declared.code.Code.{Code}
 use Rattle.ckr_base.proofs.Numbers.{equal-itself}
 use Rattle.ckr_base.proofs.Sequences.{filter-twice}
 use Rattle.ckr_events.specs.declared.event.Event.{Event}
-use Rattle.ckr_events.specs.declared.event.Event.TheVariants.{Ended as EndedEvent}
+use Rattle.ckr_events.specs.declared.event.Event.TheVariants.{Ended as EndedEvent, Restarted as RestartedEvent}
 use Rattle.ckr_events.specs.declared.event.Ending.{Ending}
 use Rattle.ckr_events.specs.declared.event.Ending.TheVariants.{Coded as CodedEnding}
 use Rattle.ckr_desk_memory.specs.EventChanges.{without_first}
 use Rattle.ckr_desk_memory.specs.Plans.{told_by}
 use Rattle.ckr_desk_memory.specs.View.{JobsView, RunningStepView, running_of}
+use Rattle.ckr_desk_turn.proofs.Codes.{by-verdict}
 use Rattle.ckr_desk_turn.proofs.Units.LastUnit.{full-plain}
 use Rattle.ckr_desk_turn.specs.Invariant.{HasCome, IsOpen, next_writes}
 use Rattle.ckr_desk_refines.proofs.Durable.Units.{within-shown}
@@ -24,8 +25,8 @@ use Rattle.ckr_desk_refines.specs.Moves.{event_in, reply_in}
 use Rattle.ckr_desk_refines.specs.Standing.{AllStand, StandsBut, seen_without, steps_without}
 use Rattle.ckr_steps.specs.declared.step_run.Worked.TheVariants.{Abend}
 use Rattle.ckr_steps.specs.Places.{EndsSo}
-use Rattle.ckr_desk_turn.specs.Codes.{CodePlaceModel, code_plan, rule_for, running_reached}
-use Rattle.ckr_desk_turn.specs.Desk.{DeskModel, DeskStep, TurnDone, behind, seen, unit_done, with_progress, without_run, work_of}
+use Rattle.ckr_desk_turn.specs.Codes.{CodePlaceModel, code_plan, initiator_of, running_reached}
+use Rattle.ckr_desk_turn.specs.Desk.{DeskModel, DeskStep, TurnDone, behind, done_by, seen, unit_done, with_progress, without_run, work_of}
 use Rattle.ckr_desk_turn.specs.declared.reply.Turn.{Turn}
 use Rattle.ckr_desk_turn.specs.Units.{StepProgress, unit_end}
 use Rattle.ckr_volumes.specs.declared.layout.Layout.{Layout}
@@ -47,6 +48,21 @@ without-moved run progress running =
 behind-moved : (run : ℕ) (ending : Ending) (progress : StepProgress) (desk : DeskModel) → behind (EndedEvent run ending) None (with_progress run progress desk) ≡ behind (EndedEvent run ending) None desk
 behind-moved run ending progress desk =
     ap (λ (running : List DeskStep). record (behind (EndedEvent run ending) None desk) { running = running }) (without-moved run progress desk.running)
+
+-- nor behind its restart at the start of the step
+behind-restarted : (run initiator : ℕ) (code : Code) (progress : StepProgress) (desk : DeskModel) → behind (RestartedEvent run initiator code false) None (with_progress run progress desk) ≡ behind (RestartedEvent run initiator code false) None desk
+behind-restarted run initiator code progress desk =
+    ap (λ (running : List DeskStep). record (behind (RestartedEvent run initiator code false) None desk) { running = running }) (without-moved run progress desk.running)
+
+-- nor behind either of them, whatever the rules say of the code
+code-behind : (layout : Layout) (row : RunRow) (initiator : ℕ) (code : Code) (reached : CodePlaceModel) (progress : StepProgress) (desk : DeskModel) (event : Event)
+    → (done_by (code_plan layout row initiator code reached) (with_progress row.number progress desk)).event ≡ Some event
+    → (done_by (code_plan layout row initiator code reached) (with_progress row.number progress desk)).desk ≡ behind event None desk
+code-behind layout row initiator code reached progress desk event =
+    by-verdict (λ plan. (done_by plan (with_progress row.number progress desk)).event ≡ Some event → (done_by plan (with_progress row.number progress desk)).desk ≡ behind event None desk)
+    layout row initiator code reached
+    (λ rule ends is. behind-moved row.number (CodedEnding code (rule_number rule) reached.writes (record { items = reached.lengths })) progress desk ∙ ap (λ (e : Event). behind e None desk) (same_Some _ event is))
+    (λ judged is. behind-restarted row.number initiator code progress desk ∙ ap (λ (e : Event). behind e None desk) (same_Some _ event is))
 
 module _ (layout : Layout) (old : JobsView) (before after : List ℕ) (desk : DeskModel) (turn : Turn) (run : ℕ) (on moved : RunningStepView) (code : Code) (unit : StandsBehindUnit layout old before after desk turn run on moved (Abend code)) where
   abbrev p : IsPair desk.layout desk.office before run on desk.running
@@ -102,8 +118,8 @@ module _ (layout : Layout) (old : JobsView) (before after : List ℕ) (desk : De
       → (reply_in (told_by layout row (running_of desk.office.tables moved) (Abend code)) ≡ (work_of run desk).reply) × (event_in (told_by layout row (running_of desk.office.tables moved) (Abend code)) ≡ (work_of run desk).event)
   told-coded =
       told-so layout old before after desk turn run on moved (Abend code) unit (end_coded on.step.state code p.step.progress.taken moved.step.writes) coded-done
-      (ap (λ (l : Layout). code_plan l p.stands.row code (running_reached (running_of desk.office.tables moved))) (sym unit.stands.layout_is)
-      ∙ ap (code_plan desk.layout p.stands.row code) reached-so)
+      (ap (λ (l : Layout). code_plan l p.stands.row (initiator_of p.stands.row) code (running_reached (running_of desk.office.tables moved))) (sym unit.stands.layout_is)
+      ∙ ap (code_plan desk.layout p.stands.row (initiator_of p.stands.row) code) reached-so)
 
   -- ---- what stands meanwhile
 
@@ -140,5 +156,4 @@ module _ (layout : Layout) (old : JobsView) (before after : List ℕ) (desk : De
   pub coded-behind : (event : Event) → (work_of run desk).event ≡ Some event → (work_of run desk).desk ≡ behind event None desk
   coded-behind event is =
       ap (λ (d : TurnDone). d.desk) coded-done
-      ∙ behind-moved p.stands.row.number (CodedEnding code (rule_number (rule_for desk.layout p.stands.row code)) (running_reached (seen desk.office p.stands.row.number its_progress)).writes (record { items = (running_reached (seen desk.office p.stands.row.number its_progress)).lengths })) its_progress desk
-      ∙ ap (λ (e : Event). behind e None desk) (same_Some _ event (sym (ap (λ (d : TurnDone). d.event) coded-done) ∙ is))
+      ∙ code-behind desk.layout p.stands.row (initiator_of p.stands.row) code (running_reached (seen desk.office p.stands.row.number its_progress)) its_progress desk event (sym (ap (λ (d : TurnDone). d.event) coded-done) ∙ is)

@@ -29,6 +29,10 @@ use Rattle.ckr_points.specs.Payload.{lengths_at, rewrites_nothing}
 use Rattle.ckr_points.specs.Restart.{place_of, step_in}
 use Rattle.ckr_points.specs.Rows.{RunRow, run_of, step_of_run}
 use Rattle.ckr_rules.specs.RuleTables.{rule_number}
+use Rattle.ckr_rules.specs.declared.cases.Rule.{Rule}
+use Rattle.ckr_rules.specs.declared.cases.Rule.TheVariants.{A6}
+use Rattle.ckr_rules.specs.declared.cases.Verdict.{Verdict}
+use Rattle.ckr_rules.specs.declared.cases.Verdict.TheVariants.{Checkpoint, Denied, Step}
 use Rattle.ckr_points_invariant.proofs.Steps.Commits.{its_start}
 use Rattle.ckr_desk_refines.proofs.Standing.Lengths.{lengths-so}
 use Rattle.ckr_desk_refines.specs.Moves.{event_in}
@@ -44,10 +48,10 @@ use Rattle.ckr_steps.specs.Places.{AreNext, ShowsWithin, IsStepPlace}
 use Rattle.ckr_steps.specs.StepUnit.{HasDone, HasLooked, HasWritten, behind_unit, done_for, heads_on, unit_for, worked_for, writes_for}
 use Rattle.ckr_steps.specs.Units.{state_of, taken_of}
 use Rattle.ckr_steps.specs.Writes.{Shows, answer_of, done_of, done_unless, grown, put_all, rewrite_of, room_of, worked_by}
-use Rattle.ckr_desk_turn.specs.Codes.{rule_for}
+use Rattle.ckr_desk_turn.specs.Codes.{ended_by, initiator_of, judged_plan, running_reached, verdict_for}
 use Rattle.ckr_desk_turn.specs.declared.plan.Plan.TheVariants.{Work}
 use Rattle.ckr_desk_turn.specs.declared.reply.Turn.{Turn}
-use Rattle.ckr_desk_turn.specs.Desk.{DeskModel, TurnDone, jobs_of, seen, seen_from, work_of}
+use Rattle.ckr_desk_turn.specs.Desk.{DeskModel, TurnDone, jobs_of, seen, seen_from, with_progress, work_of}
 use Rattle.ckr_desk_turn.specs.Jobs.{TurnStep}
 use Rattle.ckr_desk_turn.specs.Plans.{plan_of}
 use Rattle.ckr_desk_turn.specs.Units.{StepProgress, finished_by, unit_end}
@@ -56,6 +60,7 @@ use Rattle.ckr_desk_refines.specs.Forecast.{IsAsForetold, IsTold}
 use Rattle.ckr_desk_refines.specs.Unit.{StandsBehindUnit}
 use Rattle.ckr_desk_refines.proofs.Units.CodeOutcomes.{by-abend, end_coded, fit-so, full-so, no-room, some-room}
 use Rattle.ckr_desk_refines.proofs.Units.Outcomes.{end-fits, end-spills, open_at}
+use Rattle.ckr_desk_refines.proofs.Units.Replies.{event-done}
 use Rattle.ckr_desk_refines.proofs.Units.RunningStep.{number-found, pair-found, row-found, shows-found, stands-found, work-found}
 use Rattle.ckr_desk_refines.proofs.Units.StepLists.{IsPair}
 use Rattle.ckr_desk_refines.proofs.Units.OtherSteps.{same-start}
@@ -84,6 +89,22 @@ BothTell None (Some told) = ⊥
 BothTell (Some foretold) None = ⊥
 BothTell (Some foretold) (Some told) = IsAsForetold foretold told
 
+-- what is told of a code, whatever the rules say of it
+code-tell : (row : RunRow) (initiator : ℕ) (code : Code) (one two : TurnStep) → length one.lengths ≡ length two.lengths → (verdict : Verdict)
+    → BothTell (event_in (judged_plan row initiator code (running_reached one) verdict)) (event_in (judged_plan row initiator code (running_reached two) verdict))
+code-tell row initiator code one two same verdict = by verdict
+  where
+    ended : (rule : Rule) → BothTell (event_in (ended_by row code rule (running_reached one))) (event_in (ended_by row code rule (running_reached two)))
+    ended rule = record {
+      like = equal-itself row.number;
+      long = coded-long row.number one.writes two.writes (rule_number rule) code one.lengths two.lengths same;
+    }
+
+    by : (verdict : Verdict) → BothTell (event_in (judged_plan row initiator code (running_reached one) verdict)) (event_in (judged_plan row initiator code (running_reached two) verdict))
+    by (Denied rule) = ended rule
+    by Step = record { like = equal-itself row.number; long = refl }
+    by Checkpoint = ended A6
+
 -- what is told of two steps with one answer, which have as many outputs
 pub both-tell : (layout : Layout) (row : RunRow) (one two : TurnStep) (worked : Worked) → length one.lengths ≡ length two.lengths → BothTell (event_in (told_by layout row one worked)) (event_in (told_by layout row two worked))
 both-tell layout row one two (Went taken) same = tt
@@ -93,10 +114,7 @@ both-tell layout row one two (Rewrite place image taken) same = record {
       ∙ ap (λ n. 20 + 4 * n + length image) (sym same)
       ∙ sym (rewritten-long row.number one.taken one.writes place one.lengths image);
 }
-both-tell layout row one two (Abend code) same = record {
-  like = equal-itself row.number;
-  long = coded-long row.number one.writes two.writes (rule_number (rule_for layout row code)) code one.lengths two.lengths same;
-}
+both-tell layout row one two (Abend code) same = code-tell row (initiator_of row) code one two same (verdict_for layout row code)
 
 pub told-by-both : (one two : Option Event) → BothTell one two → (foretold : Event) → one ≡ Some foretold → IsTold foretold two
 told-by-both None two both foretold is = absurd (some-not-none foretold (sym is))
@@ -251,7 +269,15 @@ module _ (layout : Layout) (jobs : JobsView) (image : List ℕ) (desk : DeskMode
         (subst (λ (l : Layout). BothTell (event_in (told_by l p.stands.row (running_of desk.office.tables on) (Abend code))) (work_of run desk).event) stands.layout_is
         (subst (λ (done : TurnDone). BothTell (event_in (told_by desk.layout p.stands.row (running_of desk.office.tables on) (Abend code))) done.event)
         (sym (work-found layout jobs image desk turn run on stands planned found (end_coded on.step.state code taken ends-so.0) ends-so.1))
-        (both-tell desk.layout p.stands.row (running_of desk.office.tables on) (seen desk.office p.stands.row.number (open_at on.step.state taken ends-so.0)) (Abend code) (as-many-seen (open_at on.step.state taken ends-so.0)))))
+        (subst (BothTell (event_in (told_by desk.layout p.stands.row (running_of desk.office.tables on) (Abend code))))
+        (event-done (told_by desk.layout p.stands.row behind (Abend code)) (with_progress p.stands.row.number progress desk))
+        (both-tell desk.layout p.stands.row (running_of desk.office.tables on) behind (Abend code) (as-many-seen progress)))))
+      where
+        progress : StepProgress
+        progress = open_at on.step.state taken ends-so.0
+
+        behind : TurnStep
+        behind = seen desk.office p.stands.row.number progress
 
   -- ---- whatever the answer
 

@@ -12,6 +12,7 @@ use Rattle.ckr_base.proofs.Options.{option-cases, some-not-none}
 use Rattle.ckr_events.specs.declared.event.Event.TheVariants.{Started as StartedEvent, Ended as EndedEvent}
 use Rattle.ckr_events.specs.declared.event.Ending.TheVariants.{Completed as CompletedEnding}
 use Rattle.ckr_events.specs.declared.event.Made.{Made}
+use Rattle.ckr_desk_turn.proofs.Codes.{by-verdict}
 use Rattle.ckr_desk_turn.proofs.NextEvents.BetweenSteps.{row_of_found}
 use Rattle.ckr_desk_turn.specs.Invariant.{IsDesk}
 use Rattle.ckr_meaning.specs.declared.place.Place.{Place}
@@ -23,7 +24,7 @@ use Rattle.ckr_points.specs.Rows.{RunRow, run_of, step_of_run}
 use Rattle.ckr_rules.specs.RuleTables.{suppresses}
 use Rattle.ckr_desk_turn.specs.Allocation.{allocation_of}
 use Rattle.ckr_desk_turn.specs.Select.{is_on, next_run, run_on_initiator}
-use Rattle.ckr_desk_turn.specs.Codes.{code_plan, reached_by}
+use Rattle.ckr_desk_turn.specs.Codes.{CodePlaceModel, code_plan, initiator_of, reached_by}
 use Rattle.ckr_desk_turn.specs.declared.plan.Plan.{Plan}
 use Rattle.ckr_desk_turn.specs.declared.plan.Plan.TheVariants.{Rest, Tell, Work, Pass, Take}
 use Rattle.ckr_desk_turn.specs.declared.reply.How.TheVariants.{Completed}
@@ -66,12 +67,17 @@ module _ (layout : Layout) (jobs : TurnJobs) (run : ℕ) (due : NextDue) (takes 
   never : {A : Type 0} (plan : Plan) → asked_in plan ≡ None → Asks plan → A
   never plan isnt e = absurd (some-not-none _ (sym e.0 ∙ isnt))
 
+  -- a code is told
+  code-none : (row : RunRow) (initiator : ℕ) (code : Code) (reached : CodePlaceModel) → asked_in (code_plan layout row initiator code reached) ≡ None
+  code-none row initiator code reached =
+      by-verdict (λ plan. asked_in plan ≡ None) layout row initiator code reached (λ rule ends. refl) (λ judged. refl)
+
   chosen-none : (initiator : ℕ) (row : RunRow) → asked_in (chosen_plan layout jobs initiator row) ≡ None
   chosen-none initiator row = by row.code
     where
       by : (code : Option Code) → asked_in (chosen_plan layout jobs initiator (record row { code = code })) ≡ None
       by None = refl
-      by (Some code) = refl
+      by (Some code) = code-none (record row { code = Some code }) initiator code (reached_by jobs (record row { code = Some code }))
 
   free-none : (initiator : ℕ) (fail : Option Code) → asked_in (free_plan layout jobs initiator fail) ≡ None
   free-none initiator (Some code) = refl
@@ -142,15 +148,16 @@ module _ (layout : Layout) (jobs : TurnJobs) (run : ℕ) (due : NextDue) (takes 
     fail-works None e = placed-works (place_of row) refl e
     fail-works (Some code) e = never (fail_plan layout jobs row (Some code)) (by (is_within (place_of row))) e
       where
-        by : (b : Bool) → asked_in (elim b as (λ _. Plan) [ true ↦ code_plan layout row code (reached_by jobs row) | false ↦ Rest NothingToFail ]) ≡ None
-        by true = refl
+        by : (b : Bool) → asked_in (elim b as (λ _. Plan) [ true ↦ code_plan layout row (initiator_of row) code (reached_by jobs row) | false ↦ Rest NothingToFail ]) ≡ None
+        by true = code-none row (initiator_of row) code (reached_by jobs row)
         by false = refl
 
     run-works : (fail : Option Code) → Asks (run_plan layout jobs fail row) → Works jobs row run due takes
     run-works fail e = by (is_failed jobs row.number) e
       where
-        by : (b : Bool) → Asks (elim b as (λ _. Plan) [ true ↦ code_plan layout row system_failure (reached_by jobs row) | false ↦ fail_plan layout jobs row fail ]) → Works jobs row run due takes
-        by true e = never (code_plan layout row system_failure (reached_by jobs row)) refl e
+        by : (b : Bool) → Asks (elim b as (λ _. Plan) [ true ↦ code_plan layout row (initiator_of row) system_failure (reached_by jobs row) | false ↦ fail_plan layout jobs row fail ]) → Works jobs row run due takes
+        by true e =
+            never (code_plan layout row (initiator_of row) system_failure (reached_by jobs row)) (code-none row (initiator_of row) system_failure (reached_by jobs row)) e
         by false e = fail-works fail e
 
 -- the run of a turn that works

@@ -40,7 +40,7 @@ reply-done (Work job) desk = refl
 reply-done (Pass job reply) desk = refl
 reply-done (Take job) desk = refl
 
-event-done : (plan : Plan) (desk : DeskModel) → event_in plan ≡ (done_by plan desk).event
+pub event-done : (plan : Plan) (desk : DeskModel) → event_in plan ≡ (done_by plan desk).event
 event-done (Rest reply) desk = refl
 event-done (Tell reply event) desk = refl
 event-done (Work job) desk = refl

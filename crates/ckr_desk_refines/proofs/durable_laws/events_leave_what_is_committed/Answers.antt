@@ -1,4 +1,5 @@
 use Rattle.ckr_desk_refines.proofs.Durable.Events.{cancelled-stays, completed-stays, purged-stays, refused-stays, submitted-stays}
+use Rattle.ckr_desk_refines.proofs.Durable.Restart.{restarted-stays}
 use Rattle.ckr_desk_refines.proofs.Durable.Start.{selected-stays, started-stays}
 use Rattle.ckr_desk_refines.proofs.durable_laws.events_leave_what_is_committed.Goals as goal
 
@@ -13,6 +14,9 @@ returns-clause-started c = started-stays
 
 pub returns-clause-cancelled : goal.returns-clause-cancelled
 returns-clause-cancelled c = cancelled-stays
+
+pub returns-clause-restarted : goal.returns-clause-restarted
+returns-clause-restarted c = restarted-stays
 
 pub returns-clause-completed : goal.returns-clause-completed
 returns-clause-completed c = completed-stays

@@ -8,5 +8,5 @@ returns c = record {
   effect = λ layout front more are on. (sound-entries layout front more are on).1;
   plain = sound-plain;
   checks = λ layout now job taken writes place bytes id lengths deck kept has may. check-dd layout now kept has job taken writes place bytes id lengths deck may;
-  others = λ layout now event deck on kept next. reach-next layout now kept event deck on next;
+  others = λ layout now event deck on kept pointed ready next. reach-next layout now kept event deck on pointed ready next;
 }

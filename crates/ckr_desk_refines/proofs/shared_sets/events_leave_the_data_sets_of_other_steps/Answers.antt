@@ -1,4 +1,5 @@
 use Rattle.ckr_desk_refines.proofs.Durable.Fellows.{others-cancelled, others-coded, others-completed, others-purged, others-refused, others-rewritten, others-selected, others-started, others-step-ended, others-submitted}
+use Rattle.ckr_desk_refines.proofs.Durable.Restart.{others-restarted}
 use Rattle.ckr_desk_refines.proofs.Durable.SharedSets.{step-others}
 use Rattle.ckr_desk_refines.proofs.shared_sets.events_leave_the_data_sets_of_other_steps.Goals as goal
 
@@ -16,6 +17,9 @@ returns-clause-cancelled c = others-cancelled
 
 pub returns-clause-step_ended : goal.returns-clause-step_ended
 returns-clause-step_ended c = others-step-ended
+
+pub returns-clause-restarted : goal.returns-clause-restarted
+returns-clause-restarted c = others-restarted
 
 pub returns-clause-completed : goal.returns-clause-completed
 returns-clause-completed c = others-completed

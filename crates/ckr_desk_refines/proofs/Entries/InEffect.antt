@@ -1,0 +1,101 @@
+-- The entry of a checkpoint in effect is read with a state that stands for what it says in its run's own job.
+use Rattle.std.proofs.Common.{◌≡◌, ◌≤◌, ℕ, false, true, List, ap, sym, ◌∙◌, subst, Option, Some, None}
+use Rattle.std.specs.Prelude.{◌==◌, find, length, nat_le}
+use Rattle.std.specs.List.{AllByRecursion}
+use Rattle.std.specs.Option.{option_map_or}
+use Rattle.ckr_base.proofs.Bools.{and-first}
+use Rattle.ckr_base.proofs.Numbers.{nat_le-true}
+use Rattle.ckr_base.proofs.Options.{option-cases, some-not-none, some-one}
+use Rattle.ckr_entry.specs.declared.point.State.{State}
+use Rattle.ckr_library.specs.NameMaps.{entry_at}
+use Rattle.ckr_meaning.specs.JobRun.{start_at}
+use Rattle.ckr_meaning.specs.Program.{records_taken, upto}
+use Rattle.ckr_meaning.specs.States.{StandsFor}
+use Rattle.ckr_meaning.specs.StepRun.{StepStart, case_at}
+use Rattle.ckr_points.specs.Office.{Leg, Office, leg_of}
+use Rattle.ckr_points.specs.Payload.{carries_taken}
+use Rattle.ckr_points.specs.Restart.{kept_at}
+use Rattle.ckr_points.specs.Rows.{EffectPoint, KeptEntry, RunRow, TableSet, run_of}
+use Rattle.ckr_points_invariant.specs.Invariant.{IsHolder, IsKept, step_now}
+use Rattle.ckr_points_invariant.specs.Readiness.{AreReady, IsCheck}
+use Rattle.ckr_points_invariant.proofs.PlainRuns.Readiness.{kept-entry}
+use Rattle.ckr_points_invariant.proofs.Steps.Events.{led-by}
+use Rattle.ckr_steps.specs.Units.{AreServed, is_closed}
+use Rattle.ckr_volumes.specs.declared.layout.Layout.{Layout}
+use Rattle.ckr_desk_turn.specs.Desk.{effect_entry, start_of}
+use Rattle.ckr_desk_turn.specs.EntryStates.{checkpoint_state}
+use Rattle.ckr_desk_refines.specs.Entries.{HasEntries, IsReadBack, IsReadInEffect, IsStateOfJob, jobs_of}
+use Rattle.ckr_desk_refines.specs.EntryRefusal.{AreInEffect, IsInEffect}
+use Rattle.ckr_desk_refines.proofs.Entries.Images.{read-back}
+use Rattle.ckr_desk_refines.proofs.Entries.Refusal.{kept-table}
+use Rattle.ckr_desk_refines.proofs.Entries.States.{state-served, state-stands, state-unclosed}
+
+-- a state of an entry's job at a step of that job
+state-of : (legs : List Leg) (entry : KeptEntry) (state : State) (leg : Leg) (start : StepStart) → find (λ (leg : Leg). leg.number == entry.point.run) legs ≡ Some leg → start_at leg.job leg.start entry.point.step ≡ Some start → (its : IsStateOfJob legs entry state) → state ≡ checkpoint_state (case_at start) entry.point.taken its.entries
+state-of legs entry state leg start led begun its =
+    its.is
+    ∙ ap (λ (s : StepStart). checkpoint_state (case_at s) entry.point.taken its.entries)
+    (some-one its.start start (start_at leg.job leg.start entry.point.step)
+    (ap (λ (leg : Leg). start_at leg.job leg.start entry.point.step) (some-one leg its.leg (find (λ (leg : Leg). leg.number == entry.point.run) legs) led its.led) ∙ its.begun) begun)
+
+module _ (layout : Layout) (office : Office) (image : List ℕ) (kept : IsKept layout office) (ready : AreReady office) (are : AreInEffect office.tables) (has : HasEntries layout office image) where
+  module _ (number : ℕ) (row : RunRow) (entry : KeptEntry) (start : StepStart) (e : run_of office.tables number ≡ Some row) (got : effect_entry office.tables row ≡ Some entry) (starts : start_of office row ≡ Some start) where
+    read-by : (effect : EffectPoint) → row.in_effect ≡ Some effect → kept_at office.tables.sets effect.set effect.kept.id ≡ Some entry → IsReadInEffect layout office image row entry start
+    read-by effect is there =
+        led-by layout office number row kept.events e its.holds
+        (λ leg holder.
+        let same : back.state ≡ checkpoint_state (case_at start) entry.point.taken back.of_job.entries = state-of office.legs entry back.state leg start (led leg holder) (begun leg holder) back.of_job in
+        record {
+          effect = effect;
+          got = is;
+          table = table.0;
+          at = table.1;
+          state = back.state;
+          read = back.read;
+          stands = subst (λ state. StandsFor state (case_at start) entry.point.taken) (sym same) (state-stands (case_at start) entry.point.taken back.of_job.entries (taken leg holder));
+          unclosed = ap is_closed same ∙ state-unclosed (case_at start) entry.point.taken back.of_job.entries;
+          served = subst (AreServed true false) (sym same) (state-served (case_at start) entry.point.taken back.of_job.entries);
+        })
+      where
+        its : IsInEffect office.tables row effect
+        its = are number row effect e is
+
+        same_entry : its.entry ≡ entry
+        same_entry = some-one its.entry entry (kept_at office.tables.sets effect.set effect.kept.id) its.at there
+
+        table : (table : TableSet) × (entry_at office.tables.sets effect.set ≡ Some table) × ((P : KeptEntry → Type 0) → AllByRecursion P table.entries → P entry)
+        table = kept-table office.tables.sets effect.set effect.kept.id entry there
+
+        back : IsReadBack layout office.legs (jobs_of office.tables) image table.0.set entry
+        back = table.2 (IsReadBack layout office.legs (jobs_of office.tables) image table.0.set) (read-back layout office image has effect.set table.0 table.1)
+
+        step_is : entry.point.step ≡ step_now row
+        step_is = ap (λ (entry : KeptEntry). entry.point.step) (sym same_entry) ∙ its.step
+
+        number_is : row.number ≡ number
+        number_is = kept.events.numbered number row e
+
+        led : (leg : Leg) → IsHolder office number row leg → find (λ (leg : Leg). leg.number == entry.point.run) office.legs ≡ Some leg
+        led leg holder = ap (leg_of office) (ap (λ (entry : KeptEntry). entry.point.run) (sym same_entry) ∙ its.run ∙ number_is) ∙ holder.leg_at
+
+        own_start : (leg : Leg) → IsHolder office number row leg → start_at leg.job leg.start (step_now row) ≡ Some start
+        own_start leg holder =
+            sym (ap (λ (o : Option Leg). option_map_or (λ leg. start_at leg.job leg.start (step_now row)) o None) (ap (leg_of office) number_is ∙ holder.leg_at)) ∙ starts
+
+        begun : (leg : Leg) → IsHolder office number row leg → start_at leg.job leg.start entry.point.step ≡ Some start
+        begun leg holder = ap (start_at leg.job leg.start) step_is ∙ own_start leg holder
+
+        -- its program takes so many records
+        taken : (leg : Leg) → IsHolder office number row leg → entry.point.taken ≤ records_taken (case_at start)
+        taken leg holder =
+            let check : IsCheck office.tables.sets row leg effect = (ready.runs number row leg holder).check effect its.within is in
+            let same : check.entry ≡ entry = some-one check.entry entry (kept_at office.tables.sets effect.set effect.kept.id) (kept-entry office.tables.sets effect.set effect.kept.id check.entry check.keeps) there in
+            nat_le-true entry.point.taken (records_taken (case_at start))
+            (and-first (nat_le entry.point.taken (records_taken (case_at start))) (entry.point.writes == length (upto (case_at start) entry.point.taken))
+            (subst (λ (entry : KeptEntry). carries_taken entry.point.taken entry.point.writes start ≡ true) same (check.taken start (own_start leg holder))))
+
+    pub effect-read : IsReadInEffect layout office image row entry start
+    effect-read =
+        option-cases row.in_effect
+        (λ none. absurd (some-not-none entry (sym got ∙ ap (λ (o : Option EffectPoint). option_map_or (λ effect. kept_at office.tables.sets effect.set effect.kept.id) o None) none)))
+        (λ effect is. read-by effect is (sym (ap (λ (o : Option EffectPoint). option_map_or (λ effect. kept_at office.tables.sets effect.set effect.kept.id) o None) is) ∙ got))

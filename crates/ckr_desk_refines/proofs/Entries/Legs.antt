@@ -1,0 +1,42 @@
+-- What an office has behind an event: the tables of the event, and the legs of the runs, which stay where no run continues another one.
+use Rattle.std.proofs.Common.{◌≡◌, ◌≢◌, ℕ, zero, suc, false, true, List, refl, sym, ◌∙◌, ap, Option, Some}
+use Rattle.std.specs.Prelude.{find, ◌==◌}
+use Rattle.std.proofs.lemmas.Bool.{false≢true}
+use Rattle.ckr_base.proofs.Options.{some-not-none}
+use Rattle.ckr_events.specs.declared.event.Event.{Event}
+use Rattle.ckr_events.specs.declared.event.Event.TheVariants.{Ended, Selected}
+use Rattle.ckr_jcl.specs.declared.deck.Job.{Job}
+use Rattle.ckr_library.specs.NameMaps.{Name}
+use Rattle.ckr_points.specs.Office.{Leg, Office, leg_of, office_after}
+use Rattle.ckr_points.specs.Restart.{after_event}
+use Rattle.ckr_points.specs.Soundness.{may_come}
+use Rattle.ckr_points_invariant.specs.Invariant.{IsAgreed}
+use Rattle.ckr_points_invariant.specs.PlainRuns.{continues}
+use Rattle.ckr_points_invariant.proofs.Select.Invariant.{led_there, waits}
+use Rattle.ckr_points_invariant.proofs.WaitingRuns.{by-selected}
+use Rattle.ckr_volumes.specs.declared.layout.Layout.{Layout}
+
+-- the tables of the office behind an event
+pub tables-behind : (now : Office) (event : Event) (deck : Option Job) → (office_after (event, deck) now).tables ≡ after_event event deck now.tables
+tables-behind now (Selected job initiator earlier step id) deck = refl
+tables-behind now (Ended job ending) deck = refl
+tables-behind now event deck = refl
+
+-- a run's leg among some is its leg among others
+abbrev pub KeepLegs : List Leg → List Leg → Type 0
+KeepLegs legs later = (run : ℕ) (leg : Leg) → find (λ (one : Leg). one.number == run) legs ≡ Some leg → find (λ (one : Leg). one.number == run) later ≡ Some leg
+
+module _ (layout : Layout) (now : Office) (agreed : IsAgreed layout now) where
+  -- a run that is selected had none
+  legs-selected : (job initiator step : ℕ) (id : Option Name) (deck : Option Job) → may_come layout now (Selected job initiator 0 step id, deck) ≡ true → KeepLegs now.legs (office_after (Selected job initiator 0 step id, deck) now).legs
+  legs-selected job initiator step id deck may =
+      by-selected (λ (later : Office). KeepLegs now.legs later.legs) layout now job initiator step id deck agreed may
+      (λ row row_at queued plain free run leg led.
+      let apart : run ≢ row.number = λ same. some-not-none leg (sym led ∙ ap (leg_of now) same ∙ (waits layout now row initiator agreed row_at queued plain free).alone) in
+      led_there layout now row initiator agreed row_at queued plain free run apart ∙ led)
+
+  pub legs-stay : (event : Event) (deck : Option Job) → continues event ≡ false → may_come layout now (event, deck) ≡ true → KeepLegs now.legs (office_after (event, deck) now).legs
+  legs-stay (Selected job initiator zero step id) deck on may = legs-selected job initiator step id deck may
+  legs-stay (Selected job initiator (suc before) step id) deck on may = absurd (false≢true (sym on))
+  legs-stay (Ended job ending) deck on may = λ run leg led. led
+  legs-stay event deck on may = λ run leg led. led
