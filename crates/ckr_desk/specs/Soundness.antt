@@ -52,7 +52,8 @@ desk_opening image size = desk_of_opened image (opening_of image size)
 -- ---- sound images
 
 -- An image opens, so that its events are those of what the desk runs; each of them may come and carries what its job gives; and the image
--- has what they have committed, once the record is written again that the last of them tells, and the entries of checkpoints that they keep.
+-- has what they have committed, once the record is written again that the last of them tells, and the entries of checkpoints that they keep,
+-- each with the state that its program had there.
 pub record Sound (size : ℕ) (image : List ℕ) : Type 0 where
   pub layout : Layout
   pub room : ℕ
@@ -60,7 +61,7 @@ pub record Sound (size : ℕ) (image : List ℕ) : Type 0 where
   pub events : AreSound layout (events_in (event_records layout image))
   pub committed : HasCommittedAgain layout (office_on layout image) (last_on layout image) image
   pub last : HasLast (office_on layout image) (last_on layout image)
-  pub entries : HasEntries layout (office_on layout image).tables image
+  pub entries : HasEntries layout (office_on layout image) image
 
 -- a disk tells what it holds, and whatever a stop leaves of it is sound
 pub record AllSound {D : Type 0} (told : Type 0) (may_leave : D → List ℕ → Type 0) (size : D → ℕ) (disk : D) : Type 0 where
@@ -95,8 +96,8 @@ module _ {D : Type 0} (told : Type 0) (content : D → List ℕ) (may_leave : D 
     pub stands : StandsForDesk desk.store.layout desk.jobs (content desk.store.disk) (state_of content desk).desk
     pub last : HasLast (office_on desk.store.layout (content desk.store.disk)) (last_on desk.store.layout (content desk.store.disk))
     pub committed : (image : List ℕ) → may_leave desk.store.disk image → HasCommitted desk.store.layout (office_on desk.store.layout (content desk.store.disk)) image
-    pub entries : HasEntries desk.store.layout (office_on desk.store.layout (content desk.store.disk)).tables (content desk.store.disk)
-    pub entries_left : (image : List ℕ) → may_leave desk.store.disk image → HasEntries desk.store.layout (office_on desk.store.layout (content desk.store.disk)).tables image
+    pub entries : HasEntries desk.store.layout (office_on desk.store.layout (content desk.store.disk)) (content desk.store.disk)
+    pub entries_left : (image : List ℕ) → may_leave desk.store.disk image → HasEntries desk.store.layout (office_on desk.store.layout (content desk.store.disk)) image
 
 module _ {D : Type 0} (content : D → List ℕ) (moment : D → ℕ) (left_since : D → ℕ → List ℕ → Type 0) (size : D → ℕ) where
   -- a stop at any moment from one desk to the other leaves such an image

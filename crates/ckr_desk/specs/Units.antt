@@ -142,7 +142,7 @@ abbrev pub IsTried : Reply → Type 0
 IsTried (Checkpointed job step code id) = IsTriedCode code
 IsTried _ = ⊥
 
--- whether it tells an event that needs memory: one that submits a run, starts or ends a step, ends a run or keeps an entry
+-- whether it tells an event that needs memory: one that submits a run, starts or ends a step, restarts or ends a run, or keeps an entry
 abbrev pub needs_some : Option Event → Bool
 needs_some event = option_map_or needs_room event false
 

@@ -19,7 +19,7 @@ impl<D: Disk> Desk<D> {
     /// One turn of an initiator, from 1 to the layout's number of them: one event of the desk, one unit of a running step, or one checkpoint
     /// of it (IBM GC28-6708; the order of what comes first is this project's profile).
     ///
-    /// `NoMemory`: on a trusted disk only where the turn starts or ends a step, ends a run or tries a checkpoint; a unit that works on finds its memory there, also one
+    /// `NoMemory`: on a trusted disk only where the turn starts or ends a step, restarts or ends a run, or tries a checkpoint; a unit that works on finds its memory there, also one
     /// that rewrites a record. `BookFull`: exactly where the event of the turn needs more than the room of the book, and there was memory. Nothing has changed
     /// after these two: a unit is looked at before it is done. `DiskFault`: only where the disk's faults rose in this call; then the desk has stopped. `Stopped`:
     /// exactly where it had stopped before.

@@ -17,9 +17,9 @@ use Rattle.ckr_desk_refines.specs.Entries.{HasEntries}
 use Rattle.ckr_outside.specs.Disk.{Only}
 use Rattle.ckr_points.specs.declared.run.RunState.TheVariants.{Queued}
 use Rattle.ckr_points.specs.Events.{IsNext}
-use Rattle.ckr_points.specs.Office.{office_after}
+use Rattle.ckr_points.specs.Office.{Office, office_after}
 use Rattle.ckr_points.specs.Restart.{after_event}
-use Rattle.ckr_points.specs.Rows.{RunRow, TablesModel, run_of}
+use Rattle.ckr_points.specs.Rows.{RunRow, run_of}
 use Rattle.ckr_desk_refines.specs.RewriteRecord.{RewriteRecord, rewrite_of}
 use Rattle.ckr_desk_refines.specs.Moves.{HasSameRecords, HaveMoved}
 use Rattle.ckr_desk_refines.specs.Standing.{StandsForDesk}
@@ -56,7 +56,7 @@ module _ {D : Type 0} (told : Type 0) (content : D → List ℕ) (may_leave : D 
     pub runs : is_run_by event deck ≡ true
     pub plain : is_forward_event event ≡ true
     pub quiet : (tables : _) → rewrite_of tables event ≡ None
-    pub takes : (tables : TablesModel) (image : List ℕ) → HasNewOne layout tables event image
+    pub takes : (now : Office) (image : List ℕ) → HasNewOne layout now event image
     pub next : IsNext layout desk.office (event, deck)
     pub kept : IsDesk (behind event deck desk)
     pub stand : (new : DeskView D) → HaveMoved event deck old.jobs new.jobs → HasSameRecords layout (content old.store.disk) (content new.store.disk)
@@ -77,10 +77,10 @@ module _ {D : Type 0} (told : Type 0) (content : D → List ℕ) (may_leave : D 
     }
 
     -- an image with the same records has the entries behind it
-    entries-so : may_keep event deck old ≡ true → (image : List ℕ) → HasSameRecords layout (content old.store.disk) image → HasEntries layout (behind event deck desk).office.tables image
+    entries-so : may_keep event deck old ≡ true → (image : List ℕ) → HasSameRecords layout (content old.store.disk) image → HasEntries layout (behind event deck desk).office image
     entries-so might image same =
         behind-same told content may_leave old trusted event (behind event deck desk) (coming might) (content old.store.disk) image
-        (its.takes desk.office.tables (content old.store.disk)) trusted.entries same
+        (its.takes desk.office (content old.store.disk)) trusted.entries same
 
     behind-so : (new : DeskView D) → new.store.layout ≡ layout → HasGoneOn event deck old new
         → event_records layout (content new.store.disk) ≡ event_records layout (content old.store.disk) ++ spelling event ∷ []
@@ -141,7 +141,7 @@ module _ {D : Type 0} (told : Type 0) (content : D → List ℕ) (may_leave : D 
         runs = and_from (is_run deck) _ runs fit;
         plain = refl;
         quiet = λ tables. refl;
-        takes = λ tables image. tt;
+        takes = λ now image. tt;
         next = subst (λ n. IsNext layout desk.office (Submitted n (kept_of_stored cards), Some deck)) (sym number) (stored-comes desk cards deck some accepted);
         kept = subst (λ n. IsDesk (behind (Submitted n (kept_of_stored cards)) (Some deck) desk)) (sym number)
             (stored-keeps desk trusted.stands.is_desk cards deck some accepted runs);
@@ -165,7 +165,7 @@ module _ {D : Type 0} (told : Type 0) (content : D → List ℕ) (may_leave : D 
         runs = refl;
         plain = refl;
         quiet = λ tables. refl;
-        takes = λ tables image. tt;
+        takes = λ now image. tt;
         next = record { may = purged_comes desk job row there queued; carried = refl };
         kept = purged-keeps desk trusted.stands.is_desk job row there queued;
         stand = λ new moved records. purged-stands layout old.jobs new.jobs (content old.store.disk) (content new.store.disk) desk job row trusted.stands there queued moved records;

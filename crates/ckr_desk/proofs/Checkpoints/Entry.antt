@@ -114,7 +114,7 @@ module _ {D : Type 0} (told : Type 0) (content : D → List ℕ) (may_leave : D 
   left-committed : (from left : List ℕ) → IsWrittenBehind layout office run count from left → HasCommitted layout office from → HasCommitted layout office left
   left-committed from left behind committed = committed-before layout old.jobs image desk turn run on to made.event event-is from left count committed behind
 
-  left-entries : (from left : List ℕ) → IsWrittenBehind layout office run count from left → HasEntries layout office.tables from → HasEntries layout office.tables left
+  left-entries : (from left : List ℕ) → IsWrittenBehind layout office run count from left → HasEntries layout office from → HasEntries layout office left
   left-entries from left behind entries = entries-before layout old.jobs image desk turn run on to made.event event-is from left count (within-now told content may_leave old trusted) entries behind
 
   -- what a stop leaves meanwhile
@@ -133,7 +133,7 @@ module _ {D : Type 0} (told : Type 0) (content : D → List ℕ) (may_leave : D 
     pub committed-after : HasCommitted layout office after
     committed-after = left-committed image after behind-after trusted.stands.committed
 
-    pub entries-after : HasEntries layout office.tables after
+    pub entries-after : HasEntries layout office after
     entries-after = left-entries image after behind-after trusted.entries
 
     -- its bytes are those of an entry
@@ -150,7 +150,7 @@ module _ {D : Type 0} (told : Type 0) (content : D → List ℕ) (may_leave : D 
         (wrote.entry trusted.tells))
 
     -- and with its event the disk has the entries that the tables keep
-    pub entries-then : HasEntries layout (taken_of run desk).desk.office.tables after
+    pub entries-then : HasEntries layout (taken_of run desk).desk.office after
     unfolding behind-from behind-after
     entries-then =
         entries-behind layout old.jobs image desk turn run on to made.event event-is after after count behind-after progress (known layout old.jobs image desk turn run on to) is-entry entry-there entries-after

@@ -157,9 +157,9 @@ module _ {D : Type 0} (told : Type 0) (content : D → List ℕ) (may_leave : D 
         ∙ might
 
     -- an image with the same records, and with the event
-    entries-so : may_keep event None old ≡ true → (left : List ℕ) → HasSameRecords layout after left → HasEntries layout later.office.tables left
+    entries-so : may_keep event None old ≡ true → (left : List ℕ) → HasSameRecords layout after left → HasEntries layout later.office left
     entries-so might left same =
-        has-then layout later.office.tables after left (within-then told content may_leave old trusted event later (coming might))
+        has-then layout later.office after left (within-then told content may_leave old trusted event later (coming might))
         (moved-kept layout later.office.tables.sets (laid-then told content may_leave old trusted event later (coming might)) after left same)
         (entries-then told content may_leave moment left_since size old trusted turn its run planned made is mid wrote)
 

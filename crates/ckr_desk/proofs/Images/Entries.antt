@@ -28,14 +28,15 @@ use Rattle.ckr_library.proofs.Named.{each-at}
 use Rattle.ckr_points.specs.Events.{AreSound}
 use Rattle.ckr_points.specs.Office.{Office, is_holder, office, office_after}
 use Rattle.ckr_points.specs.Restart.{after_event}
-use Rattle.ckr_points.specs.Rows.{EffectPoint, KeptEntry, RunRow, TableSet, TablesModel, no_tables, run_of}
-use Rattle.ckr_points.specs.Soundness.{AreLaidOut}
+use Rattle.ckr_points.specs.Rows.{EffectPoint, KeptEntry, RunRow, TableSet, TablesModel, no_tables}
+use Rattle.ckr_points.specs.Soundness.{AreLaidOut, may_come}
 use Rattle.ckr_points_invariant.proofs.EventList.{office-more}
-use Rattle.ckr_points_invariant.specs.Continuations.{NoneGoesBack, goes_back}
+use Rattle.ckr_points_invariant.specs.Invariant.{IsAgreed}
+use Rattle.ckr_points_invariant.specs.PlainRuns.{NoneContinues, continues}
 use Rattle.ckr_volumes.specs.Layouts.{StandsIn}
 use Rattle.ckr_volumes.specs.declared.layout.Layout.{Layout}
 use Rattle.ckr_desk.proofs.Images.NextEvent.{events-more, opens-grown, replayed-so, sound-grown}
-use Rattle.ckr_desk.proofs.Openings.RunRecords.{never-back, none-back, run-records, went-on}
+use Rattle.ckr_desk.proofs.Openings.RunRecords.{never-continues, none-continues, run-records, went-on}
 use Rattle.ckr_desk.proofs.Trust.Events.{IsComing}
 use Rattle.ckr_desk.specs.Entries.{ArePlaced, bad_entry, effect_refusal, has_places, is_placed, run_refusal}
 use Rattle.ckr_desk.specs.Opening.{behind_records}
@@ -91,11 +92,11 @@ module _ (layout : Layout) (records : List (List ℕ)) (tables : TablesModel) (s
   run : AreRunEvents (events_in records)
   run = run-records layout no_tables 0 records tables brings
 
-  none-goes : NoneGoesBack (events_in records)
-  none-goes = none-back (events_in records) run
+  none-other : NoneContinues (events_in records)
+  none-other = none-continues (events_in records) run
 
   kept-within : AreWithin (office (events_in records)).tables.sets × AreInEffect (office (events_in records)).tables
-  kept-within = sound-entries layout (events_in records) [] (subst (AreSound layout) (sym (append-nil (events_in records))) sound) (subst NoneGoesBack (sym (append-nil (events_in records))) none-goes)
+  kept-within = sound-entries layout (events_in records) [] (subst (AreSound layout) (sym (append-nil (events_in records))) sound) (subst NoneContinues (sym (append-nil (events_in records))) none-other)
 
   pub are-within : AreWithin (office (events_in records)).tables.sets
   are-within = kept-within.0
@@ -105,31 +106,31 @@ module _ (layout : Layout) (records : List (List ℕ)) (tables : TablesModel) (s
       sound-plain layout (events_in records) [] (subst (AreSound layout) (sym (append-nil (events_in records))) sound) (subst AreRunEvents (sym (append-nil (events_in records))) run)
 
   -- none of the entries is refused
-  pub none-bad : (image : List ℕ) → HasEntries layout (office (events_in records)).tables image → bad_entry layout (office (events_in records)).tables image ≡ None
+  pub none-bad : (image : List ℕ) → HasEntries layout (office (events_in records)) image → bad_entry layout (office (events_in records)).tables image ≡ None
   none-bad image has =
       placed-same layout (office (events_in records)).tables image
       (λ number row effect at is.
       effect-placed layout (office (events_in records)).tables (events-kept layout (events_in records) sound run).events.extents kept-within.0 row effect (kept-within.1 number row effect at is))
-      ∙ sound-refused layout (events_in records) image sound none-goes has
+      ∙ sound-refused layout (events_in records) image sound none-other has
 
 -- so it is with an image that has these records
 pub none-bad-on : (layout : Layout) (image : List ℕ) (tables : TablesModel) → AreSound layout (events_in (event_records layout image)) → behind_records layout no_tables 0 (event_records layout image) ≡ Ok tables
-    → HasEntries layout (office_on layout image).tables image → bad_entry layout (office_on layout image).tables image ≡ None
+    → HasEntries layout (office_on layout image) image → bad_entry layout (office_on layout image).tables image ≡ None
 unfolding office_on
 none-bad-on layout image tables sound brings has = none-bad layout (event_records layout image) tables sound brings image has
 
 -- ---- an event
 
 -- one by which a checkpoint is taken needs its entry
-abbrev pub HasNewOne : Layout → TablesModel → Event → List ℕ → Type 0
-HasNewOne layout tables (Checkpointed job id taken writes lengths place bytes) image = HasNewEntry layout tables (record { id = id; run = job; place = place; bytes = bytes }) taken writes lengths.items image
-HasNewOne layout tables _ image = Unit {0}
+abbrev pub HasNewOne : Layout → Office → Event → List ℕ → Type 0
+HasNewOne layout now (Checkpointed job id taken writes lengths place bytes) image = HasNewEntry layout now (record { id = id; run = job; place = place; bytes = bytes }) taken writes lengths.items image
+HasNewOne layout now _ image = Unit {0}
 
-module _ (layout : Layout) (tables : TablesModel) (numbered : (number : ℕ) (row : RunRow) → run_of tables number ≡ Some row → row.number ≡ number) (image : List ℕ) (has : HasEntries layout tables image) where
-  has-behind : (event : Event) (deck : Option Job) → goes_back event ≡ false → HasNewOne layout tables event image → HasEntries layout (after_event event deck tables) image
-  has-behind (Checkpointed job id taken writes lengths place bytes) deck on new = has-taken tables numbered id job taken writes place bytes lengths deck layout image has new
-  has-behind (Selected job initiator earlier step id) deck on new = has-next layout tables numbered image has (Selected job initiator earlier step id) deck on refl
-  has-behind event deck on new = has-next layout tables numbered image has event deck on refl
+module _ (layout : Layout) (now : Office) (agreed : IsAgreed layout now) (image : List ℕ) (has : HasEntries layout now image) where
+  has-behind : (event : Event) (deck : Option Job) → continues event ≡ false → may_come layout now (event, deck) ≡ true → HasNewOne layout now event image → HasEntries layout (office_after (event, deck) now) image
+  has-behind (Checkpointed job id taken writes lengths place bytes) deck on may new = has-taken layout now agreed.numbered id job taken writes place bytes lengths deck image has new
+  has-behind (Selected job initiator earlier step id) deck on may new = has-next layout now agreed image has (Selected job initiator earlier step id) deck on refl may
+  has-behind event deck on may new = has-next layout now agreed image has event deck on refl may
 
 -- ---- a trusted disk
 
@@ -148,10 +149,10 @@ module _ {D : Type 0} (told : Type 0) (content : D → List ℕ) (may_leave : D 
   within-now = are-within layout before old.jobs.tables.desk trusted.events trusted.opens
 
   -- an image with the same records of the data sets that keep entries
-  pub kept-has : (from image : List ℕ) → HasEntries layout office_now.tables from → SameKept layout office_now.tables.sets from image → HasEntries layout office_now.tables image
-  kept-has from image has same = has-then layout office_now.tables from image within-now same has
+  pub kept-has : (from image : List ℕ) → HasEntries layout office_now from → SameKept layout office_now.tables.sets from image → HasEntries layout office_now image
+  kept-has from image has same = has-then layout office_now from image within-now same has
 
-  pub same-has : (from image : List ℕ) → HasEntries layout office_now.tables from → HasSameRecords layout from image → HasEntries layout office_now.tables image
+  pub same-has : (from image : List ℕ) → HasEntries layout office_now from → HasSameRecords layout from image → HasEntries layout office_now image
   same-has from image has same = kept-has from image has (moved-kept layout office_now.tables.sets trusted.stands.is_desk.kept.events.extents from image same)
 
   module _ (event : Event) (desk : DeskModel) (coming : IsComing told content may_leave event old desk) where
@@ -180,19 +181,16 @@ module _ {D : Type 0} (told : Type 0) (content : D → List ℕ) (may_leave : D 
     pub laid-then : AreLaidOut layout desk.office.tables.sets
     laid-then = subst (λ (l : Layout). AreLaidOut l desk.office.tables.sets) coming.layout_is coming.is_desk.kept.events.extents
 
-    tables-are : after_event event (deck_of event) office_now.tables ≡ desk.office.tables
-    tables-are = sym (ap (λ (o : Office). o.tables) coming.office ∙ tables-behind office_now event (deck_of event))
-
     -- an image that had the entries before has them behind it
-    behind-has : (image : List ℕ) → HasNewOne layout office_now.tables event image → HasEntries layout office_now.tables image → HasEntries layout desk.office.tables image
+    behind-has : (image : List ℕ) → HasNewOne layout office_now event image → HasEntries layout office_now image → HasEntries layout desk.office image
     behind-has image new has =
-        subst (λ (t : TablesModel). HasEntries layout t image) tables-are
-        (has-behind layout office_now.tables trusted.stands.is_desk.kept.events.numbered image has event (deck_of event)
-        (never-back event (deck_of event) (went-on layout old.jobs.tables.desk event coming.goes)) new)
+        subst (λ (o : Office). HasEntries layout o image) (sym coming.office)
+        (has-behind layout office_now trusted.stands.is_desk.kept.events image has event (deck_of event)
+        (never-continues event (deck_of event) (went-on layout old.jobs.tables.desk event coming.goes)) coming.next.may new)
 
     -- and so has another one with the same records of the data sets that keep entries then
-    pub behind-kept : (from image : List ℕ) → HasNewOne layout office_now.tables event from → HasEntries layout office_now.tables from → SameKept layout desk.office.tables.sets from image → HasEntries layout desk.office.tables image
-    behind-kept from image new has same = has-then layout desk.office.tables from image within-then same (behind-has from new has)
+    pub behind-kept : (from image : List ℕ) → HasNewOne layout office_now event from → HasEntries layout office_now from → SameKept layout desk.office.tables.sets from image → HasEntries layout desk.office image
+    behind-kept from image new has same = has-then layout desk.office from image within-then same (behind-has from new has)
 
-    pub behind-same : (from image : List ℕ) → HasNewOne layout office_now.tables event from → HasEntries layout office_now.tables from → HasSameRecords layout from image → HasEntries layout desk.office.tables image
+    pub behind-same : (from image : List ℕ) → HasNewOne layout office_now event from → HasEntries layout office_now from → HasSameRecords layout from image → HasEntries layout desk.office image
     behind-same from image new has same = behind-kept from image new has (moved-kept layout desk.office.tables.sets laid-then from image same)

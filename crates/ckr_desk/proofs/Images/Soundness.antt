@@ -40,7 +40,7 @@ gate_or end opened is_open = cond is_open (Err (BadBook end)) (Ok opened)
 -- an image that opens to an office, and has what that has committed and the entries that its tables keep
 pub sound-at : (layout : Layout) (size : ℕ) (image : List ℕ) (office : Office) → header_of (take 512 image) size ≡ Ok layout → ends_closed (part 512 layout.book image)
     → office_on layout image ≡ office → behind_records layout no_tables 0 (event_records layout image) ≡ Ok office.tables
-    → AreSound layout (events_in (event_records layout image)) → HasCommittedAgain layout office (last_on layout image) image → HasLast office (last_on layout image) → HasEntries layout office.tables image → Sound size image
+    → AreSound layout (events_in (event_records layout image)) → HasCommittedAgain layout office (last_on layout image) image → HasLast office (last_on layout image) → HasEntries layout office image → Sound size image
 sound-at layout size image office head closed is brings events committed last entries =
     let bytes = part 512 layout.book image in
     let end = end_from 0 bytes in
@@ -50,12 +50,12 @@ sound-at layout size image office head closed is brings events committed last en
       room = layout.book - end;
       opens = by_its_book image size layout head ∙ ap (by_entries image) (ap (by_end layout bytes) brings ∙ ap (gate_or end its) closed)
           ∙ ap (refused_or its) (subst (λ (o : Office). bad_entry layout o.tables image ≡ None) is
-          (none-bad-on layout image office.tables events brings (subst (λ (o : Office). HasEntries layout o.tables image) (sym is) entries)))
+          (none-bad-on layout image office.tables events brings (subst (λ (o : Office). HasEntries layout o image) (sym is) entries)))
           ∙ ap (λ (o : Office). Ok (opened_at layout o.tables (layout.book - end))) (sym is);
       events = events;
       committed = subst (λ o. HasCommittedAgain layout o (last_on layout image) image) (sym is) committed;
       last = subst (λ o. HasLast o (last_on layout image)) (sym is) last;
-      entries = subst (λ (o : Office). HasEntries layout o.tables image) (sym is) entries;
+      entries = subst (λ (o : Office). HasEntries layout o image) (sym is) entries;
     }
 
 -- a record that is there may be written again
@@ -94,7 +94,7 @@ module _ {D : Type 0} (told : Type 0) (content : D → List ℕ) (may_leave : D 
   last-same image same = ap (λ records. last_event (events_in records)) same
 
   -- an image with the same events
-  pub kept-before : (came : List (List ℕ)) (image : List ℕ) → OpensSame content size old image → HasCommitted layout office_now image → HasEntries layout office_now.tables image
+  pub kept-before : (came : List (List ℕ)) (image : List ℕ) → OpensSame content size old image → HasCommitted layout office_now image → HasEntries layout office_now image
       → HasKept layout (size old.store.disk) before came image
   kept-before came image opens committed entries = record {
     sound = sound-at layout (size old.store.disk) image office_now opens.head opens.closed (office-same layout (content old.store.disk) image opens.list)
@@ -121,7 +121,7 @@ module _ {D : Type 0} (told : Type 0) (content : D → List ℕ) (may_leave : D 
   module _ (event : Event) (desk : _) (coming : IsComing told content may_leave event old desk) where
     -- an image with the event
     pub kept-behind : (image : List ℕ) → Opens layout (size old.store.disk) (λ records. records ≡ before ++ spelling event ∷ []) image → HasCommittedAgain layout desk.office (Some event) image
-        → HasEntries layout desk.office.tables image → HasKept layout (size old.store.disk) before (spelling event ∷ []) image
+        → HasEntries layout desk.office image → HasKept layout (size old.store.disk) before (spelling event ∷ []) image
     kept-behind image opens committed entries =
         let last : last_on layout image ≡ Some event = last-grown layout (content old.store.disk) image event coming.is_event opens.list in
         record {

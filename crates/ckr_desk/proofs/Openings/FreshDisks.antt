@@ -69,7 +69,7 @@ fresh_sound layout image size header none =
           (λ name table found plain. absurd (none-some table found));
       last = subst (λ (e : Option Event). HasLast (office_on layout image) e) (sym (fresh_last layout image none.records))
           (λ rewrite told. absurd (none-some rewrite told));
-      entries = subst (λ (o : Office). HasEntries layout o.tables image) back (λ name table found. absurd (none-some table found));
+      entries = subst (λ (o : Office). HasEntries layout o image) back (λ name table found. absurd (none-some table found));
     }
 
 -- each image of a disk that was formatted is what it reads

@@ -14,7 +14,7 @@ use Rattle.ckr_points.specs.Restart.{Decked, after_event}
 use Rattle.ckr_points.specs.Rows.{TablesModel}
 use Rattle.ckr_points_decks.specs.Cards.{kept_deck}
 use Rattle.ckr_points_decks.specs.Form.{is_run}
-use Rattle.ckr_points_invariant.specs.Continuations.{NoneGoesBack, goes_back}
+use Rattle.ckr_points_invariant.specs.PlainRuns.{NoneContinues, continues}
 use Rattle.ckr_desk_memory.specs.ForwardEvents.{is_forward_event}
 use Rattle.ckr_volumes.specs.declared.layout.Layout.{Layout}
 use Rattle.ckr_desk.specs.Opening.{behind_read, behind_record, behind_records, or_bad}
@@ -35,6 +35,7 @@ run-event (Rewritten job taken writes lengths place image) plain runs = tt
 run-event (Checkpointed job id taken writes lengths place bytes) plain runs = tt
 run-event (Cancelled job) plain runs = tt
 run-event (StepEnded job step rc writes lengths) plain runs = tt
+run-event (Restarted job initiator code checkpoint) plain runs = tt
 run-event (Ended job ending) plain runs = tt
 run-event (Purged job) plain runs = tt
 run-event _ plain runs = absurd (false≢true plain)
@@ -43,16 +44,15 @@ pub went-on : (layout : Layout) (tables : TablesModel) (event : Event) → goes_
 went-on layout tables event goes =
     run-event event (and-first (is_forward_event event) _ goes) (and-first (is_run_by event (deck_of event)) _ (and-second (is_forward_event event) _ goes))
 
--- by none of them a run goes back
-pub never-back : (event : Event) (deck : Option Job) → IsRunEvent event deck → goes_back event ≡ false
-never-back (Selected job initiator zero step id) deck is = refl
-never-back (Selected job initiator (suc before) step id) deck is = let same : suc before ≡ 0 = equal-true (suc before) 0 is in absurd (let none : ⊥ = omega (arith, same) in none)
-never-back (Restarted job initiator code checkpoint) deck is = absurd is
-never-back _ deck is = refl
+-- by none of them a run continues another one
+pub never-continues : (event : Event) (deck : Option Job) → IsRunEvent event deck → continues event ≡ false
+never-continues (Selected job initiator zero step id) deck is = refl
+never-continues (Selected job initiator (suc before) step id) deck is = let same : suc before ≡ 0 = equal-true (suc before) 0 is in absurd (let none : ⊥ = omega (arith, same) in none)
+never-continues _ deck is = refl
 
-pub none-back : (events : List Decked) → AreRunEvents events → NoneGoesBack events
-none-back [] run = refl
-none-back (event ∷ rest) run = and_from (not (goes_back event.0)) _ (ap not (never-back event.0 event.1 run.0)) (none-back rest run.1)
+pub none-continues : (events : List Decked) → AreRunEvents events → NoneContinues events
+none-continues [] run = refl
+none-continues (event ∷ rest) run = and_from (not (continues event.0)) _ (ap not (never-continues event.0 event.1 run.0)) (none-continues rest run.1)
 
 abbrev or_none : Bool → Layout → TablesModel → Event → Option TablesModel
 or_none goes layout tables event = cond goes (Some (after_event event (deck_of event) tables)) None

@@ -141,14 +141,14 @@ module _ (image : List ℕ) (size : ℕ) (opened : Opened) (sound : Sound size i
   last-there : HasLast (office_on opened.layout image) (last_on opened.layout image)
   last-there = subst (λ l. HasLast (office_on l image) (last_on l image)) layout-same sound.last
 
-  entries-there : HasEntries opened.layout (office_on opened.layout image).tables image
-  entries-there = subst (λ l. HasEntries l (office_on l image).tables image) layout-same sound.entries
+  entries-there : HasEntries opened.layout (office_on opened.layout image) image
+  entries-there = subst (λ l. HasEntries l (office_on l image) image) layout-same sound.entries
 
   -- another image has the entries with the same records of the data sets that keep any
-  entries-then : (other : List ℕ) → SameKept opened.layout (office_on opened.layout image).tables.sets image other → HasEntries opened.layout (office_on opened.layout image).tables other
+  entries-then : (other : List ℕ) → SameKept opened.layout (office_on opened.layout image).tables.sets image other → HasEntries opened.layout (office_on opened.layout image) other
   unfolding office_on
   entries-then other same =
-      has-then opened.layout (office_on opened.layout image).tables image other
+      has-then opened.layout (office_on opened.layout image) image other
       (are-within opened.layout (event_records opened.layout image) opened.tables events-so (gives-tables image size opened opens)) same entries-there
 
   checks-so : OnlyCheckSetsKeep (office_on opened.layout image).tables.sets
@@ -210,14 +210,14 @@ module _ {D : Type 0} (told : Type 0) (content : D → List ℕ) (may_leave : D 
         (subst (λ l. HasCommittedAgain new.store.layout here l (content disk)) is.last_is (again-there (content disk) (size disk) (opened_of new) sound is.opens))
         (subst (λ t. IsWrittenAgain new.store.layout t last (content disk) (content new.store.disk)) (sym tables-here) is.written)
 
-    entries-new : HasEntries new.store.layout here.tables (content new.store.disk)
+    entries-new : HasEntries new.store.layout here (content new.store.disk)
     entries-new =
         entries-then (content disk) (size disk) (opened_of new) sound is.opens (content new.store.disk)
         (same-again new.store.layout here.tables (kept-so (content disk) (size disk) (opened_of new) sound is.opens).events.extents (checks-so (content disk) (size disk) (opened_of new) sound is.opens)
         last (content disk) (content new.store.disk) (subst (λ t. IsWrittenAgain new.store.layout t last (content disk) (content new.store.disk)) (sym tables-here) is.written))
 
-    entries-now : HasEntries new.store.layout (office_on new.store.layout (content new.store.disk)).tables (content new.store.disk)
-    entries-now = subst (λ (o : Office). HasEntries new.store.layout o.tables (content new.store.disk)) (sym office-new) entries-new
+    entries-now : HasEntries new.store.layout (office_on new.store.layout (content new.store.disk)) (content new.store.disk)
+    entries-now = subst (λ (o : Office). HasEntries new.store.layout o (content new.store.disk)) (sym office-new) entries-new
 
     state-so : state_with new.store.layout here [] (failed_in here.tables) (room_of new.store.book) ≡ state_of content new
     state-so =
@@ -263,7 +263,7 @@ module _ {D : Type 0} (told : Type 0) (content : D → List ℕ) (may_leave : D 
           (subst (HasLast here) (sym last-new) (last-there (content disk) (size disk) (opened_of new) sound is.opens));
       committed = λ image may. subst (HasCommitted new.store.layout (office_on new.store.layout (content new.store.disk))) (sym (is.settled image may)) committed-now;
       entries = entries-now;
-      entries_left = λ image may. subst (HasEntries new.store.layout (office_on new.store.layout (content new.store.disk)).tables) (sym (is.settled image may)) entries-now;
+      entries_left = λ image may. subst (HasEntries new.store.layout (office_on new.store.layout (content new.store.disk))) (sym (is.settled image may)) entries-now;
     }
 
     none-bad-new : bad_entry new.store.layout new.jobs.tables.desk (content new.store.disk) ≡ None
@@ -336,10 +336,10 @@ module _ {D : Type 0} (told : Type 0) (content : D → List ℕ) (may_leave : D 
         either
 
     entries-lacking : (image : List ℕ) → (image ≡ content mid.store.disk) ⊎ LacksLast mid.store.layout mid.jobs.tables.desk last (content mid.store.disk) image
-        → HasEntries mid.store.layout office-mid.tables image
+        → HasEntries mid.store.layout office-mid image
     entries-lacking image either =
         ⊎_elim
-        (λ same. subst (HasEntries mid.store.layout office-mid.tables) (sym (same ∙ is.same)) (entries-there (content disk) (size disk) (opened_of mid) sound is.opens))
+        (λ same. subst (HasEntries mid.store.layout office-mid) (sym (same ∙ is.same)) (entries-there (content disk) (size disk) (opened_of mid) sound is.opens))
         (λ lacks.
         entries-then (content disk) (size disk) (opened_of mid) sound is.opens image
         (same-lacking mid.store.layout office-mid.tables (kept-so (content disk) (size disk) (opened_of mid) sound is.opens).events.extents (checks-so (content disk) (size disk) (opened_of mid) sound is.opens)

@@ -52,7 +52,7 @@ module _ {D : Type 0} (told : Type 0) (content : D → List ℕ) (may_leave : D 
     pub events : event_records old.store.layout (content new.store.disk) ≡ event_records old.store.layout (content old.store.disk) ++ spelling event ∷ []
     pub tables : new.jobs.tables.desk ≡ after_event event (deck_of event) old.jobs.tables.desk
     pub stands : StandsForDesk old.store.layout new.jobs (content new.store.disk) desk
-    pub entries : HasEntries old.store.layout desk.office.tables (content new.store.disk)
+    pub entries : HasEntries old.store.layout desk.office (content new.store.disk)
     pub settled : Only (content new.store.disk) (may_leave new.store.disk)
 
   module _ (event : Event) (old new : DeskView D) (desk : DeskModel) (coming : IsComing event old desk) (is : IsBehind event old new desk) where
@@ -62,10 +62,10 @@ module _ {D : Type 0} (told : Type 0) (content : D → List ℕ) (may_leave : D 
     office-so : office_on layout (content new.store.disk) ≡ desk.office
     office-so = office-grown layout (content old.store.disk) (content new.store.disk) event coming.is_event is.events ∙ sym coming.office
 
-    entries-so : (image : List ℕ) → HasEntries layout desk.office.tables image → HasEntries new.store.layout (office_on new.store.layout (content new.store.disk)).tables image
+    entries-so : (image : List ℕ) → HasEntries layout desk.office image → HasEntries new.store.layout (office_on new.store.layout (content new.store.disk)) image
     entries-so image has =
-        subst (λ l. HasEntries l (office_on l (content new.store.disk)).tables image) (sym is.layout)
-        (subst (λ (o : Office). HasEntries layout o.tables image) (sym office-so) has)
+        subst (λ l. HasEntries l (office_on l (content new.store.disk)) image) (sym is.layout)
+        (subst (λ (o : Office). HasEntries layout o image) (sym office-so) has)
 
     -- the desk of the events is what is seen in memory
     pub desk-behind : desk ≡ (state_of content new).desk
@@ -96,5 +96,5 @@ module _ {D : Type 0} (told : Type 0) (content : D → List ℕ) (may_leave : D 
           (subst (λ bytes. HasCommitted layout desk.office bytes) (sym (is.settled image may))
           (subst (λ l. HasCommitted l desk.office (content new.store.disk)) is.stands.layout_is is.stands.committed)));
       entries = entries-so (content new.store.disk) is.entries;
-      entries_left = λ image may. entries-so image (subst (HasEntries layout desk.office.tables) (sym (is.settled image may)) is.entries);
+      entries_left = λ image may. entries-so image (subst (HasEntries layout desk.office) (sym (is.settled image may)) is.entries);
     }

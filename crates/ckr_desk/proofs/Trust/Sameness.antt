@@ -53,10 +53,10 @@ module _ {D : Type 0} (told : Type 0) (content : D → List ℕ) (may_leave : D 
         state_with : Layout → List ℕ → List RunningStepView → List ℕ → ℕ → RoomyDesk
         state_with layout bytes running failed room = record { desk = record { layout = layout; office = office_on layout bytes; running = map step_on running; failed = failed }; room = room }
 
-    entries-same : (image : List ℕ) → HasEntries old.store.layout (office_on old.store.layout (content old.store.disk)).tables image → HasEntries new.store.layout (office_on new.store.layout (content new.store.disk)).tables image
+    entries-same : (image : List ℕ) → HasEntries old.store.layout (office_on old.store.layout (content old.store.disk)) image → HasEntries new.store.layout (office_on new.store.layout (content new.store.disk)) image
     entries-same image has =
-        subst (λ l. HasEntries l (office_on l (content new.store.disk)).tables image) (sym is.layout)
-        (subst (λ bytes. HasEntries old.store.layout (office_on old.store.layout bytes).tables image) (sym is.reads) has)
+        subst (λ l. HasEntries l (office_on l (content new.store.disk)) image) (sym is.layout)
+        (subst (λ bytes. HasEntries old.store.layout (office_on old.store.layout bytes) image) (sym is.reads) has)
 
     pub trusted-same : IsTrusted told content may_leave old → IsTrusted told content may_leave new
     trusted-same trusted = record {
@@ -76,6 +76,6 @@ module _ {D : Type 0} (told : Type 0) (content : D → List ℕ) (may_leave : D 
           subst (λ l. HasCommitted l (office_on l (content new.store.disk)) image) (sym is.layout)
           (subst (λ bytes. HasCommitted old.store.layout (office_on old.store.layout bytes) image) (sym is.reads)
           (trusted.committed image (is.none_new image may)));
-      entries = entries-same (content new.store.disk) (subst (HasEntries old.store.layout (office_on old.store.layout (content old.store.disk)).tables) (sym is.reads) trusted.entries);
+      entries = entries-same (content new.store.disk) (subst (HasEntries old.store.layout (office_on old.store.layout (content old.store.disk))) (sym is.reads) trusted.entries);
       entries_left = λ image may. entries-same image (trusted.entries_left image (is.none_new image may));
     }

@@ -12,7 +12,7 @@ use Rattle.ckr_desk_turn.proofs.Turns.Initiator.{turn-keeps}
 use Rattle.ckr_desk_turn.specs.NextEvents.{EventComes}
 use Rattle.ckr_desk_turn.specs.Invariant.{IsDesk, IsTurnOf}
 use Rattle.ckr_points.specs.Events.{IsNext}
-use Rattle.ckr_points.specs.Office.{office_after}
+use Rattle.ckr_points.specs.Office.{Office, office_after}
 use Rattle.ckr_points.specs.Restart.{after_event}
 use Rattle.ckr_points.specs.Rows.{TablesModel}
 use Rattle.ckr_desk_refines.proofs.Standing.Plans.{plans-so}
@@ -34,6 +34,7 @@ use Rattle.ckr_volumes.specs.declared.layout.Layout.{Layout}
 use Rattle.ckr_desk.proofs.Images.NextEvent.{deck-none}
 use Rattle.ckr_desk.proofs.Images.Entries.{HasNewOne, behind-same}
 use Rattle.ckr_desk.proofs.Images.Soundness.{again-so, kept-behind, kept-left, kept-same}
+use Rattle.ckr_desk.proofs.Images.WrittenRecord.{TellsRecord}
 use Rattle.ckr_desk.proofs.Turns.PlainEvents.{IsQuietPlan, is_quiet, plan-quiet, quiet-plain}
 use Rattle.ckr_desk.proofs.Trust.Events.{IsBehind, IsComing, desk-behind}
 use Rattle.ckr_desk.specs.Requests.{has_room, room_behind}
@@ -45,21 +46,25 @@ use Rattle.ckr_desk.specs.Soundness.{HasKept, IsTrusted, office_on, state_of}
 use Rattle.ckr_desk.specs.State.{RoomyDesk, DeskView, need_of}
 
 -- an event that isn't Rewritten tells no record, and is no submission
-quiet-rewrites : (event : Event) → is_quiet event ≡ true → (tables : _) → rewrite_of tables event ≡ None
+pub quiet-rewrites : (event : Event) → is_quiet event ≡ true → (tables : _) → rewrite_of tables event ≡ None
 quiet-rewrites (Rewritten job taken writes lengths place image) quiet tables = absurd (subst (λ (b : Bool). elim b as (λ _. Type 0) [ true ↦ ⊥ | false ↦ Unit {0} ]) quiet tt)
 quiet-rewrites _ quiet tables = refl
 
-quiet-written : (event : Event) → is_quiet event ≡ true → (layout : Layout) (tables : _) (before after : List ℕ) → IsWrittenBy layout tables event before after → after ≡ before
+pub quiet-written : (event : Event) → is_quiet event ≡ true → (layout : Layout) (tables : _) (before after : List ℕ) → IsWrittenBy layout tables event before after → after ≡ before
 quiet-written (Rewritten job taken writes lengths place image) quiet layout tables before after is = absurd (subst (λ (b : Bool). elim b as (λ _. Type 0) [ true ↦ ⊥ | false ↦ Unit {0} ]) quiet tt)
 quiet-written _ quiet layout tables before after is = is
 
-quiet-lacks : (event : Event) → is_quiet event ≡ true → (layout : Layout) (tables : _) (before after : List ℕ) → LacksAtMost layout tables event before after → ⊥
+pub quiet-lacks : (event : Event) → is_quiet event ≡ true → (layout : Layout) (tables : _) (before after : List ℕ) → LacksAtMost layout tables event before after → ⊥
 quiet-lacks (Rewritten job taken writes lengths place image) quiet layout tables before after lacks = absurd (subst (λ (b : Bool). elim b as (λ _. Type 0) [ true ↦ ⊥ | false ↦ Unit {0} ]) quiet tt)
 quiet-lacks _ quiet layout tables before after lacks = lacks
 
-quiet-takes : (event : Event) → is_quiet event ≡ true → (layout : Layout) (tables : TablesModel) (image : List ℕ) → HasNewOne layout tables event image
-quiet-takes (Checkpointed job id taken writes lengths place bytes) quiet layout tables image = absurd (false≢true quiet)
-quiet-takes _ quiet layout tables image = tt
+pub quiet-takes : (event : Event) → is_quiet event ≡ true → (layout : Layout) (now : Office) (image : List ℕ) → HasNewOne layout now event image
+quiet-takes (Checkpointed job id taken writes lengths place bytes) quiet layout now image = absurd (false≢true quiet)
+quiet-takes _ quiet layout now image = tt
+
+pub quiet-tells : (event : Event) → is_quiet event ≡ true → (tables : TablesModel) → TellsRecord tables event
+quiet-tells (Rewritten job taken writes lengths place image) quiet tables = absurd (false≢true quiet)
+quiet-tells _ quiet tables = tt
 
 -- one of a plain run runs no deck
 pub small-runs : (event : Event) → IsSmall event → is_run_by event None ≡ true
@@ -115,10 +120,10 @@ module _ {D : Type 0} (told : Type 0) (content : D → List ℕ) (may_leave : D 
     }
 
     -- an image with the same records has the entries behind it
-    entries-so : may_keep event None old ≡ true → (image : List ℕ) → HasSameRecords layout (content old.store.disk) image → HasEntries layout (behind event None desk).office.tables image
+    entries-so : may_keep event None old ≡ true → (image : List ℕ) → HasSameRecords layout (content old.store.disk) image → HasEntries layout (behind event None desk).office image
     entries-so might image same =
         behind-same told content may_leave old trusted event (behind event None desk) (coming-turn might) (content old.store.disk) image
-        (quiet-takes event quiet-so layout desk.office.tables (content old.store.disk)) trusted.entries same
+        (quiet-takes event quiet-so layout desk.office (content old.store.disk)) trusted.entries same
 
     pub behind-turn-so : (new : DeskView D) → new.store.layout ≡ layout → told → HasGoneBehind told content (Some event) old new → IsSettledBehind content may_leave (Some event) new
         → IsBehind told content may_leave event old new (behind event None desk)

@@ -20,13 +20,15 @@ use Rattle.ckr_rules.specs.RuleTables.{suppresses}
 use Rattle.ckr_steps.specs.declared.step_run.Worked.{Worked}
 use Rattle.ckr_steps.specs.declared.step_run.Worked.TheVariants.{Went, Rewrite, Abend}
 use Rattle.ckr_desk_memory.specs.ForwardEvents.{is_forward_event}
+use Rattle.ckr_desk_turn.proofs.Codes.{by-verdict}
+use Rattle.ckr_desk_turn.specs.Codes.{CodePlaceModel, code_plan, initiator_of, reached_by, running_reached}
 use Rattle.ckr_desk_turn.specs.declared.plan.Plan.{Plan}
 use Rattle.ckr_desk_turn.specs.declared.plan.Plan.TheVariants.{Rest, Tell, Work, Pass, Take}
 use Rattle.ckr_desk_turn.specs.declared.reply.Turn.{Turn}
 use Rattle.ckr_desk_turn.specs.Allocation.{allocation_of}
 use Rattle.ckr_desk_turn.specs.Select.{next_run, run_on_initiator}
 use Rattle.ckr_desk_turn.specs.Jobs.{TurnJobs, TurnStep, is_failed, running_in}
-use Rattle.ckr_desk_turn.specs.Plans.{between_plan, chosen_plan, due_plan, fail_plan, free_plan, is_within, placed_plan, plan_of, run_plan, running_plan, start_plan, suppressed_plan}
+use Rattle.ckr_desk_turn.specs.Plans.{between_plan, chosen_plan, due_plan, fail_plan, free_plan, is_within, placed_plan, plan_of, run_plan, running_plan, start_plan, suppressed_plan, system_failure}
 use Rattle.ckr_volumes.specs.declared.layout.Layout.{Layout}
 use Rattle.ckr_desk.specs.Units.{IsPlainPlan}
 
@@ -65,6 +67,10 @@ cond-quiet : (b : Bool) (one two : Plan) → IsQuietPlan one → IsQuietPlan two
 cond-quiet true one two first second = first
 cond-quiet false one two first second = second
 
+-- a run with a code ends, or is restarted at the start of its step
+code-quiet : (layout : Layout) (row : RunRow) (initiator : ℕ) (code : Code) (reached : CodePlaceModel) → IsQuietPlan (code_plan layout row initiator code reached)
+code-quiet layout row initiator code reached = by-verdict IsQuietPlan layout row initiator code reached (λ rule ends. refl) (λ judged. refl)
+
 module _ (layout : Layout) (jobs : TurnJobs) where
   start-quiet : (row : RunRow) (owned : OwnedStep) (number : ℕ) → IsQuietPlan (start_plan layout jobs row owned number)
   start-quiet row owned number = either-quiet (allocation_of layout row owned number jobs.tables) _ _ (λ refusal. refl) (λ items. refl)
@@ -88,13 +94,13 @@ module _ (layout : Layout) (jobs : TurnJobs) where
 
   fail-quiet : (row : RunRow) (fail : Option Code) → IsQuietPlan (fail_plan layout jobs row fail)
   fail-quiet row None = placed-quiet row (place_of row)
-  fail-quiet row (Some code) = if-quiet (is_within (place_of row)) _ _ refl tt
+  fail-quiet row (Some code) = if-quiet (is_within (place_of row)) _ _ (code-quiet layout row (initiator_of row) code (reached_by jobs row)) tt
 
   run-quiet : (fail : Option Code) (row : RunRow) → IsQuietPlan (run_plan layout jobs fail row)
-  run-quiet fail row = if-quiet (is_failed jobs row.number) _ _ refl (fail-quiet row fail)
+  run-quiet fail row = if-quiet (is_failed jobs row.number) _ _ (code-quiet layout row (initiator_of row) system_failure (reached_by jobs row)) (fail-quiet row fail)
 
   chosen-quiet : (initiator : ℕ) (row : RunRow) → IsQuietPlan (chosen_plan layout jobs initiator row)
-  chosen-quiet initiator row = some-quiet row.code _ _ refl (λ code. refl)
+  chosen-quiet initiator row = some-quiet row.code _ _ refl (λ code. code-quiet layout row initiator code (reached_by jobs row))
 
   free-quiet : (initiator : ℕ) (fail : Option Code) → IsQuietPlan (free_plan layout jobs initiator fail)
   free-quiet initiator (Some code) = tt
@@ -125,4 +131,4 @@ plan-plain layout jobs turn plan is = plain-by plan (subst IsQuietPlan (sym is) 
 pub told-plain : (layout : Layout) (row : RunRow) (step : TurnStep) (worked : Worked) → IsPlainPlan (told_by layout row step worked)
 told-plain layout row step (Went taken) = tt
 told-plain layout row step (Rewrite place image taken) = refl
-told-plain layout row step (Abend code) = refl
+told-plain layout row step (Abend code) = by-verdict IsPlainPlan layout row (initiator_of row) code (running_reached step) (λ rule ends. refl) (λ judged. refl)

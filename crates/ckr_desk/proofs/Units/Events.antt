@@ -1,5 +1,5 @@
--- What the event of a unit brings about, where its step ends with a code or rewrites a record.
-use Rattle.std.proofs.Common.{◌≡◌, ◌≤◌, ◌<◌, ℕ, List, cond, refl, ap, sym, ◌∙◌, subst, slice_set, Option, Some, None}
+-- What the event of a unit brings about, where its step ends with a code, and its run ends or is restarted, and where it rewrites a record.
+use Rattle.std.proofs.Common.{◌≡◌, ◌≤◌, ◌<◌, ℕ, true, false, List, cond, refl, ap, sym, ◌∙◌, subst, slice_set, Option, Some, None}
 use Rattle.std.specs.Prelude.{IsTrue}
 use Rattle.std.specs.Option.{option_map, option_map_or}
 use Rattle.std.proofs.lemmas.Option.{same_Some}
@@ -8,13 +8,13 @@ use Rattle.ckr_base.specs.declared.code.Code.{Code}
 use Rattle.ckr_base.proofs.Options.{some-not-none}
 use Rattle.ckr_events.specs.declared.event.Ending.TheVariants.{Coded}
 use Rattle.ckr_events.specs.declared.event.Event.{Event}
-use Rattle.ckr_events.specs.declared.event.Event.TheVariants.{Ended}
+use Rattle.ckr_events.specs.declared.event.Event.TheVariants.{Ended, Restarted}
 use Rattle.ckr_desk_memory.specs.View.{JobsView, RunningStepView}
 use Rattle.ckr_desk_memory.specs.Rewrite.{updated_by, updated_in}
 use Rattle.ckr_desk_turn.proofs.Units.AnyUnit.{work-keeps}
 use Rattle.ckr_desk_turn.specs.NextEvents.{Comes, EventComes}
 use Rattle.ckr_desk_turn.specs.Invariant.{IsDesk}
-use Rattle.ckr_desk_refines.specs.Commits.{HasCommitted}
+use Rattle.ckr_desk_refines.specs.Commits.{HasCommitted, HasWithinRun}
 use Rattle.ckr_library.specs.declared.sets.Content.TheVariants.{Plain}
 use Rattle.ckr_library.specs.declared.sets.DataSet.{DataSet}
 use Rattle.ckr_library.specs.NameMaps.{Name, entry_at}
@@ -40,13 +40,13 @@ use Rattle.ckr_points_invariant.proofs.Steps.Commits.{alike_within, formed_step,
 use Rattle.ckr_points_invariant.specs.Invariant.{IsKept, Shape, step_now, table_shape}
 use Rattle.ckr_desk_refines.specs.RewriteRecord.{HasCommittedAgain, HasLast}
 use Rattle.ckr_desk_refines.specs.Moves.{DiffersAt, HasSameRecords, HaveMoved, IsWritten}
-use Rattle.ckr_desk_refines.specs.Standing.{StandsForDesk}
+use Rattle.ckr_desk_refines.specs.Standing.{StandsBut, StandsForDesk}
 use Rattle.ckr_steps.specs.declared.files.Files.{Files}
 use Rattle.ckr_steps.specs.declared.files.RecordSource.TheVariants.{InSet}
 use Rattle.ckr_steps.specs.declared.step_run.Worked.{Worked}
 use Rattle.ckr_steps.specs.declared.step_run.Worked.TheVariants.{Abend, Rewrite}
 use Rattle.ckr_steps.specs.Writes.{IsShown}
-use Rattle.ckr_desk_refines.proofs.Events.Turns.{code-committed, code-stands}
+use Rattle.ckr_desk_refines.proofs.Events.Turns.{code-committed, code-stands, restart-committed, restart-stands}
 use Rattle.ckr_desk_turn.specs.declared.reply.Turn.{Turn}
 use Rattle.ckr_desk_turn.specs.Desk.{DeskModel, TurnDone, behind, work_of}
 use Rattle.ckr_volumes.specs.declared.layout.Layout.{Layout}
@@ -61,6 +61,8 @@ use Rattle.ckr_desk.proofs.Images.Entries.{HasNewOne}
 use Rattle.ckr_desk.proofs.Images.Soundness.{again-so}
 use Rattle.ckr_desk.proofs.Images.WrittenRecord.{TellsRecord}
 use Rattle.ckr_desk.proofs.Openings.LastRecord.{IsDue, due-so}
+use Rattle.ckr_desk.proofs.Turns.Events.{quiet-lacks, quiet-rewrites, quiet-takes, quiet-tells, quiet-written}
+use Rattle.ckr_desk.proofs.Turns.PlainEvents.{is_quiet}
 use Rattle.ckr_desk.specs.Rewrite.{IsWrittenBy, LacksAtMost}
 
 -- the event of a unit may come; the desk behind it, the jobs in memory that stand for it, and what an image of a stop has
@@ -70,7 +72,7 @@ pub record Ensues (put : JobsView) (after : List ℕ) (desk : DeskModel) (run : 
   pub layout_is : (work_of run desk).desk.layout ≡ desk.layout
   pub office : (work_of run desk).desk.office ≡ office_after (event, None) desk.office
   pub last : HasLast (work_of run desk).desk.office (Some event)
-  pub takes : (layout : Layout) (tables : TablesModel) (image : List ℕ) → HasNewOne layout tables event image
+  pub takes : (layout : Layout) (now : Office) (image : List ℕ) → HasNewOne layout now event image
   pub record_told : TellsRecord (after_event event None desk.office.tables) event
   pub stands : (later : JobsView) → HaveMoved event None put later → (told written : List ℕ) → HasSameRecords desk.layout after told
       → IsWrittenBy desk.layout (after_event event None desk.office.tables) event told written → StandsForDesk desk.layout later written (work_of run desk).desk
@@ -128,52 +130,68 @@ module _ (old : JobsView) (before after : List ℕ) (desk : DeskModel) (turn : T
 -- ---- the step ends with a code
 
 module _ (old : JobsView) (before after : List ℕ) (desk : DeskModel) (turn : Turn) (run : ℕ) (on moved : RunningStepView) (code : Code) (unit : StandsBehindUnit desk.layout old before after desk turn run on moved (Abend code))
-    (put : JobsView) (back : IsPutBack run moved old put) (rule : ℕ) (lengths : ArrayVec ℕ) where
-  abbrev ended : Event
-  ended = Ended run (Coded code rule moved.step.writes lengths)
+    (put : JobsView) (back : IsPutBack run moved old put) where
+  but : StandsBut run desk.layout put after desk
+  but = coded-but desk.layout old before after desk turn run on moved code unit put back
 
-  module _ (is : (work_of run desk).event ≡ Some ended) where
-    desk-then : (work_of run desk).desk ≡ behind ended None desk
-    desk-then = coded-behind desk.layout old before after desk turn run on moved code unit ended is
+  -- whatever is told of it
+  module _ (event : Event) (is : (work_of run desk).event ≡ Some event) where
+    desk-then : (work_of run desk).desk ≡ behind event None desk
+    desk-then = coded-behind desk.layout old before after desk turn run on moved code unit event is
 
-    kept-then : IsDesk (work_of run desk).desk
-    kept-then = work-kept desk.layout old before after desk turn run on moved (Abend code) unit
+    kept-then : IsDesk (behind event None desk)
+    kept-then = subst IsDesk desk-then (work-kept desk.layout old before after desk turn run on moved (Abend code) unit)
 
-    comes-then : Comes desk ended
-    comes-then = comes-so old before after desk turn run on moved (Abend code) unit ended is
+    comes-then : Comes desk event
+    comes-then = comes-so old before after desk turn run on moved (Abend code) unit event is
 
-    last-then : HasLast (work_of run desk).desk.office (Some ended)
-    last-then rewrite told = absurd (some-not-none rewrite (sym told))
+    module _ (quiet : is_quiet event ≡ true) where
+      last-then : HasLast (work_of run desk).desk.office (Some event)
+      last-then rewrite told = absurd (some-not-none rewrite (sym told ∙ quiet-rewrites event quiet (work_of run desk).desk.office.tables))
 
-    stands-so : (later : JobsView) → HaveMoved ended None put later → (told written : List ℕ) → HasSameRecords desk.layout after told → written ≡ told → StandsForDesk desk.layout later written (work_of run desk).desk
-    stands-so later goes told written same wrote =
-        subst (StandsForDesk desk.layout later written) (sym desk-then)
-        (code-stands desk.layout put later after written desk run rule moved.step.writes code lengths
-        (coded-but desk.layout old before after desk turn run on moved code unit put back) comes-then (subst IsDesk desk-then kept-then)
-        (coded-within desk.layout old before after desk turn run on moved code unit) goes
-        (subst (HasSameRecords desk.layout after) (sym wrote) same))
+      quiet-ensues : ((later : JobsView) → HaveMoved event None put later → (written : List ℕ) → HasSameRecords desk.layout after written → StandsForDesk desk.layout later written (behind event None desk))
+          → ((stopped : List ℕ) → HasSameRecords desk.layout after stopped → HasCommitted desk.layout (behind event None desk).office stopped)
+          → Ensues put after desk run event
+      quiet-ensues stands committed = record {
+        comes = comes-then;
+        is_desk = subst IsDesk (sym desk-then) kept-then;
+        layout_is = ap (λ (d : DeskModel). d.layout) desk-then;
+        office = ap (λ (d : DeskModel). d.office) desk-then;
+        last = last-then;
+        takes = quiet-takes event quiet;
+        record_told = quiet-tells event quiet (after_event event None desk.office.tables);
+        stands = λ later goes told written same wrote.
+            subst (StandsForDesk desk.layout later written) (sym desk-then)
+            (stands later goes written
+            (subst (HasSameRecords desk.layout after) (sym (quiet-written event quiet desk.layout (after_event event None desk.office.tables) told written wrote)) same));
+        same = λ stopped same.
+            again-so desk.layout (work_of run desk).desk.office (Some event) stopped last-then
+            (subst (λ (d : DeskModel). HasCommitted desk.layout d.office stopped) (sym desk-then) (committed stopped same));
+        lacking = λ told stopped same lacks. absurd (quiet-lacks event quiet desk.layout (after_event event None desk.office.tables) told stopped lacks);
+      }
 
-    same-so : (stopped : List ℕ) → HasSameRecords desk.layout after stopped → HasCommittedAgain desk.layout (work_of run desk).desk.office (Some ended) stopped
-    same-so stopped same =
-        again-so desk.layout (work_of run desk).desk.office (Some ended) stopped last-then
-        (subst (λ (d : DeskModel). HasCommitted desk.layout d.office stopped) (sym desk-then)
-        (code-committed desk.layout put after desk run rule moved.step.writes code lengths
-        (coded-but desk.layout old before after desk turn run on moved code unit put back) comes-then (subst IsDesk desk-then kept-then)
-        (coded-within desk.layout old before after desk turn run on moved code unit) stopped same))
+  -- its run ends
+  pub ended-ensues : (rule : ℕ) (lengths : ArrayVec ℕ) → (work_of run desk).event ≡ Some (Ended run (Coded code rule moved.step.writes lengths)) → Ensues put after desk run (Ended run (Coded code rule moved.step.writes lengths))
+  ended-ensues rule lengths is =
+      quiet-ensues ended is refl
+      (λ later goes written same. code-stands desk.layout put later after written desk run rule moved.step.writes code lengths but (comes-then ended is) (kept-then ended is) within goes same)
+      (code-committed desk.layout put after desk run rule moved.step.writes code lengths but (comes-then ended is) (kept-then ended is) within)
+    where
+      ended : Event
+      ended = Ended run (Coded code rule moved.step.writes lengths)
 
-    pub ended-ensues : Ensues put after desk run ended
-    ended-ensues = record {
-      comes = comes-then;
-      is_desk = kept-then;
-      layout_is = ap (λ (d : DeskModel). d.layout) desk-then;
-      office = ap (λ (d : DeskModel). d.office) desk-then;
-      last = last-then;
-      takes = λ layout tables image. tt;
-      record_told = tt;
-      stands = stands-so;
-      same = same-so;
-      lacking = λ told stopped same never. absurd never;
-    }
+      within : HasWithinRun desk.layout desk.office run moved.step.writes after
+      within = coded-within desk.layout old before after desk turn run on moved code unit
+
+  -- it is restarted at the start of the step
+  pub restarted-ensues : (initiator : ℕ) → (work_of run desk).event ≡ Some (Restarted run initiator code false) → Ensues put after desk run (Restarted run initiator code false)
+  restarted-ensues initiator is =
+      quiet-ensues restarted is refl
+      (λ later goes written same. restart-stands desk.layout put later after written desk run initiator code but (comes-then restarted is) (kept-then restarted is) goes same)
+      (restart-committed desk.layout put after desk run initiator code but (comes-then restarted is) (kept-then restarted is))
+    where
+      restarted : Event
+      restarted = Restarted run initiator code false
 
 -- ---- the step rewrites a record
 
@@ -291,7 +309,7 @@ module _ (old : JobsView) (before after : List ℕ) (desk : DeskModel) (turn : T
       layout_is = ap (λ (d : TurnDone). d.desk.layout) (work-is before after desk is_desk run on moved place image taken asked);
       office = ap (λ (d : TurnDone). d.desk.office) (work-is before after desk is_desk run on moved place image taken asked) ∙ ap (λ (e : Event). office_after (e, None) desk.office) event-so;
       last = λ rewrite told. record-then old before after desk turn run on moved place image taken asks event is rewrite told;
-      takes = λ layout tables left. subst (λ (e : Event). HasNewOne layout tables e left) event-so tt;
+      takes = λ layout now left. subst (λ (e : Event). HasNewOne layout now e left) event-so tt;
       record_told = of-event (λ e tables. TellsRecord tables e) due-then;
       stands = λ later goes told written same wrote.
           stands-then desk.layout old before after desk turn run on moved place image taken asks put later

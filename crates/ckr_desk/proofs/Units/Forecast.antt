@@ -3,7 +3,7 @@ use Rattle.std.proofs.Common.{◌≡◌, ◌<◌, ℕ, List, length, true, false
 use Rattle.std.proofs.lemmas.Bool.{false≢true}
 use Rattle.ckr_book.specs.Book.{room_of}
 use Rattle.ckr_events.specs.declared.event.Event.{Event}
-use Rattle.ckr_events.specs.declared.event.Event.TheVariants.{Ended, Rewritten}
+use Rattle.ckr_events.specs.declared.event.Event.TheVariants.{Ended, Restarted, Rewritten}
 use Rattle.ckr_events.specs.Event.{spelling}
 use Rattle.ckr_desk_memory.specs.Plans.{behind_unit, told_by}
 use Rattle.ckr_desk_memory.specs.Preparation.{needs_room}
@@ -24,7 +24,7 @@ use Rattle.ckr_volumes.specs.declared.layout.Layout.{Layout}
 use Rattle.ckr_desk_refines.proofs.Units.Forecasts.{BothTell, as-many, both-tell, foretold-so}
 use Rattle.ckr_desk_refines.proofs.Units.RunningStep.{pair-found}
 use Rattle.ckr_desk_refines.proofs.Units.StepLists.{IsPair}
-use Rattle.ckr_desk_refines.specs.Forecast.{IsTold, is_end_of, is_like, is_rewrite_of}
+use Rattle.ckr_desk_refines.specs.Forecast.{IsTold, is_end_of, is_like, is_restart_of, is_rewrite_of}
 use Rattle.ckr_desk.proofs.Units.Turn.{at-desk, row-within, turned}
 use Rattle.ckr_desk.specs.Requests.{IsFull}
 use Rattle.ckr_desk.specs.Preparation.{IsLookedAhead}
@@ -33,7 +33,7 @@ use Rattle.ckr_desk.specs.State.{DeskView, need_of}
 use Rattle.ckr_desk.specs.Turn.{event_of_turn}
 use Rattle.ckr_desk.specs.Units.{needs_some}
 
--- an event that is like one that was foretold needs memory where that one does: an end of a run, and no rewrite
+-- an event that is like one that was foretold needs memory where that one does: an end or a restart of a run, and no rewrite
 rewrite-needs : (run : ℕ) (event : Event) → is_rewrite_of run event ≡ true → needs_room event ≡ false
 rewrite-needs run (Rewritten job taken writes lengths place image) is = refl
 rewrite-needs run _ is = absurd (false≢true is)
@@ -42,8 +42,13 @@ end-needs : (run : ℕ) (event : Event) → is_end_of run event ≡ true → nee
 end-needs run (Ended job ending) is = refl
 end-needs run _ is = absurd (false≢true is)
 
+restart-needs : (run : ℕ) (event : Event) → is_restart_of run event ≡ true → needs_room event ≡ true
+restart-needs run (Restarted job initiator code checkpoint) is = refl
+restart-needs run _ is = absurd (false≢true is)
+
 like-needs : (foretold event : Event) → is_like foretold event ≡ true → needs_room event ≡ needs_room foretold
 like-needs (Rewritten job taken writes lengths place image) event is = rewrite-needs job event is
+like-needs (Restarted job initiator code checkpoint) event is = restart-needs job event is
 like-needs (Ended job ending) event is = end-needs job event is
 like-needs _ event is = absurd (false≢true is)
 

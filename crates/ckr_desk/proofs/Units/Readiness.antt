@@ -4,7 +4,7 @@ use Rattle.std.specs.List.{AllByRecursion}
 use Rattle.std.proofs.lemmas.Bool.{false≢true}
 use Rattle.ckr_book.specs.Book.{room_of}
 use Rattle.ckr_events.specs.declared.event.Event.{Event}
-use Rattle.ckr_events.specs.declared.event.Event.TheVariants.{Rewritten, Ended}
+use Rattle.ckr_events.specs.declared.event.Event.TheVariants.{Rewritten, Restarted, Ended}
 use Rattle.ckr_desk_memory.specs.Model.RewriteCounts.{may_count}
 use Rattle.ckr_desk_memory.specs.declared.preparation.Prepared.{Prepared}
 use Rattle.ckr_desk_memory.proofs.Holders.OwnUnits.{others-commit}
@@ -27,6 +27,7 @@ use Rattle.ckr_desk.specs.Units.{IsPlainTold}
 -- what a unit tells is plain
 plain-event : (event : Event) → is_unit_event event ≡ true → is_forward_event event ≡ true
 plain-event (Rewritten job taken writes lengths place image) its = refl
+plain-event (Restarted job initiator code checkpoint) its = its
 plain-event (Ended job ending) its = refl
 plain-event _ its = absurd (false≢true its)
 
@@ -40,6 +41,7 @@ plain-so (Take job) shape = absurd shape
 -- and it ends no step of a run that was running when the system failed
 leaves-so : (failed : List ℕ) (event : Event) → is_unit_event event ≡ true → LeavesLeft event failed
 leaves-so failed (Rewritten job taken writes lengths place image) its = tt
+leaves-so failed (Restarted job initiator code checkpoint) its = tt
 leaves-so failed (Ended job ending) its = tt
 leaves-so failed _ its = absurd (false≢true its)
 
@@ -64,6 +66,12 @@ module _ {D : Type 0} (old mid : DeskView D) (tables : mid.jobs.tables ≡ old.j
   still-prepared : (event : Event) → is_unit_event event ≡ true → (prepared : Prepared) → IsPrepared old.jobs event None prepared → IsPrepared mid.jobs event None prepared
   still-prepared (Rewritten job taken writes lengths place image) its prepared is = record {
     tables = subst (λ (t : RoomyTables). HasRoom t (Rewritten job taken writes lengths place image)) (sym tables) is.tables;
+    queue = tt;
+    uses = is.uses;
+    started = tt;
+  }
+  still-prepared (Restarted job initiator code checkpoint) its prepared is = record {
+    tables = subst (λ (t : RoomyTables). HasRoom t (Restarted job initiator code checkpoint)) (sym tables) is.tables;
     queue = tt;
     uses = is.uses;
     started = tt;

@@ -1,13 +1,14 @@
 -- A turn that works: the unit of its running step, the desk behind it, and what a stop leaves.
-use Rattle.std.proofs.Common.{◌≡◌, ◌≤◌, ◌+◌, ◌-◌, ◌++◌, ◌&&◌, ℕ, List, [], ◌∷◌, true, length, take, find, refl, ap, sym, ◌∙◌, subst, ⊎_elim, arith, Option, Some, None, Ok}
+use Rattle.std.proofs.Common.{◌≡◌, ◌≤◌, ◌+◌, ◌-◌, ◌++◌, ◌&&◌, ℕ, List, [], ◌∷◌, true, false, length, take, find, refl, ap, sym, ◌∙◌, subst, ⊎_elim, arith, Option, Some, None, Ok}
 use Rattle.std.proofs.lemmas.Bool.{and_from, le-leb}
 use Rattle.std.proofs.lemmas.Option.{same_Some}
 use Rattle.ckr_base.proofs.Options.{some-not-none}
 use Rattle.arrayvec.specs.ArrayVec.{ArrayVec}
 use Rattle.ckr_book.specs.Book.{IsBeforeOrAfter, ends_closed, room_of}
+use Rattle.ckr_base.specs.declared.code.Code.{Code}
 use Rattle.ckr_events.specs.declared.event.Ending.TheVariants.{Coded}
 use Rattle.ckr_events.specs.declared.event.Event.{Event}
-use Rattle.ckr_events.specs.declared.event.Event.TheVariants.{Ended}
+use Rattle.ckr_events.specs.declared.event.Event.TheVariants.{Ended, Restarted}
 use Rattle.ckr_events.specs.Event.{spelling}
 use Rattle.ckr_desk_memory.specs.Model.RewriteCounts.{may_count}
 use Rattle.ckr_jcl.specs.declared.deck.Job.{Job}
@@ -40,7 +41,8 @@ use Rattle.ckr_desk_store.specs.OpenImages.{Opens, event_records}
 use Rattle.ckr_desk_store.specs.State.{StoreView}
 use Rattle.ckr_desk_memory.specs.ForwardEvents.{is_forward_event}
 use Rattle.ckr_desk_refines.proofs.Events.Commits.{committed-moves}
-use Rattle.ckr_desk_turn.specs.Codes.{rule_for}
+use Rattle.ckr_desk_turn.proofs.Codes.{by-verdict}
+use Rattle.ckr_desk_turn.specs.Codes.{initiator_of, running_reached}
 use Rattle.ckr_desk_turn.specs.declared.plan.Plan.{Plan}
 use Rattle.ckr_desk_turn.specs.declared.plan.Plan.TheVariants.{Rest, Tell, Work, Pass, Take}
 use Rattle.ckr_desk_turn.specs.declared.reply.Turn.{Turn}
@@ -55,7 +57,7 @@ use Rattle.ckr_desk_refines.proofs.Units.StepLists.{IsPair, pair-of}
 use Rattle.ckr_desk_refines.proofs.Units.AnyReply.{told-unit}
 use Rattle.ckr_desk_refines.proofs.Units.Turns.{within-so}
 use Rattle.ckr_desk_refines.specs.Unit.{IsPutBack, StandsBehindUnit}
-use Rattle.ckr_desk.proofs.Units.Events.{Ensues, ended-ensues, rewrite-ensues}
+use Rattle.ckr_desk.proofs.Units.Events.{Ensues, ended-ensues, restarted-ensues, rewrite-ensues}
 use Rattle.ckr_desk.proofs.Images.NextEvent.{deck-none, office-same}
 use Rattle.ckr_desk.proofs.Images.Entries.{behind-kept as entries-behind, behind-same as entries-behind-same, checks-then, kept-has, laid-then, same-has, tables-behind}
 use Rattle.ckr_desk.proofs.Images.Soundness.{kept-before, kept-behind}
@@ -131,13 +133,13 @@ module _ {D : Type 0} (told : Type 0) (content : D → List ℕ) (may_leave : D 
       (trusted.committed from stems.2.1)
 
   -- a unit keeps the entries: they stand within what its step has
-  keeps-entries : (on : RunningStepView) → find (is_of_run run) old.jobs.running ≡ Some on → (from left : List ℕ) → Keeps layout on.sets from left → HasEntries layout office.tables from → HasEntries layout office.tables left
+  keeps-entries : (on : RunningStepView) → find (is_of_run run) old.jobs.running ≡ Some on → (from left : List ℕ) → Keeps layout on.sets from left → HasEntries layout office from → HasEntries layout office left
   keeps-entries on found from left keeps has =
       let pair : IsPair layout office image run on desk.running = pair-of layout office image run on old.jobs.running desk.running trusted.stands.running trusted.stands.is_desk.going found in
       kept-has told content may_leave old trusted from left has
       (keeping-kept layout office.tables.sets trusted.stands.is_desk.kept.events.extents from left (names_of pair.stands.start.root pair.stands.start.owned) on.sets pair.stands.sets keeps)
 
-  left-entries : (left : List ℕ) → IsLeftByUnit content may_leave size run old left → HasEntries layout office.tables left
+  left-entries : (left : List ℕ) → IsLeftByUnit content may_leave size run old left → HasEntries layout office left
   left-entries left by = ⊎_elim
       (λ (may : may_leave old.store.disk left). trusted.entries_left left may)
       (λ (stems : StemsFromUnit may_leave run old left). keeps-entries stems.0 stems.1 stems.2.0 left stems.2.2 (trusted.entries_left stems.2.0 stems.2.1)) by.1
@@ -174,7 +176,7 @@ module _ {D : Type 0} (told : Type 0) (content : D → List ℕ) (may_leave : D 
       keeps = done.keeps.reads trusted.tells;
     }
 
-    entries-after : HasEntries layout office.tables after
+    entries-after : HasEntries layout office after
     entries-after = keeps-entries on done.found image after unit-done.keeps trusted.entries
 
     put-back : IsPutBack run moved old.jobs mid.jobs
@@ -212,13 +214,18 @@ module _ {D : Type 0} (told : Type 0) (content : D → List ℕ) (may_leave : D 
 
     -- ---- where no event comes
 
+    -- a code is told, whatever the rules say of it
+    tells-code : (code : Code) → event_in (told_by layout row (running_of office.tables moved) (Abend code)) ≡ None → ⊥
+    tells-code code =
+        by-verdict (λ its. event_in its ≡ None → ⊥) layout row (initiator_of row) code (running_reached (running_of office.tables moved)) (λ rule ends none. some-not-none _ none) (λ judged none. some-not-none _ none)
+
     is-went : event_in plan ≡ None → (taken : ℕ) × (done.worked ≡ Went taken)
     is-went none = by done.worked refl
       where
         by : (worked : Worked) → done.worked ≡ worked → (taken : ℕ) × (done.worked ≡ Went taken)
         by (Went taken) is = (taken, is)
         by (Rewrite place bytes taken) is = absurd (some-not-none _ (sym (sym none ∙ ap event_in plan-so ∙ ap (λ (w : Worked). event_in (told_by layout row (running_of office.tables moved) w)) is)))
-        by (Abend code) is = absurd (some-not-none _ (sym (sym none ∙ ap event_in plan-so ∙ ap (λ (w : Worked). event_in (told_by layout row (running_of office.tables moved) w)) is)))
+        by (Abend code) is = absurd (tells-code code (sym (ap (λ (w : Worked). event_in (told_by layout row (running_of office.tables moved) w)) is) ∙ sym (ap event_in plan-so) ∙ none))
 
     office-after : office_on layout after ≡ office
     office-after = office-same layout image after events
@@ -246,10 +253,10 @@ module _ {D : Type 0} (told : Type 0) (content : D → List ℕ) (may_leave : D 
           ∙ ap (λ (o : Office). desk_seen layout o mid.jobs) (rest-office ∙ sym office-after)
           ∙ ap (λ (l : Layout). desk_seen l (office_on l after) mid.jobs) (sym layout-same)
 
-      entries-rest : (left : List ℕ) → HasEntries layout office.tables left → HasEntries mid.store.layout (office_on mid.store.layout after).tables left
+      entries-rest : (left : List ℕ) → HasEntries layout office left → HasEntries mid.store.layout (office_on mid.store.layout after) left
       entries-rest left has =
-          subst (λ (l : Layout). HasEntries l (office_on l after).tables left) (sym layout-same)
-          (subst (λ (o : Office). HasEntries layout o.tables left) (sym office-after) has)
+          subst (λ (l : Layout). HasEntries l (office_on l after) left) (sym layout-same)
+          (subst (λ (o : Office). HasEntries layout o left) (sym office-after) has)
 
       pub rest-trusted : IsTrusted told content may_leave mid
       rest-trusted = record {
@@ -303,6 +310,23 @@ module _ {D : Type 0} (told : Type 0) (content : D → List ℕ) (may_leave : D 
       abbrev lengths : ArrayVec ℕ
       lengths = record { items = (running_of office.tables moved).lengths }
 
+      -- the step ends with a code: its run ends by a rule, or is restarted
+      code-ensues : (code : Code) → done.worked ≡ Abend code → event_by (Abend code) ≡ Some event → Ensues mid.jobs after desk run event
+      code-ensues code same =
+          by-verdict (λ its. event_in its ≡ Some event → Ensues mid.jobs after desk run event) layout row (initiator_of row) code (running_reached (running_of office.tables moved))
+          (λ rule ends tells.
+          let told_is : Ended run (Coded code (rule_number rule) moved.step.writes lengths) ≡ event =
+          ap (λ n. Ended n (Coded code (rule_number rule) moved.step.writes lengths)) (sym row-within.4) ∙ same_Some _ event tells in
+          subst (Ensues mid.jobs after desk run) told_is
+          (ended-ensues old.jobs image after desk turn run on moved code unit-coded mid.jobs put-back (rule_number rule) lengths (event-then ∙ ap Some (sym told_is))))
+          (λ judged tells.
+          let told_is : Restarted run (initiator_of row) code false ≡ event = ap (λ n. Restarted n (initiator_of row) code false) (sym row-within.4) ∙ same_Some _ event tells in
+          subst (Ensues mid.jobs after desk run) told_is
+          (restarted-ensues old.jobs image after desk turn run on moved code unit-coded mid.jobs put-back (initiator_of row) (event-then ∙ ap Some (sym told_is))))
+        where
+          unit-coded : StandsBehindUnit layout old.jobs image after desk turn run on moved (Abend code)
+          unit-coded = subst (StandsBehindUnit layout old.jobs image after desk turn run on moved) same unit-done
+
       ensues : Ensues mid.jobs after desk run event
       ensues = by done.worked refl
         where
@@ -310,14 +334,7 @@ module _ {D : Type 0} (told : Type 0) (content : D → List ℕ) (may_leave : D 
           by (Went count) same = absurd (some-not-none event (sym is ∙ ap event_in plan-so ∙ ap event_by same))
           by (Rewrite place bytes count) same =
               rewrite-ensues old.jobs image after desk turn run on moved place bytes count (subst (StandsBehindUnit layout old.jobs image after desk turn run on moved) same unit-done) mid.jobs put-back event event-then
-          by (Abend code) same =
-              let rule : ℕ = rule_number (rule_for layout row code) in
-              let ended_is : Ended run (Coded code rule moved.step.writes lengths) ≡ event =
-              ap (λ n. Ended n (Coded code rule moved.step.writes lengths)) (sym row-within.4)
-              ∙ same_Some (Ended row.number (Coded code rule moved.step.writes lengths)) event (sym (ap event_by same) ∙ sym (ap event_in plan-so) ∙ is) in
-              subst (Ensues mid.jobs after desk run) ended_is
-              (ended-ensues old.jobs image after desk turn run on moved code (subst (StandsBehindUnit layout old.jobs image after desk turn run on moved) same unit-done) mid.jobs put-back rule lengths
-              (event-then ∙ ap Some (sym ended_is)))
+          by (Abend code) same = code-ensues code same (sym (ap event_by same) ∙ sym (ap event_in plan-so) ∙ is)
 
       tables-mid : mid.jobs.tables.desk ≡ office.tables
       tables-mid = done.tables ∙ trusted.stands.tables
@@ -352,27 +369,27 @@ module _ {D : Type 0} (told : Type 0) (content : D → List ℕ) (may_leave : D 
       tables-then : after_event event None office.tables ≡ then.office.tables
       tables-then = sym (ap (λ (o : Office). o.tables) ensues.office ∙ tables-behind office event None)
 
-      entries-told : (told_on : List ℕ) → HasSameRecords layout after told_on → HasEntries layout office.tables told_on
+      entries-told : (told_on : List ℕ) → HasSameRecords layout after told_on → HasEntries layout office told_on
       entries-told told_on same = same-has told content may_leave old trusted after told_on entries-after same
 
-      entries-same : may_keep event None mid ≡ true → (left : List ℕ) → HasSameRecords layout after left → HasEntries layout then.office.tables left
-      entries-same might left same = entries-behind-same told content may_leave old trusted event then (coming might) after left (ensues.takes layout office.tables after) entries-after same
+      entries-same : may_keep event None mid ≡ true → (left : List ℕ) → HasSameRecords layout after left → HasEntries layout then.office left
+      entries-same might left same = entries-behind-same told content may_leave old trusted event then (coming might) after left (ensues.takes layout office after) entries-after same
 
       -- and where the record that the event tells is written, or lacks at most
       entries-changed : may_keep event None mid ≡ true → (told_on left : List ℕ) → HasSameRecords layout after told_on
           → ((tables : TablesModel) → AreLaidOut layout tables.sets → OnlyCheckSetsKeep tables.sets → after_event event None office.tables ≡ tables → SameKept layout tables.sets told_on left)
-          → HasEntries layout then.office.tables left
+          → HasEntries layout then.office left
       entries-changed might told_on left same changes =
-          entries-behind told content may_leave old trusted event then (coming might) told_on left (ensues.takes layout office.tables told_on) (entries-told told_on same)
+          entries-behind told content may_leave old trusted event then (coming might) told_on left (ensues.takes layout office told_on) (entries-told told_on same)
           (changes then.office.tables (laid-then told content may_leave old trusted event then (coming might)) (checks-then told content may_leave old trusted event then (coming might)) tables-then)
 
-      entries-written : may_keep event None mid ≡ true → (told_on left : List ℕ) → HasSameRecords layout after told_on → IsWrittenBy layout (after_event event None office.tables) event told_on left → HasEntries layout then.office.tables left
+      entries-written : may_keep event None mid ≡ true → (told_on left : List ℕ) → HasSameRecords layout after told_on → IsWrittenBy layout (after_event event None office.tables) event told_on left → HasEntries layout then.office left
       entries-written might told_on left same written =
           entries-changed might told_on left same
           (λ tables laid checks is.
           told-written layout tables laid checks event (subst (λ (t : TablesModel). TellsRecord t event) is ensues.record_told) told_on left (subst (λ (t : TablesModel). IsWrittenBy layout t event told_on left) is written))
 
-      entries-lacking : may_keep event None mid ≡ true → (told_on left : List ℕ) → HasSameRecords layout after told_on → LacksAtMost layout (after_event event None office.tables) event told_on left → HasEntries layout then.office.tables left
+      entries-lacking : may_keep event None mid ≡ true → (told_on left : List ℕ) → HasSameRecords layout after told_on → LacksAtMost layout (after_event event None office.tables) event told_on left → HasEntries layout then.office left
       entries-lacking might told_on left same lacks =
           entries-changed might told_on left same
           (λ tables laid checks is.
@@ -425,7 +442,7 @@ module _ {D : Type 0} (told : Type 0) (content : D → List ℕ) (may_leave : D 
 
       -- the event before, on an image that may lack its record
       again-kept : may_keep event None mid ≡ true → (left : List ℕ) → Opens layout (size old.store.disk) (λ records. records ≡ before ++ came) left → HasCommittedAgain layout then.office (Some event) left
-          → HasEntries layout then.office.tables left → LeftBehind left
+          → HasEntries layout then.office left → LeftBehind left
       again-kept might left opens committed entries = kept-behind told content may_leave size old trusted event then (coming might) left opens committed entries
 
       module _ (sized : size mid.store.disk ≡ size old.store.disk) where

@@ -1,10 +1,9 @@
-use Rattle.std.proofs.Common.{◌≡◌, IfErr, ap, refl, sym, ◌∙◌, subst}
+use Rattle.std.proofs.Common.{IfErr, ap, refl, sym, ◌∙◌, subst}
 use Rattle.ckr_desk_memory.proofs.Holders.Rooms.{stored-fit}
 use Rattle.ckr_desk_memory.specs.OwnSteps.{PlanFollows}
 use Rattle.ckr_desk_memory.specs.Parts.{step_seen}
 use Rattle.ckr_desk_memory.specs.Plans.{behind_unit, told_by}
-use Rattle.ckr_desk_memory.specs.View.{RunningStepView, running_of}
-use Rattle.ckr_steps.specs.StepUnit.{HasWorkedOut}
+use Rattle.ckr_desk_memory.specs.View.{running_of}
 use Rattle.ckr_volumes.specs.declared.layout.Layout.{Layout}
 use Rattle.ckr_desk.proofs.Units.Codes.{so-coded}
 use Rattle.ckr_desk.proofs.Units.Preparation.{err-is, is-ahead, not-ready, out-of, short-so}
@@ -50,7 +49,7 @@ returns-clause-ahead g c =
     ∙ ap (λ (l : Layout). told_by l row (running_of c.self.inside.jobs.tables.desk (behind_unit on unit)) unit.worked) c.layout.ensures.layout)
     c.told-plan.ensures.unit c.told-plan.ensures.spelled
     (subst (λ (l : Layout). PlanFollows l c.self.inside.jobs.tables.desk c.told-plan.result) c.layout.ensures.layout
-    (c.told-plan.ensures.own out.heads (c.in-Some.ensures.own c.self.invariant.own) (stored-fit c.self.inside.store.layout on.sets (c.in-Some.ensures.runnable c.self.inside.store.layout c.self.invariant.are).stored)
+    (c.told-plan.ensures.own out.heads c.self.invariant.are.placed (c.in-Some.ensures.own c.self.invariant.own) (stored-fit c.self.inside.store.layout on.sets (c.in-Some.ensures.runnable c.self.inside.store.layout c.self.invariant.are).stored)
     (c.in-Some.ensures.runnable c.self.inside.store.layout c.self.invariant.are).there out.unit))
     (c.told-plan.ensures.commits (c.in-Some.ensures.own c.self.invariant.own)) (c.told-plan.ensures.of_run (c.in-Some.ensures.own c.self.invariant.own))
     c.in_ok-ready.ready c.in_ok-ready.ensures.ready
@@ -75,7 +74,7 @@ returns-in_err-ready-clause-cause g c =
     ∙ ap (λ (l : Layout). told_by l row (running_of c.self.inside.jobs.tables.desk (behind_unit on unit)) unit.worked) c.layout.ensures.layout)
     c.told-plan.ensures.unit c.told-plan.ensures.spelled
     (subst (λ (l : Layout). PlanFollows l c.self.inside.jobs.tables.desk c.told-plan.result) c.layout.ensures.layout
-    (c.told-plan.ensures.own out.heads (c.in-Some.ensures.own c.self.invariant.own) (stored-fit c.self.inside.store.layout on.sets (c.in-Some.ensures.runnable c.self.inside.store.layout c.self.invariant.are).stored)
+    (c.told-plan.ensures.own out.heads c.self.invariant.are.placed (c.in-Some.ensures.own c.self.invariant.own) (stored-fit c.self.inside.store.layout on.sets (c.in-Some.ensures.runnable c.self.inside.store.layout c.self.invariant.are).stored)
     (c.in-Some.ensures.runnable c.self.inside.store.layout c.self.invariant.are).there out.unit))
     (c.told-plan.ensures.commits (c.in-Some.ensures.own c.self.invariant.own)) (c.told-plan.ensures.of_run (c.in-Some.ensures.own c.self.invariant.own))
     error (subst (λ (s : DeskView g.row.D.Denot). NotReadyFor (event_in c.told-plan.result) s c.ready_for.new.self error) (sym c.self.view_is) c.in_err-ready.ensures.cause)))

@@ -1,8 +1,5 @@
-use Rattle.std.proofs.Common.{◌∙◌, sym, subst}
-use Rattle.ckr_desk_turn.specs.Invariant.{IsTurnOf}
 use Rattle.ckr_desk.proofs.Calls.FullBooks.{turn-has_room}
-use Rattle.ckr_desk.specs.Soundness.{IsTrusted, state_of}
-use Rattle.ckr_desk.specs.State.{DeskView}
+use Rattle.ckr_desk.specs.Soundness.{state_of}
 use Rattle.ckr_desk.proofs.desk.Desk.turn.Goals as goal
 
 pub returns-clause-reply : goal.returns-clause-reply

@@ -1,6 +1,5 @@
-use Rattle.std.proofs.Common.{◌≡◌, ◌∙◌, refl, sym, subst}
+use Rattle.std.proofs.Common.{refl, sym, subst}
 use Rattle.ckr_outside.specs.Moments.{at_the_end}
-use Rattle.ckr_steps.specs.StepUnit.{HasWorkedOut}
 use Rattle.ckr_desk_memory.specs.Parts.{step_seen}
 use Rattle.ckr_desk_memory.specs.Plans.{behind_unit}
 use Rattle.ckr_desk_memory.specs.View.{RunningStepView}
