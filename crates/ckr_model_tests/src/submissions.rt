@@ -22,8 +22,8 @@ type Row = (&'static [&'static [u8]], Option<u8>);
 
 const ROWS: [Row; 10] = [
     (&[b"//J JOB", b"//S1 EXEC PGM=IEFBR14"], None),
-    (&[b"//J JOB", b"//S1 EXEC PGM=IEFBR14,RD=R"], Some(0)),
-    (&[b"//J JOB", b"//S1 EXEC PGM=IEFBR14,RD=RNC"], Some(0)),
+    (&[b"//J JOB", b"//S1 EXEC PGM=IEFBR14,RD=R"], None),
+    (&[b"//J JOB", b"//S1 EXEC PGM=IEFBR14,RD=RNC"], None),
     (&[b"//J JOB", b"//S1 EXEC PGM=IEFBR14,RD=NR"], None),
     (&[b"//J JOB", b"//S1 EXEC PGM=IEFBR14,RD=NC"], None),
     (&[b"//J JOB", b"//S1 EXEC PGM=UNKNOWN"], Some(14)),

@@ -91,6 +91,18 @@ pub fn text_of(
     Ok((status, text))
 }
 
+/// The text of the last of these streams on a fresh disk, each a call of its own: the disk is opened again for each.
+pub fn text_in_turn(alloc: Global, streams: &[&[u8]]) -> Result<Vec<u8>, Fail> {
+    let mut disk = formatted(alloc, CARDS, SIZE, None, None)?;
+    let mut text = Vec::new(alloc);
+    for stream in streams {
+        let ended = call(alloc, "run", stream, disk)?;
+        disk = ended.disk;
+        text = ended.text;
+    }
+    Ok(text)
+}
+
 /// The status and the sink after a stream whose source and sink fail at one call each, on a fresh disk.
 pub fn served(alloc: Global, bytes: Vec<u8>, take: u32, put: u32) -> Result<(u8, MemSink), Fail> {
     let disk = formatted(alloc, SMALL_CARDS, SMALL_SIZE, None, None)?;
@@ -115,8 +127,8 @@ fn worked_streams_on_one_disk(rt: HostRuntime) -> Result<(), Fail> {
     Ok(())
 }
 
-/// Steps that are running when the stream ends, what is written before, and how their jobs end when the disk is opened again.
-const RUNNING: [(&[u8], &[u8], &[u8]); 2] = [
+/// Steps that are running when the stream ends, what is written before, and how their jobs end or go on when the disk is opened again.
+const RUNNING: [(&[u8], &[u8], &[u8]); 3] = [
     (
         b"//COPY1 JOB\n//S1 EXEC PGM=COPY\n//SYSUT1 DD *\nALPHA\nBETA\n/*\n//SYSUT2 DD DSN=OUT.A,DISP=(NEW,CATLG),SPACE=(80,10)\n//\n$T 1 4\n",
         b"J0000001 COPY1 SUBMITTED\nI1 J0000001 SELECTED\nI1 J0000001 S1 STARTED\nI1 J0000001 S1 WORKED 2 TAKEN 2\n",
@@ -127,10 +139,17 @@ const RUNNING: [(&[u8], &[u8], &[u8]); 2] = [
         b"J0000001 N SUBMITTED\nI1 J0000001 SELECTED\nI1 J0000001 S1 STARTED\nI1 J0000001 S1 WORKED 1 TAKEN 1\nI1 J0000001 S1 CHKPT 00 SUPPRESSED\nI1 J0000001 S1 CHKPT CANCEL\n",
         b"I1 J0000001 ENDED S2F3 A1\nI1 IDLE\n",
     ),
+    (
+        b"//R JOB RD=R\n//S1 EXEC PGM=COPY\n//SYSUT1 DD *\nALPHA\nBETA\n/*\n//SYSUT2 DD DSN=OUT.R,DISP=(NEW,CATLG),SPACE=(80,10)\n//\n$T 1 3\n",
+        b"J0000001 R SUBMITTED\nI1 J0000001 SELECTED\nI1 J0000001 S1 STARTED\nI1 J0000001 S1 WORKED 1 TAKEN 1\n",
+        b"I1 J0000001 S1 RESTARTED AT STEP\nI1 J0000001 S1 STARTED\n",
+    ),
 ];
 
 #[test]
-fn a_run_that_was_running_ends_when_the_disk_is_opened_again(rt: HostRuntime) -> Result<(), Fail> {
+fn a_run_that_was_running_goes_by_the_rules_when_the_disk_is_opened_again(
+    rt: HostRuntime,
+) -> Result<(), Fail> {
     let alloc = rt.alloc();
     for (stream, before, behind) in RUNNING {
         let disk = formatted(alloc, CARDS, SIZE, None, None)?;

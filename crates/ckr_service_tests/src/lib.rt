@@ -8,4 +8,6 @@ mod checkpoints;
 #[cfg(test)]
 mod refusals;
 #[cfg(test)]
+mod restarts;
+#[cfg(test)]
 mod rows;
