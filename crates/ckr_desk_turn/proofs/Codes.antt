@@ -1,13 +1,14 @@
 -- A run with a code: the rules that may end it, the plan of its turn, and its initiator.
-use Rattle.std.proofs.Common.{◌≡◌, ℕ, Bool, true, not, ◌||◌, refl, ap, sym, ◌∙◌, Option, Some, None}
+use Rattle.std.proofs.Common.{◌≡◌, ℕ, Bool, true, not, ◌||◌, refl, ap, sym, ◌∙◌, subst, Option, Some, None}
 use Rattle.std.specs.Prelude.{◌==◌}
 use Rattle.std.specs.Option.{is_some, option_map_or}
 use Rattle.std.proofs.lemmas.Bool.{false≢true, or_right}
 use Rattle.ckr_base.specs.declared.code.Code.{Code}
 use Rattle.ckr_base.proofs.Numbers.{equal-itself}
+use Rattle.ckr_base.proofs.Options.{option-cases}
 use Rattle.ckr_points.specs.declared.run.RunState.{RunState}
 use Rattle.ckr_points.specs.declared.run.RunState.TheVariants.{On}
-use Rattle.ckr_points.specs.Rows.{RunRow}
+use Rattle.ckr_points.specs.Rows.{KeptEntry, RunRow, TablesModel}
 use Rattle.ckr_points.specs.Soundness.{denying}
 use Rattle.ckr_rules.specs.RuleTables.{rule_number}
 use Rattle.ckr_rules.specs.declared.cases.Rule.{Rule}
@@ -16,24 +17,29 @@ use Rattle.ckr_rules.specs.declared.cases.Verdict.{Verdict}
 use Rattle.ckr_rules.specs.declared.cases.Verdict.TheVariants.{Step, Checkpoint, Denied}
 use Rattle.ckr_volumes.specs.declared.layout.Layout.{Layout}
 use Rattle.ckr_desk_turn.specs.declared.plan.Plan.{Plan}
-use Rattle.ckr_desk_turn.specs.Codes.{CodePlaceModel, code_plan, ended_by, initiator_of, judged_plan, restarted_by, verdict_for}
+use Rattle.ckr_desk_turn.specs.Codes.{CodePlaceModel, code_plan, ended_by, initiator_of, judged_plan, restarted_at, restarted_by, verdict_for}
 use Rattle.ckr_desk_turn.specs.Invariant.{IsAdmitted, is_on_one}
+use Rattle.ckr_desk_turn.specs.Jobs.{effect_entry}
 
 -- a rule by which a run may end: the one that denies its restart, or that of the operator
 abbrev pub may_end : Rule → Verdict → Bool
 may_end rule verdict = rule_number rule == 6 || rule_number rule == denying verdict
 
--- what holds where the run ends by such a rule, and where it is restarted at the start of its step, holds of its plan
-pub by-verdict : (P : Plan → Type 0) (layout : Layout) (row : RunRow) (initiator : ℕ) (code : Code) (reached : CodePlaceModel) → ((rule : Rule) → may_end rule (verdict_for layout row code) ≡ true → P (ended_by row code rule reached)) → (verdict_for layout row code ≡ Step → P (restarted_by row initiator code))
-    → P (code_plan layout row initiator code reached)
-by-verdict P layout row initiator code reached ended restarted =
+-- what holds where the run ends by such a rule, where it is restarted at the start of its step, and where it is restarted at its checkpoint
+-- in effect, holds of its plan
+pub by-verdict : (P : Plan → Type 0) (layout : Layout) (tables : TablesModel) (row : RunRow) (initiator : ℕ) (code : Code) (reached : CodePlaceModel) → ((rule : Rule) → may_end rule (verdict_for layout row code) ≡ true → P (ended_by row code rule reached)) → (verdict_for layout row code ≡ Step → P (restarted_by row initiator code))
+    → ((entry : KeptEntry) → verdict_for layout row code ≡ Checkpoint → effect_entry tables row ≡ Some entry → P (restarted_at row initiator code entry)) → P (code_plan layout tables row initiator code reached)
+by-verdict P layout tables row initiator code reached ended restarted restarted_back =
     by (verdict_for layout row code) refl
   where
-    by : (verdict : Verdict) → verdict_for layout row code ≡ verdict → P (judged_plan row initiator code reached verdict)
+    by : (verdict : Verdict) → verdict_for layout row code ≡ verdict → P (judged_plan tables row initiator code reached verdict)
     by (Denied rule) judged =
         ended rule (ap (may_end rule) judged ∙ or_right (rule_number rule == 6) _ (equal-itself (rule_number rule)))
     by Step judged = restarted judged
-    by Checkpoint judged = ended A6 refl
+    by Checkpoint judged =
+        option-cases (effect_entry tables row)
+        (λ none. subst (λ (o : Option KeptEntry). P (option_map_or (restarted_at row initiator code) o (ended_by row code A6 reached))) (sym none) (ended A6 refl))
+        (λ entry some. subst (λ (o : Option KeptEntry). P (option_map_or (restarted_at row initiator code) o (ended_by row code A6 reached))) (sym some) (restarted_back entry judged some))
 
 -- a run on an initiator has it
 pub initiator-its : (row : RunRow) → row.state ≡ On → IsAdmitted row → row.initiator ≡ Some (initiator_of row)

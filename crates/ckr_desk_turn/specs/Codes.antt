@@ -1,12 +1,12 @@
 -- A code: the restart of the run, or the rule by which it isn't restarted, and its end.
-use Rattle.std.specs.Prelude.{ℕ, false, List, [], None}
+use Rattle.std.specs.Prelude.{ℕ, true, false, List, [], None, Some}
 use Rattle.std.specs.Option.{option_map_or}
 use Rattle.ckr_base.specs.declared.code.Code.{Code}
 use Rattle.ckr_events.specs.declared.event.Event.TheVariants.{Ended as EndedEvent, Restarted as RestartedEvent}
 use Rattle.ckr_events.specs.declared.event.Ending.TheVariants.{Coded as CodedEnding}
 use Rattle.ckr_points.specs.RuleCases.{auto_case}
 use Rattle.ckr_points.specs.Restart.{place_of, step_in}
-use Rattle.ckr_points.specs.Rows.{RunRow, step_of_run}
+use Rattle.ckr_points.specs.Rows.{KeptEntry, RunRow, TablesModel, step_of_run}
 use Rattle.ckr_points.specs.Payload.{lengths_kept, writes_in}
 use Rattle.ckr_rules.specs.RuleTables.{automatic, rule_number}
 use Rattle.ckr_rules.specs.declared.cases.Rule.{Rule}
@@ -18,7 +18,7 @@ use Rattle.ckr_desk_turn.specs.declared.plan.Plan.{Plan}
 use Rattle.ckr_desk_turn.specs.declared.plan.Plan.TheVariants.{Tell}
 use Rattle.ckr_desk_turn.specs.declared.reply.How.TheVariants.{Abended}
 use Rattle.ckr_desk_turn.specs.declared.reply.Reply.TheVariants.{JobEnded, Restarted}
-use Rattle.ckr_desk_turn.specs.Jobs.{TurnJobs, TurnStep, running_in, step_name_of}
+use Rattle.ckr_desk_turn.specs.Jobs.{TurnJobs, TurnStep, effect_entry, running_in, step_name_of}
 
 -- how far a run with a code has come: the writes of its running step and the lengths with them, else the committed ones
 pub record CodePlaceModel : Type 0 where
@@ -47,19 +47,26 @@ ended_by row code rule reached =
 abbrev pub restarted_by : RunRow → ℕ → Code → Plan
 restarted_by row initiator code = Tell (Restarted row.number (step_name_of row) None 0) (RestartedEvent row.number initiator code false)
 
+-- it is restarted at its checkpoint in effect, of which this is the entry
+abbrev pub restarted_at : RunRow → ℕ → Code → KeptEntry → Plan
+restarted_at row initiator code entry =
+    Tell (Restarted row.number (step_name_of row) (Some entry.kept.id) entry.point.taken) (RestartedEvent row.number initiator code true)
+
 -- what the rules say of a run after a code, where the operator doesn't refuse its restart
 abbrev pub verdict_for : Layout → RunRow → Code → Verdict
 verdict_for layout row code = automatic (auto_case row (step_in (place_of row)) layout.eligible.items code false)
 
--- what becomes of the run by that; the desk makes no restart at a checkpoint yet, and ends the run
-abbrev pub judged_plan : RunRow → ℕ → Code → CodePlaceModel → Verdict → Plan
-judged_plan row initiator code reached (Denied rule) = ended_by row code rule reached
-judged_plan row initiator code reached Step = restarted_by row initiator code
-judged_plan row initiator code reached Checkpoint = ended_by row code A6 reached
+-- what becomes of the run by that; a desk always has the entry of the checkpoint at which the rules restart a run, and the end in its place
+-- is for totality alone
+abbrev pub judged_plan : TablesModel → RunRow → ℕ → Code → CodePlaceModel → Verdict → Plan
+judged_plan tables row initiator code reached (Denied rule) = ended_by row code rule reached
+judged_plan tables row initiator code reached Step = restarted_by row initiator code
+judged_plan tables row initiator code reached Checkpoint =
+    option_map_or (restarted_at row initiator code) (effect_entry tables row) (ended_by row code A6 reached)
 
 -- a turn in which a run has a code, on its initiator
-abbrev pub code_plan : Layout → RunRow → ℕ → Code → CodePlaceModel → Plan
-code_plan layout row initiator code reached = judged_plan row initiator code reached (verdict_for layout row code)
+abbrev pub code_plan : Layout → TablesModel → RunRow → ℕ → Code → CodePlaceModel → Plan
+code_plan layout tables row initiator code reached = judged_plan tables row initiator code reached (verdict_for layout row code)
 
 -- the initiator that a run is on
 abbrev pub initiator_of : RunRow → ℕ

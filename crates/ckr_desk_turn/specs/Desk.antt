@@ -9,15 +9,15 @@ use Rattle.ckr_meaning.specs.JobRun.{start_at}
 use Rattle.ckr_meaning.specs.StepRun.{StepStart}
 use Rattle.ckr_points.specs.Payload.{lengths_at}
 use Rattle.ckr_points.specs.Office.{Office, office_after, leg_of}
-use Rattle.ckr_points.specs.Restart.{kept_at, place_of, step_in}
-use Rattle.ckr_points.specs.Rows.{EntryPoint, KeptEntry, RunRow, TablesModel, run_of}
+use Rattle.ckr_points.specs.Restart.{place_of, step_in}
+use Rattle.ckr_points.specs.Rows.{EntryPoint, RunRow, TablesModel, run_of}
 use Rattle.ckr_volumes.specs.declared.layout.Layout.{Layout}
 use Rattle.ckr_desk_turn.specs.declared.plan.Plan.{Plan}
 use Rattle.ckr_desk_turn.specs.declared.plan.Plan.TheVariants.{Rest, Tell, Work, Pass, Take}
 use Rattle.ckr_desk_turn.specs.declared.reply.Reply.{Reply}
 use Rattle.ckr_desk_turn.specs.declared.reply.Reply.TheVariants.{Idle}
 use Rattle.ckr_desk_turn.specs.Due.{next_due}
-use Rattle.ckr_desk_turn.specs.Jobs.{TurnJobs, TurnStep}
+use Rattle.ckr_desk_turn.specs.Jobs.{TurnJobs, TurnStep, effect_entry}
 use Rattle.ckr_desk_turn.specs.Plans.{is_within}
 use Rattle.ckr_desk_turn.specs.Units.{StepProgress, UnitEnd, arrived, unit_end, unit_plan}
 
@@ -93,10 +93,6 @@ cancel_done progress = record progress { cancelled = true }
 -- a step that goes on from an entry: behind the records taken and the writes that the entry tells, with its checkpoint done
 abbrev pub at_entry : ℕ → EntryPoint → DeskStep
 at_entry run point = record { run = run; progress = checkpoint_done (arrived point.taken point.writes) }
-
--- the entry of a run's checkpoint in effect
-abbrev pub effect_entry : TablesModel → RunRow → Option KeptEntry
-effect_entry tables row = option_map_or (λ effect. kept_at tables.sets effect.set effect.kept.id) row.in_effect None
 
 -- a run that is restarted at its checkpoint goes on from its entry
 abbrev pub running_again : TablesModel → ℕ → List DeskStep → List DeskStep

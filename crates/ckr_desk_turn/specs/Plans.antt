@@ -101,7 +101,7 @@ abbrev pub fail_plan : Layout → TurnJobs → RunRow → Option Code → Plan
 fail_plan layout jobs row None = placed_plan layout jobs row (place_of row)
 fail_plan layout jobs row (Some code) =
     elim (is_within (place_of row)) [
-      | true ↦ code_plan layout row (initiator_of row) code (reached_by jobs row)
+      | true ↦ code_plan layout jobs.tables row (initiator_of row) code (reached_by jobs row)
       | false ↦ Rest NothingToFail
     ]
 
@@ -109,7 +109,7 @@ fail_plan layout jobs row (Some code) =
 abbrev pub run_plan : Layout → TurnJobs → Option Code → RunRow → Plan
 run_plan layout jobs fail row =
     elim (is_failed jobs row.number) [
-      | true ↦ code_plan layout row (initiator_of row) system_failure (reached_by jobs row)
+      | true ↦ code_plan layout jobs.tables row (initiator_of row) system_failure (reached_by jobs row)
       | false ↦ fail_plan layout jobs row fail
     ]
 
@@ -120,7 +120,7 @@ abbrev pub chosen_plan : Layout → TurnJobs → ℕ → RunRow → Plan
 chosen_plan layout jobs initiator row =
     elim row.code [
       | None ↦ Tell (Selected row.number) (SelectedEvent row.number initiator 0 0 None)
-      | Some code ↦ code_plan layout row initiator code (reached_by jobs row)
+      | Some code ↦ code_plan layout jobs.tables row initiator code (reached_by jobs row)
     ]
 
 abbrev pub free_plan : Layout → TurnJobs → ℕ → Option Code → Plan

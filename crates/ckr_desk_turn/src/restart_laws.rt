@@ -21,22 +21,25 @@ ghost use Rattle.ckr_rules.specs.declared.cases.Rule.{Rule as RuleOfTable};
 ghost use Rattle.ckr_rules.specs.declared.cases.Verdict.TheVariants.{Checkpoint as AtCheckpoint, Denied as DeniedBy, Step as AtStep};
 ghost use Rattle.ckr_volumes.specs.declared.layout.Layout.{Layout as LayoutOfDisk};
 ghost use Rattle.ckr_desk_turn.specs.declared.reply.Turn.{Turn};
-ghost use Rattle.ckr_desk_turn.specs.Codes.{ended_by, initiator_of, reached_by, restarted_by, verdict_for};
-ghost use Rattle.ckr_desk_turn.specs.Desk.{DeskModel, at_entry, behind, done_by, effect_entry, jobs_of, progress_of, unit_done};
+ghost use Rattle.ckr_desk_turn.specs.Codes.{ended_by, initiator_of, reached_by, restarted_at, restarted_by, verdict_for};
+ghost use Rattle.ckr_desk_turn.specs.Desk.{DeskModel, at_entry, behind, done_by, jobs_of, progress_of, unit_done};
 ghost use Rattle.ckr_desk_turn.specs.Due.{next_due};
 ghost use Rattle.ckr_desk_turn.specs.Invariant.{IsDesk, IsGoing};
-ghost use Rattle.ckr_desk_turn.specs.Jobs.{is_failed};
+ghost use Rattle.ckr_desk_turn.specs.Jobs.{effect_entry, is_failed};
 ghost use Rattle.ckr_desk_turn.specs.Plans.{run_plan, start_plan};
 ghost use Rattle.ckr_desk_turn.specs.Restarts.{GoesOnBy, HasCode, IsJudged, refusal_of, restart_of};
 ghost use Rattle.ckr_desk_turn.specs.Turns.{turn_of};
 ghost use Rattle.ckr_desk_turn.specs.Units.{StepProgress, abended};
 
 /// The turn of a run that has a code within a step, that of the system failure or one that is given, comes to what the rules say: the run is
-/// restarted on its initiator at the start of its step, or it ends by the rule that denies it. A run is restarted so, too, where the next unit of its step comes to such a code.
+/// restarted on its initiator, at the start of its step or at its checkpoint in effect, of which there is the entry, or it ends by the rule
+/// that denies it. A run is restarted so, too, where the next unit of its step comes to such a code, however far the step had come.
 pub fn codes_come_to_what_the_rules_say()
     ensures restarted { (desk : DeskModel) (turn : Turn) (row : RunRow) (code : Code) → HasCode desk turn row code → verdict_for desk.layout row code ≡ AtStep → turn_of desk turn ≡ done_by (restarted_by row turn.initiator code) desk }
     ensures denied { (desk : DeskModel) (turn : Turn) (row : RunRow) (code : Code) (rule : RuleOfTable) → HasCode desk turn row code → verdict_for desk.layout row code ≡ DeniedBy rule → turn_of desk turn ≡ done_by (ended_by row code rule (reached_by (jobs_of desk) row)) desk }
+    ensures restarted_at { (desk : DeskModel) (turn : Turn) (row : RunRow) (code : Code) (entry : KeptEntry) → HasCode desk turn row code → verdict_for desk.layout row code ≡ AtCheckpoint → effect_entry desk.office.tables row ≡ Some entry → turn_of desk turn ≡ done_by (restarted_at row turn.initiator code entry) desk }
     ensures unit { (desk : DeskModel) (row : RunRow) (progress : StepProgress) (code : Code) → verdict_for desk.layout row code ≡ AtStep → unit_done row (record { unit = abended code; progress = progress }) desk ≡ done_by (restarted_by row (initiator_of row) code) desk }
+    ensures unit_at { (desk : DeskModel) (row : RunRow) (progress : StepProgress) (code : Code) (entry : KeptEntry) → verdict_for desk.layout row code ≡ AtCheckpoint → effect_entry desk.office.tables row ≡ Some entry → unit_done row (record { unit = abended code; progress = progress }) desk ≡ done_by (restarted_at row (initiator_of row) code entry) desk }
 {}
 
 /// Where the rules restart a run with a code, the event of its restart may come and carries what the job gives: at the start of its step, or

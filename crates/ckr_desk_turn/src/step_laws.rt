@@ -16,8 +16,9 @@ ghost use Rattle.ckr_desk_turn.specs.Invariant.{IsDesk, IsGoing, IsOpen, Keeps, 
 
 /// A turn of an initiator whose run is within a step tells an event that may come and carries what the job gives: restarts are cancelled,
 /// the step ends with its return code, a record is rewritten, an entry is written, or the run has a code, one that is given, that of a
-/// system failure, that of its program, or SB37: it is restarted at the start of its step, or ends. The desk behind it is as its events have brought it about, also where the turn tells
-/// none: behind a unit that rewrites nothing, and behind a checkpoint that is suppressed or doesn't fit.
+/// system failure, that of its program, or SB37: it is restarted, at the start of its step or at its checkpoint in effect, or ends. The
+/// desk behind it is as its events have brought it about, also where the turn tells none: behind a unit that rewrites nothing, and behind a
+/// checkpoint that is suppressed or doesn't fit.
 pub fn turns_within_a_step_keep_the_desk()
     ensures { (desk : DeskModel) (row : RunRow) (number committed : ℕ) (start : StepStart) (fail : Option Code) → IsDesk desk → IsWithinStep desk.office row.number row number committed start → Keeps desk (carried_out (run_plan desk.layout (jobs_of desk) fail row) desk) }
 {}

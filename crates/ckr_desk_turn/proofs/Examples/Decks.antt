@@ -221,6 +221,23 @@ spilling rd =
     codes "//SYSUT2 DD DSN=OUT.A,DISP=(NEW,CATLG),SPACE=(80,3)" ∷
     []
 
+-- the cards `R` and two digits, from a number on
+abbrev pub cards_from : ℕ → ℕ → List (List ℕ)
+cards_from from zero = []
+cards_from from (suc count) = (82 ∷ last_digits 2 from) ∷ cards_from (suc from) count
+
+-- COPY of six cards into this space, with these counts for checkpoints and their cancel, and no RD
+abbrev pub six_cards : List ℕ → List ℕ → List (List ℕ)
+six_cards counts space =
+    codes "//X JOB" ∷
+    (codes "//S1 EXEC PGM=COPY,PARM='" ++ (counts ++ codes "'")) ∷
+    codes "//SYSUT1 DD *" ∷
+    cards_from 1 6 ++
+    codes "/*" ∷
+    (codes "//SYSUT2 DD DSN=OUT.A,DISP=(NEW,CATLG),SPACE=" ++ space) ∷
+    codes "//CHKDD DD DSN=CHK.A,DISP=(NEW,CATLG),SPACE=(256,4)" ∷
+    []
+
 -- COPY of a card behind the records of IN.A
 abbrev pub extending : List (List ℕ)
 extending =
@@ -231,11 +248,6 @@ extending =
     codes "/*" ∷
     codes "//SYSUT2 DD DSN=IN.A,DISP=MOD" ∷
     []
-
--- the cards `R` and two digits, from a number on
-abbrev pub cards_from : ℕ → ℕ → List (List ℕ)
-cards_from from zero = []
-cards_from from (suc count) = (82 ∷ last_digits 2 from) ∷ cards_from (suc from) count
 
 -- COPY of 60 cards into IN.A, and of IN.A into OUT.K with checkpoints
 abbrev pub sixty : List (List ℕ)

@@ -1,6 +1,7 @@
 -- Runs that are restarted: what the rules say, the desk behind the restart, and the replies of the turns behind it.
-use Rattle.std.specs.Prelude.{◌≡◌, ℕ, zero, suc, Bool, true, false, ◌&&◌, List, [], ◌∷◌, ◌++◌, codes, Option, None, Some, refl}
+use Rattle.std.specs.Prelude.{◌≡◌, ℕ, zero, suc, Bool, true, false, ◌&&◌, List, [], ◌∷◌, ◌++◌, map, codes, Option, None, Some, refl}
 use Rattle.std.specs.Option.{option_map, option_map_or}
+use Rattle.ckr_base.specs.Columns.{fitted}
 use Rattle.ckr_base.specs.declared.code.Code.{Code}
 use Rattle.ckr_base.specs.declared.code.Code.TheVariants.{System, User}
 use Rattle.ckr_events.specs.declared.event.Event.TheVariants.{Checkpointed, Restarted}
@@ -9,11 +10,12 @@ use Rattle.ckr_library.specs.NameMaps.{Name}
 use Rattle.ckr_meaning.proofs.Definitions.{jobs_open}
 use Rattle.ckr_meaning.specs.declared.place.Place.{Place}
 use Rattle.ckr_meaning.specs.declared.place.Place.TheVariants.{Opened, Within}
+use Rattle.ckr_points.specs.Office.{model_records}
 use Rattle.ckr_points.specs.Payload.{carries}
 use Rattle.ckr_points.specs.Restart.{Decked}
 use Rattle.ckr_points.specs.Rows.{run_of}
 use Rattle.ckr_points.specs.Soundness.{may_come}
-use Rattle.ckr_rules.specs.declared.cases.Rule.TheVariants.{A1, A3, A5}
+use Rattle.ckr_rules.specs.declared.cases.Rule.TheVariants.{A1, A2, A3, A5}
 use Rattle.ckr_rules.specs.declared.cases.Verdict.{Verdict}
 use Rattle.ckr_rules.specs.declared.cases.Verdict.TheVariants.{Step, Checkpoint, Denied}
 use Rattle.ckr_desk_turn.specs.declared.reply.Chkpt.TheVariants.{Done, Suppressed}
@@ -23,11 +25,12 @@ use Rattle.ckr_desk_turn.specs.declared.reply.Reply.TheVariants.{Idle, Selected,
 use Rattle.ckr_desk_turn.specs.Codes.{verdict_for}
 use Rattle.ckr_desk_turn.specs.Desk.{DeskModel, behind as behind_event}
 use Rattle.ckr_desk_turn.specs.EntryStates.{checkpoint_state}
-use Rattle.ckr_desk_turn.specs.Turns.{replies_of, turn_of}
+use Rattle.ckr_desk_turn.specs.Turns.{desk_after, replies_of, turn_of}
+use Rattle.ckr_desk_turn.specs.declared.reply.Turn.{Turn}
 use Rattle.ckr_desk_turn.specs.Units.{StepProgress}
 use Rattle.ckr_desk_turn.proofs.Definitions.{turns_open}
-use Rattle.ckr_desk_turn.proofs.Examples.Decks.{counting, deck, sixty, spilling, under}
-use Rattle.ckr_desk_turn.proofs.Examples.Desks.{all_come as turns_come, behind, failing, fresh, line, listing, reopened, replies, turns_by, with_deck}
+use Rattle.ckr_desk_turn.proofs.Examples.Decks.{cards_from, counting, deck, six_cards, sixty, spilling, under}
+use Rattle.ckr_desk_turn.proofs.Examples.Desks.{Listed, all_come as turns_come, behind, failing, fresh, line, listing, reopened, replies, turn_by, turns_by, with_deck}
 use Rattle.ckr_desk_turn.proofs.Examples.Tables.{ended, in_one, selected, started, step_ended, submitted}
 
 -- ---- the desk behind events
@@ -188,6 +191,121 @@ cancelling_listed = refl
 cancelling_again : replies 4 (restarted 1 abended false (behind 7 cancelling)) ≡ Started 1 (codes "S1") ∷ on_s1 1 ∷ on_s1 2 ∷ written (codes "C0000001") ∷ []
 unfolding decks_open jobs_open turns_open checkpoint_state
 cancelling_again = refl
+
+-- the code is given: it starts its step again
+cancelling_given : replies_of (failing abended ∷ turns_by 1 2) (behind 7 cancelling) ≡ restarted_on_s1 ∷ on_start ∷ on_s1 1 ∷ []
+unfolding decks_open jobs_open turns_open checkpoint_state
+cancelling_given = refl
+
+-- with no RD it isn't restarted there
+abbrev cancelling_alone : DeskModel
+cancelling_alone = with_deck (deck (six_cards (codes "CHK=2,CANCEL=3") (codes "(80,10)"))) fresh
+
+alone_ends : replies_of (turns_by 1 7 ++ failing abended ∷ turn_by 1 ∷ []) cancelling_alone
+    ≡ Selected 1 ∷ on_start ∷ on_s1 1 ∷ on_s1 2 ∷ written (codes "C0000001") ∷ on_s1 3 ∷ Cancelled 1 (codes "S1") ∷ JobEnded 1 (Abended abended A2) ∷ Idle ∷ []
+unfolding decks_open jobs_open turns_open checkpoint_state
+alone_ends = refl
+
+-- ---- no RD: the turns that restart a run at the second of three checkpoints
+
+abbrev checking : DeskModel
+checking = with_deck (deck (six_cards (codes "CHK=2") (codes "(80,10)"))) fresh
+
+abbrev back_at : Name → ℕ → Reply
+back_at id taken = RestartedReply 1 (codes "S1") (Some id) taken
+
+abbrev to_end : List Reply
+to_end = on_s1 5 ∷ on_s1 6 ∷ written (codes "C0000003") ∷ on_s1 6 ∷ StepEnded 1 (codes "S1") 0 ∷ JobEnded 1 Completed ∷ []
+
+checking_replies : replies 14 checking
+    ≡ Selected 1 ∷ on_start ∷ on_s1 1 ∷ on_s1 2 ∷ written (codes "C0000001") ∷ on_s1 3 ∷ on_s1 4 ∷ written (codes "C0000002") ∷ to_end
+unfolding decks_open jobs_open turns_open checkpoint_state
+checking_replies = refl
+
+-- behind the fifth record a code is given: the run goes back behind the fourth, and on to its end
+back_event : (turn_of (behind 9 checking) (failing abended)).event ≡ Some (Restarted 1 1 abended true)
+unfolding decks_open jobs_open turns_open checkpoint_state
+back_event = refl
+
+abbrev given_to_end : List Turn
+given_to_end = failing abended ∷ turns_by 1 6
+
+back_replies : replies_of given_to_end (behind 9 checking) ≡ back_at (codes "C0000002") 4 ∷ to_end
+unfolding decks_open jobs_open turns_open checkpoint_state
+back_replies = refl
+
+back_comes : turns_come given_to_end (behind 9 checking) ≡ true
+unfolding decks_open jobs_open turns_open checkpoint_state
+back_comes = refl
+
+-- so it does where the system fails there
+back_reopened : replies 7 (reopened (behind 9 checking)) ≡ back_at (codes "C0000002") 4 ∷ to_end
+unfolding decks_open jobs_open turns_open checkpoint_state
+back_reopened = refl
+
+reopened_comes : turns_come (turns_by 1 7) (reopened (behind 9 checking)) ≡ true
+unfolding decks_open jobs_open turns_open checkpoint_state
+reopened_comes = refl
+
+-- the listing is that with no failure, and the records are all there
+abbrev all_copied : List Listed
+all_copied = line (codes "CHK.A") 0 true 256 3 4 (1, 1, 0) ∷ line (codes "OUT.A") 0 true 80 6 10 (1, 1, 0) ∷ []
+
+checking_listed : listing (behind 14 checking) ≡ all_copied
+unfolding decks_open jobs_open turns_open checkpoint_state
+checking_listed = refl
+
+back_listed : listing (desk_after given_to_end (behind 9 checking)) ≡ all_copied
+unfolding decks_open jobs_open turns_open checkpoint_state
+back_listed = refl
+
+reopened_listed : listing (behind 7 (reopened (behind 9 checking))) ≡ all_copied
+unfolding decks_open jobs_open turns_open checkpoint_state
+reopened_listed = refl
+
+back_records : model_records (desk_after given_to_end (behind 9 checking)).office (codes "OUT.A") ≡ map (fitted 80) (cards_from 1 6)
+unfolding decks_open jobs_open turns_open checkpoint_state
+back_records = refl
+
+-- the fourth restart at one checkpoint is denied
+abbrev given_once : List Turn
+given_once = failing abended ∷ turn_by 1 ∷ []
+
+abbrev back_once : List Reply
+back_once = back_at (codes "C0000002") 4 ∷ on_s1 5 ∷ []
+
+fourth_denied : replies_of (given_once ++ given_once ++ given_once ++ given_once) (behind 9 checking)
+    ≡ back_once ++ back_once ++ back_once ++ JobEnded 1 (Abended abended A5) ∷ Idle ∷ []
+unfolding decks_open jobs_open turns_open checkpoint_state
+fourth_denied = refl
+
+-- at the next one they are counted anew
+counted_anew : replies_of (given_once ++ given_once ++ given_once ++ turns_by 1 2 ++ failing abended ∷ []) (behind 9 checking)
+    ≡ back_once ++ back_once ++ back_once ++ on_s1 6 ∷ written (codes "C0000003") ∷ back_at (codes "C0000003") 6 ∷ []
+unfolding decks_open jobs_open turns_open checkpoint_state
+counted_anew = refl
+
+-- a unit's own code comes again behind each restart
+abbrev filling : DeskModel
+filling = with_deck (deck (six_cards (codes "CHK=2") (codes "(80,3)"))) fresh
+
+abbrev filled_once : List Reply
+filled_once = back_at (codes "C0000001") 2 ∷ on_s1 3 ∷ []
+
+filling_replies : replies 14 filling
+    ≡ Selected 1 ∷ on_start ∷ on_s1 1 ∷ on_s1 2 ∷ written (codes "C0000001") ∷ on_s1 3
+    ∷ filled_once ++ filled_once ++ filled_once ++ JobEnded 1 (Abended (System 2871) A5) ∷ Idle ∷ []
+unfolding decks_open jobs_open turns_open checkpoint_state
+filling_replies = refl
+
+filling_comes : turns_come (turns_by 1 14) filling ≡ true
+unfolding decks_open jobs_open turns_open checkpoint_state
+filling_comes = refl
+
+filling_listed : listing (behind 14 filling)
+    ≡ line (codes "CHK.A") 0 true 256 1 4 (1, 1, 0) ∷ line (codes "OUT.A") 0 true 80 3 3 (1, 1, 0) ∷ []
+unfolding decks_open jobs_open turns_open checkpoint_state
+filling_listed = refl
 
 -- ---- RD=R: at the second of three checkpoints
 

@@ -30,8 +30,9 @@ use Rattle.ckr_points_invariant.proofs.Restart.Verdicts.{check-there, check-unwr
 use Rattle.ckr_points_invariant.proofs.Steps.Commits.{IsRunning, its_start, under_way}
 use Rattle.ckr_rules.specs.declared.cases.Verdict.TheVariants.{Checkpoint}
 use Rattle.ckr_volumes.specs.declared.layout.Layout.{Layout}
-use Rattle.ckr_desk_turn.specs.Desk.{at_entry, effect_entry}
+use Rattle.ckr_desk_turn.specs.Desk.{at_entry}
 use Rattle.ckr_desk_turn.specs.Invariant.{IsAdmitted, IsGoing, IsOpen, is_plain_row}
+use Rattle.ckr_desk_turn.specs.Jobs.{effect_entry}
 use Rattle.ckr_desk_turn.specs.Restarts.{IsJudged, restart_of}
 use Rattle.ckr_desk_turn.proofs.OtherRuns.{Changes}
 use Rattle.ckr_desk_turn.proofs.Restart.Events.{by-run, here, judged-so, restart-comes}

@@ -25,7 +25,8 @@ use Rattle.ckr_desk_turn.specs.declared.plan.Plan.TheVariants.{Tell}
 use Rattle.ckr_desk_turn.specs.declared.reply.How.TheVariants.{Completed}
 use Rattle.ckr_desk_turn.specs.declared.reply.Reply.TheVariants.{JobEnded}
 use Rattle.ckr_desk_turn.specs.Codes.{code_plan, initiator_of, reached_by}
-use Rattle.ckr_desk_turn.specs.Desk.{DeskModel, DeskStep, at_entry, behind, effect_entry, jobs_of, progress_of, running_again, without_mark, without_run}
+use Rattle.ckr_desk_turn.specs.Desk.{DeskModel, DeskStep, at_entry, behind, jobs_of, progress_of, running_again, without_mark, without_run}
+use Rattle.ckr_desk_turn.specs.Jobs.{effect_entry}
 use Rattle.ckr_desk_turn.specs.Plans.{fail_plan, placed_plan, run_plan, start_plan, system_failure}
 use Rattle.ckr_desk_turn.specs.Restarts.{IsJudged, restart_of}
 use Rattle.ckr_desk_turn.proofs.Restart.Events.{by-run, here, restart-keeps}
@@ -88,7 +89,7 @@ module _ (desk : DeskModel) (are : AreKept desk.layout desk.office) (row : RunRo
 
     abbrev planned : Bool → Plan
     planned b = elim b [
-      | true ↦ code_plan desk.layout next (initiator_of next) system_failure (reached_by (jobs_of later) next)
+      | true ↦ code_plan desk.layout later.office.tables next (initiator_of next) system_failure (reached_by (jobs_of later) next)
       | false ↦ fail_plan desk.layout (jobs_of later) next None
     ]
 

@@ -65,6 +65,6 @@ plan-due desk row number committed start progress within isnt known =
   where
     planned : Bool → Plan
     planned b = elim b [
-      | true ↦ code_plan desk.layout row (initiator_of row) system_failure (reached_by (jobs_of desk) row)
+      | true ↦ code_plan desk.layout desk.office.tables row (initiator_of row) system_failure (reached_by (jobs_of desk) row)
       | false ↦ fail_plan desk.layout (jobs_of desk) row None
     ]

@@ -48,7 +48,7 @@ chosen_plan-keeps desk is i row above below free next =
     let no_code : row.code ≡ None = is_none-true row.code (plain_parts row (plain_found desk (λ other. may_select desk.office.tables other.state other) row is next)).code in
     subst (λ (o : Option Code). PlanKeeps desk (elim o [
       | None ↦ Tell (Selected row.number) (SelectedEvent row.number i 0 0 None)
-      | Some code ↦ code_plan desk.layout row i code (reached_by (jobs_of desk) row)
+      | Some code ↦ code_plan desk.layout desk.office.tables row i code (reached_by (jobs_of desk) row)
     ])) (sym no_code)
     (record { comes = record { may = may; carried = refl }; kept = selected-keeps desk is row.number i may })
 
@@ -130,7 +130,7 @@ module _ (desk : DeskModel) (is : IsDesk desk) (i : ℕ) (row : RunRow) (found :
       placed-between (Within number writes) out = absurd (false≢true (sym out))
   fail_plan-keeps (Some code) =
       subst (λ b. PlanKeeps desk (elim b [
-        | true ↦ code_plan desk.layout row (initiator_of row) code (reached_by (jobs_of desk) row)
+        | true ↦ code_plan desk.layout desk.office.tables row (initiator_of row) code (reached_by (jobs_of desk) row)
         | false ↦ Rest NothingToFail
       ])) (sym (planned-within (place_of row) ∙ out)) (record { comes = tt; kept = is })
 
@@ -138,7 +138,7 @@ module _ (desk : DeskModel) (is : IsDesk desk) (i : ℕ) (row : RunRow) (found :
   pub between-keeps : (fail : Option Code) → PlanKeeps desk (run_plan desk.layout (jobs_of desk) fail row)
   between-keeps fail =
       subst (λ b. PlanKeeps desk (elim b [
-        | true ↦ code_plan desk.layout row (initiator_of row) system_failure (reached_by (jobs_of desk) row)
+        | true ↦ code_plan desk.layout desk.office.tables row (initiator_of row) system_failure (reached_by (jobs_of desk) row)
         | false ↦ fail_plan desk.layout (jobs_of desk) row fail
       ])) (sym (not-failed desk is row at out)) (fail_plan-keeps fail)
 

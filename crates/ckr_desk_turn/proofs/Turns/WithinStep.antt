@@ -13,7 +13,7 @@ use Rattle.ckr_meaning.specs.StepRun.{StepStart, work_at}
 use Rattle.ckr_points.specs.Payload.{lengths_at}
 use Rattle.ckr_points.specs.Restart.{place_of, step_in}
 use Rattle.ckr_points.specs.Rows.{RunRow, run_of}
-use Rattle.ckr_rules.specs.declared.cases.Verdict.TheVariants.{Step}
+use Rattle.ckr_rules.specs.declared.cases.Verdict.TheVariants.{Checkpoint as AtCheckpoint, Step}
 use Rattle.ckr_desk_turn.specs.declared.plan.Plan.{Plan}
 use Rattle.ckr_desk_turn.specs.declared.plan.Plan.TheVariants.{Rest}
 use Rattle.ckr_desk_turn.specs.declared.reply.Reply.TheVariants.{Idle, NothingToFail}
@@ -27,7 +27,7 @@ use Rattle.ckr_desk_turn.specs.Taken.{taken_of}
 use Rattle.ckr_desk_turn.specs.Turns.{carried_out}
 use Rattle.ckr_desk_turn.specs.Invariant.{HasCome, IsClosed, IsDesk, IsGoing, Keeps, is_plain_row}
 use Rattle.ckr_desk_turn.proofs.Codes.{by-verdict}
-use Rattle.ckr_desk_turn.proofs.Restart.Desks.{end-goes_on, judged-so, step-goes_on, told-keeps}
+use Rattle.ckr_desk_turn.proofs.Restart.Desks.{check-goes_on, end-goes_on, judged-so, step-goes_on, told-keeps}
 use Rattle.ckr_desk_turn.proofs.StepEnd.{step_end-kept}
 use Rattle.ckr_desk_turn.proofs.OtherRuns.{row-plain}
 use Rattle.ckr_desk_turn.proofs.RunningSteps.{FoundStep, found-step, going-within}
@@ -47,11 +47,12 @@ module _ (desk : DeskModel) (is : IsDesk desk) (row : RunRow) (number committed 
   plain = row-plain desk is row.number row within.row_at
 
   -- a code: the run ends, or is restarted on its initiator
-  code_plan-keeps : (code : Code) → PlanKeeps desk (code_plan desk.layout row (initiator_of row) code (reached_by (jobs_of desk) row))
+  code_plan-keeps : (code : Code) → PlanKeeps desk (code_plan desk.layout desk.office.tables row (initiator_of row) code (reached_by (jobs_of desk) row))
   code_plan-keeps code =
-      by-verdict (PlanKeeps desk) desk.layout row (initiator_of row) code (reached_by (jobs_of desk) row)
+      by-verdict (PlanKeeps desk) desk.layout desk.office.tables row (initiator_of row) code (reached_by (jobs_of desk) row)
       (λ rule first. told-keeps desk _ _ (end-goes_on desk is row (initiator_of row) code number committed start within rule first))
       (λ judged. told-keeps desk _ _ (step-goes_on desk is row (initiator_of row) code (judged-so desk is row number committed start within code Step judged)))
+      (λ entry judged there. told-keeps desk _ _ (check-goes_on desk is row (initiator_of row) code (judged-so desk is row number committed start within code AtCheckpoint judged)))
 
   -- a running step: it goes on, what is due in it is served, or it ends with its return code
   module _ (isnt : is_failed (jobs_of desk) row.number ≡ false) (step : TurnStep) (found : FoundStep desk.office desk.running row.number step) where
@@ -124,7 +125,7 @@ module _ (desk : DeskModel) (is : IsDesk desk) (row : RunRow) (number committed 
   fail_plan-keeps isnt None = placed_plan-keeps isnt
   fail_plan-keeps isnt (Some code) =
       subst (λ place. PlanKeeps desk (elim (is_within place) [
-        | true ↦ code_plan desk.layout row (initiator_of row) code (reached_by (jobs_of desk) row)
+        | true ↦ code_plan desk.layout desk.office.tables row (initiator_of row) code (reached_by (jobs_of desk) row)
         | false ↦ Rest NothingToFail
       ])) (sym within.place) (code_plan-keeps code)
 
@@ -137,6 +138,6 @@ module _ (desk : DeskModel) (is : IsDesk desk) (row : RunRow) (number committed 
     where
       PlanBy : Bool → Type 0
       PlanBy b = PlanKeeps desk (elim b [
-        | true ↦ code_plan desk.layout row (initiator_of row) system_failure (reached_by (jobs_of desk) row)
+        | true ↦ code_plan desk.layout desk.office.tables row (initiator_of row) system_failure (reached_by (jobs_of desk) row)
         | false ↦ fail_plan desk.layout (jobs_of desk) row fail
       ])

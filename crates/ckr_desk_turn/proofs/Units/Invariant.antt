@@ -18,19 +18,20 @@ use Rattle.ckr_meaning.specs.StepRun.{StepStart, work_at}
 use Rattle.ckr_points.specs.Follows.{is_running}
 use Rattle.ckr_points.specs.Office.{Office}
 use Rattle.ckr_points.specs.Payload.{lengths_at, rewrites_nothing}
-use Rattle.ckr_points.specs.Rows.{RunRow, run_of}
+use Rattle.ckr_points.specs.Rows.{RunRow, TablesModel, run_of}
 use Rattle.ckr_rules.specs.RuleTables.{rule_number}
-use Rattle.ckr_rules.specs.declared.cases.Verdict.TheVariants.{Step}
+use Rattle.ckr_rules.specs.declared.cases.Verdict.TheVariants.{Checkpoint, Step}
 use Rattle.ckr_desk_turn.specs.declared.plan.Plan.TheVariants.{Tell}
 use Rattle.ckr_desk_turn.specs.declared.reply.Reply.{Reply}
 use Rattle.ckr_desk_turn.specs.Codes.{CodePlaceModel, code_plan, initiator_of, running_reached}
-use Rattle.ckr_desk_turn.specs.Desk.{DeskModel, DeskStep, behind as desk_behind, done_by, running_behind, unit_done, with_change, with_progress, without_run}
+use Rattle.ckr_desk_turn.specs.Desk.{DeskModel, DeskStep, at_entry, behind as desk_behind, done_by, running_again, running_behind, unit_done, with_change, with_progress, without_run}
 use Rattle.ckr_desk_turn.specs.Units.{StepProgress, went, abended}
 use Rattle.ckr_desk_turn.specs.NextEvents.{Comes, IsWithinStep}
 use Rattle.ckr_desk_turn.specs.Invariant.{HasCome, IsDesk, IsGoing, Keeps, is_accounted}
+use Rattle.ckr_desk_turn.specs.Jobs.{effect_entry}
 use Rattle.ckr_desk_turn.specs.Restarts.{GoesOnBy, restart_of}
 use Rattle.ckr_desk_turn.proofs.Codes.{by-verdict}
-use Rattle.ckr_desk_turn.proofs.Restart.Desks.{judged-so, step-goes_on}
+use Rattle.ckr_desk_turn.proofs.Restart.Desks.{check-goes_on, judged-so, step-goes_on}
 use Rattle.ckr_desk_turn.proofs.StepEnd.{code-kept}
 use Rattle.ckr_desk_turn.proofs.OtherRuns.{all-by, row-plain, running-same}
 use Rattle.ckr_desk_turn.proofs.RunningSteps.{going-within, seen-so}
@@ -115,33 +116,40 @@ without-moved run progress running =
     ap (λ b. cond (not b) (record { run = run; progress = progress } ∷ without_run run (without_run run running)) (without_run run (without_run run running))) (equal-itself run)
     ∙ filter-twice (λ (step : DeskStep). not (step.run == run)) running
 
--- behind an event by which a step stops, however far it had come
-stopped-keeps : (desk : DeskModel) (run : ℕ) (progress : StepProgress) (reply : Reply) (event : Event) → ((running : List DeskStep) → running_behind desk.office.tables event running ≡ without_run run running) → GoesOnBy desk event → Keeps desk (done_by (Tell reply event) (with_progress run progress desk))
-stopped-keeps desk run progress reply event stops goes = record {
+-- the running steps where a run is restarted at its checkpoint, however far its step had come
+pub again-moved : (tables : TablesModel) (run : ℕ) (progress : StepProgress) (running : List DeskStep) → running_again tables run (record { run = run; progress = progress } ∷ without_run run running) ≡ running_again tables run running
+again-moved tables run progress running =
+    ap (λ (rest : List DeskStep). option_map_or (λ entry. at_entry run entry.point ∷ rest) (option_map_or (effect_entry tables) (run_of tables run) None) rest) (without-moved run progress running)
+
+-- behind an event behind which the running steps are the same, however far this one had come
+told_moved-keeps : (desk : DeskModel) (run : ℕ) (progress : StepProgress) (reply : Reply) (event : Event) → running_behind desk.office.tables event (with_progress run progress desk).running ≡ running_behind desk.office.tables event desk.running → GoesOnBy desk event → Keeps desk (done_by (Tell reply event) (with_progress run progress desk))
+told_moved-keeps desk run progress reply event same goes = record {
   comes = goes.comes;
-  kept =
-      subst (λ running. IsDesk (record (desk_behind event None desk) { running = running }))
-      (stops desk.running ∙ sym (without-moved run progress desk.running) ∙ sym (stops (with_progress run progress desk).running)) goes.kept;
+  kept = subst (λ running. IsDesk (record (desk_behind event None desk) { running = running })) (sym same) goes.kept;
 }
 
--- a unit by which the step ends with a code, behind writes that rewrite nothing: the run ends, or is restarted on its initiator
+-- a unit by which the step ends with a code, behind writes that rewrite nothing: the run ends, or is restarted on its initiator, at the start of
+-- its step or at its checkpoint
 pub ended-keeps : (desk : DeskModel) → IsDesk desk → (row : RunRow) (number committed : ℕ) (start : StepStart) → IsWithinStep desk.office row.number row number committed start → (progress : StepProgress) (code : Code) → committed ≤ progress.writes → progress.writes ≤ length (work_at start).writes → rewrites_nothing start committed progress.writes ≡ true → Keeps desk (unit_done row (record { unit = abended code; progress = progress }) desk)
 ended-keeps desk is row number committed start within progress code behind fit plain =
     let lengths : ArrayVec ℕ = record { items = lengths_at start desk.office.tables.sets progress.writes } in
     let reached : CodePlaceModel = record { writes = progress.writes; lengths = lengths.items } in
-    subst (λ (s : CodePlaceModel). Keeps desk (done_by (code_plan desk.layout row (initiator_of row) code s) (with_progress row.number progress desk)))
+    subst (λ (s : CodePlaceModel). Keeps desk (done_by (code_plan desk.layout desk.office.tables row (initiator_of row) code s) (with_progress row.number progress desk)))
     (sym (ap running_reached (seen-so desk.office row.number progress row start within.row_at within.start_at)))
-    (by-verdict (λ plan. Keeps desk (done_by plan (with_progress row.number progress desk))) desk.layout row (initiator_of row) code reached
+    (by-verdict (λ plan. Keeps desk (done_by plan (with_progress row.number progress desk))) desk.layout desk.office.tables row (initiator_of row) code reached
     (λ rule first.
     let comes : Comes desk (EndedEvent row.number (CodedEnding code (rule_number rule) progress.writes lengths)) = code-comes desk is row.number row number committed start within progress.writes behind fit plain code rule first in
-    stopped-keeps desk row.number progress _ (EndedEvent row.number (CodedEnding code (rule_number rule) progress.writes lengths)) (λ running. refl)
+    told_moved-keeps desk row.number progress _ (EndedEvent row.number (CodedEnding code (rule_number rule) progress.writes lengths)) (without-moved row.number progress desk.running)
     (record {
       comes = comes;
       kept = code-kept desk is row.number row number committed start within (row-plain desk is row.number row within.row_at) code (rule_number rule) progress.writes lengths comes;
     }))
     (λ judged.
-    stopped-keeps desk row.number progress _ (restart_of row (initiator_of row) code false) (λ running. refl)
-    (step-goes_on desk is row (initiator_of row) code (judged-so desk is row number committed start within code Step judged))))
+    told_moved-keeps desk row.number progress _ (restart_of row (initiator_of row) code false) (without-moved row.number progress desk.running)
+    (step-goes_on desk is row (initiator_of row) code (judged-so desk is row number committed start within code Step judged)))
+    (λ entry judged there.
+    told_moved-keeps desk row.number progress _ (restart_of row (initiator_of row) code true) (again-moved desk.office.tables row.number progress desk.running)
+    (check-goes_on desk is row (initiator_of row) code (judged-so desk is row number committed start within code Checkpoint judged))))
 
 pub abended-keeps : (desk : DeskModel) → IsDesk desk → (row : RunRow) (progress : StepProgress) (code : Code) → run_of desk.office.tables row.number ≡ Some row → IsGoing desk.office (record { run = row.number; progress = progress }) → Keeps desk (unit_done row (record { unit = abended code; progress = progress }) desk)
 abended-keeps desk is row progress code at going =
