@@ -8,8 +8,8 @@ ghost use Rattle.ckr_library.specs.Catalog.{kept_of};
 ghost use Rattle.ckr_library.specs.NameMaps.{same_name, EachEntry};
 ghost use Rattle.ckr_library.specs.declared.sets.Kept.{Kept as KeptEntry};
 ghost use Rattle.ckr_points.specs.Marks.{point_at, with_point};
-ghost use Rattle.ckr_points.specs.Restart.{after_event, effect_restarted, point_restarted};
-ghost use Rattle.ckr_points.specs.Rows.{EffectPoint, StartPoint};
+ghost use Rattle.ckr_points.specs.Restart.{after_event, effect_restarted, kept_at, point_restarted};
+ghost use Rattle.ckr_points.specs.Rows.{EffectPoint, KeptEntry as EntryOfSet, StartPoint};
 ghost use Rattle.ckr_points_tables.specs.Invariant.{CanRestart, IsFilled, MayFollow};
 ghost use Rattle.ckr_points_tables.specs.Restart.{back_at_entry, check_restarted, facts_back, line_on, passed_at_entry, passed_at_start, passed_for, point_written, restarted, step_restarted, HasFewRestarts, HasPassedFor};
 ghost use Rattle.ckr_points_tables.specs.RunChange.{by_step_of, going};
@@ -48,6 +48,16 @@ impl Tables {
         let after = self.lines[place].initiator;
         put_at(&mut self.index, before, 0);
         put_at(&mut self.index, after, job);
+    }
+
+    /// How many records the step had taken at the first entry of an identifier that a data set keeps. None exactly where it keeps none.
+    pub fn taken_at(&self, set: &DsName, id: &CheckId) -> Option<u32>
+        ensures { result ≡ option_map (λ (entry : EntryOfSet). entry.point.taken) (kept_at self.now.desk.sets set.now id.now) }
+    {
+        let Some(kept) = kept_under(&self.library, set, id) else {
+            return None;
+        };
+        Some(taken_of(entry_for(self.writings.as_slice(), set, kept)))
     }
 }
 
@@ -192,6 +202,16 @@ pub(crate) fn passed_of<'a>(point: Option<&'a WrittenEntry>) -> &'a [Passed]
     match point {
         Some(entry) => entry.passed.as_slice(),
         None => &[],
+    }
+}
+
+/// How many records the step had taken at a point of an entry.
+fn taken_of(point: Option<&WrittenEntry>) -> u32
+    ensures { result ≡ (point_written (option_copied point.entry)).taken }
+{
+    match point {
+        Some(entry) => entry.taken,
+        None => 0,
     }
 }
 

@@ -8,7 +8,6 @@ use Rattle.ckr_base.specs.declared.programs.Finish.TheVariants as Finishes
 use Rattle.ckr_base.specs.declared.programs.NextDue.{NextDue}
 use Rattle.ckr_base.specs.declared.programs.NextDue.TheVariants.{Unit as OneUnit, Checkpoint, Cancel, Finished}
 use Rattle.ckr_base.proofs.Options.{some-not-none}
-use Rattle.ckr_entry.specs.declared.point.Point.{Point}
 use Rattle.ckr_entry.specs.declared.point.State.{State}
 use Rattle.ckr_entry.specs.declared.point.State.TheVariants.{Plain, Matched}
 use Rattle.ckr_jcl.specs.declared.deck.Dd.{Dd}
@@ -179,25 +178,25 @@ module _ (layout : Layout) (start : StepStart) (may : MayStart start) (library :
 
 -- ---- a step that goes on from a point
 
-module _ (layout : Layout) (start : StepStart) (may : MayStart start) (library : Catalog) (point : Point) (has : HasWithin layout start point.writes library) where
+module _ (layout : Layout) (start : StepStart) (may : MayStart start) (library : Catalog) (state : State) (writes : ℕ) (has : HasWithin layout start writes library) where
   -- the step stands where the point is
-  pub stands-at_point : (taken : ℕ) → IsPointOf start taken point → (parm : Parm) → parm ≡ start.owned.step.parm → IsStepPlace start taken false (record { state = point.state; parm = parm; files = files_at start; writes = point.writes }) library
+  pub stands-at_point : (taken : ℕ) → IsPointOf start taken state writes → (parm : Parm) → parm ≡ start.owned.step.parm → IsStepPlace start taken false (record { state = state; parm = parm; files = files_at start; writes = writes }) library
   stands-at_point taken of parm is = record {
     may = may;
     parm = is;
     files = refl;
-    state = of.state;
+    state = of.stands;
     open_or_closed = of.open_yet;
-    writes = of.writes;
-    room = room_after-upto start taken may.distinct (within_records point.state (case_at start) taken of.state) (subst (λ n. n ≤ length (work_at start).writes) of.writes of.had_space)
-        ∙ ap (λ n. Some (outputs_room start (within_at start n))) (sym of.writes)
-        ∙ ap (λ (r : OutputRoom). Some r) (room_is layout start may library (within_at start point.writes) (plain-within_at start point.writes) has);
+    writes = of.made;
+    room = room_after-upto start taken may.distinct (within_records state (case_at start) taken of.stands) (subst (λ n. n ≤ length (work_at start).writes) of.made of.had_space)
+        ∙ ap (λ n. Some (outputs_room start (within_at start n))) (sym of.made)
+        ∙ ap (λ (r : OutputRoom). Some r) (room_is layout start may library (within_at start writes) (plain-within_at start writes) has);
     finish = λ e. absurd (false≢true e);
   }
 
   -- and its data sets are there
   pub there-at_point : HasFewCards (files_at start).first → HasFewCards (files_at start).second → AreThere (files_at start) library
-  there-at_point first second = all_there layout start may library (within_at start point.writes) (plain-within_at start point.writes) has first second
+  there-at_point first second = all_there layout start may library (within_at start writes) (plain-within_at start writes) has first second
 
 -- ---- what the library has
 

@@ -9,7 +9,6 @@ use Rattle.ckr_base.specs.declared.programs.Output.TheVariants.{InPlace}
 use Rattle.ckr_base.specs.declared.programs.Write.{Write}
 use Rattle.ckr_base.specs.Columns.{fitted}
 use Rattle.ckr_uses.specs.Uses.{are_distinct}
-use Rattle.ckr_entry.specs.declared.point.Point.{Point}
 use Rattle.ckr_entry.specs.declared.point.State.{State}
 use Rattle.ckr_entry.specs.declared.point.State.TheVariants.{Plain, Matched}
 use Rattle.ckr_jcl.specs.declared.deck.Kind.{Kind}
@@ -167,12 +166,12 @@ HasMade layout start library = Shows ⊥ [] layout (names_at start) (made_at sta
 
 -- ---- a step that goes on from a point
 
--- the point is one of the step's work: behind so many records taken, with the program open, and with the writes for these records, which had space
-pub record IsPointOf (start : StepStart) (taken : ℕ) (point : Point) : Type 0 where
-  pub state : StandsFor point.state (case_at start) taken
-  pub open_yet : is_closed point.state ≡ false
-  pub writes : point.writes ≡ length (upto (case_at start) taken)
-  pub had_space : point.writes ≤ length (work_at start).writes
+-- the state and the writes at a point of the step's work: behind so many records taken, with the program open, and the writes are those for these records, which had space
+pub record IsPointOf (start : StepStart) (taken : ℕ) (state : State) (writes : ℕ) : Type 0 where
+  pub stands : StandsFor state (case_at start) taken
+  pub open_yet : is_closed state ≡ false
+  pub made : writes ≡ length (upto (case_at start) taken)
+  pub had_space : writes ≤ length (work_at start).writes
 
 -- the library has the data sets of the step as its first writes leave them
 abbrev pub HasWithin : Layout → StepStart → ℕ → Catalog → Type 0

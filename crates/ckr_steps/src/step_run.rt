@@ -23,7 +23,7 @@ use crate::unit_ahead::{UnitAhead, gained};
 use crate::unit_writes::put_all;
 use crate::units;
 use ckr_base::{Code, DsName, Duplicate, NextDue, NoMemory, Rec};
-use ckr_entry::{Point, State};
+use ckr_entry::State;
 use ckr_jcl::{Parm, Step};
 use ckr_library::{DataSet, Library};
 use ckr_outside::{Disk, Failed};
@@ -93,8 +93,8 @@ impl StepRun {
         })
     }
 
-    /// A step that goes on from a point of it, by the numbers that `begin` takes: its program's state and the number of its writes are those
-    /// that the point has, so the next unit takes the record behind it. Nothing is read. It keeps its own copies, as `begin` says.
+    /// A step that goes on from a point of it, by the numbers that `begin` takes: it has its program's state there and the number of its
+    /// writes, so the next unit takes the record behind the point. Nothing is read. It keeps its own copies, as `begin` says.
     ///
     /// `NoMemory`: there is none for the copies.
     pub fn at_point(
@@ -102,26 +102,27 @@ impl StepRun {
         step: &Step,
         root: u32,
         owner: u32,
-        point: &Point,
+        state: &State,
+        writes: u32,
     ) -> Result<StepRun, NoMemory>
         requires root { root ≤ 9999999 }
         requires owner { owner ≤ 9999999 }
-        requires counted { IsCounted step.now.parm point.now.state point.now.writes }
-        ensures at { IfOk result (λ run. run ≡ record { state = point.now.state; parm = step.now.parm; files = files_of root owner step.now; writes = point.now.writes }) }
+        requires counted { IsCounted step.now.parm state.now writes }
+        ensures at { IfOk result (λ run. run ≡ record { state = state.now; parm = step.now.parm; files = files_of root owner step.now; writes = writes }) }
         ensures counted { IfOk result AreCounted }
 
         // Where the point is one of a step that might start, and the library has the data sets as they were there, the step stands where it stood.
         ensures stands { (start : StepStart) (layout : OneLayout) (library : Catalog) (taken : ℕ) → start.root ≡ root → start.owned.owner ≡ owner → start.owned.step ≡ step.now
-            → MayStart start → IsPointOf start taken point.now → HasWithin layout start point.now.writes library → IfOk result (λ run. IsStepPlace start taken false run library) }
+            → MayStart start → IsPointOf start taken state.now writes → HasWithin layout start writes library → IfOk result (λ run. IsStepPlace start taken false run library) }
         ensures there { (start : StepStart) (layout : OneLayout) (library : Catalog) → start.root ≡ root → start.owned.owner ≡ owner → start.owned.step ≡ step.now
-            → MayStart start → HasWithin layout start point.now.writes library → HasFewCards (files_at start).first → HasFewCards (files_at start).second
+            → MayStart start → HasWithin layout start writes library → HasFewCards (files_at start).first → HasFewCards (files_at start).second
             → IfOk result (λ run. AreThere run.files library) }
     {
         Ok(StepRun {
-            state: point.state.copied(),
+            state: state.copied(),
             parm: step.parm.duplicate(alloc)?,
             files: files_of(alloc, step, root, owner)?,
-            writes: point.writes,
+            writes,
         })
     }
 

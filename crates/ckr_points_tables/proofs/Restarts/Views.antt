@@ -114,7 +114,8 @@ kept-found writings set id (one ∷ kept) = by (same_name one.id id) (kept-found
     by true more = refl
     by false more = more
 
-kept-seen : (writings : Writings) (sets : Named Holding) (set id : Name) → kept_at (viewed (table_in writings) sets) set id ≡ option_map (λ kept. kept_entry kept (point_for writings set kept)) (kept_under sets set id)
+-- the first entry of an identifier that a data set keeps, with its point
+pub kept-seen : (writings : Writings) (sets : Named Holding) (set id : Name) → kept_at (viewed (table_in writings) sets) set id ≡ option_map (λ kept. kept_entry kept (point_for writings set kept)) (kept_under sets set id)
 kept-seen writings sets set id =
     ap (λ found. option_map_or (λ (table : TableSet). find (λ (entry : KeptEntry). same_name entry.kept.id id) table.entries) found None) (at-viewed (table_in writings) sets set) ∙ by (entry_at sets set)
   where
