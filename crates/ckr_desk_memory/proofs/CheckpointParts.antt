@@ -1,6 +1,6 @@
 -- A checkpoint as it is made of the next entry of a run that is known, and of the data set for checkpoints of its step.
 use Rattle.std.proofs.Common.{◌≡◌, ◌≤◌, ◌+◌, ℕ, true, List, [], length, map, refl, ap, sym, ◌∙◌, subst, Option, Some, arith}
-use Rattle.std.specs.Option.{option_map, option_map_or}
+use Rattle.std.specs.Option.{option_map_or}
 use Rattle.ckr_base.specs.Grammar.{is_check_id}
 use Rattle.ckr_entry.specs.Entry.{spelling}
 use Rattle.ckr_entry.specs.Parts.{Entry}
@@ -8,7 +8,7 @@ use Rattle.ckr_events.specs.declared.event.Event.TheVariants.{Checkpointed}
 use Rattle.ckr_jcl.specs.declared.deck.Step.{Step}
 use Rattle.ckr_library.proofs.Named.{each-at}
 use Rattle.ckr_library.specs.Catalog.{fresh_holding, records_of}
-use Rattle.ckr_library.specs.NameMaps.{Name, Named, entry_at, with_entry}
+use Rattle.ckr_library.specs.NameMaps.{Name, entry_at, with_entry}
 use Rattle.ckr_library.specs.declared.sets.DataSet.{DataSet}
 use Rattle.ckr_meaning.specs.EffectiveJob.{Effective, OwnedStep, owned_by, plain_job, step_at}
 use Rattle.ckr_points.specs.Restart.{place_of, step_in}

@@ -1,8 +1,8 @@
 -- The next checkpoint of a running step: its entry fits, and its event follows on any disk and commits what the step has.
 use Rattle.std.proofs.Common.{◌≡◌, ◌≤◌, ◌+◌, ◌==◌, ◌&&◌, ◌||◌, ℕ, Bool, true, false, cond, List, [], ◌∷◌, find, length, map, refl, ap, sym, ◌∙◌, subst, Option, Some, None, arith}
-use Rattle.std.specs.Prelude.{if◌then◌else◌, nat_le, nat_lt, option_and_then, ◌^◌}
+use Rattle.std.specs.Prelude.{IsSome, if◌then◌else◌, nat_le, option_and_then}
 use Rattle.std.specs.List.{AllByRecursion}
-use Rattle.std.specs.Option.{is_none, option_map, option_map_or}
+use Rattle.std.specs.Option.{is_none, is_some, option_map, option_map_or}
 use Rattle.std.proofs.lemmas.Bool.{and_from, false≢true, or_left, or_right}
 use Rattle.std.proofs.lemmas.Option.{same_Some}
 use Rattle.ckr_base.proofs.Bools.{and-first, and-second}
@@ -17,10 +17,9 @@ use Rattle.ckr_library.specs.NameMaps.{Name, Named, entry_at, same_name, with_ch
 use Rattle.ckr_library.specs.declared.sets.DataSet.{DataSet}
 use Rattle.ckr_meaning.specs.EffectiveJob.{OwnedStep, is_among}
 use Rattle.ckr_points.specs.Follows.{are_lengths, follows, is_checkpoint, is_in_state, is_length_of, is_running, is_within, lengths_follow, of_step, own_step, state_number}
-use Rattle.ckr_points.specs.Restart.{kept_at, place_of, step_in}
-use Rattle.ckr_points.specs.Rows.{RunRow, TableSet, TablesModel, run_of, step_of_run}
+use Rattle.ckr_points.specs.Restart.{kept_at, place_of}
+use Rattle.ckr_points.specs.Rows.{RunRow, TableSet, TablesModel, run_of}
 use Rattle.ckr_points.specs.Soundness.{AreLaidOut}
-use Rattle.ckr_points.specs.Tables.{is_checkpoints, name_with_role}
 use Rattle.ckr_points.specs.declared.run.RunState.TheVariants.{On}
 use Rattle.ckr_points_library.specs.Commit.{output_names}
 use Rattle.ckr_points_tables.specs.Checkpoint.{checkpoint_name}
@@ -31,7 +30,7 @@ use Rattle.ckr_desk_turn.specs.Checkpoints.{is_in_range}
 use Rattle.ckr_desk_turn.specs.Queue.{AreNumbered}
 use Rattle.ckr_desk_memory.specs.declared.checkpoint.Checkpoint.{Checkpoint}
 use Rattle.ckr_desk_memory.specs.Checkpoints.{HasEntrySpace, IsCheckpointOf, event_in_set}
-use Rattle.ckr_desk_memory.specs.Entries.{entry_bytes, entry_end, entry_in_set, entry_to, fits_in, is_written, next_entry, next_id, step_now}
+use Rattle.ckr_desk_memory.specs.Entries.{entry_bytes, entry_end, entry_in_set, entry_to, fits_in, is_written, next_entry, next_id}
 use Rattle.ckr_desk_memory.specs.EntryMarks.{length_behind}
 use Rattle.ckr_desk_memory.specs.EventChanges.{has_space, is_of_run, with_entry_end, without_first}
 use Rattle.ckr_desk_memory.specs.Holders.{changed_names}
@@ -322,5 +321,5 @@ module _ (tables : TablesModel) (numbered : AreNumbered 1 tables.runs) (on : Run
     pub checkpoint-commits : CommitsItsOwn made.event tables running
     checkpoint-commits =
         subst (λ event. CommitsItsOwn event tables running) (sym its.event)
-        (subst (λ n. AllByRecursion (IsCommittedWith most n lengths tables) running × AllByRecursion (IsOfOther n) (without_first n running)) (sym number)
-        (all_commit running single first, others-first on.run running single))
+        (subst (λ n. AllByRecursion (IsCommittedWith most n lengths tables) running × AllByRecursion (IsOfOther n) (without_first n running) × IsSome (find (is_of_run n) running)) (sym number)
+        (all_commit running single first, others-first on.run running single, ap is_some first))

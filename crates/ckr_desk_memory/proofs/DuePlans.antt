@@ -86,17 +86,20 @@ module _ (layout : Layout) (jobs : JobsView) where
   placed-due row (Opened number) = between-due row number
   placed-due row (Within number writes) = any-due (running_in (jobs_of jobs) row.number) (running_plan row number) _ tt (running-due row number)
 
-  coded-due : (row : RunRow) (initiator : ℕ) (code : Code) → HasDue jobs (code_plan layout row initiator code (reached_by (jobs_of jobs) row))
-  coded-due row initiator code = by-verdict (HasDue jobs) layout row initiator code (reached_by (jobs_of jobs) row) (λ rule ends. tt) (λ judged. tt)
+  coded-due : (row : RunRow) (initiator : ℕ) (code : Code) → HasDue jobs (code_plan layout jobs.tables.desk row initiator code (reached_by (jobs_of jobs) row))
+  coded-due row initiator code = by-verdict (HasDue jobs) layout jobs.tables.desk row initiator code (reached_by (jobs_of jobs) row) (λ rule ends. tt) (λ judged. tt) (λ entry judged there. tt)
 
   fail-due : (row : RunRow) (fail : Option Code) → HasDue jobs (fail_plan layout (jobs_of jobs) row fail)
+  unfolding jobs_of
   fail-due row None = placed-due row (place_of row)
   fail-due row (Some code) = if-due (is_within (place_of row)) _ _ (coded-due row (initiator_of row) code) tt
 
   run-due : (fail : Option Code) (row : RunRow) → HasDue jobs (run_plan layout (jobs_of jobs) fail row)
+  unfolding jobs_of
   run-due fail row = if-due (is_failed (jobs_of jobs) row.number) _ _ (coded-due row (initiator_of row) system_failure) (fail-due row fail)
 
   chosen-due : (initiator : ℕ) (row : RunRow) → HasDue jobs (chosen_plan layout (jobs_of jobs) initiator row)
+  unfolding jobs_of
   chosen-due initiator row = some-due row.code _ _ (λ none. tt) (λ code. coded-due row initiator code)
 
   free-due : (initiator : ℕ) (fail : Option Code) → HasDue jobs (free_plan layout (jobs_of jobs) initiator fail)

@@ -1,5 +1,5 @@
 -- The data sets stay laid out behind an event that follows.
-use Rattle.std.proofs.Common.{◌≡◌, ◌==◌, ◌&&◌, ℕ, Bool, true, false, not, cond, List, refl, ap, sym, ◌∙◌, subst, Option, None, Some}
+use Rattle.std.proofs.Common.{◌≡◌, ◌==◌, ◌&&◌, ℕ, Bool, true, false, cond, List, refl, ap, sym, ◌∙◌, subst, Option, None, Some}
 use Rattle.std.proofs.lemmas.Bool.{false≢true}
 use Rattle.std.specs.Option.{option_map_or}
 use Rattle.ckr_base.proofs.Bools.{and-first, and-second}
@@ -28,7 +28,7 @@ use Rattle.ckr_points.specs.declared.run.RunState.TheVariants.{On}
 use Rattle.ckr_points.specs.Tables.{after_checkpointed, after_commit, after_dispositions, after_rewritten, after_started, after_step_ended, name_with_role, is_checkpoints, is_updates, run_disposals, own_made, earlier_made, table_rewritten}
 use Rattle.ckr_points.specs.Follows.{are_items, are_lengths, are_made_clear, ended_follows, follows, is_checkpoint, is_empty, is_in_state, is_rewrite, is_running, lengths_follow, may_start, of_run, of_step, started_follows}
 use Rattle.ckr_points.specs.Marks.{point_at, removed_all}
-use Rattle.ckr_points.specs.Restart.{after_abnormal, after_ended, after_event, after_restarted, by_step, place_of, step_in}
+use Rattle.ckr_points.specs.Restart.{after_abnormal, after_ended, after_event, after_restarted, by_step, kept_at, place_of, step_in}
 use Rattle.ckr_points.specs.Rows.{RunRow, TableSet, TablesModel, run_of, standing_of, step_of_run, table_ways}
 use Rattle.ckr_points.specs.Soundness.{AreLaidOut}
 use Rattle.ckr_points_invariant.proofs.Library.Extents.{committed-laid, disposed_all-laid, fit-lengths, laid-changed, made_all-laid, passed_ended-laid}
@@ -120,9 +120,15 @@ module _ (layout : Layout) (tables : TablesModel) (laid : AreLaidOut layout tabl
       subst (λ n. AreLaidOut layout (after_event (Selected job initiator n step id) deck tables).sets) (sym is)
       (by-run (Laid layout tables laid) tables job _ laid (λ row at. laid))
 
-  restarted_so : (row : RunRow) (initiator : ℕ) (checkpoint : Bool) → not checkpoint ≡ true → Laid layout tables laid (by_step (λ owned step. after_restarted row owned step initiator checkpoint tables) row tables)
-  restarted_so row initiator true plain = absurd (false≢true plain)
-  restarted_so row initiator false plain =
+  restarted_so : (row : RunRow) (initiator : ℕ) (checkpoint : Bool) → Laid layout tables laid (by_step (λ owned step. after_restarted row owned step initiator checkpoint tables) row tables)
+  restarted_so row initiator true =
+      by-step (Laid layout tables laid) tables (step_of_run row (step_in (place_of row))) _ laid
+      (λ owned there.
+      by-step (Laid layout tables laid) tables row.in_effect _ laid
+      (λ effect now.
+      by-step (Laid layout tables laid) tables (kept_at tables.sets effect.set effect.kept.id) _ laid
+      (λ entry kept. put_back-laid layout entry.point.marks (output_names row.job.root owned) (names_of row.job.root owned) tables.sets laid)))
+  restarted_so row initiator false =
       by-step (Laid layout tables laid) tables (step_of_run row (step_in (place_of row))) _ laid
       (λ owned there.
       by-step (Laid layout tables laid) tables (point_at row.points (step_in (place_of row))) _ laid
@@ -162,7 +168,7 @@ module _ (layout : Layout) (tables : TablesModel) (laid : AreLaidOut layout tabl
       let its = tested tables job (λ row. is_running row && step_in (place_of row) == step && lengths_follow tables row lengths.items) follow row at in
       by-step (Laid layout tables laid) tables (step_of_run row (step_in (place_of row))) _ laid
       (λ owned there. step_ended_so layout tables laid row rc writes lengths.items (and-second _ (lengths_follow tables row lengths.items) its) owned there (step_in (place_of row))))
-  laid-behind (Restarted job initiator code checkpoint) deck plain follow = by-run (Laid layout tables laid) tables job _ laid (λ row at. restarted_so row initiator checkpoint plain)
+  laid-behind (Restarted job initiator code checkpoint) deck plain follow = by-run (Laid layout tables laid) tables job _ laid (λ row at. restarted_so row initiator checkpoint)
   laid-behind (Ended job ending) deck plain follow =
       by-run (Laid layout tables laid) tables job _ laid (λ row at. ended_so layout tables laid row ending (tested tables job (λ row. ended_follows tables row ending) follow row at))
   laid-behind (Purged job) deck plain follow = by-run (Laid layout tables laid) tables job _ laid (λ row at. laid)

@@ -5,6 +5,7 @@ pub mod CheckSets
 pub mod Moves
 pub mod Events
 pub mod OwnSets
+pub mod Points
 pub mod Checkpoints
 pub mod RunningSteps
 pub mod Units

@@ -1,9 +1,9 @@
 -- What holds of the jobs in memory holds behind an event that follows.
 use Rattle.std.proofs.Common.{◌≡◌, ◌+◌, ◌≤◌, ◌==◌, ◌&&◌, ◌||◌, ℕ, zero, suc, Bool, true, false, not, cond, List, [], ◌∷◌, ◌++◌, map, filter, length, refl, ap, sym, ◌∙◌, slice_set, subst, Option, None, Some, Ok, arith, length-append}
-use Rattle.std.proofs.lemmas.Bool.{false≢true}
-use Rattle.std.specs.Prelude.{if◌then◌else◌}
+use Rattle.std.proofs.lemmas.Bool.{false≢true, or_right}
+use Rattle.std.specs.Prelude.{if◌then◌else◌, nat_eq}
 use Rattle.std.specs.List.{AllByRecursion}
-use Rattle.std.specs.Option.{is_none, is_some}
+use Rattle.std.specs.Option.{is_none, is_some, option_eq, option_map}
 use Rattle.ckr_base.proofs.Bools.{and-first, and-second, if-then, or-cases}
 use Rattle.ckr_base.proofs.Options.{is_some-from}
 use Rattle.ckr_base.proofs.Numbers.{equal-true, nat_le-true}
@@ -14,16 +14,16 @@ use Rattle.ckr_events.specs.declared.event.Ending.{Ending}
 use Rattle.ckr_events.specs.declared.event.Ending.TheVariants.{Completed, Coded, Allocation}
 use Rattle.ckr_jcl.specs.declared.deck.Job.{Job}
 use Rattle.ckr_meaning.specs.Allotments.{opened_all}
-use Rattle.ckr_meaning.specs.EffectiveJob.{OwnedStep, placed_in, plain_job, stamp_of}
+use Rattle.ckr_meaning.specs.EffectiveJob.{OwnedStep, flaws_in, placed_in, plain_job, stamp_of}
 use Rattle.ckr_meaning.specs.declared.place.Place.{Place}
 use Rattle.ckr_meaning.specs.declared.place.Place.TheVariants.{Before, Opened, Within}
 use Rattle.ckr_volumes.specs.declared.layout.Layout.{Layout}
 use Rattle.ckr_points.specs.Marks.{point_at}
-use Rattle.ckr_points.specs.Tables.{after_commit, point_rewritten, queued_run, start_point}
+use Rattle.ckr_points.specs.Tables.{after_commit, effect_rewritten, point_rewritten, queued_run, start_point}
 use Rattle.ckr_points.specs.declared.run.RunState.{RunState}
 use Rattle.ckr_points.specs.declared.run.RunState.TheVariants.{Queued, On, Released, Purged as PurgedRun}
-use Rattle.ckr_points.specs.Follows.{ended_follows, follows, is_checkpoint, is_in_state, is_rewrite, is_running, is_within, lengths_follow, of_run, of_step}
-use Rattle.ckr_points.specs.Restart.{after_abnormal, after_coded, after_ended, after_event, after_restarted, by_step, place_of, step_in}
+use Rattle.ckr_points.specs.Follows.{ended_follows, follows, is_checkpoint, is_empty, is_free, is_in_state, is_rewrite, is_running, is_within, lengths_follow, may_hold, may_restart_again, may_start, of_run, of_step, selected_follows, started_follows, state_number}
+use Rattle.ckr_points.specs.Restart.{after_abnormal, after_coded, after_ended, after_event, after_restarted, by_step, kept_at, place_of, step_in}
 use Rattle.ckr_points.specs.Rows.{RunRow, StartPoint, TablesModel, run_of, standing_of, step_of_run, table_ways, with_row}
 use Rattle.ckr_queue.specs.declared.entry.QueueEntry.{QueueEntry}
 use Rattle.ckr_points_decks.specs.Form.{is_run}
@@ -39,7 +39,7 @@ use Rattle.ckr_desk_memory.specs.declared.jobs.RunningStep.{RunningStep}
 use Rattle.ckr_desk_memory.specs.View.{RunningStepView}
 use Rattle.ckr_desk_memory.specs.EventChanges.{MayQueue, without_run}
 use Rattle.ckr_desk_memory.proofs.Starts.Steps.{row-among}
-use Rattle.ckr_desk_memory.proofs.Extents.{tested}
+use Rattle.ckr_desk_memory.proofs.Extents.{tested, tested-step}
 use Rattle.ckr_desk_memory.proofs.Queue.{may-queue, queue-behind, released-is, unheld-behind}
 use Rattle.ckr_desk_memory.proofs.Runs.{Kind, by-run, by-step, kind_of, long-stay, numbered-more, numbered-stay, rest_in, runs-stay}
 
@@ -170,14 +170,20 @@ rewritten_point step at (first ∷ rest) = by (first.step == step) (rewritten_po
         here true = refl
         here false = same
 
+-- a run that may start a step isn't within one
+pub not-within : (step : ℕ) (place : Place) → may_start step place ≡ true → is_within place ≡ false
+not-within step (Before number) may = refl
+not-within step (Opened number) may = refl
+not-within step (Within number writes) may = absurd (false≢true may)
+
 running_within : (row : RunRow) → is_running row ≡ true → is_within (place_of row) ≡ true
 running_within row runs = and-second (is_in_state On row) (is_within (place_of row)) runs
 
 placed_abnormal : (row : RunRow) (place : Place) (tables : TablesModel) → IsPlacedRow row → ArePlaced tables → ArePlaced (after_abnormal row place tables)
-placed_abnormal row (Before step) tables is placed = placed_put tables.runs row.number _ (record { place = is.place; state = refl; begun = is.begun; lodged = refl; seated = refl; code = refl }) placed
-placed_abnormal row (Opened step) tables is placed = placed_put tables.runs row.number _ (record { place = is.place; state = refl; begun = is.begun; lodged = refl; seated = refl; code = refl }) placed
+placed_abnormal row (Before step) tables is placed = placed_put tables.runs row.number _ (record { place = is.place; state = refl; begun = is.begun; idle = refl; lodged = refl; seated = refl; code = refl }) placed
+placed_abnormal row (Opened step) tables is placed = placed_put tables.runs row.number _ (record { place = is.place; state = refl; begun = is.begun; idle = refl; lodged = refl; seated = refl; code = refl }) placed
 placed_abnormal row (Within step writes) tables is placed =
-    by-step ArePlaced tables (step_of_run row step) _ placed (λ owned there. placed_put tables.runs row.number _ (record { place = is.place; state = refl; begun = is.begun; lodged = refl; seated = refl; code = refl }) placed)
+    by-step ArePlaced tables (step_of_run row step) _ placed (λ owned there. placed_put tables.runs row.number _ (record { place = is.place; state = refl; begun = is.begun; idle = refl; lodged = refl; seated = refl; code = refl }) placed)
 
 -- a row that goes on within its step
 placed_within : (row : RunRow) (owned : OwnedStep) (writes : ℕ) → step_of_run row (step_in (place_of row)) ≡ Some owned → is_within (place_of row) ≡ true → IsPlacedRow row → IsPlacedRow (record row { place = Some (Within (step_in (place_of row)) writes) })
@@ -185,6 +191,7 @@ placed_within row owned writes there within is = record {
   place = is_some-from (step_of_run row (step_in (place_of row))) owned there;
   state = is.state;
   begun = begun-within row within is;
+  idle = ap (λ b. is_in_state On row && b || is_none row.in_effect) (sym within) ∙ is.idle;
   lodged = is.lodged;
   seated = is.seated;
   code = is.code;
@@ -208,18 +215,36 @@ coded_within row tables lengths is follow =
     (λ released. absurd (false≢true (sym (ap is_plain_state (released-is row.state released)) ∙ is.state)))
 
 placed_ended : (row : RunRow) (ending : Ending) (tables : TablesModel) → ended_follows tables row ending ≡ true → IsPlacedRow row → ArePlaced tables → ArePlaced (after_ended row ending tables)
-placed_ended row Completed tables follow is placed = placed_put tables.runs row.number _ (record { place = is.place; state = refl; begun = is.begun; lodged = refl; seated = refl; code = refl }) placed
+placed_ended row Completed tables follow is placed = placed_put tables.runs row.number _ (record { place = is.place; state = refl; begun = is.begun; idle = refl; lodged = refl; seated = refl; code = refl }) placed
 placed_ended row (Coded code rule writes lengths) tables follow is placed = placed_coded row writes lengths.items tables (coded_within row tables lengths.items is follow) is placed
 placed_ended row (Allocation dd cause first second) tables follow is placed = placed_abnormal row (place_of row) tables is placed
 
-placed_selected : (tables : TablesModel) (job initiator earlier step : ℕ) (id : Option (List ℕ)) (deck : Option Job) → earlier ≡ 0 → ArePlaced tables → ArePlaced (after_event (Selected job initiator earlier step id) deck tables)
-placed_selected tables job initiator earlier step id deck is placed =
+-- no checkpoint is in effect of a run that waits, and of one that isn't within a step
+idle_queued : (row : RunRow) → is_in_state Queued row ≡ true → IsPlacedRow row → is_none row.in_effect ≡ true
+idle_queued row waits is =
+    sym (ap (λ (state : RunState). state_number state == 2 && is_within (place_of row) || is_none row.in_effect) (queued-is row.state waits)) ∙ is.idle
+
+pub idle-between : (row : RunRow) → is_within (place_of row) ≡ false → IsPlacedRow row → is_none row.in_effect ≡ true
+idle-between row between is = by (is_in_state On row) (is_none row.in_effect) (sym (ap (λ b. is_in_state On row && b || is_none row.in_effect) between) ∙ is.idle)
+  where
+    by : (a n : Bool) → (a && false || n) ≡ true → n ≡ true
+    by true n e = e
+    by false n e = e
+
+placed_selected : (layout : Layout) (tables : TablesModel) (job initiator earlier step : ℕ) (id : Option (List ℕ)) (deck : Option Job) → earlier ≡ 0 → follows layout tables (Selected job initiator earlier step id) deck ≡ true → ArePlaced tables
+    → ArePlaced (after_event (Selected job initiator earlier step id) deck tables)
+placed_selected layout tables job initiator earlier step id deck is follow placed =
     subst (λ n. ArePlaced (after_event (Selected job initiator n step id) deck tables)) (sym is)
-    (by-run ArePlaced tables job _ placed (λ row at. placed_put tables.runs row.number _ (record { place = tt; state = refl; begun = refl; lodged = refl; seated = refl; code = (row-among IsPlacedRow tables job row placed at).code }) placed))
+    (by-run ArePlaced tables job _ placed
+    (λ row at.
+    let its = row-among IsPlacedRow tables job row placed at in
+    let asked = tested tables job (selected_follows layout tables initiator earlier step id) follow row at in
+    let waits = and-first (is_in_state Queued row) _ (and-first (is_in_state Queued row && is_free layout tables initiator) _ (and-first (is_in_state Queued row && is_free layout tables initiator && may_hold tables row) _ asked)) in
+    placed_put tables.runs row.number _ (record { place = tt; state = refl; begun = refl; idle = idle_queued row waits its; lodged = refl; seated = refl; code = its.code }) placed))
 
 placed_submitted : (tables : TablesModel) (job : ℕ) (cards : List ℕ) (deck : Option Job) → ArePlaced tables → ArePlaced (after_event (Submitted job cards) deck tables)
 placed_submitted tables job cards None placed = placed
-placed_submitted tables job cards (Some deck) placed = each-append IsPlacedRow tables.runs (queued_run job deck ∷ []) placed (record { place = tt; state = refl; begun = refl; lodged = refl; seated = refl; code = refl }, tt)
+placed_submitted tables job cards (Some deck) placed = each-append IsPlacedRow tables.runs (queued_run job deck ∷ []) placed (record { place = tt; state = refl; begun = refl; idle = refl; lodged = refl; seated = refl; code = refl }, tt)
 
 -- a run that waits is on no initiator, also where it is purged
 off_purged : (row : RunRow) → is_in_state Queued row ≡ true → IsPlacedRow row → IsPlacedRow (record row { state = PurgedRun })
@@ -227,19 +252,44 @@ off_purged row waits is = record {
   place = is.place;
   state = refl;
   begun = is.begun;
+  idle = idle_queued row waits is;
   lodged = sym (ap (λ (state : RunState). is_none row.initiator || is_on_one state) (queued-is row.state waits)) ∙ is.lodged;
   seated = refl;
   code = is.code;
 }
 
--- a run that goes back to the start of its step is on its initiator, and isn't within the step
-placed_restarted : (row : RunRow) (initiator : ℕ) (checkpoint : Bool) (tables : TablesModel) → not checkpoint ≡ true → ArePlaced tables → ArePlaced (by_step (λ owned step. after_restarted row owned step initiator checkpoint tables) row tables)
-placed_restarted row initiator true tables plain placed = absurd (false≢true plain)
-placed_restarted row initiator false tables plain placed =
+-- a run that is restarted was running: none was held
+pub restarts-running : (layout : Layout) (tables : TablesModel) (initiator : ℕ) (checkpoint : Bool) (row : RunRow) → IsPlacedRow row
+    → ((is_running row && option_eq nat_eq row.initiator (Some initiator) || is_in_state Released row && is_free layout tables initiator) && may_restart_again checkpoint row) ≡ true → is_running row ≡ true
+restarts-running layout tables initiator checkpoint row is follow =
+    or-cases (is_running row && option_eq nat_eq row.initiator (Some initiator)) (is_in_state Released row && is_free layout tables initiator)
+    (and-first (is_running row && option_eq nat_eq row.initiator (Some initiator) || is_in_state Released row && is_free layout tables initiator) (may_restart_again checkpoint row) follow)
+    (and-first (is_running row) _)
+    (λ released. absurd (false≢true (sym (ap is_plain_state (released-is row.state (and-first (is_in_state Released row) _ released))) ∙ is.state)))
+
+-- a run that goes back to the start of its step is on its initiator, and isn't within the step; one that goes back to its checkpoint is within it
+placed_restarted : (row : RunRow) (initiator : ℕ) (checkpoint : Bool) (tables : TablesModel) → is_running row ≡ true → IsPlacedRow row → ArePlaced tables → ArePlaced (by_step (λ owned step. after_restarted row owned step initiator checkpoint tables) row tables)
+placed_restarted row initiator true tables runs is placed =
+    by-step ArePlaced tables (step_of_run row (step_in (place_of row))) _ placed
+    (λ owned there.
+    by-step ArePlaced tables row.in_effect _ placed
+    (λ effect now.
+    by-step ArePlaced tables (kept_at tables.sets effect.set effect.kept.id) _ placed
+    (λ entry kept.
+    placed_put tables.runs row.number _ (record {
+      place = is_some-from (step_of_run row (step_in (place_of row))) owned there;
+      state = refl;
+      begun = begun-within row (running_within row runs) is;
+      idle = refl;
+      lodged = refl;
+      seated = refl;
+      code = refl;
+    }) placed)))
+placed_restarted row initiator false tables runs is placed =
     by-step ArePlaced tables (step_of_run row (step_in (place_of row))) _ placed
     (λ owned there.
     by-step ArePlaced tables (point_at row.points (step_in (place_of row))) _ placed
-    (λ point began. placed_put tables.runs row.number _ (record { place = tt; state = refl; begun = refl; lodged = refl; seated = refl; code = refl }) placed))
+    (λ point began. placed_put tables.runs row.number _ (record { place = tt; state = refl; begun = refl; idle = refl; lodged = refl; seated = refl; code = refl }) placed))
 
 step_ended_within : (tables : TablesModel) (job step : ℕ) (lengths : List ℕ) → of_run tables job (λ row. is_running row && step_in (place_of row) == step && lengths_follow tables row lengths) ≡ true → (row : RunRow) → run_of tables job ≡ Some row → is_within (place_of row) ≡ true
 step_ended_within tables job step lengths follow row at =
@@ -251,7 +301,7 @@ step_ended_within tables job step lengths follow row at =
 -- initiator exactly where it has one.
 pub placed-behind : (layout : Layout) (tables : TablesModel) (event : Event) (deck : Option Job) → is_forward_event event ≡ true → follows layout tables event deck ≡ true → AllByRecursion IsPlacedRow tables.runs → AllByRecursion IsPlacedRow (after_event event deck tables).runs
 placed-behind layout tables (Submitted job cards) deck plain follow placed = placed_submitted tables job cards deck placed
-placed-behind layout tables (Selected job initiator earlier step id) deck plain follow placed = placed_selected tables job initiator earlier step id deck (equal-true earlier 0 plain) placed
+placed-behind layout tables (Selected job initiator earlier step id) deck plain follow placed = placed_selected layout tables job initiator earlier step id deck (equal-true earlier 0 plain) follow placed
 placed-behind layout tables (Started job step items) deck plain follow placed =
     by-run ArePlaced tables job _ placed
     (λ row at.
@@ -261,6 +311,7 @@ placed-behind layout tables (Started job step items) deck plain follow placed =
     placed_put tables.runs row.number _ (record {
       place = is_some-from (step_of_run row step) owned there;
       state = is.state;
+      idle = or_right (is_in_state On row && true) (is_none row.in_effect) (idle-between row (not-within step (place_of row) (and-first (may_start step (place_of row)) _ (and-first (may_start step (place_of row) && is_empty (flaws_in (placed_in table_ways (standing_of row tables) row.job.root owned))) _ (tested-step (step_of_run row step) _ (and-second (is_in_state On row) _ (tested tables job (started_follows layout tables step items.items) follow row at)) owned there)))) is);
       begun = ap is_some (point_at-new (start_point row step (opened_all table_ways (stamp_of owned step) (placed_in table_ways (standing_of row tables) row.job.root owned) tables.sets)) row.points);
       lodged = is.lodged;
       seated = is.seated;
@@ -272,10 +323,12 @@ placed-behind layout tables (Rewritten job taken writes lengths place image) dec
     let is = row-among IsPlacedRow tables job row placed at in
     by-step ArePlaced tables (step_of_run row (step_in (place_of row))) _ placed
     (λ owned there.
-    let within = running_within row (and-first (is_running row) _ (and-first _ (of_step row (is_rewrite tables place image row)) (tested tables job (λ row. is_running row && lengths_follow tables row lengths.items && of_step row (is_rewrite tables place image row)) follow row at))) in
+    let runs = (and-first (is_running row) _ (and-first _ (of_step row (is_rewrite tables place image row)) (tested tables job (λ row. is_running row && lengths_follow tables row lengths.items && of_step row (is_rewrite tables place image row)) follow row at))) in
+    let within = running_within row runs in
     placed_put tables.runs row.number _ (record {
       place = is_some-from (step_of_run row (step_in (place_of row))) owned there;
       state = is.state;
+      idle = ap (λ b. b && true || is_none (option_map effect_rewritten row.in_effect)) (and-first (is_in_state On row) _ runs);
       begun = rewritten_point (step_in (place_of row)) (step_in (place_of row)) row.points ∙ begun-within row within is;
       lodged = is.lodged;
       seated = is.seated;
@@ -287,11 +340,13 @@ placed-behind layout tables (Checkpointed job id taken writes lengths place byte
     let is = row-among IsPlacedRow tables job row placed at in
     by-step ArePlaced tables (step_of_run row (step_in (place_of row))) _ placed
     (λ owned there.
-    let within = running_within row (and-first (is_running row) _ (and-first _ (of_step row (is_checkpoint tables id lengths.items place bytes row)) (tested tables job (λ row. is_running row && lengths_follow tables row lengths.items && of_step row (is_checkpoint tables id lengths.items place bytes row)) follow row at))) in
+    let runs = (and-first (is_running row) _ (and-first _ (of_step row (is_checkpoint tables id lengths.items place bytes row)) (tested tables job (λ row. is_running row && lengths_follow tables row lengths.items && of_step row (is_checkpoint tables id lengths.items place bytes row)) follow row at))) in
+    let within = running_within row runs in
     placed_put tables.runs row.number _ (record {
       place = is_some-from (step_of_run row (step_in (place_of row))) owned there;
       state = is.state;
       begun = begun-within row within is;
+      idle = ap (λ b. b && true || false) (and-first (is_in_state On row) _ runs);
       lodged = is.lodged;
       seated = is.seated;
       code = is.code;
@@ -300,17 +355,23 @@ placed-behind layout tables (Cancelled job) deck plain follow placed =
     by-run ArePlaced tables job _ placed
     (λ row at.
     let is = row-among IsPlacedRow tables job row placed at in
-    placed_put tables.runs row.number _ (record { place = is.place; state = is.state; begun = is.begun; lodged = is.lodged; seated = is.seated; code = is.code }) placed)
+    placed_put tables.runs row.number _ (record { place = is.place; state = is.state; begun = is.begun; idle = or_right (is_running row) true refl; lodged = is.lodged; seated = is.seated; code = is.code }) placed)
 placed-behind layout tables (StepEnded job step rc writes lengths) deck plain follow placed =
     by-run ArePlaced tables job _ placed
     (λ row at.
     let is = row-among IsPlacedRow tables job row placed at in
     by-step ArePlaced tables (step_of_run row (step_in (place_of row))) _ placed
     (λ owned there.
-    placed_put (after_commit row owned (step_in (place_of row)) writes lengths.items tables).runs row.number _ (record { place = tt; state = is.state; begun = refl; lodged = is.lodged; seated = is.seated; code = is.code })
+    placed_put (after_commit row owned (step_in (place_of row)) writes lengths.items tables).runs row.number _ (record { place = tt; state = is.state; begun = refl; idle = or_right (is_in_state On row && false) true refl; lodged = is.lodged; seated = is.seated; code = is.code })
     (placed_commit row owned writes lengths.items tables there (step_ended_within tables job step lengths.items follow row at) is placed)))
 placed-behind layout tables (Restarted job initiator code checkpoint) deck plain follow placed =
-    by-run ArePlaced tables job _ placed (λ row at. placed_restarted row initiator checkpoint tables plain placed)
+    by-run ArePlaced tables job _ placed
+    (λ row at.
+    let is = row-among IsPlacedRow tables job row placed at in
+    placed_restarted row initiator checkpoint tables
+    (restarts-running layout tables initiator checkpoint row is
+    (tested tables job (λ row. (is_running row && option_eq nat_eq row.initiator (Some initiator) || is_in_state Released row && is_free layout tables initiator) && may_restart_again checkpoint row) follow row at))
+    is placed)
 placed-behind layout tables (Ended job ending) deck plain follow placed =
     by-run ArePlaced tables job _ placed
     (λ row at. placed_ended row ending tables (tested tables job (λ row. ended_follows tables row ending) follow row at) (row-among IsPlacedRow tables job row placed at) placed)

@@ -1,6 +1,7 @@
 pub use Rattle.ckr_points_follows.proofs.RewriteCounts
 pub mod FoundRuns
 pub mod Plans
+pub mod Points
 pub mod DuePlans
 pub mod RuleCases
 pub mod FailedRuns
@@ -9,6 +10,7 @@ pub mod Masters
 pub mod RecordCounts
 pub mod Rewrites
 pub mod Invariant
+pub mod EffectEntries
 pub mod EntryPoints
 pub mod EntryModels
 pub mod EntrySizes

@@ -80,11 +80,11 @@ module _ (layout : Layout) (jobs : TurnJobs) (row : RunRow) where
   abbrev if_failed : Option Code → Bool → Plan
   if_failed fail failed =
       elim failed [
-        | true ↦ code_plan layout row (initiator_of row) system_failure (reached_by jobs row)
+        | true ↦ code_plan layout jobs.tables row (initiator_of row) system_failure (reached_by jobs row)
         | false ↦ fail_plan layout jobs row fail
       ]
 
-  pub run-failed : (fail : Option Code) → is_failed jobs row.number ≡ true → run_plan layout jobs fail row ≡ code_plan layout row (initiator_of row) system_failure (reached_by jobs row)
+  pub run-failed : (fail : Option Code) → is_failed jobs row.number ≡ true → run_plan layout jobs fail row ≡ code_plan layout jobs.tables row (initiator_of row) system_failure (reached_by jobs row)
   run-failed fail failed = ap (if_failed fail) failed
 
   pub run-other : (fail : Option Code) → is_failed jobs row.number ≡ false → run_plan layout jobs fail row ≡ fail_plan layout jobs row fail
@@ -93,11 +93,11 @@ module _ (layout : Layout) (jobs : TurnJobs) (row : RunRow) where
   abbrev if_within : Code → Bool → Plan
   if_within code within =
       elim within [
-        | true ↦ code_plan layout row (initiator_of row) code (reached_by jobs row)
+        | true ↦ code_plan layout jobs.tables row (initiator_of row) code (reached_by jobs row)
         | false ↦ Rest NothingToFail
       ]
 
-  pub fail-within : (code : Code) → is_within (place_of row) ≡ true → fail_plan layout jobs row (Some code) ≡ code_plan layout row (initiator_of row) code (reached_by jobs row)
+  pub fail-within : (code : Code) → is_within (place_of row) ≡ true → fail_plan layout jobs row (Some code) ≡ code_plan layout jobs.tables row (initiator_of row) code (reached_by jobs row)
   fail-within code within = ap (if_within code) within
 
   pub fail-between : (code : Code) → is_within (place_of row) ≡ false → fail_plan layout jobs row (Some code) ≡ Rest NothingToFail
@@ -127,10 +127,10 @@ module _ (layout : Layout) (jobs : TurnJobs) (row : RunRow) where
 
 -- what becomes of a run with a code, by what the tables keep of it
 pub code-known : (layout : Layout) (jobs : JobsView) (job : ℕ) (table : RunTable) → IsKnown jobs.tables.desk job table → (initiator : ℕ) (code : Code) (row : RunRow) → run_of jobs.tables.desk job ≡ Some row → initiator_of row ≡ initiator
-    → code_plan layout row (initiator_of row) code (reached_by (jobs_of jobs) row) ≡ code_plan layout (row_for job table) initiator code (reached_by (jobs_of jobs) (row_for job table))
+    → code_plan layout jobs.tables.desk row (initiator_of row) code (reached_by (jobs_of jobs) row) ≡ code_plan layout jobs.tables.desk (row_for job table) initiator code (reached_by (jobs_of jobs) (row_for job table))
 code-known layout jobs job table known initiator code row at on =
-    ap (λ i. code_plan layout row i code (reached_by (jobs_of jobs) row)) on
-    ∙ known-by jobs.tables.desk job table known (λ r. code_plan layout r initiator code (reached_by (jobs_of jobs) r)) refl row at
+    ap (λ i. code_plan layout jobs.tables.desk row i code (reached_by (jobs_of jobs) row)) on
+    ∙ known-by jobs.tables.desk job table known (λ r. code_plan layout jobs.tables.desk r initiator code (reached_by (jobs_of jobs) r)) refl row at
 
 -- ---- within a step
 

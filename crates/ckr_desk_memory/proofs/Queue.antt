@@ -3,7 +3,7 @@ use Rattle.std.proofs.Common.{◌≡◌, ◌+◌, ◌==◌, ◌≤◌, ◌&&◌,
 use Rattle.std.proofs.lemmas.Option.{same_Some}
 use Rattle.std.proofs.lemmas.Bool.{and_from, false≢true}
 use Rattle.std.proofs.lemmas.Bool.Decides.{nat_tests}
-use Rattle.std.specs.Prelude.{nat_eq, not, if◌then◌else◌}
+use Rattle.std.specs.Prelude.{nat_eq, if◌then◌else◌}
 use Rattle.std.specs.List.{filter_map}
 use Rattle.std.specs.Option.{is_some, option_eq, option_map, option_map_or}
 use Rattle.ckr_base.proofs.Bools.{and-first, and-second, or-cases}
@@ -24,7 +24,7 @@ use Rattle.ckr_points.specs.declared.run.RunState.{RunState}
 use Rattle.ckr_points.specs.declared.run.RunState.TheVariants as Runs
 use Rattle.ckr_points.specs.Follows.{are_lengths, ended_follows, follows, is_free, is_in_state, is_running, may_hold, may_restart_again, own_step, selected_follows, state_number}
 use Rattle.ckr_points.specs.Marks.{point_at}
-use Rattle.ckr_points.specs.Restart.{after_event, after_restarted, by_step, place_of, step_in}
+use Rattle.ckr_points.specs.Restart.{after_event, after_restarted, by_step, kept_at, place_of, step_in}
 use Rattle.ckr_points.specs.Rows.{RunRow, TablesModel, run_of, step_of_run, with_row}
 use Rattle.ckr_points.specs.Tables.{fresh_effect, is_checkpoints, name_with_role}
 use Rattle.ckr_uses.specs.Uses.{uses_of}
@@ -283,20 +283,26 @@ module _ (layout : Layout) (tables : TablesModel) (numbered : AreNumbered 1 tabl
       ap (λ n. queue_in (with_row next n tables.runs)) (number ∙ run_number tables job row numbered at) ∙ kept_state tables job row next at number deck state
 
   -- so it does by a restart
-  restarted_row : (job initiator : ℕ) (row : RunRow) → run_of tables job ≡ Some row → row.state ≡ Runs.On → (checkpoint : Bool) → not checkpoint ≡ true → queue_of (by_step (λ owned step. after_restarted row owned step initiator checkpoint tables) row tables) ≡ queue_of tables
-  restarted_row job initiator row at on true plain = absurd (false≢true plain)
-  restarted_row job initiator row at on false plain =
+  restarted_row : (job initiator : ℕ) (row : RunRow) → run_of tables job ≡ Some row → row.state ≡ Runs.On → (checkpoint : Bool) → queue_of (by_step (λ owned step. after_restarted row owned step initiator checkpoint tables) row tables) ≡ queue_of tables
+  restarted_row job initiator row at on true =
+      by-step (λ (other : TablesModel). queue_of other ≡ queue_of tables) tables (step_of_run row (step_in (place_of row))) _ refl
+      (λ owned there.
+      by-step (λ (other : TablesModel). queue_of other ≡ queue_of tables) tables row.in_effect _ refl
+      (λ effect now.
+      by-step (λ (other : TablesModel). queue_of other ≡ queue_of tables) tables (kept_at tables.sets effect.set effect.kept.id) _ refl
+      (λ entry kept. kept_row job row _ at refl refl (sym (ap queue_state on)))))
+  restarted_row job initiator row at on false =
       by-step (λ (other : TablesModel). queue_of other ≡ queue_of tables) tables (step_of_run row (step_in (place_of row))) _ refl
       (λ owned there.
       by-step (λ (other : TablesModel). queue_of other ≡ queue_of tables) tables (point_at row.points (step_in (place_of row))) _ refl
       (λ point began. kept_row job row _ at refl refl (sym (ap queue_state on))))
 
-  restarted_so : (job initiator : ℕ) (code : Code) (checkpoint : Bool) (deck : Option Job) → not checkpoint ≡ true → follows layout tables (Restarted job initiator code checkpoint) deck ≡ true → Behind (Restarted job initiator code checkpoint) deck
-  restarted_so job initiator code checkpoint deck plain e =
+  restarted_so : (job initiator : ℕ) (code : Code) (checkpoint : Bool) (deck : Option Job) → follows layout tables (Restarted job initiator code checkpoint) deck ≡ true → Behind (Restarted job initiator code checkpoint) deck
+  restarted_so job initiator code checkpoint deck e =
       let there = run-there tables job (λ row. (is_running row && option_eq nat_eq row.initiator (Some initiator) || is_in_state Runs.Released row && is_free layout tables initiator) && may_restart_again checkpoint row) e in
       let on = restarts_on job initiator checkpoint there.0 there.1 there.2 in
       ap (λ (o : Option RunRow). queue_of (option_map_or (λ row. by_step (λ owned step. after_restarted row owned step initiator checkpoint tables) row tables) o tables)) there.1
-      ∙ restarted_row job initiator there.0 there.1 on checkpoint plain
+      ∙ restarted_row job initiator there.0 there.1 on checkpoint
       ∙ sym (state-same job InQueue.Selected (queue_of tables) (selected_there job there.0 there.1 on))
 
   ended_so : (job : ℕ) (ending : Ending) (deck : Option Job) (row : RunRow) → run_of tables job ≡ Some row → ended_follows tables row ending ≡ true → Behind (Ended job ending) deck
@@ -320,7 +326,7 @@ module _ (layout : Layout) (tables : TablesModel) (numbered : AreNumbered 1 tabl
   queue_so (Checkpointed job id taken writes lengths place bytes) deck plain e = checkpointed_so job taken writes place bytes id lengths deck
   queue_so (Cancelled job) deck plain e = cancelled_so job deck
   queue_so (StepEnded job step rc writes lengths) deck plain e = behind.step_ended tables job step rc writes lengths deck numbered
-  queue_so (Restarted job initiator code checkpoint) deck plain e = restarted_so job initiator code checkpoint deck plain e
+  queue_so (Restarted job initiator code checkpoint) deck plain e = restarted_so job initiator code checkpoint deck e
   queue_so (Ended job ending) deck plain e =
       let there = run-there tables job (λ row. ended_follows tables row ending) e in
       ended_so job ending deck there.0 there.1 there.2

@@ -1,4 +1,5 @@
 pub mod First
 pub mod Served
 pub mod Entries
+pub mod Again
 pub mod Events

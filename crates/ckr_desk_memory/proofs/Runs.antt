@@ -1,5 +1,5 @@
 -- The runs of the tables behind an event: each keeps its number, its deck and its job.
-use Rattle.std.proofs.Common.{◌≡◌, ◌+◌, ℕ, zero, suc, Bool, true, false, not, List, [], ◌∷◌, ◌++◌, map, length, refl, ap, sym, ◌∙◌, subst, Option, None, Some, arith, slice_get, slice_set}
+use Rattle.std.proofs.Common.{◌≡◌, ◌+◌, ℕ, zero, suc, Bool, true, false, List, [], ◌∷◌, ◌++◌, map, length, refl, ap, sym, ◌∙◌, subst, Option, None, Some, arith, slice_get, slice_set}
 use Rattle.std.proofs.lemmas.Option.{same_Some}
 use Rattle.std.proofs.lemmas.Bool.{false≢true}
 use Rattle.std.specs.Option.{option_map_or}
@@ -14,7 +14,7 @@ use Rattle.ckr_meaning.specs.declared.place.Place.{Place}
 use Rattle.ckr_meaning.specs.declared.place.Place.TheVariants.{Before, Opened, Within}
 use Rattle.ckr_points.specs.Tables.{after_commit, queued_run}
 use Rattle.ckr_points.specs.Marks.{point_at}
-use Rattle.ckr_points.specs.Restart.{after_abnormal, after_coded, after_ended, after_event, after_restarted, by_run, by_step, place_of, step_in}
+use Rattle.ckr_points.specs.Restart.{after_abnormal, after_coded, after_ended, after_event, after_restarted, by_run, by_step, kept_at, place_of, step_in}
 use Rattle.ckr_points.specs.Rows.{RunRow, TablesModel, run_of, step_of_run, with_row}
 use Rattle.ckr_points_tables.specs.Invariant.{is_submission}
 use Rattle.ckr_desk_memory.specs.ForwardEvents.{is_forward_event}
@@ -91,9 +91,13 @@ module _ (tables : TablesModel) (numbered : AreNumbered 1 tables.runs) where
       subst (λ n. Stay (after_event (Selected job initiator n step id) deck tables)) (sym is)
       (by-run Stay tables job _ refl (λ row at. same_row tables numbered job row at _ refl))
 
-  restarted_same : (job initiator : ℕ) (row : RunRow) → run_of tables job ≡ Some row → (checkpoint : Bool) → not checkpoint ≡ true → Stay (by_step (λ owned step. after_restarted row owned step initiator checkpoint tables) row tables)
-  restarted_same job initiator row at true plain = absurd (false≢true plain)
-  restarted_same job initiator row at false plain =
+  restarted_same : (job initiator : ℕ) (row : RunRow) → run_of tables job ≡ Some row → (checkpoint : Bool) → Stay (by_step (λ owned step. after_restarted row owned step initiator checkpoint tables) row tables)
+  restarted_same job initiator row at true =
+      by-step Stay tables (step_of_run row (step_in (place_of row))) _ refl
+      (λ owned there.
+      by-step Stay tables row.in_effect _ refl
+      (λ effect now. by-step Stay tables (kept_at tables.sets effect.set effect.kept.id) _ refl (λ entry kept. same_row tables numbered job row at _ refl)))
+  restarted_same job initiator row at false =
       by-step Stay tables (step_of_run row (step_in (place_of row))) _ refl
       (λ owned there. by-step Stay tables (point_at row.points (step_in (place_of row))) _ refl (λ point began. same_row tables numbered job row at _ refl))
 
@@ -110,7 +114,7 @@ module _ (tables : TablesModel) (numbered : AreNumbered 1 tables.runs) where
   runs-stay (Cancelled job) deck plain other = by-run Stay tables job _ refl (λ row at. same_row tables numbered job row at _ refl)
   runs-stay (StepEnded job step rc writes lengths) deck plain other =
       by-run Stay tables job _ refl (λ row at. by-step Stay tables (step_of_run row (step_in (place_of row))) _ refl (λ owned there. same_twice tables numbered job row at _ _ refl refl))
-  runs-stay (Restarted job initiator code checkpoint) deck plain other = by-run Stay tables job _ refl (λ row at. restarted_same job initiator row at checkpoint plain)
+  runs-stay (Restarted job initiator code checkpoint) deck plain other = by-run Stay tables job _ refl (λ row at. restarted_same job initiator row at checkpoint)
   runs-stay (Ended job ending) deck plain other = by-run Stay tables job _ refl (λ row at. ended_same job row at ending)
   runs-stay (Purged job) deck plain other = by-run Stay tables job _ refl (λ row at. same_row tables numbered job row at _ refl)
   runs-stay _ deck plain other = absurd (false≢true plain)

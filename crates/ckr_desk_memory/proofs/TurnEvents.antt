@@ -78,8 +78,9 @@ module _ (layout : Layout) (seen : TurnJobs) (numbered : AreNumbered 1 seen.tabl
   abbrev Follows : Plan → Type 0
   Follows plan = FollowsBetween layout tables plan
 
-  coded-follows : (row : RunRow) (initiator : ℕ) (code : Code) (reached : CodePlaceModel) → Follows (code_plan layout row initiator code reached)
-  coded-follows row initiator code reached = by-verdict Follows layout row initiator code reached (λ rule ends not. absurd (true≢false not)) (λ judged not. absurd (true≢false not))
+  coded-follows : (row : RunRow) (initiator : ℕ) (code : Code) (reached : CodePlaceModel) → Follows (code_plan layout tables row initiator code reached)
+  coded-follows row initiator code reached =
+      by-verdict Follows layout tables row initiator code reached (λ rule ends not. absurd (true≢false not)) (λ judged not. absurd (true≢false not)) (λ entry judged there not. absurd (true≢false not))
 
   -- ---- an initiator that no run is on
 
@@ -90,7 +91,7 @@ module _ (layout : Layout) (seen : TurnJobs) (numbered : AreNumbered 1 seen.tabl
       let accepted : IsAcceptedRow row = row-among IsAcceptedRow tables row.number row rows at in
       subst (λ (o : Option Code). Follows (elim o [
         | None ↦ Tell (Selected row.number) (SelectedEvent row.number i 0 0 None)
-        | Some code ↦ code_plan layout row i code (reached_by seen row)
+        | Some code ↦ code_plan layout tables row i code (reached_by seen row)
       ])) (sym is.code)
       (λ not. selected-follows layout tables i row at is.state accepted.is_run above below free next)
 
@@ -179,7 +180,7 @@ module _ (layout : Layout) (seen : TurnJobs) (numbered : AreNumbered 1 seen.tabl
         plan : Bool → Plan
         plan within =
             elim within [
-              | true ↦ code_plan layout row (initiator_of row) code (reached_by seen row)
+              | true ↦ code_plan layout tables row (initiator_of row) code (reached_by seen row)
               | false ↦ Rest NothingToFail
             ]
 
@@ -193,7 +194,7 @@ module _ (layout : Layout) (seen : TurnJobs) (numbered : AreNumbered 1 seen.tabl
         plan : Bool → Plan
         plan failed =
             elim failed [
-              | true ↦ code_plan layout row (initiator_of row) system_failure (reached_by seen row)
+              | true ↦ code_plan layout tables row (initiator_of row) system_failure (reached_by seen row)
               | false ↦ fail_plan layout seen row fail
             ]
 

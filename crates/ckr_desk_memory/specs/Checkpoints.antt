@@ -1,6 +1,6 @@
 -- The next checkpoint of a running step, where its entry fits: the event commits what the step has written, and its data set for checkpoints is
 -- as long as behind the entry (IBM GC28-6708).
-use Rattle.std.specs.Prelude.{◌≡◌, ◌≤◌, ◌+◌, ℕ, true, length, map, Some}
+use Rattle.std.specs.Prelude.{◌≡◌, ◌≤◌, ◌+◌, true, length, map, Some}
 use Rattle.ckr_entry.specs.Entry.{spelling}
 use Rattle.ckr_events.specs.declared.event.Event.{Event}
 use Rattle.ckr_events.specs.declared.event.Event.TheVariants.{Checkpointed}

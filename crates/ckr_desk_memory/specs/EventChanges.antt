@@ -4,7 +4,7 @@ use Rattle.std.specs.Option.{option_map_or}
 use Rattle.ckr_uses.specs.Uses.{uses_of}
 use Rattle.ckr_library.specs.declared.uses.Use.{Use}
 use Rattle.ckr_events.specs.declared.event.Event.{Event}
-use Rattle.ckr_events.specs.declared.event.Event.TheVariants.{Submitted, Selected, Restarted, Ended, Purged}
+use Rattle.ckr_events.specs.declared.event.Event.TheVariants.{Submitted, Selected, Checkpointed, Cancelled, StepEnded, Restarted, Ended, Purged}
 use Rattle.ckr_jcl.specs.declared.deck.Job.{Job}
 use Rattle.ckr_library.specs.Catalog.{Holding, with_length}
 use Rattle.ckr_library.specs.NameMaps.{Name, Named, entry_at, with_changed}
@@ -17,7 +17,7 @@ use Rattle.ckr_queue.specs.Queue.{has_names, is_in, is_queued, may_take, state_o
 use Rattle.ckr_steps.specs.declared.step_run.StepRun.{StepRun}
 use Rattle.ckr_steps.specs.Units.{entries_of, served_of}
 use Rattle.ckr_desk_turn.specs.Desk.{is_running}
-use Rattle.ckr_desk_memory.specs.View.{RunningStepView}
+use Rattle.ckr_desk_memory.specs.View.{PointView, RunningStepView}
 
 -- ---- the queue
 
@@ -96,6 +96,33 @@ FirstEnters (Some on) run check most old new = (behind : RunningStepView) × (ne
 
 abbrev pub HasEntered : ℕ → Option Name → ℕ → List RunningStepView → List RunningStepView → Type 0
 HasEntered run check most old new = FirstEnters (find (is_of_run run) old) run check most old new
+
+-- ---- the points of checkpoints in effect
+
+abbrev pub is_point_of : ℕ → PointView → Bool
+is_point_of run point = point.run == run
+
+-- those of other runs
+abbrev pub without_point : ℕ → List PointView → List PointView
+without_point run points = filter (λ (point : PointView). not (point.run == run)) points
+
+-- where a running step stands
+abbrev pub point_of : RunningStepView → PointView
+point_of on = record { run = on.run; state = on.step.state; writes = on.step.writes }
+
+-- that of the first running step of a run, before those of other runs
+abbrev pub with_point : ℕ → List RunningStepView → List PointView → List PointView
+with_point run running points = option_map_or (λ on. point_of on ∷ without_point run points) (find (is_of_run run) running) (without_point run points)
+
+-- The points behind an event, by the running steps behind it: a checkpoint is in effect until it is cancelled, its step or its run ends, or the run
+-- is restarted at the start of the step.
+abbrev pub points_behind : Event → List RunningStepView → List PointView → List PointView
+points_behind (Checkpointed job id taken writes lengths place bytes) running points = with_point job running points
+points_behind (Cancelled job) running points = without_point job points
+points_behind (StepEnded job step rc writes lengths) running points = without_point job points
+points_behind (Restarted job initiator code false) running points = without_point job points
+points_behind (Ended job ending) running points = without_point job points
+points_behind _ running points = points
 
 -- ---- opened
 

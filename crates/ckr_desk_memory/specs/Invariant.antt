@@ -10,7 +10,7 @@ use Rattle.ckr_meaning.specs.EffectiveJob.{Effective, plain_job, step_at}
 use Rattle.ckr_meaning.specs.declared.place.Place.{Place}
 use Rattle.ckr_meaning.specs.declared.place.Place.TheVariants.{Before, Opened, Within}
 use Rattle.ckr_points.specs.Tables.{queued_run}
-use Rattle.ckr_points.specs.Follows.{follows, is_within}
+use Rattle.ckr_points.specs.Follows.{follows, is_running, is_within}
 use Rattle.ckr_points.specs.Marks.{point_at}
 use Rattle.ckr_points.specs.Restart.{place_of, step_in}
 use Rattle.ckr_points.specs.Rows.{RunRow}
@@ -52,11 +52,16 @@ IsAnyPlaceOf job (Some place) = IsPlaceOf job place
 abbrev pub is_begun : RunRow → Bool
 is_begun row = not (is_within (place_of row)) || is_some (point_at row.points (step_in (place_of row)))
 
+-- a checkpoint is in effect only of a run that is on an initiator and within a step
+abbrev pub is_idle : RunRow → Bool
+is_idle row = is_running row || is_none row.in_effect
+
 -- so it is with this run; it was never held, it has an initiator exactly where it is on one, and it has no code
 pub record IsPlacedRow (row : RunRow) : Type 0 where
   pub place : IsAnyPlaceOf row.job row.place
   pub state : is_plain_state row.state ≡ true
   pub begun : is_begun row ≡ true
+  pub idle : is_idle row ≡ true
   pub lodged : (is_none row.initiator || is_on_one row.state) ≡ true
   pub seated : (not (is_on_one row.state) || is_some row.initiator) ≡ true
   pub code : row.code ≡ None

@@ -1,6 +1,6 @@
 -- A running step beside the tables: its run is in that step, and what the step may change the tables have as the step has it, but for the
 -- records that aren't committed yet.
-use Rattle.std.specs.Prelude.{◌≡◌, ◌≢◌, ◌≤◌, ◌+◌, ℕ, true, List, [], ◌∷◌, Option, None, Some}
+use Rattle.std.specs.Prelude.{◌≡◌, ◌≢◌, ◌≤◌, ◌+◌, ℕ, true, IsSome, find, List, [], ◌∷◌, Option, None, Some}
 use Rattle.std.specs.List.{AllByRecursion}
 use Rattle.ckr_events.specs.declared.event.Event.{Event}
 use Rattle.ckr_events.specs.declared.event.Event.TheVariants.{Checkpointed, Rewritten}
@@ -17,7 +17,7 @@ use Rattle.ckr_points_library.specs.Commit.{output_names}
 use Rattle.ckr_points_tables.specs.Checkpoint.{checkpoint_name}
 use Rattle.ckr_steps.specs.Files.{files_of}
 use Rattle.ckr_steps.specs.Units.{program_of}
-use Rattle.ckr_desk_memory.specs.EventChanges.{with_entry_end, without_first}
+use Rattle.ckr_desk_memory.specs.EventChanges.{is_of_run, with_entry_end, without_first}
 use Rattle.ckr_desk_memory.specs.View.{RunningStepView, length_in}
 use Rattle.ckr_desk_memory.specs.Holders.{changed_names}
 
@@ -83,5 +83,5 @@ IsOfOther run on = on.run ≢ run
 abbrev pub CommitsItsOwn : Event → TablesModel → List RunningStepView → Type 0
 CommitsItsOwn (Rewritten job taken writes lengths place image) tables running = AllByRecursion (IsCommitted job lengths.items tables) running
 CommitsItsOwn (Checkpointed job id taken writes lengths place bytes) tables running =
-    AllByRecursion (IsCommittedWith (place + records_of bytes) job lengths.items tables) running × AllByRecursion (IsOfOther job) (without_first job running)
+    AllByRecursion (IsCommittedWith (place + records_of bytes) job lengths.items tables) running × AllByRecursion (IsOfOther job) (without_first job running) × IsSome (find (is_of_run job) running)
 CommitsItsOwn _ tables running = Unit {0}

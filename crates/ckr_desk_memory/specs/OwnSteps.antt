@@ -1,28 +1,46 @@
--- The jobs in memory hold their own: their runs stay apart, and each running step is that of its run, and the only one of it.
-use Rattle.std.specs.Prelude.{◌≡◌, ◌≢◌, ℕ, true, List, [], ◌∷◌, None, Some}
+-- The jobs in memory hold their own: their runs stay apart, each running step is that of its run, and the only one of it, and where a checkpoint is in
+-- effect they have its point.
+use Rattle.std.specs.Prelude.{◌≡◌, ◌≢◌, ℕ, true, find, List, [], ◌∷◌, None, Some}
 use Rattle.std.specs.List.{AllByRecursion}
+use Rattle.std.specs.Option.{is_some}
 use Rattle.ckr_desk_turn.specs.declared.plan.Plan.{Plan}
 use Rattle.ckr_desk_turn.specs.declared.plan.Plan.TheVariants.{Rest, Tell, Work, Pass, Take}
 use Rattle.ckr_events.specs.Jobs.{job_of}
 use Rattle.ckr_events.specs.declared.event.Event.{Event}
 use Rattle.ckr_events.specs.declared.event.Event.TheVariants.{StepEnded}
-use Rattle.ckr_points.specs.Follows.{follows, is_running}
+use Rattle.ckr_points.specs.Follows.{follows, is_running, own_step}
 use Rattle.ckr_points.specs.Rows.{RunRow, TablesModel, run_of}
+use Rattle.ckr_meaning.specs.EffectiveJob.{OwnedStep}
+use Rattle.ckr_steps.specs.Units.{program_of}
 use Rattle.ckr_volumes.specs.declared.layout.Layout.{Layout}
+use Rattle.ckr_desk_memory.specs.EventChanges.{is_point_of}
 use Rattle.ckr_desk_memory.specs.Holders.{AreHolders}
 use Rattle.ckr_desk_memory.specs.OwnSets.{CommitsItsOwn, IsRunningOf}
 pub use Rattle.ckr_desk_memory.specs.OwnSets.{IsOfOther}
-use Rattle.ckr_desk_memory.specs.View.{JobsView, RunningStepView}
+use Rattle.ckr_desk_memory.specs.View.{JobsView, PointView, RunningStepView}
 
 -- no two running steps are of one run
 abbrev pub AreSingle : List RunningStepView → Type 0
 AreSingle [] = Unit {0}
 AreSingle (on ∷ rest) = AllByRecursion (IsOfOther on.run) rest × AreSingle rest
 
+-- the point of a run's checkpoint is known, and has the program of its step
+pub record HasPoint (points : List PointView) (run : ℕ) (owned : OwnedStep) : Type 0 where
+  pub point : PointView
+  pub found : find (is_point_of run) points ≡ Some point
+  pub program : program_of point.state ≡ owned.step.program
+
+-- so it is with each run on an initiator, within its step, that has a checkpoint in effect
+abbrev pub HavePoints : TablesModel → List PointView → Type 0
+HavePoints tables points =
+    (number : ℕ) (row : RunRow) (owned : OwnedStep) → run_of tables number ≡ Some row → is_running row ≡ true → is_some row.in_effect ≡ true → own_step row ≡ Some owned
+    → HasPoint points number owned
+
 pub record HoldTheirOwn (jobs : JobsView) : Type 0 where
   pub holders : AreHolders jobs.tables.desk
   pub running : AllByRecursion (IsRunningOf jobs.tables.desk) jobs.running
   pub single : AreSingle jobs.running
+  pub points : HavePoints jobs.tables.desk jobs.points
 
 -- ---- the runs that were running when the system failed
 

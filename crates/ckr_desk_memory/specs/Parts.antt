@@ -1,14 +1,17 @@
 -- How the parts of the jobs in memory are seen, and what holds of them: the runs are numbered, none was held, and the queue is that of the tables.
 use Rattle.std.specs.Prelude.{◌≡◌, ◌≤◌, ◌-◌, Bool, true, false, List, length, map, vec_len, vec_capacity}
-use Rattle.std.specs.List.{list_all}
+use Rattle.std.specs.List.{AllByRecursion, list_all}
+use Rattle.ckr_jcl.specs.declared.deck.Parm.{Parm}
+use Rattle.ckr_programs.specs.Ranges.{IsInRange}
 use Rattle.ckr_queue.specs.declared.entry.QueueEntry.{QueueEntry}
 use Rattle.ckr_queue.specs.declared.entry.QueueState.{QueueState}
 use Rattle.ckr_queue.specs.declared.entry.QueueState.TheVariants.{Queued, Selected, Held, Released}
 use Rattle.ckr_points.specs.Rows.{TablesModel}
+use Rattle.ckr_steps.specs.Units.{IsCounted}
 use Rattle.ckr_desk_turn.specs.Queue.{AreNumbered, queue_of}
 use Rattle.ckr_desk_memory.specs.declared.jobs.Jobs.TheInside.{Inside}
 use Rattle.ckr_desk_memory.specs.declared.jobs.RunningStep.{RunningStep}
-use Rattle.ckr_desk_memory.specs.View.{JobsView, RunningStepView}
+use Rattle.ckr_desk_memory.specs.View.{JobsView, PointView, RunningStepView}
 
 abbrev pub step_seen : RunningStep → RunningStepView
 step_seen on = record { run = on.run; step = on.step; sets = on.sets }
@@ -18,8 +21,10 @@ jobs_seen a = record {
   tables = a.tables;
   running = map step_seen a.running.items;
   failed = a.failed.items;
+  points = a.points.items;
   queue_room = a.queue.room;
   running_room = vec_capacity a.running - vec_len a.running;
+  points_room = vec_capacity a.points - vec_len a.points;
 }
 
 -- whether a run in the queue was never held
@@ -39,5 +44,10 @@ pub record AreQueued (desk : TablesModel) (queue : List QueueEntry) : Type 0 whe
   pub unheld : AreUnheld queue
   pub same : queue ≡ queue_of desk
 
-abbrev pub IsKept : Inside → Type 0
-IsKept a = AreQueued a.tables.desk a.queue.entries
+-- the numbers of a point are in their ranges, with any PARM that is in its own
+abbrev pub IsPointCounted : PointView → Type 0
+IsPointCounted point = (parm : Parm) → IsInRange parm → IsCounted parm point.state point.writes
+
+pub record IsKept (a : Inside) : Type 0 where
+  pub queued : AreQueued a.tables.desk a.queue.entries
+  pub counted : AllByRecursion IsPointCounted a.points.items

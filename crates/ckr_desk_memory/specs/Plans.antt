@@ -1,5 +1,5 @@
 -- What a turn comes to, by the jobs in memory.
-use Rattle.std.specs.Prelude.{◌≡◌, ◌≤◌, ℕ, Bool, true, false, not, IsSome, [], find, Option, None, Some, pred, slice_get}
+use Rattle.std.specs.Prelude.{◌≡◌, ◌≤◌, ℕ, Bool, true, false, IsSome, [], find, Option, None, Some, pred, slice_get}
 use Rattle.std.specs.List.{AllByRecursion}
 use Rattle.ckr_base.specs.declared.code.Code.{Code}
 use Rattle.ckr_base.specs.declared.programs.NextDue.{NextDue}
@@ -12,7 +12,8 @@ use Rattle.ckr_meaning.specs.EffectiveJob.{OwnedStep, plain_job}
 use Rattle.ckr_meaning.specs.declared.place.Place.{Place}
 use Rattle.ckr_meaning.specs.declared.place.Place.TheVariants.{Before, Opened, Within}
 use Rattle.ckr_points.specs.declared.run.RunState.TheVariants.{On}
-use Rattle.ckr_points.specs.Rows.{RunRow, TablesModel, run_of, step_of_run}
+use Rattle.ckr_library.specs.NameMaps.{Name}
+use Rattle.ckr_points.specs.Rows.{KeptEntry, RunRow, TablesModel, run_of, step_of_run}
 use Rattle.ckr_steps.specs.declared.step_run.Worked.{Worked}
 use Rattle.ckr_steps.specs.declared.step_run.Worked.TheVariants.{Went, Rewrite, Abend}
 use Rattle.ckr_steps.specs.declared.unit_ahead.UnitAhead.{UnitAhead}
@@ -126,7 +127,7 @@ is_coded _ = false
 -- what a unit tells, if it tells an event: a rewrite in place, or the end or the restart of its run after a code
 abbrev pub is_unit_event : Event → Bool
 is_unit_event (RewrittenEvent job taken writes lengths place image) = true
-is_unit_event (RestartedEvent job initiator code checkpoint) = not checkpoint
+is_unit_event (RestartedEvent job initiator code checkpoint) = true
 is_unit_event (EndedEvent job ending) = is_coded ending
 is_unit_event _ = false
 
@@ -156,10 +157,14 @@ behind_unit on ahead = record {
   sets = record on.sets { sets = grown on.step.files ahead.writes.items on.sets.sets };
 }
 
+-- what a turn tells of the entry of a checkpoint: its identifier, and the records taken there
+abbrev pub told_entry : KeptEntry → Name × ℕ
+told_entry entry = (entry.kept.id, entry.point.taken)
+
 -- what a turn tells of a unit, with the running step behind it
-abbrev pub told_by : Layout → RunRow → TurnStep → Worked → Plan
-told_by layout row step (Went taken) = Rest (WorkedReply row.number (step_name_of row) step.taken)
-told_by layout row step (Rewrite place image taken) =
+abbrev pub told_by : Layout → TablesModel → RunRow → TurnStep → Worked → Plan
+told_by layout tables row step (Went taken) = Rest (WorkedReply row.number (step_name_of row) step.taken)
+told_by layout tables row step (Rewrite place image taken) =
     Tell (WorkedReply row.number (step_name_of row) step.taken)
     (RewrittenEvent row.number step.taken step.writes (record { items = step.lengths }) place image)
-told_by layout row step (Abend code) = code_plan layout row (initiator_of row) code (running_reached step)
+told_by layout tables row step (Abend code) = code_plan layout tables row (initiator_of row) code (running_reached step)

@@ -1,17 +1,18 @@
 -- The memory for an event.
-use Rattle.std.specs.Prelude.{◌≡◌, ◌≤◌, ◌<◌, ℕ, Bool, true, false, [], Option, Some}
+use Rattle.std.specs.Prelude.{◌≡◌, ◌≤◌, ◌<◌, ℕ, Bool, true, false, IfSome, [], find, Option, None, Some}
 use Rattle.ckr_events.specs.declared.event.Event.{Event}
 use Rattle.ckr_events.specs.declared.event.Event.TheVariants.{Submitted, Started, Checkpointed, StepEnded, Restarted, Ended}
 use Rattle.ckr_jcl.specs.declared.deck.Job.{Job}
-use Rattle.ckr_jcl.specs.declared.deck.Step.{Step}
 use Rattle.ckr_meaning.specs.EffectiveJob.{OwnedStep}
+use Rattle.ckr_points.specs.Follows.{own_step}
 use Rattle.ckr_points.specs.Rows.{RunRow, TablesModel, run_of, step_of_run}
 use Rattle.ckr_steps.specs.StepUnit.{AreCounted}
+use Rattle.ckr_steps.specs.declared.step_run.StepRun.{StepRun}
 use Rattle.ckr_points_tables.specs.Invariant.{HasRoom}
 use Rattle.ckr_desk_memory.specs.declared.jobs.RunningStep.{RunningStep}
 use Rattle.ckr_desk_memory.specs.declared.preparation.Prepared.{Prepared}
-use Rattle.ckr_desk_memory.specs.EventChanges.{HasUses}
-use Rattle.ckr_desk_memory.specs.View.{JobsView, begun}
+use Rattle.ckr_desk_memory.specs.EventChanges.{HasUses, is_point_of}
+use Rattle.ckr_desk_memory.specs.View.{JobsView, PointView, begun, resumed}
 
 -- whether an event needs memory
 abbrev pub needs_room : Event → Bool
@@ -28,27 +29,51 @@ abbrev pub HasQueueRoom : Event → ℕ → Type 0
 HasQueueRoom (Submitted job cards) room = 0 < room
 HasQueueRoom _ room = Unit {0}
 
--- it is at its beginning, and has no data sets yet, but room for those of any step
-pub record IsBegun (job : ℕ) (own : Step) (on : RunningStep) : Type 0 where
+-- room for the point of a checkpoint
+abbrev pub HasPointRoom : Event → ℕ → Type 0
+HasPointRoom (Checkpointed job id taken writes lengths place bytes) room = 0 < room
+HasPointRoom _ room = Unit {0}
+
+-- a step of the run has no data sets yet, but room for those of any step
+pub record IsEmpty (job : ℕ) (on : RunningStep) : Type 0 where
   pub run : on.run ≡ job
-  pub step : on.step ≡ begun job own
-  pub counted : AreCounted on.step
   pub empty : on.sets.sets ≡ []
   pub room : 16 ≤ on.sets.room
+
+-- it stands here, with its numbers in their ranges
+pub record StandsEmpty (job : ℕ) (place : StepRun) (on : RunningStep) : Type 0 where
+  pub its : IsEmpty job on
+  pub step : on.step ≡ place
+  pub counted : AreCounted on.step
 
 -- the step of this number of a run is prepared, where there is one
 abbrev pub HasStep : TablesModel → ℕ → ℕ → Option RunningStep → Type 0
 HasStep tables job step prepared =
     (row : RunRow) (owned : OwnedStep) → run_of tables job ≡ Some row → step_of_run row step ≡ Some owned
-    → (on : RunningStep) × (prepared ≡ Some on) × IsBegun job owned.step on
+    → (on : RunningStep) × (prepared ≡ Some on) × StandsEmpty job (begun job owned.step) on
+
+-- the step that a run is in is prepared at this point of it, and none is where there is no point
+abbrev pub HasAgain : Option PointView → TablesModel → ℕ → Option RunningStep → Type 0
+HasAgain None tables job prepared = prepared ≡ None
+HasAgain (Some point) tables job prepared =
+    (row : RunRow) (owned : OwnedStep) → run_of tables job ≡ Some row → own_step row ≡ Some owned
+    → (on : RunningStep) × (prepared ≡ Some on) × StandsEmpty job (resumed job owned.step point) on
 
 -- the step that starts is prepared, and there is room among the running ones
 pub record HasStarting (jobs : JobsView) (job number : ℕ) (prepared : Option RunningStep) : Type 0 where
   pub room : 0 < jobs.running_room
+  pub empty : IfSome prepared (IsEmpty job)
   pub step : HasStep jobs.tables.desk job number prepared
+
+-- so is the step that goes on from its run's point, if that is known
+pub record HasGoingBack (jobs : JobsView) (job : ℕ) (prepared : Option RunningStep) : Type 0 where
+  pub room : 0 < jobs.running_room
+  pub empty : IfSome prepared (IsEmpty job)
+  pub step : HasAgain (find (is_point_of job) jobs.points) jobs.tables.desk job prepared
 
 abbrev pub HasStarted : Event → JobsView → Option RunningStep → Type 0
 HasStarted (Started job step items) jobs prepared = HasStarting jobs job step prepared
+HasStarted (Restarted job initiator code true) jobs prepared = HasGoingBack jobs job prepared
 HasStarted _ jobs prepared = Unit {0}
 
 -- the jobs go on by the event with this and no other memory; the deck is that of an event that submits one
@@ -57,3 +82,4 @@ pub record IsPrepared (jobs : JobsView) (event : Event) (deck : Option Job) (pre
   pub queue : HasQueueRoom event jobs.queue_room
   pub uses : HasUses event deck prepared.uses
   pub started : HasStarted event jobs prepared.step
+  pub points : HasPointRoom event jobs.points_room

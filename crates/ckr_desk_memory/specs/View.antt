@@ -13,6 +13,7 @@ use Rattle.ckr_steps.specs.Files.{files_of}
 use Rattle.ckr_steps.specs.Units.{due_of, first_state, taken_of}
 use Rattle.ckr_points_tables.specs.View.{RoomyTables}
 use Rattle.ckr_desk_turn.specs.Jobs.{TurnJobs, TurnStep}
+use Rattle.ckr_desk_memory.specs.declared.jobs.StepPoint.{StepPoint}
 
 -- a running step: its run, its program, and its data sets with the lengths that they have by now
 pub record RunningStepView : Type 0 where
@@ -24,14 +25,24 @@ pub record RunningStepView : Type 0 where
 abbrev pub begun : ℕ → Step → StepRun
 begun job step = record { state = first_state step.program; parm = step.parm; files = files_of job job step; writes = 0 }
 
--- The tables with their room, the running steps, and the runs that were running when the system failed. So many more runs fit in the queue, and
--- so many more steps among the running ones, with no memory taken.
+-- where the step of a run stands at its checkpoint in effect: its program's state, and the number of its writes
+abbrev pub PointView : Type 0
+PointView = StepPoint
+
+-- a step of a run that owns it, as it goes on from there
+abbrev pub resumed : ℕ → Step → PointView → StepRun
+resumed job step point = record { state = point.state; parm = step.parm; files = files_of job job step; writes = point.writes }
+
+-- The tables with their room, the running steps, the runs that were running when the system failed, and where steps stand at their checkpoints in
+-- effect. So many more runs fit in the queue, so many more steps among the running ones, and so many more points, with no memory taken.
 pub record JobsView : Type 0 where
   pub tables : RoomyTables
   pub running : List RunningStepView
   pub failed : List ℕ
+  pub points : List PointView
   pub queue_room : ℕ
   pub running_room : ℕ
+  pub points_room : ℕ
 
 -- ---- a running step as a turn sees it
 

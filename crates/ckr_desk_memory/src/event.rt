@@ -1,15 +1,17 @@
 //! The jobs go on by an event that was written.
-ghost use Rattle.std.specs.Prelude.{◌≡◌, ◌+◌, ◌-◌, ◌<◌, ◌≤◌, ◌==◌, true, false, not, filter, length, map, None, Option, IsTrue, vec_len, vec_capacity};
+ghost use Rattle.std.specs.Prelude.{◌≡◌, ◌∷◌, ◌+◌, ◌-◌, ◌<◌, ◌≤◌, ◌==◌, List, true, false, not, filter, length, map, None, Option, IsTrue, vec_len, vec_capacity};
 ghost use Rattle.std.specs.List.{AllByRecursion};
 ghost use Rattle.ckr_jcl.specs.declared.deck.Job.{Job as JobOfDeck};
-ghost use Rattle.ckr_desk_memory.specs.EventChanges.{check_name_in, HasUses, MayQueue};
-ghost use Rattle.ckr_desk_memory.specs.RunningSteps.{GoesOn, MayLookUp, MayRun};
+ghost use Rattle.ckr_desk_memory.specs.EventChanges.{check_name_in, point_of, points_behind, with_point, without_point, without_run, HasUses, MayQueue};
+ghost use Rattle.ckr_desk_memory.specs.RunningSteps.{GoesOn, IsStartedFrom, MayGoBack, MayLookUp, MayRun, StepGoesBack};
 ghost use Rattle.ckr_desk_memory.specs.Invariant.{AreJobs, IsAnyAccepted, MayGoOn};
 ghost use Rattle.ckr_desk_memory.specs.OwnSets.{CommitsItsOwn};
 ghost use Rattle.ckr_desk_memory.specs.OwnSteps.{AreLeft, HoldTheirOwn, LeavesLeft};
 ghost use Rattle.ckr_desk_memory.specs.Parts.{step_seen};
 ghost use Rattle.ckr_desk_memory.specs.Plans.{HasCounts};
-ghost use Rattle.ckr_desk_memory.specs.Preparation.{HasQueueRoom, IsPrepared};
+ghost use Rattle.ckr_desk_memory.specs.Preparation.{HasAgain, HasPointRoom, HasQueueRoom, IsPrepared};
+ghost use Rattle.ckr_desk_memory.specs.View.{PointView};
+ghost use Rattle.ckr_steps.specs.StepUnit.{AreCounted};
 ghost use Rattle.ckr_desk_memory.specs.Rewrite.{HasRecordPlace};
 ghost use Rattle.ckr_desk_memory.specs.declared.jobs.RunningStep.{RunningStep as StepOnIt};
 ghost use Rattle.ckr_library.specs.Catalog.{records_of};
@@ -22,10 +24,11 @@ ghost use Rattle.ckr_desk_turn.specs.Desk.{failed_behind};
 ghost use Rattle.ckr_desk_turn.specs.Queue.{queue_behind, AreNumbered};
 ghost use Rattle.ckr_volumes.specs.declared.layout.Layout.{Layout as LayoutOfDisk};
 
+use crate::found_run::first_on;
 use crate::run_code::place_of;
 use crate::served::{enter, serve};
-use crate::start::start_step;
-use crate::{Jobs, Prepared, RunningStep};
+use crate::start::{start_again, start_prepared};
+use crate::{Jobs, Prepared, RunningStep, StepPoint};
 use ckr_base::DsName;
 use ckr_events::Event;
 use ckr_jcl::Job;
@@ -105,8 +108,28 @@ fn end_of(place: u32, bytes: u32) -> u64
     u64::from(place) + u64::from(bytes).div_ceil(256)
 }
 
-/// The running steps behind a forward event, by the tables behind it. The step that starts is at its beginning, and there is room for it. A
-/// checkpoint is due of the step whose entry was written, and a cancel of the step that cancels.
+/// A run is restarted. At its checkpoint it goes on there, as it was prepared; at the start of its step no step of it is running.
+fn restart(
+    job: u32,
+    checkpoint: bool,
+    again: Option<RunningStep>,
+    tables: &Tables,
+    running: &mut Vec<RunningStep>,
+)
+    requires { checkpoint ≡ true → MayGoBack job tables.now.desk again (vec_capacity running.old - vec_len running.old) }
+    ensures back { checkpoint ≡ true → (point : Option PointView) → HasAgain point tables.now.desk job again → StepGoesBack point job tables.now.desk (map step_seen running.old.items) (map step_seen running.new.items) }
+    ensures start { checkpoint ≡ false → map step_seen running.new.items ≡ without_run job (map step_seen running.old.items) }
+{
+    if checkpoint {
+        start_again(job, again, tables, running);
+    } else {
+        leave(running, job);
+    }
+}
+
+/// The running steps behind a forward event, by the tables behind it. The step that starts is at its beginning, that of a run that is restarted
+/// at its checkpoint is at the run's point, and there is room for it. A checkpoint is due of the step whose entry was
+/// written, and a cancel of the step that cancels.
 fn keep_running(
     event: &Event,
     begun: Option<RunningStep>,
@@ -115,10 +138,15 @@ fn keep_running(
 )
     requires may { MayRun event.now tables.now.desk begun (vec_capacity running.old - vec_len running.old) }
     requires counted { AllByRecursion HasCounts (map step_seen running.old.items) }
-    ensures { GoesOn event.now tables.now.desk (map step_seen running.old.items) (map step_seen running.new.items) }
+    ensures { (points : List PointView) → IsStartedFrom event.now tables.now.desk points begun → GoesOn event.now tables.now.desk points (map step_seen running.old.items) (map step_seen running.new.items) }
 {
     match event {
-        Event::Started { job, step, .. } => start_step(*job, *step, begun, tables, running),
+        Event::Started { job, step, .. } => start_prepared(*job, *step, begun, tables, running),
+        Event::Restarted {
+            job,
+            checkpoint,
+            ..
+        } => restart(*job, *checkpoint, begun, tables, running),
         Event::Checkpointed {
             job,
             place,
@@ -131,8 +159,71 @@ fn keep_running(
             end_of(*place, *bytes),
         ),
         Event::Cancelled { job } => serve(running, *job),
-        Event::StepEnded { job, .. } | Event::Restarted { job, .. } | Event::Ended { job, .. } => {
-            leave(running, *job)
+        Event::StepEnded { job, .. } | Event::Ended { job, .. } => leave(running, *job),
+        _ => {}
+    }
+}
+
+/// Those points that aren't of a run.
+fn forget_point(points: &mut Vec<StepPoint>, run: u32)
+    ensures items { points.new.items ≡ without_point run points.old.items }
+    ensures bound { vec_len points.new ≤ vec_len points.old }
+    ensures capacity { vec_capacity points.new ≡ vec_capacity points.old }
+{
+    points.retain(|point| point.run != run);
+}
+
+/// Where a running step stands.
+fn point_of(on: &RunningStep) -> StepPoint
+    requires { AreCounted on.now.step }
+    ensures { result ≡ point_of (step_seen on.now) }
+{
+    let progress = on.step.progress();
+    StepPoint {
+        run: on.run,
+        state: progress.state.copied(),
+        writes: progress.writes,
+    }
+}
+
+/// A point stands before the others. There is room for it.
+fn put_point(points: &mut Vec<StepPoint>, point: StepPoint)
+    requires { vec_len points.old < vec_capacity points.old }
+    ensures { points.new.items ≡ point ∷ points.old.items }
+{
+    match points.insert(0, point) {
+        Ok(()) => {}
+        Err(_) => unreachable!(),
+    }
+}
+
+/// The running step of a run stands at its checkpoint now. There is room for its point.
+fn keep_point(points: &mut Vec<StepPoint>, run: u32, running: &[RunningStep])
+    requires room { vec_len points.old < vec_capacity points.old }
+    requires counted { AllByRecursion HasCounts (map step_seen running.now) }
+    ensures { points.new.items ≡ with_point run (map step_seen running.now) points.old.items }
+{
+    forget_point(points, run);
+    if let Some(on) = first_on(running, run) {
+        put_point(points, point_of(on));
+    }
+}
+
+/// The points behind a forward event, by the running steps behind it. There is room for that of a checkpoint.
+fn keep_points(points: &mut Vec<StepPoint>, event: &Event, running: &[RunningStep])
+    requires room { HasPointRoom event.now (vec_capacity points.old - vec_len points.old) }
+    requires counted { AllByRecursion HasCounts (map step_seen running.now) }
+    ensures { points.new.items ≡ points_behind event.now (map step_seen running.now) points.old.items }
+{
+    match event {
+        Event::Checkpointed { job, .. } => keep_point(points, *job, running),
+        Event::Restarted {
+            job,
+            checkpoint: false,
+            ..
+        } => forget_point(points, *job),
+        Event::Cancelled { job } | Event::StepEnded { job, .. } | Event::Ended { job, .. } => {
+            forget_point(points, *job)
         }
         _ => {}
     }
@@ -162,8 +253,9 @@ impl Jobs {
         requires count { MayCount event.now self.old.tables.desk.sets }
         requires prepared { IsPrepared self.old event.now deck prepared }
         ensures tables { self.new.tables.desk ≡ after_event event.now deck self.old.tables.desk }
-        ensures running { GoesOn event.now self.new.tables.desk self.old.running self.new.running }
+        ensures running { GoesOn event.now self.new.tables.desk self.old.points self.old.running self.new.running }
         ensures failed { self.new.failed ≡ failed_behind event.now self.old.failed }
+        ensures points { self.new.points ≡ points_behind event.now self.new.running self.old.points }
         ensures place { HasRecordPlace event.now self.new.tables.desk }
         ensures jobs { (layout : LayoutOfDisk) → AreJobs layout self.old → follows layout self.old.tables.desk event.now deck ≡ true → AreJobs layout self.new }
         ensures own { (layout : LayoutOfDisk) → AreJobs layout self.old → HoldTheirOwn self.old → follows layout self.old.tables.desk event.now deck ≡ true
@@ -174,6 +266,7 @@ impl Jobs {
         self.go_on(event, deck, prepared.uses);
         keep_running(event, prepared.step, &self.tables, &mut self.running);
         keep_failed(&mut self.failed, event);
+        keep_points(&mut self.points, event, self.running.as_slice());
     }
 
     /// The tables go on by a forward event that follows, and the queue with them. There is room for the event, and the uses are those
@@ -189,6 +282,8 @@ impl Jobs {
         ensures tables { self.new.tables.desk ≡ after_event event.now deck self.old.tables.desk }
         ensures running { self.new.running ≡ self.old.running }
         ensures failed { self.new.failed ≡ self.old.failed }
+        ensures points { self.new.points ≡ self.old.points }
+        ensures points_room { self.new.points_room ≡ self.old.points_room }
         ensures room { self.new.running_room ≡ self.old.running_room }
         ensures numbered { AreNumbered 1 self.old.tables.desk.runs }
         ensures few { length self.old.tables.desk.runs ≤ 9999999 }

@@ -36,7 +36,7 @@ fn is_among(runs: &[u32], run: u32) -> bool
 }
 
 /// The first running step of a run.
-fn first_on(items: &[RunningStep], run: u32) -> Option<&RunningStep>
+pub(crate) fn first_on(items: &[RunningStep], run: u32) -> Option<&RunningStep>
     ensures { option_copied result ≡ find (λ (on : StepOnIt). on.run == run) items.now }
 {
     items.iter().find(|on| on.run == run)

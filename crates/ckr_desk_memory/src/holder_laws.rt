@@ -22,32 +22,32 @@ ghost use Rattle.ckr_steps.specs.declared.step_run.StepRun.{StepRun as RunningPr
 ghost use Rattle.ckr_steps.specs.declared.step_run.Worked.{Worked as WorkedUnit};
 ghost use Rattle.ckr_steps.specs.declared.step_run.Worked.TheVariants.{Rewrite};
 ghost use Rattle.ckr_desk_memory.specs.EventChanges.{served_step};
-ghost use Rattle.ckr_desk_memory.specs.Invariant.{IsAcceptedRow};
+ghost use Rattle.ckr_desk_memory.specs.Invariant.{IsAcceptedRow, IsPlacedRow};
 ghost use Rattle.ckr_desk_memory.specs.RunningSteps.{GoesOn};
 ghost use Rattle.ckr_desk_memory.specs.Start.{AllFit};
-ghost use Rattle.ckr_desk_memory.specs.View.{JobsView, RunningStepView};
+ghost use Rattle.ckr_desk_memory.specs.View.{JobsView, PointView, RunningStepView};
 ghost use Rattle.ckr_desk_turn.specs.Queue.{AreNumbered};
 ghost use Rattle.ckr_desk_memory.specs.Holders.{AreHolders};
 ghost use Rattle.ckr_desk_memory.specs.OwnEvents.{HasOwnLengths, IsLeftWithin, IsOwnEvent};
 ghost use Rattle.ckr_desk_memory.specs.OwnSets.{CommitsItsOwn, IsCommitted, IsRunningOf};
-ghost use Rattle.ckr_desk_memory.specs.OwnSteps.{AreLeft, HoldTheirOwn, IsOfOther};
+ghost use Rattle.ckr_desk_memory.specs.OwnSteps.{AreLeft, HavePoints, HoldTheirOwn, IsOfOther};
 
 /// Runs that hold their names stay apart by each event that follows, whether it is sound or not: no two of them hold against each other,
 /// each has passed on as made names of its own job alone, and what its step may change is there. So it is where there are no runs yet.
 pub fn holders_stay_apart()
     ensures none { AreHolders no_tables }
     ensures kept { (layout : Layout) (tables : TablesModel) (event : Event) (deck : Option Job)
-        → AreHolders tables → AllByRecursion IsAcceptedRow tables.runs → AreNumbered 1 tables.runs
+        → AreHolders tables → AllByRecursion IsAcceptedRow tables.runs → AreNumbered 1 tables.runs → AllByRecursion IsPlacedRow tables.runs
         → is_forward_event event ≡ true → follows layout tables event deck ≡ true → AreHolders (after_event event deck tables) }
 {}
 
 /// Where runs that hold stay apart, the running steps stay those of their runs, each with its data sets beside the tables, by each event that
-/// follows and that commits at most the lengths that its own step has; and so does a step by a unit of its work, whatever records it read.
+/// follows and that commits at most the lengths that its own step has, also where a step goes on from the point of its run; and so does a step by a unit of its work, whatever records it read.
 pub fn running_steps_stay_theirs()
-    ensures event { (layout : Layout) (tables : TablesModel) (event : Event) (deck : Option Job) (old new : List RunningStepView)
-        → AreHolders tables → AllByRecursion IsAcceptedRow tables.runs → AreNumbered 1 tables.runs
-        → is_forward_event event ≡ true → follows layout tables event deck ≡ true → AllByRecursion (IsRunningOf tables) old
-        → CommitsItsOwn event tables old → GoesOn event (after_event event deck tables) old new
+    ensures event { (layout : Layout) (tables : TablesModel) (event : Event) (deck : Option Job) (points : List PointView) (old new : List RunningStepView)
+        → AreHolders tables → AllByRecursion IsAcceptedRow tables.runs → AreNumbered 1 tables.runs → AllByRecursion IsPlacedRow tables.runs
+        → is_forward_event event ≡ true → follows layout tables event deck ≡ true → AllByRecursion (IsRunningOf tables) old → HavePoints tables points
+        → CommitsItsOwn event tables old → GoesOn event (after_event event deck tables) points old new
         → AllByRecursion (IsRunningOf (after_event event deck tables)) new }
     ensures unit { (tables : TablesModel) (old new : RunningStepView) (heads : HeadsOfInputs) (worked : WorkedUnit)
         → AllByRecursion IsAcceptedRow tables.runs → AreNumbered 1 tables.runs
@@ -85,10 +85,10 @@ pub fn own_events_follow()
         → follows layout tables (Ended job (Coded code rule writes lengths)) deck ≡ true }
 {}
 
-/// Jobs hold their own where their runs stay apart and no step is running, as where the desk is opened, and where their tables and their
-/// running steps are those of jobs that do. So it is with the runs that were running when the system failed.
+/// Jobs hold their own where their runs stay apart, no step is running and they have the points of the checkpoints in effect, as where the
+/// desk is opened, and where their tables, their running steps and their points are those of jobs that do. So it is with the runs that were running when the system failed.
 pub fn jobs_hold_their_own()
-    ensures none { (jobs : JobsView) → AreHolders jobs.tables.desk → jobs.running ≡ [] → HoldTheirOwn jobs }
-    ensures alike { (old new : JobsView) → new.tables.desk ≡ old.tables.desk → new.running ≡ old.running → HoldTheirOwn old → HoldTheirOwn new }
+    ensures none { (jobs : JobsView) → AreHolders jobs.tables.desk → jobs.running ≡ [] → HavePoints jobs.tables.desk jobs.points → HoldTheirOwn jobs }
+    ensures alike { (old new : JobsView) → new.tables.desk ≡ old.tables.desk → new.running ≡ old.running → new.points ≡ old.points → HoldTheirOwn old → HoldTheirOwn new }
     ensures left { (old new : JobsView) → new.tables.desk ≡ old.tables.desk → new.failed ≡ old.failed → AreLeft old → AreLeft new }
 {}

@@ -5,6 +5,7 @@ ghost use Rattle.ckr_points_tables.specs.View.{line_of, seen_by};
 ghost use Rattle.ckr_desk_memory.specs.OwnSteps.{AreLeft, HoldTheirOwn};
 ghost use Rattle.ckr_desk_memory.specs.Parts.{step_seen};
 
+use ckr_entry::State;
 use ckr_library::Library;
 use ckr_points::Run;
 use ckr_points_tables::Tables;
@@ -23,8 +24,19 @@ pub struct RunningStep {
     pub sets: Library,
 }
 
-/// The jobs of a desk in memory: the tables that its events brought about, which run is next, the running steps, and the runs
-/// that were running when the system failed.
+/// Where the step of a run stands at its checkpoint in effect.
+#[derive(Drop)]
+pub struct StepPoint {
+    /// The number of the run.
+    pub run: u32,
+    /// Where its program stands.
+    pub state: State,
+    /// How many records it has written and rewritten.
+    pub writes: u32,
+}
+
+/// The jobs of a desk in memory: the tables that its events brought about, which run is next, the running steps, the runs
+/// that were running when the system failed, and where the steps of runs stand at their checkpoints in effect.
 #[derive(Drop)]
 pub struct Jobs {
     pub(crate) alloc: Global,
@@ -32,6 +44,7 @@ pub struct Jobs {
     pub(crate) queue: Queue,
     pub(crate) running: Vec<RunningStep>,
     pub(crate) failed: Vec<u32>,
+    pub(crate) points: Vec<StepPoint>,
 }
 
 impl Model for Jobs {
@@ -52,6 +65,7 @@ impl Jobs {
         ensures tables { result.tables.desk ≡ no_tables }
         ensures running { result.running ≡ [] }
         ensures failed { result.failed ≡ [] }
+        ensures points { result.points ≡ [] }
         ensures own { HoldTheirOwn result }
         ensures left { AreLeft result }
     {
@@ -61,6 +75,7 @@ impl Jobs {
             queue: Queue::new(alloc),
             running: Vec::new(alloc),
             failed: Vec::new(alloc),
+            points: Vec::new(alloc),
         }
     }
 

@@ -28,7 +28,7 @@ pub use entry_laws::entries_are_those_of_the_job;
 pub use holder_laws::{
     holders_stay_apart, jobs_hold_their_own, own_events_follow, running_steps_stay_theirs,
 };
-pub use jobs::{Jobs, RunningStep};
+pub use jobs::{Jobs, RunningStep, StepPoint};
 pub use preparation::Prepared;
 pub use set_copy::copy_of_set;
 

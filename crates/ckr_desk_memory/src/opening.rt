@@ -1,8 +1,10 @@
 //! The jobs behind the opening of the desk.
 ghost use Rattle.std.specs.Prelude.{◌≡◌, Some, IfOk, OnErr, OnOk, filter, map};
+ghost use Rattle.std.specs.List.{AllByRecursion};
 ghost use Rattle.ckr_desk_memory.specs.EventChanges.{failed_in};
 ghost use Rattle.ckr_desk_memory.specs.Invariant.{AreJobs};
 ghost use Rattle.ckr_desk_memory.specs.OwnSteps.{AreLeft};
+ghost use Rattle.ckr_desk_memory.specs.Parts.{IsPointCounted};
 ghost use Rattle.ckr_points.specs.Restart.{place_of};
 ghost use Rattle.ckr_points.specs.Rows.{run_of, RunRow as RowOfRun};
 ghost use Rattle.ckr_points_tables.specs.View.{line_of};
@@ -11,7 +13,7 @@ ghost use Rattle.ckr_desk_turn.specs.Plans.{is_within};
 ghost use Rattle.ckr_desk_turn.specs.Queue.{AreNumbered};
 ghost use Rattle.ckr_volumes.specs.declared.layout.Layout.{Layout as LayoutOfDisk};
 
-use crate::Jobs;
+use crate::{Jobs, StepPoint};
 use ckr_base::NoMemory;
 use ckr_meaning::Place;
 use ckr_points::Run;
@@ -50,10 +52,14 @@ fn running_runs(alloc: Global, tables: &Tables) -> Result<Vec<u32>, NoMemory>
 }
 
 impl Jobs {
-    /// The desk is opened, with no step running: the runs that are within a step were running when the system failed.
+    /// The desk is opened, with no step running: the runs that are within a step were running when the system failed. The points are those
+    /// of the checkpoints in effect, as they were read.
     ///
     /// `NoMemory`: nothing has changed.
-    pub fn open(&mut self) -> Result<(), NoMemory>
+    pub fn open(&mut self, points: Vec<StepPoint>) -> Result<(), NoMemory>
+        requires counted { AllByRecursion IsPointCounted points.items }
+        ensures points { OnOk result (self.new.points ≡ points.items) }
+        ensures points_err { OnErr result (self.new.points ≡ self.old.points) }
         ensures ok { OnOk result (self.new.failed ≡ failed_in self.old.tables.desk) }
         ensures err { OnErr result (self.new.failed ≡ self.old.failed) }
         ensures tables { self.new.tables ≡ self.old.tables }
@@ -64,6 +70,7 @@ impl Jobs {
     {
         let failed = running_runs(self.alloc, &self.tables)?;
         self.failed = failed;
+        self.points = points;
         Ok(())
     }
 }

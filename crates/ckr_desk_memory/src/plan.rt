@@ -124,6 +124,7 @@ impl Jobs {
         ensures tables { self.new.tables.desk ≡ self.old.tables.desk }
         ensures running { self.new.running ≡ self.old.running }
         ensures failed { self.new.failed ≡ self.old.failed }
+        ensures points { self.new.points ≡ self.old.points }
         ensures jobs { AreJobs layout.now self.new }
 
         // What it tells follows, whatever the disk reads, where the jobs hold their own, and what it commits is its step's own.
@@ -152,6 +153,7 @@ impl Jobs {
         ensures tables { self.new.tables.desk ≡ self.old.tables.desk }
         ensures running { self.new.running ≡ self.old.running }
         ensures failed { self.new.failed ≡ self.old.failed }
+        ensures points { self.new.points ≡ self.old.points }
         ensures takes { IfErr result (λ _. NeedsRoom (plan_of layout.now (jobs_of self.old) turn)) }
     {
         match self.tables.on_initiator(turn.initiator) {
@@ -177,6 +179,7 @@ impl Jobs {
         ensures tables { self.new.tables.desk ≡ self.old.tables.desk }
         ensures running { self.new.running ≡ self.old.running }
         ensures failed { self.new.failed ≡ self.old.failed }
+        ensures points { self.new.points ≡ self.old.points }
         ensures takes { (row : RunRow) → run_of self.old.tables.desk job ≡ Some row → IfErr result (λ _. NeedsRoom (run_plan layout.now (jobs_of self.old) fail row)) }
     {
         match self.next_step(job, fail) {
@@ -251,11 +254,12 @@ impl Jobs {
         requires known { IsKnown self.now.tables.desk job table.now }
         requires there { IsSome (own_step (row_for job table.now)) }
         requires counted { AllByRecursion HasCounts self.now.running }
-        ensures plan { let row = row_for job table.now in result ≡ code_plan layout.now row initiator code (reached_by (jobs_of self.now) row) }
+        ensures plan { let row = row_for job table.now in result ≡ code_plan layout.now self.now.tables.desk row initiator code (reached_by (jobs_of self.now) row) }
         ensures spelled { IsSpelledPlan result }
     {
         code_plan(
             layout,
+            &self.tables,
             job,
             initiator,
             table,
@@ -293,6 +297,7 @@ impl Jobs {
         ensures tables { self.new.tables.desk ≡ self.old.tables.desk }
         ensures running { self.new.running ≡ self.old.running }
         ensures failed { self.new.failed ≡ self.old.failed }
+        ensures points { self.new.points ≡ self.old.points }
         ensures takes { (row : RunRow) → IfErr result (λ _. NeedsRoom (between_plan layout.now (jobs_of self.old) row number)) }
     {
         let Some(name) = self.step_name(job, number) else {

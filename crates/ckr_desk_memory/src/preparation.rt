@@ -1,25 +1,30 @@
 //! Memory for an event, before it is written.
-ghost use Rattle.std.specs.Prelude.{◌≡◌, ◌≤◌, ◌<◌, true, IfErr, IfOk, OnOk};
+ghost use Rattle.std.specs.Prelude.{◌≡◌, ◌≤◌, ◌<◌, true, find, IfErr, IfOk, IfSome, OnOk};
 ghost use Rattle.std.specs.List.{AllByRecursion};
 ghost use Rattle.std.specs.Option.{option_copied};
-ghost use Rattle.ckr_desk_memory.specs.EventChanges.{AreUsesOf, HasUses};
+ghost use Rattle.ckr_desk_memory.specs.EventChanges.{is_point_of, AreUsesOf, HasUses};
 ghost use Rattle.ckr_desk_memory.specs.Invariant.{AreJobs, IsAcceptedRow};
-ghost use Rattle.ckr_desk_memory.specs.Preparation.{needs_room, HasQueueRoom, HasStarting, HasStep, IsBegun, IsPrepared};
+ghost use Rattle.ckr_desk_memory.specs.Parts.{IsPointCounted};
+ghost use Rattle.ckr_desk_memory.specs.Preparation.{needs_room, HasAgain, HasQueueRoom, HasStarting, HasStep, IsEmpty, IsPrepared, StandsEmpty};
+ghost use Rattle.ckr_desk_memory.specs.View.{begun, resumed};
+ghost use Rattle.ckr_steps.specs.StepUnit.{AreCounted};
 ghost use Rattle.ckr_programs.specs.Ranges.{IsInRange};
 ghost use Rattle.ckr_points_tables.specs.Invariant.{HasRoom, IsAnySubmittable, MaySubmit};
 ghost use Rattle.ckr_volumes.specs.declared.layout.Layout.{Layout as LayoutOfDisk};
 
-use crate::{Jobs, RunningStep};
+use crate::run_code::place_of;
+use crate::{Jobs, RunningStep, StepPoint};
 use ckr_base::NoMemory;
 use ckr_events::Event;
 use ckr_jcl::{Job, Step};
 use ckr_library::Library;
+use ckr_points::step_in;
 use ckr_points_tables::step_at;
 use ckr_steps::StepRun;
 use ckr_uses::{Uses, uses_of};
 use std::alloc::Global;
 
-/// The memory for an event: the uses of a deck that is submitted, and the step that starts.
+/// The memory for an event: the uses of a deck that is submitted, and the step that starts or goes on from its run's point.
 #[derive(Drop)]
 pub struct Prepared {
     pub(crate) uses: Option<Uses>,
@@ -37,20 +42,50 @@ fn uses_for(alloc: Global, number: u32, deck: Option<&Job>) -> Result<Option<Use
     }
 }
 
-/// A step that starts, with room for its data sets.
-fn begin_step(alloc: Global, job: u32, step: &Step) -> Result<RunningStep, NoMemory>
-    requires job { job ≤ 9999999 }
-    requires parm { IsInRange step.now.parm }
-    ensures { IfOk result (IsBegun job step.now) }
+/// A step of a run, with room for its data sets.
+fn with_room(alloc: Global, job: u32, step: StepRun) -> Result<RunningStep, NoMemory>
+    requires { AreCounted step }
+    ensures { IfOk result (StandsEmpty job step) }
 {
-    let begun = StepRun::begin(alloc, step, job, job)?;
     let mut sets = Library::new(alloc);
     sets.reserve(16)?;
     Ok(RunningStep {
         run: job,
-        step: begun,
+        step,
         sets,
     })
+}
+
+/// A step that starts.
+fn begin_step(alloc: Global, job: u32, step: &Step) -> Result<RunningStep, NoMemory>
+    requires job { job ≤ 9999999 }
+    requires parm { IsInRange step.now.parm }
+    ensures { IfOk result (StandsEmpty job (begun job step.now)) }
+{
+    with_room(alloc, job, StepRun::begin(alloc, step, job, job)?)
+}
+
+/// A step that goes on from a point of it.
+fn resume_step(
+    alloc: Global,
+    job: u32,
+    step: &Step,
+    point: &StepPoint,
+) -> Result<RunningStep, NoMemory>
+    requires job { job ≤ 9999999 }
+    requires parm { IsInRange step.now.parm }
+    requires counted { IsPointCounted point.now }
+    ensures { IfOk result (StandsEmpty job (resumed job step.now point.now)) }
+{
+    let again = StepRun::at_point(alloc, step, job, job, &point.state, point.writes)?;
+    with_room(alloc, job, again)
+}
+
+/// The point of a run.
+fn point_in(points: &[StepPoint], run: u32) -> Option<&StepPoint>
+    ensures { option_copied result ≡ find (is_point_of run) points.now }
+{
+    points.iter().find(|point| point.run == run)
 }
 
 /// Whether an event needs memory: one that submits a run, starts or ends a step, restarts or ends a run, or keeps an entry.
@@ -72,13 +107,32 @@ impl Jobs {
     /// The step of this number of a run, at its beginning. None where there is no such step.
     fn begun(&self, job: u32, step: u8) -> Result<Option<RunningStep>, NoMemory>
         requires { AllByRecursion IsAcceptedRow self.now.tables.desk.runs }
-        ensures { IfOk result (HasStep self.now.tables.desk job step) }
+        ensures step { IfOk result (HasStep self.now.tables.desk job step) }
+        ensures empty { IfOk result (λ begun. IfSome begun (IsEmpty job)) }
     {
         let Some(table) = self.tables.run(job) else {
             return Ok(None);
         };
         match step_at(&table.job, step) {
             Some(own) => Ok(Some(begin_step(self.alloc, job, own)?)),
+            None => Ok(None),
+        }
+    }
+
+    /// The step that a run is in, as it goes on from the run's point. None where that isn't known.
+    fn again(&self, job: u32) -> Result<Option<RunningStep>, NoMemory>
+        requires { AllByRecursion IsAcceptedRow self.now.tables.desk.runs }
+        ensures step { IfOk result (HasAgain (find (is_point_of job) self.now.points) self.now.tables.desk job) }
+        ensures empty { IfOk result (λ again. IfSome again (IsEmpty job)) }
+    {
+        let Some(point) = point_in(self.points.as_slice(), job) else {
+            return Ok(None);
+        };
+        let Some(table) = self.tables.run(job) else {
+            return Ok(None);
+        };
+        match step_at(&table.job, step_in(place_of(table))) {
+            Some(own) => Ok(Some(resume_step(self.alloc, job, own, point)?)),
             None => Ok(None),
         }
     }
@@ -93,6 +147,7 @@ impl Jobs {
         ensures desk { self.new.tables.desk ≡ self.old.tables.desk }
         ensures running { self.new.running ≡ self.old.running }
         ensures failed { self.new.failed ≡ self.old.failed }
+        ensures points { self.new.points ≡ self.old.points }
         ensures jobs { (layout : LayoutOfDisk) → AreJobs layout self.old → AreJobs layout self.new }
         ensures ok { IfOk result (IsPrepared self.new event.now (option_copied deck.entry)) }
         ensures takes { IfErr result (λ _. needs_room event.now ≡ true) }
@@ -103,6 +158,19 @@ impl Jobs {
                 self.running.reserve(1)?;
                 let step = self.begun(*job, *step)?;
                 Ok(Prepared { uses, step })
+            }
+            Event::Restarted {
+                job,
+                checkpoint: true,
+                ..
+            } => {
+                self.running.reserve(1)?;
+                let step = self.again(*job)?;
+                Ok(Prepared { uses, step })
+            }
+            Event::Checkpointed { .. } => {
+                self.points.reserve(1)?;
+                Ok(Prepared { uses, step: None })
             }
             _ => Ok(Prepared { uses, step: None }),
         }
@@ -121,6 +189,7 @@ impl Jobs {
         ensures desk { self.new.tables.desk ≡ self.old.tables.desk }
         ensures running { self.new.running ≡ self.old.running }
         ensures failed { self.new.failed ≡ self.old.failed }
+        ensures points { self.new.points ≡ self.old.points }
         ensures jobs { (layout : LayoutOfDisk) → AreJobs layout self.old → AreJobs layout self.new }
         ensures tables { OnOk result (HasRoom self.new.tables event.now) }
         ensures queue { OnOk result (HasQueueRoom event.now self.new.queue_room) }

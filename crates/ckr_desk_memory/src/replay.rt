@@ -48,20 +48,19 @@ fn is_run_by(event: &Event, deck: &Option<Job>) -> bool
     }
 }
 
-/// Whether an event is of those by which a desk goes on: none of a run that is held, released, restarted at a checkpoint or denied, or
-/// continues another one.
+/// Whether an event is of those by which a desk goes on: none of a run that is held, released or denied, or continues another one.
 fn is_forward(event: &Event) -> bool
     ensures { result ≡ is_forward_event event.now }
 {
     match event {
         Event::Selected { earlier, .. } => *earlier == 0,
-        Event::Restarted { checkpoint, .. } => !*checkpoint,
         Event::Submitted { .. }
         | Event::Started { .. }
         | Event::Rewritten { .. }
         | Event::Checkpointed { .. }
         | Event::Cancelled { .. }
         | Event::StepEnded { .. }
+        | Event::Restarted { .. }
         | Event::Ended { .. }
         | Event::Purged { .. } => true,
         _ => false,
@@ -91,9 +90,9 @@ fn goes_on(tables: &Tables, layout: &Layout, event: &Event, deck: &Option<Job>) 
 
 impl Jobs {
     /// Goes on by an event of the desk that is read again, and starts no step. False exactly where it doesn't follow in what the desk
-    /// runs by now: it is of a run that is held, released, restarted at a checkpoint or denied, or continues another one, or its cards are
-    /// no deck of a form that the desk runs, or it doesn't follow, or its rewrite can't be counted; then the jobs are as before. An event
-    /// keeps at most 3,355,443 cards (this project's profile).
+    /// runs by now: it is of a run that is held, released or denied, or continues another one, or its cards are no deck of a form that the
+    /// desk runs, or it doesn't follow, or its rewrite can't be counted; then the jobs are as before. An event keeps at most 3,355,443 cards
+    /// (this project's profile). Where steps stand at their checkpoints `open` is told.
     ///
     /// `NoMemory`: the jobs are as before.
     pub fn replay(&mut self, layout: &Layout, event: &Event) -> Result<bool, NoMemory>
@@ -103,6 +102,7 @@ impl Jobs {
         ensures err { OnErr result (self.new.tables.desk ≡ self.old.tables.desk) }
         ensures running { self.new.running ≡ self.old.running }
         ensures failed { self.new.failed ≡ self.old.failed }
+        ensures points { self.new.points ≡ self.old.points }
         ensures jobs { AreJobs layout.now self.old → AreJobs layout.now self.new }
         ensures holders { AreJobs layout.now self.old → AreHolders self.old.tables.desk → AreHolders self.new.tables.desk }
     {

@@ -1,6 +1,7 @@
-//! A run that has a code: how far it has come, and its restart at the start of its step, or its end by the rule that denies one.
+//! A run that has a code: how far it has come, and its restart, or its end by the rule that denies one.
 ghost use Rattle.std.specs.Prelude.{◌≡◌, ◌≤◌, false, [], ℕ, IsSome, length};
 ghost use Rattle.std.specs.List.{list_any, AllByRecursion};
+ghost use Rattle.std.specs.Option.{option_map};
 ghost use Rattle.ckr_base.specs.CodeText.{same_code};
 ghost use Rattle.ckr_points_library.specs.Holdings.{owned};
 ghost use Rattle.ckr_events.specs.Format.{length_list};
@@ -8,28 +9,29 @@ ghost use Rattle.ckr_library.specs.Catalog.{fresh_holding};
 ghost use Rattle.ckr_library.specs.NameMaps.{with_entry};
 ghost use Rattle.ckr_library.specs.declared.sets.DataSet.{DataSet as SetOfName};
 ghost use Rattle.ckr_desk_memory.specs.Extents.{sets_of, AreShort};
-ghost use Rattle.ckr_desk_memory.specs.Plans.{reached_seen, row_for, IsSpelledPlan, IsUnitPlan};
+ghost use Rattle.ckr_desk_memory.specs.Plans.{reached_seen, row_for, told_entry, IsSpelledPlan, IsUnitPlan};
 ghost use Rattle.ckr_desk_memory.specs.View.{length_in, lengths_in, lengths_of_row};
 ghost use Rattle.ckr_points.specs.RuleCases.{auto_case, rd_in_effect, since_point, since_start};
 ghost use Rattle.ckr_points.specs.Follows.{own_step};
 ghost use Rattle.ckr_points.specs.Restart.{place_of as place_of_row, step_in as step_in_place};
-ghost use Rattle.ckr_points.specs.Rows.{RunRow};
+ghost use Rattle.ckr_points.specs.Rows.{KeptEntry as EntryOfSet, RunRow};
 ghost use Rattle.ckr_rules.specs.RuleTables.{is_rnc, rule_number, suppresses};
 ghost use Rattle.ckr_points_decks.specs.DeckLimits.{IsWithinLimits};
-ghost use Rattle.ckr_desk_turn.specs.Codes.{code_plan, ended_by, restarted_by};
-ghost use Rattle.ckr_desk_turn.specs.Jobs.{step_name_of};
+ghost use Rattle.ckr_desk_turn.specs.Codes.{code_plan, ended_by, judged_plan, restarted_at, restarted_by};
+ghost use Rattle.ckr_rules.specs.declared.cases.Verdict.TheVariants.{Checkpoint as AtCheckpoint};
+ghost use Rattle.ckr_desk_turn.specs.Jobs.{effect_entry, step_name_of};
 ghost use Rattle.ckr_desk_turn.specs.Spelling.{IsCode};
 
 use crate::RunningStep;
 use arrayvec::ArrayVec;
-use ckr_base::{Code, DsName, Name8};
+use ckr_base::{CheckId, Code, DsName, Name8};
 use ckr_desk_turn::{How, Plan, Reply, coded_event, restarted_event};
 use ckr_jcl::{Rd, Step};
 use ckr_library::{DataSet, Library};
 use ckr_meaning::Place;
 use ckr_points::step_in;
 use ckr_points_library::output_name;
-use ckr_points_tables::{RunTable, place_now, point_at, step_at};
+use ckr_points_tables::{RunTable, Tables, place_now, point_at, step_at};
 use ckr_rules::{AutoCase, Rule, Verdict, automatic};
 use ckr_steps::UnitAhead;
 use ckr_volumes::Layout;
@@ -236,6 +238,46 @@ fn ended(run: u32, code: Code, rule: Rule, reached: CodePlace) -> Plan
     }
 }
 
+/// The identifier of a run's checkpoint in effect, and the records that the step had taken at its entry. None where the tables keep no such
+/// entry.
+fn effect_at(tables: &Tables, table: &RunTable) -> Option<(CheckId, u32)>
+    ensures { (run : ℕ) → result ≡ option_map told_entry (effect_entry tables.now.desk (row_for run table.now)) }
+{
+    let Some(effect) = &table.in_effect else {
+        return None;
+    };
+    match tables.taken_at(&effect.set, &effect.kept.id) {
+        Some(taken) => Some((effect.kept.id.copied(), taken)),
+        None => None,
+    }
+}
+
+/// A run is restarted on its initiator after a code, at its checkpoint in effect.
+fn restarted_at(
+    run: u32,
+    initiator: u8,
+    table: &RunTable,
+    code: Code,
+    id: CheckId,
+    taken: u32,
+) -> Plan
+    requires code { IsCode code }
+    requires there { IsSome (own_step (row_for run table.now)) }
+    ensures plan { (entry : EntryOfSet) → told_entry entry ≡ (id, taken) → result ≡ restarted_at (row_for run table.now) initiator code entry }
+    ensures spelled { IsSpelledPlan result }
+    ensures unit { IsUnitPlan result }
+{
+    Plan::Tell {
+        reply: Reply::Restarted {
+            job: run,
+            step: name_within(run, table),
+            id: Some(id),
+            taken,
+        },
+        event: restarted_event(run, initiator, code, true),
+    }
+}
+
 /// A run is restarted on its initiator after a code, at the start of the step that it is within.
 fn restarted(run: u32, initiator: u8, table: &RunTable, code: Code) -> Plan
     requires code { IsCode code }
@@ -255,10 +297,9 @@ fn restarted(run: u32, initiator: u8, table: &RunTable, code: Code) -> Plan
     }
 }
 
-/// What becomes of a run with a code that is within a step, on an initiator: it is restarted at the start of the step, or it ends by the rule
-/// that denies that. A restart at a checkpoint isn't authorised yet, and the run ends (IBM GC28-6708; that is this project's profile).
-pub(crate) fn code_plan(
-    layout: &Layout,
+/// The rules restart a run with a code at its checkpoint in effect. Where the tables keep no entry of it, the run ends.
+fn restarted_back(
+    tables: &Tables,
     run: u32,
     initiator: u8,
     table: &RunTable,
@@ -268,13 +309,37 @@ pub(crate) fn code_plan(
     requires code { IsCode code }
     requires there { IsSome (own_step (row_for run table.now)) }
     requires lengths { length_list.fits reached.lengths.items }
-    ensures plan { result ≡ code_plan layout.now (row_for run table.now) initiator code (reached_seen reached) }
+    ensures plan { let row = row_for run table.now in result ≡ judged_plan tables.now.desk row initiator code (reached_seen reached) AtCheckpoint }
+    ensures spelled { IsSpelledPlan result }
+    ensures unit { IsUnitPlan result }
+{
+    match effect_at(tables, table) {
+        Some((id, taken)) => restarted_at(run, initiator, table, code, id, taken),
+        None => ended(run, code, Rule::A6, reached),
+    }
+}
+
+/// What becomes of a run with a code that is within a step, on an initiator: it is restarted at its checkpoint in effect or at the start of the
+/// step, or it ends by the rule that denies that (IBM GC28-6708).
+pub(crate) fn code_plan(
+    layout: &Layout,
+    tables: &Tables,
+    run: u32,
+    initiator: u8,
+    table: &RunTable,
+    code: Code,
+    reached: CodePlace,
+) -> Plan
+    requires code { IsCode code }
+    requires there { IsSome (own_step (row_for run table.now)) }
+    requires lengths { length_list.fits reached.lengths.items }
+    ensures plan { result ≡ code_plan layout.now tables.now.desk (row_for run table.now) initiator code (reached_seen reached) }
     ensures spelled { IsSpelledPlan result }
     ensures unit { IsUnitPlan result }
 {
     match automatic(&auto_case(layout, table, code)) {
         Verdict::Denied(rule) => ended(run, code, rule, reached),
         Verdict::Step => restarted(run, initiator, table, code),
-        Verdict::Checkpoint => ended(run, code, Rule::A6, reached),
+        Verdict::Checkpoint => restarted_back(tables, run, initiator, table, code, reached),
     }
 }

@@ -92,6 +92,7 @@ impl Jobs {
         ensures running { self.new.running ≡ served_in run self.old.running }
         ensures tables { self.new.tables ≡ self.old.tables }
         ensures failed { self.new.failed ≡ self.old.failed }
+        ensures points { self.new.points ≡ self.old.points }
         ensures queue { self.new.queue_room ≡ self.old.queue_room }
         ensures jobs { (layout : LayoutOfDisk) → AreJobs layout self.old → AreJobs layout self.new }
         ensures own { HoldTheirOwn self.old → HoldTheirOwn self.new }

@@ -1,22 +1,28 @@
 //! A step that starts, with its data sets.
-ghost use Rattle.std.specs.Prelude.{◌≡◌, ◌∷◌, ◌+◌, ◌<◌, ◌≤◌, ℕ, [], Some, length, map, vec_len, vec_capacity};
+ghost use Rattle.std.specs.Prelude.{◌≡◌, ◌∷◌, ◌+◌, ◌-◌, ◌<◌, ◌≤◌, if◌then◌else◌, ℕ, [], Option, None, Some, length, map, vec_len, vec_capacity};
 ghost use Rattle.std.specs.List.{AllByRecursion};
 ghost use Rattle.ckr_points_library.specs.Holdings.{owned};
 ghost use Rattle.ckr_desk_memory.specs.Invariant.{IsAcceptedRow};
 ghost use Rattle.ckr_desk_memory.specs.Parts.{step_seen};
-ghost use Rattle.ckr_desk_memory.specs.Preparation.{HasStep};
-ghost use Rattle.ckr_desk_memory.specs.Start.{with_all_taken, with_any_taken, with_taken, AllFit, HasNew};
-ghost use Rattle.ckr_meaning.specs.EffectiveJob.{name_of, OwnedStep as OwnedStepOfRun};
+ghost use Rattle.ckr_desk_memory.specs.Preparation.{HasAgain, IsEmpty};
+ghost use Rattle.ckr_desk_memory.specs.RunningSteps.{MayGoBack, MayStartStep, StepGoesBack, StepStarts};
+ghost use Rattle.ckr_desk_memory.specs.Start.{has_all, has_any, has_sets, with_all_taken, with_any_taken, with_taken, AllFit, HasNew};
+ghost use Rattle.ckr_desk_memory.specs.View.{PointView as PointOfStep};
+ghost use Rattle.ckr_meaning.specs.EffectiveJob.{name_of, names_of, OwnedStep as OwnedStepOfRun};
+ghost use Rattle.ckr_points.specs.Follows.{own_step};
+ghost use Rattle.ckr_points.specs.Restart.{place_of as place_of_row, step_in as step_in_place};
 ghost use Rattle.ckr_points.specs.Rows.{holding_of, run_of, step_of_run, RunRow as RowOfRun};
 ghost use Rattle.ckr_points_tables.specs.View.{seen_by};
 ghost use Rattle.ckr_desk_turn.specs.Queue.{AreNumbered};
 
 use crate::RunningStep;
 use crate::event::leave;
+use crate::run_code::place_of;
 use crate::set_copy::copy_of_set;
 use ckr_base::DsName;
 use ckr_jcl::{Dd, Step};
 use ckr_library::Library;
+use ckr_points::step_in;
 use ckr_points_tables::{Tables, step_at};
 use ckr_uses::library_name;
 
@@ -66,7 +72,8 @@ fn take_sets(job: u32, step: &Step, from: &Library, sets: &mut Library)
 /// A step is running, before the others. There is room for it.
 pub(crate) fn put_first(running: &mut Vec<RunningStep>, on: RunningStep)
     requires { vec_len running.old < vec_capacity running.old }
-    ensures { running.new.items ≡ on ∷ running.old.items }
+    ensures items { running.new.items ≡ on ∷ running.old.items }
+    ensures room { vec_capacity running.new - vec_len running.new + 1 ≡ vec_capacity running.old - vec_len running.old }
 {
     match running.insert(0, on) {
         Ok(()) => {}
@@ -74,22 +81,22 @@ pub(crate) fn put_first(running: &mut Vec<RunningStep>, on: RunningStep)
     }
 }
 
-/// A step of a run starts: it takes its data sets from the tables, and is running before the others; the steps of its run that were
-/// running go. There is room for it. `begun` is that step at its beginning.
-pub(crate) fn start_step(
+/// A step of a run is running: it takes its data sets from the tables, and stands before the others; the steps of its run that were
+/// running go. There is room for it.
+fn start_step(
     job: u32,
     step: u8,
-    begun: Option<RunningStep>,
+    mut on: RunningStep,
     tables: &Tables,
     running: &mut Vec<RunningStep>,
 )
     requires job { job ≤ 9999999 }
-    requires begun { HasStep tables.now.desk job step begun }
+    requires empty { IsEmpty job on }
     requires rows { AllByRecursion IsAcceptedRow tables.now.desk.runs }
     requires numbered { AreNumbered 1 tables.now.desk.runs }
     requires fit { AllFit (seen_by holding_of tables.now.desk.sets) }
     requires room { vec_len running.old < vec_capacity running.old }
-    ensures { (row : RowOfRun) (owned : OwnedStepOfRun) → run_of tables.now.desk job ≡ Some row → step_of_run row step ≡ Some owned → HasNew job owned tables.now.desk.sets (map step_seen running.old.items) (map step_seen running.new.items) }
+    ensures { (row : RowOfRun) (owned : OwnedStepOfRun) → run_of tables.now.desk job ≡ Some row → step_of_run row step ≡ Some owned → HasNew job owned on.step tables.now.desk.sets (map step_seen running.old.items) (map step_seen running.new.items) }
 {
     let Some(table) = tables.run(job) else {
         return;
@@ -97,9 +104,89 @@ pub(crate) fn start_step(
     let Some(own) = step_at(&table.job, step) else {
         return;
     };
-    if let Some(mut on) = begun {
-        take_sets(job, own, tables.library(), &mut on.sets);
+    take_sets(job, own, tables.library(), &mut on.sets);
+    leave(running, job);
+    put_first(running, on);
+}
+
+/// A step of a run starts, as it was prepared.
+pub(crate) fn start_prepared(
+    job: u32,
+    step: u8,
+    begun: Option<RunningStep>,
+    tables: &Tables,
+    running: &mut Vec<RunningStep>,
+)
+    requires { MayStartStep job step tables.now.desk begun (vec_capacity running.old - vec_len running.old) }
+    ensures { StepStarts job step tables.now.desk (map step_seen running.old.items) (map step_seen running.new.items) }
+{
+    if let Some(on) = begun {
+        start_step(job, step, on, tables, running);
+    }
+}
+
+/// Whether a library has the data set of a DD, where it names one.
+fn has_set(job: u32, step: &Step, dd: &Dd, from: &Library) -> bool
+    requires { job ≤ 9999999 }
+    ensures { result ≡ has_any from.now.sets (name_of job (owned step.now job []) dd.now) }
+{
+    match library_name(dd, job, job, &step.name) {
+        Some(name) => from.get(&name).is_some(),
+        None => true,
+    }
+}
+
+/// Whether it has each data set that a step names.
+fn has_sets(job: u32, step: &Step, from: &Library) -> bool
+    requires { job ≤ 9999999 }
+    ensures { result ≡ has_all (name_of job (owned step.now job [])) from.now.sets step.now.dds }
+{
+    for dd in step.dds.as_slice() {
+        if !has_set(job, step, dd, from) {
+            return false;
+        }
+    }
+    true
+}
+
+/// The number of the step that a run is in, where the tables have all that it names.
+fn step_there(tables: &Tables, job: u32) -> Option<u8>
+    requires job { job ≤ 9999999 }
+    requires rows { AllByRecursion IsAcceptedRow tables.now.desk.runs }
+    requires numbered { AreNumbered 1 tables.now.desk.runs }
+    ensures { (row : RowOfRun) (owned : OwnedStepOfRun) → run_of tables.now.desk job ≡ Some row → own_step row ≡ Some owned → result ≡ if has_sets tables.now.desk.sets (names_of job owned) then Some (step_in_place (place_of_row row)) else None }
+{
+    let Some(table) = tables.run(job) else {
+        return None;
+    };
+    let step = step_in(place_of(table));
+    let Some(own) = step_at(&table.job, step) else {
+        return None;
+    };
+    if has_sets(job, own, tables.library()) {
+        Some(step)
+    } else {
+        None
+    }
+}
+
+/// A run goes on in the step that it is in, as it was prepared, where the tables have all that the step names: no other step of it is
+/// running.
+pub(crate) fn start_again(
+    job: u32,
+    again: Option<RunningStep>,
+    tables: &Tables,
+    running: &mut Vec<RunningStep>,
+)
+    requires { MayGoBack job tables.now.desk again (vec_capacity running.old - vec_len running.old) }
+    ensures { (point : Option PointOfStep) → HasAgain point tables.now.desk job again → StepGoesBack point job tables.now.desk (map step_seen running.old.items) (map step_seen running.new.items) }
+{
+    let Some(on) = again else {
         leave(running, job);
-        put_first(running, on);
+        return;
+    };
+    match step_there(tables, job) {
+        Some(step) => start_step(job, step, on, tables, running),
+        None => leave(running, job),
     }
 }

@@ -69,7 +69,7 @@ impl Jobs {
         requires counted { AreCounted (behind_ahead on.now.step ahead.now) }
         requires went { IsWent ahead.now.worked }
         ensures plan { (layout : LayoutOfDisk) (row : RunRow) (own : OwnedStep) → run_of self.now.tables.desk on.now.run ≡ Some row → step_of_run row (step_in_place (place_of_row row)) ≡ Some own
-            → Plan.Rest result ≡ told_by layout row (running_of self.now.tables.desk (behind_unit (step_seen on.now) ahead.now)) ahead.now.worked }
+            → Plan.Rest result ≡ told_by layout self.now.tables.desk row (running_of self.now.tables.desk (behind_unit (step_seen on.now) ahead.now)) ahead.now.worked }
         ensures told { IsToldReply result }
     {
         match self.known(on.run) {
@@ -79,8 +79,8 @@ impl Jobs {
     }
 
     /// What a turn tells of a unit that was worked out and isn't done yet, exactly as it tells it behind the unit: the records taken, with
-    /// the rewrite in place if the unit makes one, or what becomes of the run by the code with which the unit ends the step: its restart at
-    /// the start of the step, or its end. The code is at most 4095. Its run is within a step of its deck; else the turn tells nothing (IBM
+    /// the rewrite in place if the unit makes one, or what becomes of the run by the code with which the unit ends the step: its restart, or
+    /// its end. The code is at most 4095. Its run is within a step of its deck; else the turn tells nothing (IBM
     /// GC28-6704; the replies are this project's profile).
     pub fn told(&self, layout: &Layout, on: &RunningStep, ahead: &UnitAhead) -> Plan
         requires rows { AllByRecursion IsAcceptedRow self.now.tables.desk.runs }
@@ -88,7 +88,7 @@ impl Jobs {
         requires short { IsShort on.now.sets }
         requires code { IsWorkedCode ahead.now.worked }
         ensures plan { (row : RunRow) (own : OwnedStep) → run_of self.now.tables.desk on.now.run ≡ Some row → step_of_run row (step_in_place (place_of_row row)) ≡ Some own
-            → result ≡ told_by layout.now row (running_of self.now.tables.desk (behind_unit (step_seen on.now) ahead.now)) ahead.now.worked }
+            → result ≡ told_by layout.now self.now.tables.desk row (running_of self.now.tables.desk (behind_unit (step_seen on.now) ahead.now)) ahead.now.worked }
         ensures spelled { IsSpelledPlan result }
         ensures unit { IsUnitPlan result }
 
@@ -113,7 +113,7 @@ impl Jobs {
         requires code { IsWorkedCode ahead.now.worked }
         ensures numbered { AreNumbered 1 self.now.tables.desk.runs }
         ensures plan { (row : RunRow) (own : OwnedStep) → run_of self.now.tables.desk on.now.run ≡ Some row → step_of_run row (step_in_place (place_of_row row)) ≡ Some own
-            → result ≡ told_by layout.now row (running_of self.now.tables.desk (behind_unit (step_seen on.now) ahead.now)) ahead.now.worked }
+            → result ≡ told_by layout.now self.now.tables.desk row (running_of self.now.tables.desk (behind_unit (step_seen on.now) ahead.now)) ahead.now.worked }
         ensures spelled { IsSpelledPlan result }
         ensures unit { IsUnitPlan result }
     {
@@ -139,7 +139,15 @@ impl Jobs {
             },
             Worked::Abend(code) => {
                 let initiator = self.initiator_of(on.run);
-                code_plan(layout, on.run, initiator, table, *code, reached)
+                code_plan(
+                    layout,
+                    &self.tables,
+                    on.run,
+                    initiator,
+                    table,
+                    *code,
+                    reached,
+                )
             }
         }
     }

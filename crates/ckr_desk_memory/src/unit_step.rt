@@ -1,5 +1,5 @@
 //! A running step is taken out for a unit of its work, and put back.
-ghost use Rattle.std.specs.Prelude.{◌≡◌, ◌==◌, ◌∷◌, ◌-◌, ◌<◌, IsSome, IfSome, find, map, position, vec_len, vec_capacity};
+ghost use Rattle.std.specs.Prelude.{◌≡◌, ◌==◌, ◌∷◌, ◌+◌, ◌-◌, ◌<◌, IsSome, IfSome, find, map, position, vec_len, vec_capacity};
 ghost use Rattle.std.specs.List.{AllByRecursion};
 ghost use Rattle.std.specs.Option.{option_map};
 ghost use Rattle.ckr_desk_memory.specs.EventChanges.{is_of_run, without_first};
@@ -25,6 +25,7 @@ pub(crate) fn take_first(running: &mut Vec<RunningStep>, run: u32) -> Option<Run
     ensures step { option_map step_seen result ≡ find (is_of_run run) (map step_seen running.old.items) }
     ensures others { map step_seen running.new.items ≡ without_first run (map step_seen running.old.items) }
     ensures room { IsSome result → 0 < vec_capacity running.new - vec_len running.new }
+    ensures place { IsSome result → vec_capacity running.new - vec_len running.new ≡ vec_capacity running.old - vec_len running.old + 1 }
 {
     match place_of(running.as_slice(), run) {
         Some(place) => Some(running.remove(place)),
@@ -40,8 +41,10 @@ impl Jobs {
         ensures running { self.new.running ≡ without_first run self.old.running }
         ensures tables { self.new.tables ≡ self.old.tables }
         ensures failed { self.new.failed ≡ self.old.failed }
+        ensures points { self.new.points ≡ self.old.points }
         ensures queue { self.new.queue_room ≡ self.old.queue_room }
         ensures room { IsSome result → 0 < self.new.running_room }
+        ensures place { IsSome result → self.new.running_room ≡ self.old.running_room + 1 }
 
         // What holds of the jobs holds of the step and of the others.
         ensures jobs { (layout : LayoutOfDisk) → AreJobs layout self.old → AreJobs layout self.new }
@@ -59,8 +62,10 @@ impl Jobs {
     pub fn put_step(&mut self, step: RunningStep)
         requires room { 0 < self.old.running_room }
         ensures running { self.new.running ≡ step_seen step ∷ self.old.running }
+        ensures place { self.new.running_room + 1 ≡ self.old.running_room }
         ensures tables { self.new.tables ≡ self.old.tables }
         ensures failed { self.new.failed ≡ self.old.failed }
+        ensures points { self.new.points ≡ self.old.points }
         ensures queue { self.new.queue_room ≡ self.old.queue_room }
         ensures jobs { (layout : LayoutOfDisk) → AreJobs layout self.old → IsRunnable layout (step_seen step) → AreJobs layout self.new }
         ensures own { HoldTheirOwn self.old → IsRunningOf self.old.tables.desk (step_seen step) → AllByRecursion (IsOfOther step.run) self.old.running → HoldTheirOwn self.new }

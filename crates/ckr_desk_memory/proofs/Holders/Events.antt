@@ -29,8 +29,8 @@ use Rattle.ckr_points.specs.declared.run.RunState.TheVariants.{Queued, On, Held 
 use Rattle.ckr_points.specs.Follows.{follows, is_checkpoint, is_empty, is_free, is_in_state, is_length_of, is_rewrite, is_running, is_update, is_within, lengths_follow, may_hold, may_restart_again, may_start, of_step, own_step, selected_follows, started_follows, state_number, ended_follows}
 use Rattle.ckr_points.specs.Office.{is_holder, passed_made}
 use Rattle.ckr_points.specs.Marks.{point_at, put_back, removed_all, with_point}
-use Rattle.ckr_points.specs.Restart.{after_abnormal, after_chosen, after_coded, after_ended, after_event, after_passed_ended, after_put_back, after_restarted, back_to_start, by_step, place_of, point_restarted, row_on, step_in}
-use Rattle.ckr_points.specs.Rows.{RunRow, StartPoint, TableSet, TablesModel, no_tables, run_of, standing_of, step_of_run, table_ways, with_run}
+use Rattle.ckr_points.specs.Restart.{after_abnormal, after_chosen, after_coded, after_ended, after_event, after_passed_ended, after_put_back, after_restarted, back_to_entry, back_to_start, by_step, effect_restarted, kept_at, place_of, point_restarted, row_on, step_in}
+use Rattle.ckr_points.specs.Rows.{EffectPoint, EntryPoint, RunRow, StartPoint, TableSet, TablesModel, no_tables, run_of, standing_of, step_of_run, table_ways, with_run}
 use Rattle.ckr_points.specs.Tables.{after_submitted, after_cancelled, after_checkpointed, after_commit, after_dispositions, after_rewritten, after_started, after_step_ended, committed, fresh_effect, is_checkpoints, is_updates, name_with_role, own_made, queued_run, row_rewritten, table_rewritten}
 use Rattle.ckr_points_invariant.proofs.Library.PassedList.{ended-leaves}
 use Rattle.ckr_points_invariant.proofs.Steps.Events.{on-holds}
@@ -42,9 +42,11 @@ use Rattle.ckr_volumes.specs.declared.layout.Layout.{Layout}
 use Rattle.ckr_desk_memory.proofs.Holders.CheckSets.{length-among, not-among}
 use Rattle.ckr_desk_memory.proofs.Holders.Moves.{RowGoesOn, HasRow, by-own, by-row, holders-go, row-accepted, row-as_is, row-next, row-number}
 use Rattle.ckr_desk_memory.proofs.Holders.Names.{changed-named, names-outside, outputs-changed, step-formed}
-use Rattle.ckr_desk_memory.proofs.Holders.Sets.{committed-outside, disposed-outside, passed-outside, passed_back-outside, restarted-outside, started-outside, there-changed, there-committed, there-started, updated-outside}
+use Rattle.ckr_desk_memory.proofs.Holders.Sets.{committed-outside, disposed-outside, passed-outside, passed_back-outside, put_back-outside, restarted-outside, started-outside, there-changed, there-committed, there-put_back, there-started, updated-outside}
 use Rattle.ckr_desk_memory.proofs.Runs.{by-step}
-use Rattle.ckr_desk_memory.specs.Invariant.{IsAcceptedRow}
+use Rattle.ckr_desk_memory.specs.Invariant.{IsAcceptedRow, IsPlacedRow}
+use Rattle.ckr_desk_memory.proofs.Invariant.{restarts-running}
+use Rattle.ckr_desk_memory.proofs.Starts.Steps.{row-among}
 use Rattle.ckr_desk_turn.specs.Queue.{AreNumbered}
 use Rattle.ckr_desk_memory.specs.Holders.{AreHolders, PassesOwn, changed_names}
 
@@ -270,6 +272,29 @@ module _ (tables : TablesModel) (rows : AllByRecursion IsAcceptedRow tables.runs
           changed = λ has other name holding within its among. absurd (false≢true within);
         }
 
+    -- one that goes back to its checkpoint is within the step still, and what this may change is there
+    goes_back : (initiator : ℕ) (effect : EffectPoint) (point : EntryPoint) → is_running row ≡ true
+        → Goes (after_put_back (record (row_on initiator row) { in_effect = Some (effect_restarted effect) }) owned (back_to_entry row owned (step_in (place_of row)) point) tables)
+    goes_back initiator effect point runs =
+        let outputs : List Name = output_names row.job.root owned in
+        let sets : Named TableSet = put_back point.marks outputs (names_of row.job.root owned) tables.sets in
+        record {
+          row = row;
+          next = _;
+          row_at = at;
+          rows = row-next tables tables job row _ sets (row-as_is tables job row at) mine;
+          number = refl;
+          deck = refl;
+          job_is = refl;
+          begins = λ was now. absurd (false≢true (sym was ∙ running-holds row runs));
+          passed = λ own name out. passed_back-outside row point.marks sets point.passed name accepted.plain out;
+          still = λ was name. absurd (false≢true (sym was ∙ running-holds row runs));
+          outside = λ own name out. put_back-outside row owned (step_in (place_of row)) name (not_of_step name out) point.marks tables.sets;
+          changed = λ has other name holding within its among.
+              there-put_back point.marks outputs (names_of row.job.root owned) tables.sets name
+              ∙ has other name (running-holds row runs) (and-second (is_in_state On row) (is_within (place_of row)) runs) its among;
+        }
+
   -- a run that stays as it is
   unmoved : Goes tables
   unmoved = record {
@@ -287,18 +312,15 @@ module _ (tables : TablesModel) (rows : AllByRecursion IsAcceptedRow tables.runs
     changed = λ has. has;
   }
 
-  restarts : (layout : Layout) (initiator : ℕ) (checkpoint : Bool) → not checkpoint ≡ true
-      → ((is_running row && option_eq nat_eq row.initiator (Some initiator) || is_in_state ReleasedRun row && is_free layout tables initiator) && may_restart_again checkpoint row) ≡ true
-      → Goes (by_step (λ owned step. after_restarted row owned step initiator checkpoint tables) row tables)
-  restarts layout initiator true plain follow = absurd (false≢true plain)
-  restarts layout initiator false plain follow =
+  restarts : (initiator : ℕ) (checkpoint : Bool) → is_running row ≡ true → Goes (by_step (λ owned step. after_restarted row owned step initiator checkpoint tables) row tables)
+  restarts initiator true runs =
       by-step Goes tables (own_step row) _ unmoved
-      (λ owned found. by-step Goes tables (point_at row.points (step_in (place_of row))) _ unmoved (λ point began. restarted owned found initiator point holds))
-    where
-      holds : is_holder row.state ≡ true
-      holds =
-          or-cases (is_running row && option_eq nat_eq row.initiator (Some initiator)) (is_in_state ReleasedRun row && is_free layout tables initiator) (and-first _ (may_restart_again false row) follow)
-          (λ runs. running-holds row (and-first (is_running row) _ runs)) (λ released. released-holds row.state (and-first (is_in_state ReleasedRun row) _ released))
+      (λ owned found.
+      by-step Goes tables row.in_effect _ unmoved
+      (λ effect now. by-step Goes tables (kept_at tables.sets effect.set effect.kept.id) _ unmoved (λ entry kept. goes_back owned found initiator effect entry.point runs)))
+  restarts initiator false runs =
+      by-step Goes tables (own_step row) _ unmoved
+      (λ owned found. by-step Goes tables (point_at row.points (step_in (place_of row))) _ unmoved (λ point began. restarted owned found initiator point (running-holds row runs)))
 
   -- ---- the end of a run
 
@@ -363,19 +385,19 @@ module _ (tables : TablesModel) (rows : AllByRecursion IsAcceptedRow tables.runs
 
 -- ---- each event
 
-goes-in : (layout : Layout) (tables : TablesModel) → AllByRecursion IsAcceptedRow tables.runs → AreNumbered 1 tables.runs → (event : Event) (deck : Option Job) → is_forward_event event ≡ true → is_submission event ≡ false → follows layout tables event deck ≡ true → RowGoesOn tables (after_event event deck tables) (job_of event)
-goes-in layout tables rows numbered (Submitted job cards) deck plain other follow = absurd (false≢true (sym other))
-goes-in layout tables rows numbered (Selected job initiator earlier step id) deck plain other follow =
+goes-in : (layout : Layout) (tables : TablesModel) → AllByRecursion IsAcceptedRow tables.runs → AreNumbered 1 tables.runs → AllByRecursion IsPlacedRow tables.runs → (event : Event) (deck : Option Job) → is_forward_event event ≡ true → is_submission event ≡ false → follows layout tables event deck ≡ true → RowGoesOn tables (after_event event deck tables) (job_of event)
+goes-in layout tables rows numbered placed (Submitted job cards) deck plain other follow = absurd (false≢true (sym other))
+goes-in layout tables rows numbered placed (Selected job initiator earlier step id) deck plain other follow =
     tested-run tables job (selected_follows layout tables initiator earlier step id) follow
     (λ row at passes.
     by-row (λ after. RowGoesOn tables after job) tables job (λ row. after_chosen row initiator earlier step id tables) row at
     (selected tables rows numbered job row at layout initiator earlier step id (equal-true earlier 0 plain) passes))
-goes-in layout tables rows numbered (Started job step items) deck plain other follow =
+goes-in layout tables rows numbered placed (Started job step items) deck plain other follow =
     tested-run tables job (started_follows layout tables step items.items) follow
     (λ row at passes.
     by-row (λ after. RowGoesOn tables after job) tables job (λ row. option_map_or (λ owned. after_started row owned step items.items tables) (step_of_run row step) tables) row at
     (started tables rows numbered job row at layout step items.items passes))
-goes-in layout tables rows numbered (Rewritten job taken writes lengths place image) deck plain other follow =
+goes-in layout tables rows numbered placed (Rewritten job taken writes lengths place image) deck plain other follow =
     tested-run tables job (λ row. is_running row && lengths_follow tables row lengths.items && of_step row (is_rewrite tables place image row)) follow
     (λ row at passes.
     tested (own_step row) (is_rewrite tables place image row) (and-second (is_running row && lengths_follow tables row lengths.items) _ passes)
@@ -383,7 +405,7 @@ goes-in layout tables rows numbered (Rewritten job taken writes lengths place im
     by-row (λ after. RowGoesOn tables after job) tables job (λ row. by_step (λ owned step. after_rewritten row owned step writes lengths.items tables) row tables) row at
     (by-own (λ after. RowGoesOn tables after job) tables (λ owned step. after_rewritten row owned step writes lengths.items tables) row owned found
     (rewritten tables rows numbered job row at owned found place image writes lengths.items (and-first (is_running row) _ (and-first (is_running row && lengths_follow tables row lengths.items) _ passes)) rewrites))))
-goes-in layout tables rows numbered (Checkpointed job id taken writes lengths place bytes) deck plain other follow =
+goes-in layout tables rows numbered placed (Checkpointed job id taken writes lengths place bytes) deck plain other follow =
     tested-run tables job (λ row. is_running row && lengths_follow tables row lengths.items && of_step row (is_checkpoint tables id lengths.items place bytes row)) follow
     (λ row at passes.
     tested (own_step row) (is_checkpoint tables id lengths.items place bytes row) (and-second (is_running row && lengths_follow tables row lengths.items) _ passes)
@@ -392,10 +414,10 @@ goes-in layout tables rows numbered (Checkpointed job id taken writes lengths pl
     by-row (λ after. RowGoesOn tables after job) tables job (λ row. by_step (λ owned step. after_checkpointed row owned step kept taken writes lengths.items tables) row tables) row at
     (by-own (λ after. RowGoesOn tables after job) tables (λ owned step. after_checkpointed row owned step kept taken writes lengths.items tables) row owned found
     (checkpointed tables rows numbered job row at owned found kept place bytes taken writes id lengths.items (and-first (is_running row) _ (and-first (is_running row && lengths_follow tables row lengths.items) _ passes)) checks))))
-goes-in layout tables rows numbered (Cancelled job) deck plain other follow =
+goes-in layout tables rows numbered placed (Cancelled job) deck plain other follow =
     tested-run tables job is_running follow
     (λ row at passes. by-row (λ after. RowGoesOn tables after job) tables job (λ row. after_cancelled row tables) row at (cancelled tables rows numbered job row at))
-goes-in layout tables rows numbered (StepEnded job step rc writes lengths) deck plain other follow =
+goes-in layout tables rows numbered placed (StepEnded job step rc writes lengths) deck plain other follow =
     tested-run tables job (λ row. is_running row && step_in (place_of row) == step && lengths_follow tables row lengths.items) follow
     (λ row at passes.
     tested (own_step row) _ (and-second (is_running row && step_in (place_of row) == step) (lengths_follow tables row lengths.items) passes)
@@ -403,22 +425,22 @@ goes-in layout tables rows numbered (StepEnded job step rc writes lengths) deck 
     by-row (λ after. RowGoesOn tables after job) tables job (λ row. by_step (λ owned step. after_step_ended row owned step rc writes lengths.items tables) row tables) row at
     (by-own (λ after. RowGoesOn tables after job) tables (λ owned step. after_step_ended row owned step rc writes lengths.items tables) row owned found
     (step_ended tables rows numbered job row at owned found rc writes lengths.items (and-first (is_running row) _ (and-first (is_running row && step_in (place_of row) == step) _ passes))))))
-goes-in layout tables rows numbered (Restarted job initiator code checkpoint) deck plain other follow =
+goes-in layout tables rows numbered placed (Restarted job initiator code checkpoint) deck plain other follow =
     tested-run tables job (λ row. (is_running row && option_eq nat_eq row.initiator (Some initiator) || is_in_state ReleasedRun row && is_free layout tables initiator) && may_restart_again checkpoint row) follow
     (λ row at passes.
     by-row (λ after. RowGoesOn tables after job) tables job (λ row. by_step (λ owned step. after_restarted row owned step initiator checkpoint tables) row tables) row at
-    (restarts tables rows numbered job row at layout initiator checkpoint plain passes))
-goes-in layout tables rows numbered (Ended job ending) deck plain other follow =
+    (restarts tables rows numbered job row at initiator checkpoint (restarts-running layout tables initiator checkpoint row (row-among IsPlacedRow tables job row placed at) passes)))
+goes-in layout tables rows numbered placed (Ended job ending) deck plain other follow =
     tested-run tables job (λ row. ended_follows tables row ending) follow
     (λ row at passes. by-row (λ after. RowGoesOn tables after job) tables job (λ row. after_ended row ending tables) row at (ended tables rows numbered job row at ending passes))
-goes-in layout tables rows numbered (Purged job) deck plain other follow =
+goes-in layout tables rows numbered placed (Purged job) deck plain other follow =
     tested-run tables job (is_in_state Queued) follow
     (λ row at passes. by-row (λ after. RowGoesOn tables after job) tables job (λ row. with_run (record row { state = PurgedRun }) tables) row at (purged tables rows numbered job row at))
-goes-in layout tables rows numbered _ deck plain other follow = absurd (false≢true plain)
+goes-in layout tables rows numbered placed _ deck plain other follow = absurd (false≢true plain)
 
 -- by each event but a submission one run goes on
-pub goes-on : (layout : Layout) (tables : TablesModel) (event : Event) (deck : Option Job) → AllByRecursion IsAcceptedRow tables.runs → AreNumbered 1 tables.runs → is_forward_event event ≡ true → is_submission event ≡ false → follows layout tables event deck ≡ true → RowGoesOn tables (after_event event deck tables) (job_of event)
-goes-on layout tables event deck rows numbered plain other follow = goes-in layout tables rows numbered event deck plain other follow
+pub goes-on : (layout : Layout) (tables : TablesModel) (event : Event) (deck : Option Job) → AllByRecursion IsAcceptedRow tables.runs → AreNumbered 1 tables.runs → AllByRecursion IsPlacedRow tables.runs → is_forward_event event ≡ true → is_submission event ≡ false → follows layout tables event deck ≡ true → RowGoesOn tables (after_event event deck tables) (job_of event)
+goes-on layout tables event deck rows numbered placed plain other follow = goes-in layout tables rows numbered placed event deck plain other follow
 
 -- ---- one more run
 
@@ -438,18 +460,21 @@ row-more tables job deck zero row at = at
 row-more tables job deck (suc place) row at =
     front_row tables.runs (queued_run job deck) place (λ e. absurd (omega (arith, e, get-inside row tables.runs place at))) ∙ at
 
+-- a row is that of the new run, or was there
+pub row-before : {A : Type 0} (tables : TablesModel) (job : ℕ) (deck : Job) (number : ℕ) (row : RunRow) → run_of (after_submitted job deck tables) number ≡ Some row → (queued_run job deck ≡ row → A) → (run_of tables number ≡ Some row → A) → A
+row-before tables job deck zero row at new old = absurd (some-not-none row (sym at))
+row-before tables job deck (suc place) row at new old =
+    number-cases place (length tables.runs)
+    (λ here. new (same_Some (queued_run job deck) row (sym (last_row tables.runs (queued_run job deck)) ∙ ap (slice_get (tables.runs ++ queued_run job deck ∷ [])) (sym here) ∙ at)))
+    (λ apart. old (sym (front_row tables.runs (queued_run job deck) place apart) ∙ at))
+
 -- a run that was submitted holds nothing
 module _ (tables : TablesModel) (deck : Job) (job : ℕ) (are : AreHolders tables) where
   abbrev more : TablesModel
   more = after_submitted job deck tables
 
-  -- a row is that of the new run, or was there
   one_of : {A : Type 0} (number : ℕ) (row : RunRow) → run_of more number ≡ Some row → (queued_run job deck ≡ row → A) → (run_of tables number ≡ Some row → A) → A
-  one_of zero row at new old = absurd (some-not-none row (sym at))
-  one_of (suc place) row at new old =
-      number-cases place (length tables.runs)
-      (λ here. new (same_Some (queued_run job deck) row (sym (last_row tables.runs (queued_run job deck)) ∙ ap (slice_get (tables.runs ++ queued_run job deck ∷ [])) (sym here) ∙ at)))
-      (λ apart. old (sym (front_row tables.runs (queued_run job deck) place apart) ∙ at))
+  one_of number row = row-before tables job deck number row
 
   no_holder : {A : Type 0} (row : RunRow) → queued_run job deck ≡ row → is_holder row.state ≡ true → A
   no_holder row is holding = absurd (false≢true (ap (λ (r : RunRow). is_holder r.state) is ∙ holding))
@@ -471,15 +496,15 @@ holders-submitted tables job (Some deck) are = holders-more tables deck job are
 
 -- ---- all events
 
-no_row : (number : ℕ) → run_of no_tables number ≡ None
-no_row zero = refl
-no_row (suc before) = refl
+pub no-row : (number : ℕ) → run_of no_tables number ≡ None
+no-row zero = refl
+no-row (suc before) = refl
 
 pub holders-none : AreHolders no_tables
 holders-none = record {
-  apart = λ one other row next here. absurd (some-not-none row (sym here ∙ no_row one));
-  passed = λ number row at. absurd (some-not-none row (sym at ∙ no_row number));
-  changed = λ number row at. absurd (some-not-none row (sym at ∙ no_row number));
+  apart = λ one other row next here. absurd (some-not-none row (sym here ∙ no-row one));
+  passed = λ number row at. absurd (some-not-none row (sym at ∙ no-row number));
+  changed = λ number row at. absurd (some-not-none row (sym at ∙ no-row number));
 }
 
 submission-cases : (event : Event) (deck : Option Job) (tables : TablesModel) → AreHolders tables → (is_submission event ≡ false → AreHolders (after_event event deck tables)) → AreHolders (after_event event deck tables)
@@ -487,7 +512,7 @@ submission-cases (Submitted job cards) deck tables are rest = holders-submitted 
 submission-cases _ deck tables are rest = rest refl
 
 -- holders stay apart by each event that follows
-pub holders-stay : (layout : Layout) (tables : TablesModel) (event : Event) (deck : Option Job) → AreHolders tables → AllByRecursion IsAcceptedRow tables.runs → AreNumbered 1 tables.runs → is_forward_event event ≡ true → follows layout tables event deck ≡ true → AreHolders (after_event event deck tables)
-holders-stay layout tables event deck are rows numbered plain follow =
+pub holders-stay : (layout : Layout) (tables : TablesModel) (event : Event) (deck : Option Job) → AreHolders tables → AllByRecursion IsAcceptedRow tables.runs → AreNumbered 1 tables.runs → AllByRecursion IsPlacedRow tables.runs → is_forward_event event ≡ true → follows layout tables event deck ≡ true → AreHolders (after_event event deck tables)
+holders-stay layout tables event deck are rows numbered placed plain follow =
     submission-cases event deck tables are
-    (λ other. holders-go tables (after_event event deck tables) (job_of event) (goes-on layout tables event deck rows numbered plain other follow) rows are)
+    (λ other. holders-go tables (after_event event deck tables) (job_of event) (goes-on layout tables event deck rows numbered placed plain other follow) rows are)

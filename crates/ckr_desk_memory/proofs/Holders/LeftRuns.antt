@@ -53,7 +53,7 @@ marks-kept P job (number ∷ rest) all = by (number == job) (marks-kept P job re
 
 -- ---- behind an event
 
-module _ (layout : Layout) (tables : TablesModel) (rows : AllByRecursion IsAcceptedRow tables.runs) (numbered : AreNumbered 1 tables.runs) where
+module _ (layout : Layout) (tables : TablesModel) (rows : AllByRecursion IsAcceptedRow tables.runs) (numbered : AreNumbered 1 tables.runs) (placed : AllByRecursion IsPlacedRow tables.runs) where
   on_of : (job : ℕ) (row : RunRow) → run_of tables job ≡ Some row → IsLeft tables job → is_running row ≡ true
   on_of job row at left = ap is_running (some-one row left.0 (run_of tables job) at left.1) ∙ left.2
 
@@ -69,14 +69,14 @@ module _ (layout : Layout) (tables : TablesModel) (rows : AllByRecursion IsAccep
       → (number : ℕ) → IsLeft tables number → IsLeft (after_event event deck tables) number
   one_left event deck plain other follow own number left =
       number-cases number (job_of event) (λ here. subst (IsLeft (after_event event deck tables)) (sym here) (own (subst (IsLeft tables) here left)))
-      (λ apart. (left.0, (goes-on layout tables event deck rows numbered plain other follow).rows.others number apart ∙ left.1, left.2))
+      (λ apart. (left.0, (goes-on layout tables event deck rows numbered placed plain other follow).rows.others number apart ∙ left.1, left.2))
 
   -- those of which the event isn't
   rest_left : (event : Event) (deck : Option Job) → is_forward_event event ≡ true → is_submission event ≡ false → follows layout tables event deck ≡ true → (failed : List ℕ) → AllByRecursion (IsOther (job_of event)) failed → AllByRecursion (IsLeft tables) failed
       → AllByRecursion (IsLeft (after_event event deck tables)) failed
   rest_left event deck plain other follow [] apart all = tt
   rest_left event deck plain other follow (number ∷ rest) apart all = (
-    (all.0.0, (goes-on layout tables event deck rows numbered plain other follow).rows.others number apart.0 ∙ all.0.1, all.0.2),
+    (all.0.0, (goes-on layout tables event deck rows numbered placed plain other follow).rows.others number apart.0 ∙ all.0.1, all.0.2),
     rest_left event deck plain other follow rest apart.1 all.1,
   )
 
@@ -160,7 +160,7 @@ pub left-behind : (layout : Layout) (old : JobsView) (now : TablesModel) (marked
     → AreLeft old → follows layout old.tables.desk event deck ≡ true → LeavesLeft event old.failed → AllByRecursion (IsLeft now) marked
 left-behind layout old now marked event deck are numbered plain tables failed left follow leaves =
     subst (λ (t : TablesModel). AllByRecursion (IsLeft t) marked) (sym tables)
-    (subst (AllByRecursion (IsLeft (after_event event deck old.tables.desk))) (sym failed) (left_on layout old.tables.desk are.rows numbered event deck old.failed plain follow leaves left))
+    (subst (AllByRecursion (IsLeft (after_event event deck old.tables.desk))) (sym failed) (left_on layout old.tables.desk are.rows numbered are.placed event deck old.failed plain follow leaves left))
 
 -- none is
 pub left-none : (jobs : JobsView) → jobs.failed ≡ [] → AreLeft jobs

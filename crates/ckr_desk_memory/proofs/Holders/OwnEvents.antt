@@ -54,7 +54,6 @@ use Rattle.ckr_desk_memory.proofs.Queue.{on-is}
 use Rattle.ckr_desk_memory.specs.Invariant.{IsAcceptedRow, IsPlacedRow}
 use Rattle.ckr_desk_memory.specs.Start.{AllFit}
 use Rattle.ckr_desk_memory.specs.View.{RunningStepView, length_in, lengths_in}
-use Rattle.ckr_rules.specs.declared.cases.Verdict.TheVariants.{Step}
 use Rattle.ckr_desk_turn.specs.Codes.{initiator_of, verdict_for}
 use Rattle.ckr_desk_turn.specs.Invariant.{is_on_one}
 use Rattle.ckr_desk_turn.specs.Queue.{AreNumbered}
@@ -247,15 +246,15 @@ seat_same : (seat : Option ℕ) → is_some seat ≡ true → option_eq nat_eq s
 seat_same None some = absurd (false≢true some)
 seat_same (Some initiator) some = grind (arith, nat_tests)
 
--- The restart of a run within its step follows, where the rules say so: it is on its initiator, and its step has a point with fewer than three
--- restarts. So it is with a running step, and with a run that was running when the system failed.
-pub restarts-follow : (layout : Layout) (tables : TablesModel) (row : RunRow) (code : Code) (deck : Option Job) → run_of tables row.number ≡ Some row → is_running row ≡ true → IsPlacedRow row → verdict_for layout row code ≡ Step
-    → follows layout tables (Restarted row.number (initiator_of row) code false) deck ≡ true
-restarts-follow layout tables row code deck at running placed judged =
+-- The restart of a run within its step follows, where the rules say so: it is on its initiator, and its step, or its checkpoint in effect, has a
+-- point with fewer than three restarts. So it is with a running step, and with a run that was running when the system failed.
+pub restarts-follow : (layout : Layout) (tables : TablesModel) (row : RunRow) (code : Code) (deck : Option Job) (checkpoint : Bool) → run_of tables row.number ≡ Some row → is_running row ≡ true → IsPlacedRow row → is_verdict checkpoint (verdict_for layout row code) ≡ true
+    → follows layout tables (Restarted row.number (initiator_of row) code checkpoint) deck ≡ true
+restarts-follow layout tables row code deck checkpoint at running placed judged =
     ap (λ (o : Option RunRow). option_map_or test o false) at
-    ∙ and_from (sits row || waits row) (may_restart_again false row)
+    ∙ and_from (sits row || waits row) (may_restart_again checkpoint row)
     (or_left (sits row) (waits row) (and_from (is_running row) _ running (seat_same row.initiator seated)))
-    (restarts-again row layout.eligible.items code false begun (ap (is_verdict false) judged))
+    (restarts-again row layout.eligible.items code checkpoint begun judged)
   where
     sits : RunRow → Bool
     sits its = is_running its && option_eq nat_eq its.initiator (Some (initiator_of row))
@@ -264,7 +263,7 @@ restarts-follow layout tables row code deck at running placed judged =
     waits its = is_in_state Released its && is_free layout tables (initiator_of row)
 
     test : RunRow → Bool
-    test its = (is_running its && option_eq nat_eq its.initiator (Some (initiator_of row)) || is_in_state Released its && is_free layout tables (initiator_of row)) && may_restart_again false its
+    test its = (is_running its && option_eq nat_eq its.initiator (Some (initiator_of row)) || is_in_state Released its && is_free layout tables (initiator_of row)) && may_restart_again checkpoint its
 
     seated : is_some row.initiator ≡ true
     seated =

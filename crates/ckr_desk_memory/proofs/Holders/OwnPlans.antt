@@ -33,6 +33,7 @@ use Rattle.ckr_desk_turn.specs.Jobs.{is_failed, TurnJobs, TurnStep, running_in}
 use Rattle.ckr_desk_turn.specs.Plans.{finished_plan, is_within as is_planned, plan_of, system_failure}
 use Rattle.ckr_desk_turn.specs.Queue.{AreNumbered}
 use Rattle.ckr_desk_turn.specs.Select.{is_on, may_select, run_on_initiator}
+use Rattle.ckr_points.specs.Payload.{is_verdict}
 use Rattle.ckr_desk_turn.proofs.Codes.{by-verdict}
 use Rattle.ckr_desk_turn.proofs.NextEvents.BetweenSteps.{lodged-on}
 use Rattle.ckr_desk_memory.proofs.FoundRuns.{find-map, found-run, known-by}
@@ -158,10 +159,11 @@ module _ (layout : Layout) (jobs : JobsView) (numbered : AreNumbered 1 jobs.tabl
         own_in on found (Ended row.number (Coded code (rule_number rule) on.step.writes (record { items = (running_of tables on).lengths }))) (sym (same_run on found), lengths_of on)))
 
     -- a code of it: its restart, or its end
-    coded : is_running row ≡ true → is_within (place_of row) ≡ true → (code : Code) → Follows (code_plan layout row (initiator_of row) code (reached_by seen row))
+    coded : is_running row ≡ true → is_within (place_of row) ≡ true → (code : Code) → Follows (code_plan layout tables row (initiator_of row) code (reached_by seen row))
     coded running within code =
-        by-verdict Follows layout row (initiator_of row) code (reached_by seen row) (λ rule ends. ended_coded running within code rule)
-        (λ judged it. restarts-follow layout tables row code None at running (row-among IsPlacedRow tables row.number row are.placed at) judged)
+        by-verdict Follows layout tables row (initiator_of row) code (reached_by seen row) (λ rule ends. ended_coded running within code rule)
+        (λ judged it. restarts-follow layout tables row code None false at running (row-among IsPlacedRow tables row.number row are.placed at) (ap (is_verdict false) judged))
+        (λ entry judged there it. restarts-follow layout tables row code None true at running (row-among IsPlacedRow tables row.number row are.placed at) (ap (is_verdict true) judged))
 
   -- the run on an initiator
   module _ (i : ℕ) (row : RunRow) (found : run_on_initiator tables i ≡ Some row) where
@@ -211,11 +213,13 @@ between_commits now running (Rewritten job taken writes lengths place image) out
 between_commits now running (Checkpointed job id taken writes lengths place bytes) out = absurd (true≢false out)
 between_commits now running _ out = tt
 
-coded_commits : (layout : Layout) (now : TablesModel) (running : List RunningStepView) (row : RunRow) (initiator : ℕ) (code : Code) (reached : CodePlaceModel) → PlanCommits now running (code_plan layout row initiator code reached)
-coded_commits layout now running row initiator code reached = by-verdict (PlanCommits now running) layout row initiator code reached (λ rule ends. tt) (λ judged. tt)
+coded_commits : (layout : Layout) (now : TablesModel) (running : List RunningStepView) (row : RunRow) (initiator : ℕ) (code : Code) (reached : CodePlaceModel) → PlanCommits now running (code_plan layout now row initiator code reached)
+coded_commits layout now running row initiator code reached =
+    by-verdict (PlanCommits now running) layout now row initiator code reached (λ rule ends. tt) (λ judged. tt) (λ entry judged there. tt)
 
 -- it tells no rewrite
 pub plan-commits : (layout : Layout) (jobs : JobsView) (turn : Turn) (running : List RunningStepView) → PlanCommits jobs.tables.desk running (plan_of layout (jobs_of jobs) turn)
+unfolding jobs_of
 plan-commits layout jobs turn running =
     plan-cases layout (jobs_of jobs) turn (PlanCommits jobs.tables.desk running) (record {
       rest = λ reply. tt;
@@ -233,8 +237,9 @@ between_leaves : (failed : List ℕ) (event : Event) → is_of_step event ≡ fa
 between_leaves failed (StepEnded job step rc writes lengths) out = absurd (true≢false out)
 between_leaves failed _ out = tt
 
-coded_leaves : (layout : Layout) (failed : List ℕ) (row : RunRow) (initiator : ℕ) (code : Code) (reached : CodePlaceModel) → PlanLeaves failed (code_plan layout row initiator code reached)
-coded_leaves layout failed row initiator code reached = by-verdict (PlanLeaves failed) layout row initiator code reached (λ rule ends. tt) (λ judged. tt)
+coded_leaves : (layout : Layout) (tables : TablesModel) (failed : List ℕ) (row : RunRow) (initiator : ℕ) (code : Code) (reached : CodePlaceModel) → PlanLeaves failed (code_plan layout tables row initiator code reached)
+coded_leaves layout tables failed row initiator code reached =
+    by-verdict (PlanLeaves failed) layout tables row initiator code reached (λ rule ends. tt) (λ judged. tt) (λ entry judged there. tt)
 
 -- a step that it ends is of no run that was running when the system failed
 pub plan-leaves : (layout : Layout) (jobs : JobsView) (turn : Turn) → PlanLeaves jobs.failed (plan_of layout (jobs_of jobs) turn)
@@ -247,7 +252,7 @@ plan-leaves layout jobs turn =
       take = λ job. tt;
       between = λ reply event out. between_leaves jobs.failed event out;
       ended = λ row found sound number writes is step there rc. none_left row.number jobs.failed sound;
-      failed = λ row found failed. coded_leaves layout jobs.failed row (initiator_of row) system_failure (reached_by (jobs_of jobs) row);
-      given = λ row found within code. coded_leaves layout jobs.failed row (initiator_of row) code (reached_by (jobs_of jobs) row);
-      chosen = λ row next code has. coded_leaves layout jobs.failed row turn.initiator code (reached_by (jobs_of jobs) row);
+      failed = λ row found failed. coded_leaves layout jobs.tables.desk jobs.failed row (initiator_of row) system_failure (reached_by (jobs_of jobs) row);
+      given = λ row found within code. coded_leaves layout jobs.tables.desk jobs.failed row (initiator_of row) code (reached_by (jobs_of jobs) row);
+      chosen = λ row next code has. coded_leaves layout jobs.tables.desk jobs.failed row turn.initiator code (reached_by (jobs_of jobs) row);
     })

@@ -39,8 +39,9 @@ use Rattle.ckr_desk_memory.proofs.Holders.Names.{changed-named, step-formed}
 use Rattle.ckr_desk_memory.proofs.Holders.Masters.{updated-changed, updated-not_output}
 use Rattle.ckr_desk_memory.specs.EventChanges.{served_step}
 use Rattle.ckr_desk_memory.specs.Invariant.{IsAcceptedRow}
-use Rattle.ckr_desk_memory.specs.Start.{HasNew, set_in_tables}
-use Rattle.ckr_desk_memory.specs.View.{RunningStepView, length_in}
+use Rattle.ckr_desk_memory.specs.Start.{HasNew, has_sets, set_in_tables}
+use Rattle.ckr_desk_memory.specs.View.{PointView, RunningStepView, begun, length_in, resumed}
+use Rattle.ckr_desk_memory.proofs.Starts.Names.{has-among}
 use Rattle.ckr_desk_memory.specs.Holders.{AreHolders, changed_names}
 use Rattle.ckr_desk_memory.specs.OwnSets.{AreCopies, AreEven, AreUpTo, IsCopy, IsRunningOf}
 
@@ -231,20 +232,37 @@ even_new true (Some table) own is = subst (AreEven (Some table)) (sym is) refl
 even_new false None own is = tt
 even_new false (Some table) own is = subst (AreEven (Some table)) (sym is) tt
 
-pub running-new : (after : TablesModel) (job : ℕ) (row : RunRow) (owned : OwnedStep) (old new : List RunningStepView) → run_of after job ≡ Some row → row.state ≡ On → is_within (place_of row) ≡ true → own_step row ≡ Some owned → row.job.root ≡ job → AreHolders after → (starts : HasNew job owned after.sets old new) → IsRunningOf after starts.on
-running-new after job row owned old new at state within found root are starts = record {
+-- at a place of its work, where what it may change is there
+running_at : (after : TablesModel) (job : ℕ) (row : RunRow) (owned : OwnedStep) (place : StepRun) (old new : List RunningStepView) → run_of after job ≡ Some row → row.state ≡ On → is_within (place_of row) ≡ true → own_step row ≡ Some owned → row.job.root ≡ job
+    → program_of place.state ≡ owned.step.program → place.parm ≡ owned.step.parm → place.files ≡ files_of job job owned.step
+    → ((name : Name) → is_among (changed_names row.job.root owned) name ≡ true → is_some (entry_at after.sets name) ≡ true) → (starts : HasNew job owned place after.sets old new) → IsRunningOf after starts.on
+running_at after job row owned place old new at state within found root program parm files there starts = record {
   row = row;
   owned = owned;
   row_at = ap (run_of after) starts.run ∙ at;
   state = state;
   within = within;
   found = found;
-  program = ap (λ (step : StepRun). program_of step.state) starts.step ∙ first_program owned.step.program;
-  parm = ap (λ (step : StepRun). step.parm) starts.step;
-  files = ap (λ (step : StepRun). step.files) starts.step ∙ ap (λ n. files_of n n owned.step) (sym starts.run);
+  program = ap (λ (step : StepRun). program_of step.state) starts.step ∙ program;
+  parm = ap (λ (step : StepRun). step.parm) starts.step ∙ parm;
+  files = ap (λ (step : StepRun). step.files) starts.step ∙ files ∙ ap (λ n. files_of n n owned.step) (sym starts.run);
   changed = λ name among.
       copies_new (entry_at after.sets name) (set_of starts.on.sets name)
-      (are.changed job row at owned name (ap is_holder state) within found among)
+      (there name among)
       (starts.sets name ∙ ap (λ b. if b then set_in_tables after.sets name else None) (ap (λ n. is_among (names_of n owned) name) (sym root) ∙ changed-named row.job.root owned name among));
   updated = λ updates. even_new (is_among (names_of job owned) _) (entry_at after.sets _) (set_of starts.on.sets _) (starts.sets _);
 }
+
+-- at its beginning
+pub running-new : (after : TablesModel) (job : ℕ) (row : RunRow) (owned : OwnedStep) (old new : List RunningStepView) → run_of after job ≡ Some row → row.state ≡ On → is_within (place_of row) ≡ true → own_step row ≡ Some owned → row.job.root ≡ job → AreHolders after
+    → (starts : HasNew job owned (begun job owned.step) after.sets old new) → IsRunningOf after starts.on
+running-new after job row owned old new at state within found root are starts =
+    running_at after job row owned (begun job owned.step) old new at state within found root (first_program owned.step.program) refl refl
+    (λ name among. are.changed job row at owned name (ap is_holder state) within found among) starts
+
+-- at the point of its run
+pub running-again : (after : TablesModel) (job : ℕ) (row : RunRow) (owned : OwnedStep) (point : PointView) (old new : List RunningStepView) → run_of after job ≡ Some row → row.state ≡ On → is_within (place_of row) ≡ true → own_step row ≡ Some owned → row.job.root ≡ job
+    → program_of point.state ≡ owned.step.program → has_sets after.sets (names_of job owned) ≡ true → (starts : HasNew job owned (resumed job owned.step point) after.sets old new) → IsRunningOf after starts.on
+running-again after job row owned point old new at state within found root program has starts =
+    running_at after job row owned (resumed job owned.step point) old new at state within found root program refl refl
+    (λ name among. has-among after.sets (names_of job owned) name has (ap (λ n. is_among (names_of n owned) name) (sym root) ∙ changed-named row.job.root owned name among)) starts

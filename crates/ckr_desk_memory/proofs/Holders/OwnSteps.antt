@@ -22,23 +22,27 @@ use Rattle.ckr_points_invariant.proofs.WaitingRuns.{tested-run}
 use Rattle.ckr_desk_memory.specs.ForwardEvents.{is_forward_event}
 use Rattle.ckr_points_tables.specs.View.{RoomyTables}
 use Rattle.ckr_volumes.specs.declared.layout.Layout.{Layout}
-use Rattle.ckr_desk_memory.proofs.Holders.Events.{by-some, holders-none, holders-stay, tested}
+use Rattle.ckr_desk_memory.proofs.Holders.Events.{by-some, holders-none, holders-stay, no-row, tested}
 use Rattle.ckr_desk_memory.proofs.Holders.Moves.{by-row, row-as_is, row-next, row-number}
 use Rattle.ckr_desk_memory.proofs.Holders.OwnSets.{running-served}
+use Rattle.ckr_desk_memory.proofs.Holders.Points.{points-stay}
 use Rattle.ckr_desk_memory.proofs.Holders.RunningSteps.{running-stay}
+use Rattle.ckr_desk_memory.proofs.RunningSteps.Again.{again-cases, is-back}
+use Rattle.ckr_base.specs.declared.code.Code.{Code}
+use Rattle.ckr_base.proofs.Options.{some-not-none}
 use Rattle.ckr_desk_memory.proofs.Replays.{goes-on-with}
 use Rattle.ckr_desk_memory.proofs.RunningSteps.First.{all-without}
 use Rattle.ckr_desk_memory.specs.declared.jobs.RunningStep.{RunningStep}
-use Rattle.ckr_desk_memory.specs.EventChanges.{FirstEnters, HasEntered, check_name_in, is_of_run, served_in, served_step, without_first, without_run}
+use Rattle.ckr_desk_memory.specs.EventChanges.{FirstEnters, HasEntered, check_name_in, is_of_run, is_point_of, points_behind, served_in, served_step, without_first, without_run}
 use Rattle.ckr_desk_memory.specs.Holders.{AreHolders}
-use Rattle.ckr_desk_memory.specs.Invariant.{AreJobs, IsAcceptedRow}
+use Rattle.ckr_desk_memory.specs.Invariant.{AreJobs, IsAcceptedRow, IsPlacedRow}
 use Rattle.ckr_desk_memory.specs.OwnSets.{CommitsItsOwn, IsRunningOf}
-use Rattle.ckr_desk_memory.specs.OwnSteps.{AreSingle, HoldTheirOwn, IsOfOther}
+use Rattle.ckr_desk_memory.specs.OwnSteps.{AreSingle, HavePoints, HoldTheirOwn, IsOfOther}
 use Rattle.ckr_desk_memory.specs.Parts.{step_seen}
 use Rattle.ckr_desk_memory.specs.Replay.{deck_of, goes_on}
-use Rattle.ckr_desk_memory.specs.RunningSteps.{GoesOn, StepStarts}
+use Rattle.ckr_desk_memory.specs.RunningSteps.{GoesOn, StepGoesBack, StepStarts}
 use Rattle.ckr_desk_memory.specs.Start.{HasNew}
-use Rattle.ckr_desk_memory.specs.View.{JobsView, RunningStepView}
+use Rattle.ckr_desk_memory.specs.View.{JobsView, PointView, RunningStepView, begun}
 use Rattle.ckr_desk_turn.specs.Queue.{AreNumbered}
 
 -- ---- no two running steps are of one run
@@ -107,7 +111,7 @@ single-entered run check most old new single goes = by (find (is_of_run run) old
 
 -- ---- each event
 
-module _ (layout : Layout) (tables : TablesModel) (rows : AllByRecursion IsAcceptedRow tables.runs) (numbered : AreNumbered 1 tables.runs) where
+module _ (layout : Layout) (tables : TablesModel) (rows : AllByRecursion IsAcceptedRow tables.runs) (numbered : AreNumbered 1 tables.runs) (placed : AllByRecursion IsPlacedRow tables.runs) where
   abbrev StartsAlone : ℕ → ℕ → List RunningStepView → List RunningStepView → TablesModel → Type 0
   StartsAlone job step old new after = StepStarts job step after old new → AreSingle new
 
@@ -120,33 +124,44 @@ module _ (layout : Layout) (tables : TablesModel) (rows : AllByRecursion IsAccep
       (λ starts.
       let after : TablesModel = after_started row owned step items tables in
       let now = (row-next tables tables job row _ after.sets (row-as_is tables job row at) (row-number tables job row numbered at)).now in
-      let new_one : HasNew job owned after.sets old new = starts _ owned now found in
+      let new_one : HasNew job owned (begun job owned.step) after.sets old new = starts _ owned now found in
       subst AreSingle (sym new_one.first)
       (subst (λ n. AllByRecursion (IsOfOther n) (without_run job old)) (sym new_one.run) (others-left job old), single-left job old single)))
 
-  single_on : (event : Event) (deck : Option Job) (old new : List RunningStepView) → is_forward_event event ≡ true → follows layout tables event deck ≡ true → AreSingle old → GoesOn event (after_event event deck tables) old new → AreSingle new
-  single_on (Started job step items) deck old new plain follow single goes =
+  again : (job initiator : ℕ) (code : Code) (deck : Option Job) (points : List PointView) (old new : List RunningStepView) → follows layout tables (Restarted job initiator code true) deck ≡ true → AreSingle old
+      → StepGoesBack (find (is_point_of job) points) job (after_event (Restarted job initiator code true) deck tables) old new → AreSingle new
+  again job initiator code deck points old new follow single goes =
+      again-cases tables (after_event (Restarted job initiator code true) deck tables) job points old new (is-back layout tables job initiator code deck numbered placed follow) goes
+      (λ gone. subst AreSingle (sym gone) (single-left job old single))
+      (λ point is new_one.
+      subst AreSingle (sym new_one.starts.first)
+      (subst (λ n. AllByRecursion (IsOfOther n) (without_run job old)) (sym new_one.starts.run) (others-left job old), single-left job old single))
+
+  single_on : (event : Event) (deck : Option Job) (points : List PointView) (old new : List RunningStepView) → is_forward_event event ≡ true → follows layout tables event deck ≡ true → AreSingle old → GoesOn event (after_event event deck tables) points old new → AreSingle new
+  single_on (Started job step items) deck points old new plain follow single goes =
       tested-run tables job (started_follows layout tables step items.items) follow
       (λ row at passes.
       by-row (StartsAlone job step old new) tables job (λ row. option_map_or (λ owned. after_started row owned step items.items tables) (step_of_run row step) tables) row at
       (started job step items.items old new row single at passes) goes)
-  single_on (Checkpointed job id taken writes lengths place bytes) deck old new plain follow single goes =
+  single_on (Checkpointed job id taken writes lengths place bytes) deck points old new plain follow single goes =
       single-entered job (check_name_in (after_event (Checkpointed job id taken writes lengths place bytes) deck tables) job) (place + records_of bytes) old new single goes
-  single_on (Cancelled job) deck old new plain follow single goes = subst AreSingle (sym goes) (single-served job old single)
-  single_on (StepEnded job step rc writes lengths) deck old new plain follow single goes = subst AreSingle (sym goes) (single-left job old single)
-  single_on (Restarted job initiator code checkpoint) deck old new plain follow single goes = subst AreSingle (sym goes) (single-left job old single)
-  single_on (Ended job ending) deck old new plain follow single goes = subst AreSingle (sym goes) (single-left job old single)
-  single_on (Submitted job cards) deck old new plain follow single goes = subst AreSingle (sym goes) single
-  single_on (Selected job initiator earlier step id) deck old new plain follow single goes = subst AreSingle (sym goes) single
-  single_on (Rewritten job taken writes lengths place image) deck old new plain follow single goes = subst AreSingle (sym goes) single
-  single_on (Purged job) deck old new plain follow single goes = subst AreSingle (sym goes) single
-  single_on _ deck old new plain follow single goes = absurd (false≢true plain)
+  single_on (Cancelled job) deck points old new plain follow single goes = subst AreSingle (sym goes) (single-served job old single)
+  single_on (StepEnded job step rc writes lengths) deck points old new plain follow single goes = subst AreSingle (sym goes) (single-left job old single)
+  single_on (Restarted job initiator code true) deck points old new plain follow single goes = again job initiator code deck points old new follow single goes
+  single_on (Restarted job initiator code false) deck points old new plain follow single goes = subst AreSingle (sym goes) (single-left job old single)
+  single_on (Ended job ending) deck points old new plain follow single goes = subst AreSingle (sym goes) (single-left job old single)
+  single_on (Submitted job cards) deck points old new plain follow single goes = subst AreSingle (sym goes) single
+  single_on (Selected job initiator earlier step id) deck points old new plain follow single goes = subst AreSingle (sym goes) single
+  single_on (Rewritten job taken writes lengths place image) deck points old new plain follow single goes = subst AreSingle (sym goes) single
+  single_on (Purged job) deck points old new plain follow single goes = subst AreSingle (sym goes) single
+  single_on _ deck points old new plain follow single goes = absurd (false≢true plain)
 
 -- ---- the jobs
 
 -- no step is running
-pub own-opened : (jobs : JobsView) → AreHolders jobs.tables.desk → jobs.running ≡ [] → HoldTheirOwn jobs
-own-opened jobs holders running = record {
+pub own-opened : (jobs : JobsView) → AreHolders jobs.tables.desk → jobs.running ≡ [] → HavePoints jobs.tables.desk jobs.points → HoldTheirOwn jobs
+own-opened jobs holders running points = record {
+  points = points;
   holders = holders;
   running = subst (AllByRecursion (IsRunningOf jobs.tables.desk)) (sym running) tt;
   single = subst AreSingle (sym running) tt;
@@ -154,53 +169,61 @@ own-opened jobs holders running = record {
 
 -- no jobs
 pub own-none : (jobs : JobsView) → jobs.tables.desk ≡ no_tables → jobs.running ≡ [] → HoldTheirOwn jobs
-own-none jobs tables running = own-opened jobs (subst AreHolders (sym tables) holders-none) running
+own-none jobs tables running =
+    own-opened jobs (subst AreHolders (sym tables) holders-none) running
+    (subst (λ (t : TablesModel). HavePoints t jobs.points) (sym tables) (λ number row owned at. absurd (some-not-none row (sym at ∙ no-row number))))
 
--- the same tables, and the same running steps
-pub own-alike : (old new : JobsView) → new.tables.desk ≡ old.tables.desk → new.running ≡ old.running → HoldTheirOwn old → HoldTheirOwn new
-own-alike old new tables running own = record {
+-- the same tables, the same running steps, and the same points
+pub own-alike : (old new : JobsView) → new.tables.desk ≡ old.tables.desk → new.running ≡ old.running → new.points ≡ old.points → HoldTheirOwn old → HoldTheirOwn new
+own-alike old new tables running points own = record {
+  points = subst (λ (t : TablesModel). HavePoints t new.points) (sym tables) (subst (HavePoints old.tables.desk) (sym points) own.points);
   holders = subst AreHolders (sym tables) own.holders;
   running = subst (λ (t : TablesModel). AllByRecursion (IsRunningOf t) new.running) (sym tables) (subst (AllByRecursion (IsRunningOf old.tables.desk)) (sym running) own.running);
   single = subst AreSingle (sym running) own.single;
 }
 
 -- behind an event
-pub own-behind : (layout : Layout) (old new : JobsView) (event : Event) (deck : Option Job) → AllByRecursion IsAcceptedRow old.tables.desk.runs → AreNumbered 1 old.tables.desk.runs → is_forward_event event ≡ true → new.tables.desk ≡ after_event event deck old.tables.desk
-    → GoesOn event new.tables.desk old.running new.running → HoldTheirOwn old → follows layout old.tables.desk event deck ≡ true → CommitsItsOwn event old.tables.desk old.running → HoldTheirOwn new
-own-behind layout old new event deck rows numbered plain tables goes own follow commits =
-    let gone : GoesOn event (after_event event deck old.tables.desk) old.running new.running = subst (λ (t : TablesModel). GoesOn event t old.running new.running) tables goes in
+pub own-behind : (layout : Layout) (old new : JobsView) (event : Event) (deck : Option Job) → AllByRecursion IsAcceptedRow old.tables.desk.runs → AreNumbered 1 old.tables.desk.runs → AllByRecursion IsPlacedRow old.tables.desk.runs → is_forward_event event ≡ true
+    → new.tables.desk ≡ after_event event deck old.tables.desk → GoesOn event new.tables.desk old.points old.running new.running → new.points ≡ points_behind event new.running old.points → HoldTheirOwn old → follows layout old.tables.desk event deck ≡ true → CommitsItsOwn event old.tables.desk old.running → HoldTheirOwn new
+own-behind layout old new event deck rows numbered placed plain tables goes points own follow commits =
+    let gone : GoesOn event (after_event event deck old.tables.desk) old.points old.running new.running = subst (λ (t : TablesModel). GoesOn event t old.points old.running new.running) tables goes in
+    let running : AllByRecursion (IsRunningOf (after_event event deck old.tables.desk)) new.running =
+    running-stay layout old.tables.desk event deck old.points old.running new.running own.holders rows numbered placed plain follow own.running own.points commits gone in
     record {
-      holders = subst AreHolders (sym tables) (holders-stay layout old.tables.desk event deck own.holders rows numbered plain follow);
-      running =
-          subst (λ (t : TablesModel). AllByRecursion (IsRunningOf t) new.running) (sym tables)
-          (running-stay layout old.tables.desk event deck old.running new.running own.holders rows numbered plain follow own.running commits gone);
-      single = single_on layout old.tables.desk rows numbered event deck old.running new.running plain follow own.single gone;
+      holders = subst AreHolders (sym tables) (holders-stay layout old.tables.desk event deck own.holders rows numbered placed plain follow);
+      running = subst (λ (t : TablesModel). AllByRecursion (IsRunningOf t) new.running) (sym tables) running;
+      single = single_on layout old.tables.desk rows numbered placed event deck old.points old.running new.running plain follow own.single gone;
+      points =
+          subst (λ (t : TablesModel). HavePoints t new.points) (sym tables)
+          (subst (HavePoints (after_event event deck old.tables.desk)) (sym points)
+          (points-stay layout old.tables.desk event deck old.points old.running new.running rows numbered placed plain follow own.points commits gone running));
     }
 
 -- with other running steps, and the same tables
-module _ (old new : JobsView) (tables : new.tables ≡ old.tables) where
+module _ (old new : JobsView) (tables : new.tables ≡ old.tables) (points : new.points ≡ old.points) where
   same_desk : new.tables.desk ≡ old.tables.desk
   same_desk = ap (λ (t : RoomyTables). t.desk) tables
 
-  own_as : AreHolders old.tables.desk → AllByRecursion (IsRunningOf old.tables.desk) new.running → AreSingle new.running → HoldTheirOwn new
-  own_as holders running single = record {
-    holders = subst AreHolders (sym same_desk) holders;
+  own_as : HoldTheirOwn old → AllByRecursion (IsRunningOf old.tables.desk) new.running → AreSingle new.running → HoldTheirOwn new
+  own_as own running single = record {
+    points = subst (λ (t : TablesModel). HavePoints t new.points) (sym same_desk) (subst (HavePoints old.tables.desk) (sym points) own.points);
+    holders = subst AreHolders (sym same_desk) own.holders;
     running = subst (λ (t : TablesModel). AllByRecursion (IsRunningOf t) new.running) (sym same_desk) running;
     single = single;
   }
 
   pub own-without : (run : ℕ) → new.running ≡ without_first run old.running → HoldTheirOwn old → HoldTheirOwn new
   own-without run running own =
-      own_as own.holders (subst (AllByRecursion (IsRunningOf old.tables.desk)) (sym running) (all-without (IsRunningOf old.tables.desk) run old.running own.running))
+      own_as own (subst (AllByRecursion (IsRunningOf old.tables.desk)) (sym running) (all-without (IsRunningOf old.tables.desk) run old.running own.running))
       (subst AreSingle (sym running) (single-first run old.running own.single))
 
   pub own-put : (on : RunningStepView) → new.running ≡ on ∷ old.running → HoldTheirOwn old → IsRunningOf old.tables.desk on → AllByRecursion (IsOfOther on.run) old.running → HoldTheirOwn new
   own-put on running own is others =
-      own_as own.holders (subst (AllByRecursion (IsRunningOf old.tables.desk)) (sym running) (is, own.running)) (subst AreSingle (sym running) (others, own.single))
+      own_as own (subst (AllByRecursion (IsRunningOf old.tables.desk)) (sym running) (is, own.running)) (subst AreSingle (sym running) (others, own.single))
 
   pub own-served : (run : ℕ) → new.running ≡ served_in run old.running → HoldTheirOwn old → HoldTheirOwn new
   own-served run running own =
-      own_as own.holders (subst (AllByRecursion (IsRunningOf old.tables.desk)) (sym running) (by (find (is_of_run run) old.running) refl))
+      own_as own (subst (AllByRecursion (IsRunningOf old.tables.desk)) (sym running) (by (find (is_of_run run) old.running) refl))
       (subst AreSingle (sym running) (single-served run old.running own.single))
     where
       by : (first : Option RunningStepView) → find (is_of_run run) old.running ≡ first
@@ -221,4 +244,4 @@ pub holders-replayed : (layout : Layout) (old new : JobsView) (event : Event) �
     → AreJobs layout old → AreHolders old.tables.desk → AreHolders new.tables.desk
 holders-replayed layout old new event numbered goes tables are holders =
     let its = goes-on-with layout old.tables.desk event (deck_of event) goes in
-    subst AreHolders (sym tables) (holders-stay layout old.tables.desk event (deck_of event) holders are.rows numbered its.plain its.follow)
+    subst AreHolders (sym tables) (holders-stay layout old.tables.desk event (deck_of event) holders are.rows numbered are.placed its.plain its.follow)

@@ -1,7 +1,8 @@
 -- What a turn tells of a unit of a running step follows on any disk, and commits what the step has behind it.
 use Rattle.std.proofs.Common.{◌≡◌, ◌==◌, ◌+◌, ℕ, Bool, true, false, cond, List, [], ◌∷◌, refl, ap, sym, ◌∙◌, subst, Option, Some, None}
 use Rattle.std.specs.List.{AllByRecursion}
-use Rattle.std.specs.Option.{option_map_or}
+use Rattle.std.specs.Option.{is_some, option_map_or}
+use Rattle.std.specs.Prelude.{IsSome, find}
 use Rattle.std.proofs.lemmas.Bool.{and_from, false≢true}
 use Rattle.ckr_base.specs.declared.programs.Heads.{Heads}
 use Rattle.ckr_base.proofs.Numbers.{equal-false}
@@ -30,6 +31,7 @@ use Rattle.ckr_desk_turn.specs.declared.plan.Plan.{Plan}
 use Rattle.ckr_desk_turn.specs.declared.plan.Plan.TheVariants.{Pass, Rest, Take, Tell, Work}
 use Rattle.ckr_desk_turn.specs.Codes.{initiator_of, running_reached}
 use Rattle.ckr_desk_turn.specs.Queue.{AreNumbered}
+use Rattle.ckr_points.specs.Payload.{is_verdict}
 use Rattle.ckr_desk_turn.proofs.Codes.{by-verdict}
 use Rattle.ckr_desk_memory.proofs.Holders.Moves.{row-number}
 use Rattle.ckr_desk_memory.proofs.Holders.OwnEvents.{own-committed, own-follows, restarts-follow}
@@ -65,6 +67,14 @@ alone_first job on others apart = by (is_of_run job on) refl
     by true e = apart
     by false e = (equal-false on.run job e, all-without (IsOfOther job) job others apart)
 
+-- a step of the run is running, and another one stands in its place
+found_first : (job : ℕ) (seen moved : RunningStepView) (others : List RunningStepView) → moved.run ≡ seen.run → IsSome (find (is_of_run job) (seen ∷ [])) → IsSome (find (is_of_run job) (moved ∷ others))
+found_first job seen moved others same there = by (is_of_run job seen) (ap (λ n. n == job) same) there
+  where
+    by : (b : Bool) → is_of_run job moved ≡ b → IsSome (cond b (Some seen) None) → IsSome (find (is_of_run job) (moved ∷ others))
+    by true is there = ap (λ b. is_some (cond b (Some moved) (find (is_of_run job) others))) is
+    by false is there = absurd (false≢true there)
+
 -- what a running step commits of its own, it commits with steps of other runs beside it
 pub others-commit : (tables : TablesModel) (event : Event) (seen moved : RunningStepView) (others : List RunningStepView) → moved.run ≡ seen.run → moved.sets.sets ≡ seen.sets.sets → AllByRecursion (IsOfOther (job_of event)) others
     → CommitsItsOwn event tables (seen ∷ []) → CommitsItsOwn event tables (moved ∷ others)
@@ -80,18 +90,19 @@ others-commit tables (Checkpointed job id taken writes lengths place bytes) seen
     others_entered tables (place + records_of bytes) job lengths.items others apart,
   ),
   alone_first job moved others apart,
+  found_first job seen moved others run commits.2,
 )
 others-commit tables _ seen moved others run sets apart commits = tt
 
 -- ---- what is told of a unit
 
 module _ (layout : Layout) (tables : TablesModel) (on : RunningStepView) (ahead : UnitAhead) (plan : Plan) (numbered : AreNumbered 1 tables.runs) (rows : AllByRecursion IsAcceptedRow tables.runs) (is : IsRunningOf tables on)
-    (told : (row : RunRow) (own : OwnedStep) → run_of tables on.run ≡ Some row → step_of_run row (step_in (place_of row)) ≡ Some own → plan ≡ told_by layout row (running_of tables (behind_unit on ahead)) ahead.worked) where
+    (told : (row : RunRow) (own : OwnedStep) → run_of tables on.run ≡ Some row → step_of_run row (step_in (place_of row)) ≡ Some own → plan ≡ told_by layout tables row (running_of tables (behind_unit on ahead)) ahead.worked) where
   abbrev moved : RunningStepView
   moved = behind_unit on ahead
 
   -- what holds of what is told by the row of its run
-  by-told : (Q : Plan → Type 0) → Q (told_by layout is.row (running_of tables moved) ahead.worked) → Q plan
+  by-told : (Q : Plan → Type 0) → Q (told_by layout tables is.row (running_of tables moved) ahead.worked) → Q plan
   by-told Q holds = subst Q (sym (told is.row is.owned is.row_at is.found)) holds
 
   number : is.row.number ≡ on.run
@@ -103,18 +114,18 @@ module _ (layout : Layout) (tables : TablesModel) (on : RunningStepView) (ahead 
   pub told-commits : PlanCommits tables (moved ∷ []) plan
   told-commits = by-told (PlanCommits tables (moved ∷ [])) (by ahead.worked)
     where
-      by : (worked : Worked) → PlanCommits tables (moved ∷ []) (told_by layout is.row (running_of tables moved) worked)
+      by : (worked : Worked) → PlanCommits tables (moved ∷ []) (told_by layout tables is.row (running_of tables moved) worked)
       by (Went taken) = tt
       by (Rewrite place image taken) = (own-committed tables moved is.row.number (running_of tables moved).lengths lengths_of, tt)
-      by (Abend code) = by-verdict (PlanCommits tables (moved ∷ [])) layout is.row (initiator_of is.row) code (running_reached (running_of tables moved)) (λ rule ends. tt) (λ judged. tt)
+      by (Abend code) = by-verdict (PlanCommits tables (moved ∷ [])) layout tables is.row (initiator_of is.row) code (running_reached (running_of tables moved)) (λ rule ends. tt) (λ judged. tt) (λ entry judged there. tt)
 
   pub told-of : PlanIsOf on.run plan
   told-of = by-told (PlanIsOf on.run) (by ahead.worked)
     where
-      by : (worked : Worked) → PlanIsOf on.run (told_by layout is.row (running_of tables moved) worked)
+      by : (worked : Worked) → PlanIsOf on.run (told_by layout tables is.row (running_of tables moved) worked)
       by (Went taken) = tt
       by (Rewrite place image taken) = number
-      by (Abend code) = by-verdict (PlanIsOf on.run) layout is.row (initiator_of is.row) code (running_reached (running_of tables moved)) (λ rule ends. number) (λ judged. number)
+      by (Abend code) = by-verdict (PlanIsOf on.run) layout tables is.row (initiator_of is.row) code (running_reached (running_of tables moved)) (λ rule ends. number) (λ judged. number) (λ entry judged there. number)
 
   running : is_running is.row ≡ true
   running = and_from (is_in_state On is.row) (is_within (place_of is.row)) (ap (λ s. state_number s == state_number On) is.state) is.within
@@ -126,7 +137,7 @@ module _ (layout : Layout) (tables : TablesModel) (on : RunningStepView) (ahead 
     pub told-own : PlanFollows layout tables plan
     told-own = by-told (PlanFollows layout tables) (by ahead.worked refl)
       where
-        by : (worked : Worked) → ahead.worked ≡ worked → PlanFollows layout tables (told_by layout is.row (running_of tables moved) worked)
+        by : (worked : Worked) → ahead.worked ≡ worked → PlanFollows layout tables (told_by layout tables is.row (running_of tables moved) worked)
         by (Went taken) same = tt
         by (Rewrite place image taken) same =
             let asks = sym unit.answer ∙ same in
@@ -142,12 +153,13 @@ module _ (layout : Layout) (tables : TablesModel) (on : RunningStepView) (ahead 
               asks = asks;
             })
         by (Abend code) same =
-            by-verdict (PlanFollows layout tables) layout is.row (initiator_of is.row) code (running_reached (running_of tables moved))
+            by-verdict (PlanFollows layout tables) layout tables is.row (initiator_of is.row) code (running_reached (running_of tables moved))
             (λ rule ends.
             own-follows layout tables
             (Ended is.row.number (Coded code (rule_number rule) (running_of tables moved).writes (record { items = (running_of tables moved).lengths })))
             None moved rows numbered (running-unit tables on moved heads ahead.worked rows numbered refl done is) (unit-fits on moved heads ahead.worked there fits done) (number, lengths_of))
-            (λ judged. restarts-follow layout tables is.row code None (ap (run_of tables) number ∙ is.row_at) running (row-among IsPlacedRow tables on.run is.row placed is.row_at) judged)
+            (λ judged. restarts-follow layout tables is.row code None false (ap (run_of tables) number ∙ is.row_at) running (row-among IsPlacedRow tables on.run is.row placed is.row_at) (ap (is_verdict false) judged))
+            (λ entry judged at. restarts-follow layout tables is.row code None true (ap (run_of tables) number ∙ is.row_at) running (row-among IsPlacedRow tables on.run is.row placed is.row_at) (ap (is_verdict true) judged))
 
 -- it ends no step
 pub told-leaves : (failed : List ℕ) (plan : Plan) → IsUnitPlan plan → PlanLeaves failed plan

@@ -63,9 +63,9 @@ pub record PlanCases (layout : Layout) (seen : TurnJobs) (initiator : ℕ) (Q : 
   pub between : (reply : Reply) (event : Event) → is_of_step event ≡ false → Q (Tell reply event)
   pub ended : (row : RunRow) → run_on_initiator seen.tables initiator ≡ Some row → is_failed seen row.number ≡ false → (number writes : ℕ) → place_of row ≡ Within number writes
       → (step : TurnStep) → running_in seen row.number ≡ Some step → (rc : ℕ) → Q (finished_plan row number step rc)
-  pub failed : (row : RunRow) → run_on_initiator seen.tables initiator ≡ Some row → is_failed seen row.number ≡ true → Q (code_plan layout row (initiator_of row) system_failure (reached_by seen row))
-  pub given : (row : RunRow) → run_on_initiator seen.tables initiator ≡ Some row → is_within (place_of row) ≡ true → (code : Code) → Q (code_plan layout row (initiator_of row) code (reached_by seen row))
-  pub chosen : (row : RunRow) → next_run seen.tables ≡ Some row → (code : Code) → row.code ≡ Some code → Q (code_plan layout row initiator code (reached_by seen row))
+  pub failed : (row : RunRow) → run_on_initiator seen.tables initiator ≡ Some row → is_failed seen row.number ≡ true → Q (code_plan layout seen.tables row (initiator_of row) system_failure (reached_by seen row))
+  pub given : (row : RunRow) → run_on_initiator seen.tables initiator ≡ Some row → is_within (place_of row) ≡ true → (code : Code) → Q (code_plan layout seen.tables row (initiator_of row) code (reached_by seen row))
+  pub chosen : (row : RunRow) → next_run seen.tables ≡ Some row → (code : Code) → row.code ≡ Some code → Q (code_plan layout seen.tables row initiator code (reached_by seen row))
 
 module _ (layout : Layout) (seen : TurnJobs) (initiator : ℕ) (Q : Plan → Type 0) (cases : PlanCases layout seen initiator Q) where
   between_case : (row : RunRow) (number : ℕ) → Q (between_plan layout seen row number)

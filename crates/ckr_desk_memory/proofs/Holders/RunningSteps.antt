@@ -34,16 +34,20 @@ use Rattle.ckr_desk_memory.proofs.Extents.{tested as tested-of, tested-step}
 use Rattle.ckr_desk_memory.proofs.Holders.Checkpoints.{check-behind, running-entered}
 use Rattle.ckr_desk_memory.proofs.Holders.Events.{by-some, goes-on, holders-stay, row-more, tested}
 use Rattle.ckr_desk_memory.proofs.Holders.Moves.{by-own, by-row, row-accepted, row-as_is, row-next, row-number}
-use Rattle.ckr_desk_memory.proofs.Holders.OwnSets.{running-new, running-other, running-rewritten, running-same, running-served}
+use Rattle.ckr_desk_memory.proofs.Holders.OwnSets.{running-again, running-new, running-other, running-rewritten, running-same, running-served}
 use Rattle.ckr_desk_memory.proofs.Queue.{on-is}
+use Rattle.ckr_desk_memory.proofs.RunningSteps.Again.{again-cases, is-back}
 use Rattle.ckr_desk_memory.proofs.RunningSteps.Served.{without-none}
-use Rattle.ckr_desk_memory.specs.EventChanges.{FirstEnters, HasEntered, IsEntered, check_name_in, is_of_run, served_in, served_step, with_entry_end, without_first, without_run}
-use Rattle.ckr_desk_memory.specs.Invariant.{IsAcceptedRow}
-use Rattle.ckr_desk_memory.specs.RunningSteps.{GoesOn, StepStarts}
+use Rattle.ckr_desk_memory.specs.EventChanges.{FirstEnters, HasEntered, IsEntered, check_name_in, is_of_run, is_point_of, served_in, served_step, with_entry_end, without_first, without_run}
+use Rattle.ckr_desk_memory.specs.Invariant.{IsAcceptedRow, IsPlacedRow}
+use Rattle.ckr_desk_memory.specs.RunningSteps.{GoesOn, StepGoesBack, StepStarts}
 use Rattle.ckr_desk_memory.specs.Start.{HasNew}
-use Rattle.ckr_desk_memory.specs.View.{RunningStepView}
+use Rattle.ckr_desk_memory.specs.View.{PointView, RunningStepView, begun}
 use Rattle.ckr_desk_turn.specs.Queue.{AreNumbered}
 use Rattle.ckr_desk_memory.specs.Holders.{AreHolders}
+use Rattle.ckr_desk_memory.specs.OwnSteps.{HavePoints}
+use Rattle.ckr_steps.specs.Units.{program_of}
+use Rattle.ckr_base.specs.declared.code.Code.{Code}
 use Rattle.ckr_desk_memory.specs.OwnSets.{AreUpTo, CommitsItsOwn, IsCommitted, IsCommittedWith, IsOfOther, IsRunningOf}
 
 -- ---- lists of running steps
@@ -73,11 +77,11 @@ each-without_first Q job (on ∷ rest) all =
 
 -- ---- each event
 
-module _ (layout : Layout) (tables : TablesModel) (are : AreHolders tables) (rows : AllByRecursion IsAcceptedRow tables.runs) (numbered : AreNumbered 1 tables.runs) where
+module _ (layout : Layout) (tables : TablesModel) (are : AreHolders tables) (rows : AllByRecursion IsAcceptedRow tables.runs) (numbered : AreNumbered 1 tables.runs) (placed : AllByRecursion IsPlacedRow tables.runs) where
   -- those of other runs
   other-steps : (event : Event) (deck : Option Job) → is_forward_event event ≡ true → is_submission event ≡ false → follows layout tables event deck ≡ true → (on : RunningStepView) → on.run ≢ job_of event → IsRunningOf tables on → IsRunningOf (after_event event deck tables) on
   other-steps event deck plain other follow on apart is =
-      running-other tables (after_event event deck tables) (job_of event) (goes-on layout tables event deck rows numbered plain other follow) rows are on is apart
+      running-other tables (after_event event deck tables) (job_of event) (goes-on layout tables event deck rows numbered placed plain other follow) rows are on is apart
 
   -- those of all runs, where the run's own go on too
   all-steps : (event : Event) (deck : Option Job) → is_forward_event event ≡ true → is_submission event ≡ false → follows layout tables event deck ≡ true → ((on : RunningStepView) → on.run ≡ job_of event → IsRunningOf tables on → IsRunningOf (after_event event deck tables) on)
@@ -130,7 +134,7 @@ module _ (layout : Layout) (tables : TablesModel) (are : AreHolders tables) (row
       (λ starts holders others.
       let after : TablesModel = after_started row owned step items tables in
       let now = (row-next tables tables job row _ after.sets (row-as_is tables job row at) (row-number tables job row numbered at)).now in
-      let new_one : HasNew job owned after.sets old new = starts _ owned now found in
+      let new_one : HasNew job owned (begun job owned.step) after.sets old new = starts _ owned now found in
       subst (AllByRecursion (IsRunningOf after)) (sym new_one.first) (
         running-new after job _ owned old new now (on-is row.state (and-first (is_in_state On row) _ follow)) refl found
             (ap (λ (job : Effective). job.root) (row-accepted tables job row rows at).plain ∙ row-number tables job row numbered at) holders new_one,
@@ -220,13 +224,31 @@ module _ (layout : Layout) (tables : TablesModel) (are : AreHolders tables) (row
                 rest,
               )
 
-  stay : (event : Event) (deck : Option Job) (old new : List RunningStepView) → is_forward_event event ≡ true → follows layout tables event deck ≡ true → AreHolders (after_event event deck tables) → AllByRecursion (IsRunningOf tables) old
-      → CommitsItsOwn event tables old → GoesOn event (after_event event deck tables) old new → AllByRecursion (IsRunningOf (after_event event deck tables)) new
-  stay (Submitted job cards) None old new plain follow holders all commits goes = subst (AllByRecursion (IsRunningOf tables)) (sym goes) all
-  stay (Submitted job cards) (Some deck) old new plain follow holders all commits goes =
+  -- a step that goes on from its run's point stands before those of other runs
+  again : (job initiator : ℕ) (code : Code) (deck : Option Job) (points : List PointView) (old new : List RunningStepView) → follows layout tables (Restarted job initiator code true) deck ≡ true → HavePoints tables points
+      → StepGoesBack (find (is_point_of job) points) job (after_event (Restarted job initiator code true) deck tables) old new → AllByRecursion (IsRunningOf (after_event (Restarted job initiator code true) deck tables)) (without_run job old)
+      → AllByRecursion (IsRunningOf (after_event (Restarted job initiator code true) deck tables)) new
+  again job initiator code deck points old new follow known goes others =
+      let after : TablesModel = after_event (Restarted job initiator code true) deck tables in
+      let back = is-back layout tables job initiator code deck numbered placed follow in
+      let root = ap (λ (j : Effective). j.root) (back.job_is ∙ (row-accepted tables job back.row rows back.row_at).plain) ∙ row-number tables job back.row numbered back.row_at in
+      again-cases tables after job points old new back goes
+      (λ gone. subst (AllByRecursion (IsRunningOf after)) (sym gone) others)
+      (λ point is new_one.
+      let has = known job back.row back.owned back.row_at back.runs back.effect back.was in
+      let program = ap (λ (p : PointView). program_of p.state) (some-one point has.point (find (is_point_of job) points) is has.found) ∙ has.program in
+      subst (AllByRecursion (IsRunningOf after)) (sym new_one.starts.first) (
+        running-again after job back.next back.owned point old new back.next_at back.state back.within back.found root program new_one.has new_one.starts,
+        others,
+      ))
+
+  stay : (event : Event) (deck : Option Job) (points : List PointView) (old new : List RunningStepView) → is_forward_event event ≡ true → follows layout tables event deck ≡ true → AreHolders (after_event event deck tables) → AllByRecursion (IsRunningOf tables) old → HavePoints tables points
+      → CommitsItsOwn event tables old → GoesOn event (after_event event deck tables) points old new → AllByRecursion (IsRunningOf (after_event event deck tables)) new
+  stay (Submitted job cards) None points old new plain follow holders all known commits goes = subst (AllByRecursion (IsRunningOf tables)) (sym goes) all
+  stay (Submitted job cards) (Some deck) points old new plain follow holders all known commits goes =
       subst (AllByRecursion (IsRunningOf (after_submitted job deck tables))) (sym goes)
       (each-implies (IsRunningOf tables) (IsRunningOf (after_submitted job deck tables)) old (submitted job deck) all)
-  stay (Selected job initiator earlier step id) deck old new plain follow holders all commits goes =
+  stay (Selected job initiator earlier step id) deck points old new plain follow holders all known commits goes =
       subst (AllByRecursion (IsRunningOf (after_event (Selected job initiator earlier step id) deck tables))) (sym goes)
       (all-steps (Selected job initiator earlier step id) deck plain refl follow
       (λ on here is.
@@ -234,39 +256,42 @@ module _ (layout : Layout) (tables : TablesModel) (are : AreHolders tables) (row
       (λ row at passes.
       not_queued job on here is row at
       (and-first (is_in_state Queued row) (is_free layout tables initiator) (and-first (is_in_state Queued row && is_free layout tables initiator) (may_hold tables row) (and-first (is_in_state Queued row && is_free layout tables initiator && may_hold tables row) _ passes))))) old all)
-  stay (Started job step items) deck old new plain follow holders all commits goes =
+  stay (Started job step items) deck points old new plain follow holders all known commits goes =
       tested-run tables job (started_follows layout tables step items.items) follow
       (λ row at passes.
       by-row (StartsWell job step old new) tables job (λ row. option_map_or (λ owned. after_started row owned step items.items tables) (step_of_run row step) tables) row at
       (started job step items.items old new row at passes) goes holders
       (each-without_run (IsRunningOf tables) (IsRunningOf (after_event (Started job step items) deck tables)) job old (other-steps (Started job step items) deck plain refl follow) all))
-  stay (Rewritten job taken writes lengths place image) deck old new plain follow holders all commits goes =
+  stay (Rewritten job taken writes lengths place image) deck points old new plain follow holders all known commits goes =
       subst (AllByRecursion (IsRunningOf (after_event (Rewritten job taken writes lengths place image) deck tables))) (sym goes)
       (each-both (IsRunningOf tables) (IsRunningOf (after_event (Rewritten job taken writes lengths place image) deck tables)) (IsCommitted job lengths.items tables) old
       (λ on is up.
       number-cases on.run job
       (λ here. rewritten job taken writes lengths place image deck follow on here is up)
       (λ apart. other-steps (Rewritten job taken writes lengths place image) deck plain refl follow on apart is)) all commits)
-  stay (Checkpointed job id taken writes lengths place bytes) deck old new plain follow holders all commits goes = entered job taken writes place bytes id lengths deck follow old all commits.0 commits.1 new goes
-  stay (Cancelled job) deck old new plain follow holders all commits goes =
+  stay (Checkpointed job id taken writes lengths place bytes) deck points old new plain follow holders all known commits goes = entered job taken writes place bytes id lengths deck follow old all commits.0 commits.1 new goes
+  stay (Cancelled job) deck points old new plain follow holders all known commits goes =
       subst (AllByRecursion (IsRunningOf (after_event (Cancelled job) deck tables))) (sym goes) (served job deck old follow all)
-  stay (StepEnded job step rc writes lengths) deck old new plain follow holders all commits goes =
+  stay (StepEnded job step rc writes lengths) deck points old new plain follow holders all known commits goes =
       subst (AllByRecursion (IsRunningOf (after_event (StepEnded job step rc writes lengths) deck tables))) (sym goes)
       (each-without_run (IsRunningOf tables) (IsRunningOf (after_event (StepEnded job step rc writes lengths) deck tables)) job old (other-steps (StepEnded job step rc writes lengths) deck plain refl follow) all)
-  stay (Restarted job initiator code checkpoint) deck old new plain follow holders all commits goes =
-      subst (AllByRecursion (IsRunningOf (after_event (Restarted job initiator code checkpoint) deck tables))) (sym goes)
-      (each-without_run (IsRunningOf tables) (IsRunningOf (after_event (Restarted job initiator code checkpoint) deck tables)) job old (other-steps (Restarted job initiator code checkpoint) deck plain refl follow) all)
-  stay (Ended job ending) deck old new plain follow holders all commits goes =
+  stay (Restarted job initiator code true) deck points old new plain follow holders all known commits goes =
+      again job initiator code deck points old new follow known goes
+      (each-without_run (IsRunningOf tables) (IsRunningOf (after_event (Restarted job initiator code true) deck tables)) job old (other-steps (Restarted job initiator code true) deck plain refl follow) all)
+  stay (Restarted job initiator code false) deck points old new plain follow holders all known commits goes =
+      subst (AllByRecursion (IsRunningOf (after_event (Restarted job initiator code false) deck tables))) (sym goes)
+      (each-without_run (IsRunningOf tables) (IsRunningOf (after_event (Restarted job initiator code false) deck tables)) job old (other-steps (Restarted job initiator code false) deck plain refl follow) all)
+  stay (Ended job ending) deck points old new plain follow holders all known commits goes =
       subst (AllByRecursion (IsRunningOf (after_event (Ended job ending) deck tables))) (sym goes)
       (each-without_run (IsRunningOf tables) (IsRunningOf (after_event (Ended job ending) deck tables)) job old (other-steps (Ended job ending) deck plain refl follow) all)
-  stay (Purged job) deck old new plain follow holders all commits goes =
+  stay (Purged job) deck points old new plain follow holders all known commits goes =
       subst (AllByRecursion (IsRunningOf (after_event (Purged job) deck tables))) (sym goes)
       (all-steps (Purged job) deck plain refl follow
       (λ on here is. tested-run tables job (is_in_state Queued) follow (λ row at queued. not_queued job on here is row at queued)) old all)
-  stay _ deck old new plain follow holders all commits goes = absurd (false≢true plain)
+  stay _ deck points old new plain follow holders all known commits goes = absurd (false≢true plain)
 
 -- the running steps stay those of their runs
-pub running-stay : (layout : Layout) (tables : TablesModel) (event : Event) (deck : Option Job) (old new : List RunningStepView) → AreHolders tables → AllByRecursion IsAcceptedRow tables.runs → AreNumbered 1 tables.runs → is_forward_event event ≡ true → follows layout tables event deck ≡ true
-    → AllByRecursion (IsRunningOf tables) old → CommitsItsOwn event tables old → GoesOn event (after_event event deck tables) old new → AllByRecursion (IsRunningOf (after_event event deck tables)) new
-running-stay layout tables event deck old new are rows numbered plain follow all commits goes =
-    stay layout tables are rows numbered event deck old new plain follow (holders-stay layout tables event deck are rows numbered plain follow) all commits goes
+pub running-stay : (layout : Layout) (tables : TablesModel) (event : Event) (deck : Option Job) (points : List PointView) (old new : List RunningStepView) → AreHolders tables → AllByRecursion IsAcceptedRow tables.runs → AreNumbered 1 tables.runs → AllByRecursion IsPlacedRow tables.runs → is_forward_event event ≡ true → follows layout tables event deck ≡ true
+    → AllByRecursion (IsRunningOf tables) old → HavePoints tables points → CommitsItsOwn event tables old → GoesOn event (after_event event deck tables) points old new → AllByRecursion (IsRunningOf (after_event event deck tables)) new
+running-stay layout tables event deck points old new are rows numbered placed plain follow all known commits goes =
+    stay layout tables are rows numbered placed event deck points old new plain follow (holders-stay layout tables event deck are rows numbered placed plain follow) all known commits goes

@@ -2,12 +2,13 @@
 use Rattle.std.proofs.Common.{◌≡◌, ℕ, suc, Bool, true, false, cond, ◌&&◌, ◌||◌, List, [], ◌∷◌, ◌++◌, filter, map, refl, ap, sym, ◌∙◌, subst, Option, Some, None}
 use Rattle.std.specs.Prelude.{flat_map}
 use Rattle.std.specs.List.{AllByRecursion, cons_option, filter_map, list_any}
-use Rattle.std.specs.Option.{is_none, is_some, option_map}
+use Rattle.std.specs.Option.{is_none, is_some, option_map, option_map_or}
 use Rattle.std.proofs.lemmas.Bool.{false≢true, or_parts}
 use Rattle.ckr_base.proofs.Bools.{bool-cases}
 use Rattle.ckr_base.proofs.Sequences.{any-filter}
 use Rattle.ckr_entry.specs.declared.point.Mark.{Mark}
 use Rattle.ckr_entry.specs.declared.point.Passed.{Passed}
+use Rattle.ckr_entry.specs.declared.point.Present.{Present}
 use Rattle.ckr_events.specs.declared.event.Made.{Made}
 use Rattle.ckr_jcl.specs.declared.deck.Dd.{Dd}
 use Rattle.ckr_jcl.specs.declared.deck.Job.{Job}
@@ -19,7 +20,7 @@ use Rattle.ckr_meaning.specs.Allotments.{AllotmentModel, DdAllotment, found, mad
 use Rattle.ckr_meaning.specs.Dispositions.{Disposal, Stock}
 use Rattle.ckr_meaning.specs.EffectiveJob.{Effective, OwnedStep, flaws_in, is_among, name_of, names_of, names_of_job, names_of_steps, owned_by, placed_from, placed_in, placed_one, plain_job, stamp_of}
 use Rattle.ckr_points.specs.Follows.{is_update}
-use Rattle.ckr_points.specs.Marks.{deck_names, put_back, put_back_passed, removed_all, still_exists}
+use Rattle.ckr_points.specs.Marks.{deck_names, present_at, put_back, put_back_catalogs, put_back_length, put_back_lengths, put_back_passed, removed_all, still_exists}
 use Rattle.ckr_points.specs.Office.{passed_made}
 use Rattle.ckr_points.specs.Payload.{is_formed_step}
 use Rattle.ckr_points.specs.Rows.{RunRow, TableSet, TablesModel, cut_set, standing_of, table_ways}
@@ -151,6 +152,26 @@ there-started row owned step items tables name flawless among =
     placed : List DdAllotment
     placed = placed_in table_ways (standing_of row tables) row.job.root owned
 
+there_lengths : (marks : List Mark) (names : List Name) (sets : Named TableSet) (other : Name) → is_some (entry_at (put_back_lengths marks names sets) other) ≡ is_some (entry_at sets other)
+there_lengths marks [] sets other = refl
+there_lengths marks (name ∷ names) sets other = there_lengths marks names _ other ∙ by (present_at marks name)
+  where
+    by : (found : Option Present) → is_some (entry_at (option_map_or (λ (present : Present). with_changed name (put_back_length present.length) sets) found sets) other) ≡ is_some (entry_at sets other)
+    by None = refl
+    by (Some present) = there-changed name other (put_back_length present.length) sets
+
+there_catalogs : (marks : List Mark) (names : List Name) (sets : Named TableSet) (other : Name) → is_some (entry_at (put_back_catalogs marks names sets) other) ≡ is_some (entry_at sets other)
+there_catalogs marks [] sets other = refl
+there_catalogs marks (name ∷ names) sets other = there_catalogs marks names _ other ∙ by (present_at marks name)
+  where
+    by : (found : Option Present) → is_some (entry_at (option_map_or (λ (present : Present). with_changed name (table_ways.marked present.cataloged) sets) found sets) other) ≡ is_some (entry_at sets other)
+    by None = refl
+    by (Some present) = there-changed name other (table_ways.marked present.cataloged) sets
+
+-- what is put back takes no name away
+pub there-put_back : (marks : List Mark) (outputs needed : List Name) (sets : Named TableSet) (name : Name) → is_some (entry_at (put_back marks outputs needed sets) name) ≡ is_some (entry_at sets name)
+there-put_back marks outputs needed sets name = there_catalogs marks needed (put_back_lengths marks outputs sets) name ∙ there_lengths marks outputs sets name
+
 -- ---- what a step leaves
 
 module _ (root : ℕ) (owned : OwnedStep) (name : Name) (out : is_among (names_of root owned) name ≡ false) where
@@ -199,11 +220,16 @@ module _ (row : RunRow) (owned : OwnedStep) (step : ℕ) (name : Name) (out : is
       disposed-made table_ways name (run_disposals row owned (own_made row owned step) (earlier_made tables row step) abnormal) (standing_of row tables)
       (apart-unmade (run_disposals row owned (own_made row owned step) (earlier_made tables row step) abnormal) name (apart_from abnormal tables)) none
 
-  -- what the step made goes by its restart, and what it wrote is put back
+  -- what it wrote is put back
+  pub put_back-outside : (marks : List Mark) (sets : Named TableSet) → entry_at (put_back marks (output_names row.job.root owned) (names_of row.job.root owned) sets) name ≡ entry_at sets name
+  put_back-outside marks sets =
+      put_back-apart marks (output_names row.job.root owned) (names_of row.job.root owned) sets name
+      (bool-cases (is_among (output_names row.job.root owned) name) (λ among. absurd (false≢true (sym out ∙ outputs-among row.job.root owned name among))) (λ e. e)) out
+
+  -- by a restart at the start of the step, what it made goes too
   pub restarted-outside : (marks : List Mark) (sets : Named TableSet) → entry_at (put_back marks (output_names row.job.root owned) (names_of row.job.root owned) (removed_all (own_made row owned step) sets)) name ≡ entry_at sets name
   restarted-outside marks sets =
-      put_back-apart marks (output_names row.job.root owned) (names_of row.job.root owned) (removed_all (own_made row owned step) sets) name
-      (bool-cases (is_among (output_names row.job.root owned) name) (λ among. absurd (false≢true (sym out ∙ outputs-among row.job.root owned name among))) (λ e. e)) out
+      put_back-outside marks (removed_all (own_made row owned step) sets)
       ∙ at-removed_all (own_made row owned step) sets name
       ∙ ap (λ b. cond b None (entry_at sets name)) (own_made-out row owned step name out)
 

@@ -1,10 +1,13 @@
 -- The running steps go on by an event.
-use Rattle.std.proofs.Common.{◌≡◌, ◌≤◌, ◌<◌, ◌+◌, ◌&&◌, ℕ, zero, suc, true, List, map, length, refl, ap, sym, ◌∙◌, subst, Option, None, Some, arith, slice_get}
+use Rattle.std.proofs.Common.{◌≡◌, ◌==◌, ◌≤◌, ◌<◌, ◌+◌, ◌&&◌, ◌||◌, ℕ, zero, suc, true, false, not, List, map, length, refl, ap, sym, ◌∙◌, subst, Option, None, Some, arith, slice_get}
 use Rattle.std.proofs.lemmas.Option.{same_Some, slice_get-map, slice_get_within}
 use Rattle.std.specs.List.{AllByRecursion}
-use Rattle.std.specs.Option.{option_map}
+use Rattle.std.specs.Option.{option_eq, option_map}
+use Rattle.std.specs.Prelude.{IfSome, find, nat_eq}
+use Rattle.ckr_steps.specs.declared.step_run.StepRun.{StepRun}
 use Rattle.ckr_base.proofs.Bools.{and-second}
-use Rattle.ckr_base.proofs.Options.{some-not-none}
+use Rattle.ckr_base.proofs.Options.{some-not-none, some-one}
+use Rattle.ckr_base.specs.declared.code.Code.{Code}
 use Rattle.arrayvec.specs.ArrayVec.{ArrayVec}
 use Rattle.ckr_events.specs.declared.event.Event.{Event}
 use Rattle.ckr_events.specs.declared.event.Event.TheVariants.{Started, Checkpointed, Cancelled, StepEnded, Restarted, Ended}
@@ -12,11 +15,11 @@ use Rattle.ckr_events.specs.declared.event.Made.{Made}
 use Rattle.ckr_jcl.specs.declared.deck.Job.{Job}
 use Rattle.ckr_library.specs.Catalog.{records_of}
 use Rattle.ckr_library.specs.NameMaps.{Name}
-use Rattle.ckr_meaning.specs.EffectiveJob.{OwnedStep, flaws_in, placed_in, stamp_of, step_at}
+use Rattle.ckr_meaning.specs.EffectiveJob.{OwnedStep, flaws_in, names_of, placed_in, stamp_of, step_at}
 use Rattle.ckr_volumes.specs.declared.layout.Layout.{Layout}
-use Rattle.ckr_points.specs.declared.run.RunState.TheVariants.{On}
-use Rattle.ckr_points.specs.Follows.{are_items, follows, is_empty, is_in_state, may_start, started_follows}
-use Rattle.ckr_points.specs.Restart.{after_event, place_of}
+use Rattle.ckr_points.specs.declared.run.RunState.TheVariants.{On, Released}
+use Rattle.ckr_points.specs.Follows.{are_items, follows, is_empty, is_free, is_in_state, is_running, may_restart_again, may_start, own_step, started_follows}
+use Rattle.ckr_points.specs.Restart.{after_event, place_of, step_in}
 use Rattle.ckr_points.specs.Rows.{RunRow, TablesModel, holding_of, run_of, standing_of, step_of_run, table_ways}
 use Rattle.ckr_points.specs.Soundness.{AreLaidOut}
 use Rattle.ckr_steps.specs.StepUnit.{AreCounted}
@@ -24,18 +27,20 @@ use Rattle.ckr_desk_memory.specs.ForwardEvents.{is_forward_event}
 use Rattle.ckr_points_tables.specs.View.{seen_by}
 use Rattle.ckr_desk_turn.specs.Queue.{AreNumbered}
 use Rattle.ckr_desk_memory.specs.declared.jobs.RunningStep.{RunningStep}
-use Rattle.ckr_desk_memory.specs.EventChanges.{check_name_in}
-use Rattle.ckr_desk_memory.specs.RunningSteps.{GoesOn, MayRun}
+use Rattle.ckr_desk_memory.specs.EventChanges.{check_name_in, is_point_of}
+use Rattle.ckr_desk_memory.specs.RunningSteps.{GoesOn, IsStartedFrom, MayGoBack, MayRun}
 use Rattle.ckr_desk_memory.specs.Invariant.{AreJobs, IsAcceptedRow, IsAnyAccepted, IsPlacedRow, IsRunnable}
-use Rattle.ckr_desk_memory.specs.Preparation.{HasStarted, HasStep}
-use Rattle.ckr_desk_memory.specs.View.{JobsView, RunningStepView}
+use Rattle.ckr_desk_memory.specs.Preparation.{HasAgain, HasStarted, HasStep, IsEmpty, StandsEmpty}
+use Rattle.ckr_desk_memory.specs.View.{JobsView, PointView, RunningStepView, resumed}
+use Rattle.ckr_desk_memory.proofs.RunningSteps.Again.{again-cases, is-back}
 use Rattle.ckr_desk_memory.proofs.Invariant.{accepted-behind, all-filtered, numbered-behind, placed-behind}
 use Rattle.ckr_desk_memory.proofs.Extents.{laid-behind}
 use Rattle.ckr_desk_memory.proofs.Queue.{run-there, step-there}
 use Rattle.ckr_desk_memory.proofs.RunningSteps.Entries.{entered-all}
 use Rattle.ckr_desk_memory.proofs.RunningSteps.Served.{served-runnable}
 use Rattle.ckr_desk_memory.proofs.Runs.{Kind, kind_of, long-stay, runs-stay}
-use Rattle.ckr_desk_memory.proofs.Starts.Sets.{is-runnable}
+use Rattle.ckr_desk_memory.proofs.Starts.Names.{has-among}
+use Rattle.ckr_desk_memory.proofs.Starts.Sets.{is-runnable, runnable-at}
 use Rattle.ckr_desk_memory.proofs.SetCopies.{all-fit}
 
 -- ---- a row in other tables whose runs are the same
@@ -78,19 +83,35 @@ started_step layout tables step items row follow =
 
 -- ---- what an event asks of the running steps
 
-module _ (layout : Layout) (old : TablesModel) (numbered : AreNumbered 1 old.runs) (rows : AllByRecursion IsAcceptedRow old.runs) (laid : AreLaidOut layout old.sets) where
-  started_may : (job step : ℕ) (items : ArrayVec Made) (deck : Option Job) (begun : Option RunningStep) (room : ℕ) → follows layout old (Started job step items) deck ≡ true → length old.runs ≤ 9999999 → HasStep old job step begun → 0 < room
+module _ (layout : Layout) (old : TablesModel) (numbered : AreNumbered 1 old.runs) (rows : AllByRecursion IsAcceptedRow old.runs) (laid : AreLaidOut layout old.sets) (placed : AllByRecursion IsPlacedRow old.runs) where
+  started_may : (job step : ℕ) (items : ArrayVec Made) (deck : Option Job) (begun : Option RunningStep) (room : ℕ) → follows layout old (Started job step items) deck ≡ true → length old.runs ≤ 9999999 → IfSome begun (IsEmpty job) → HasStep old job step begun → 0 < room
       → MayRun (Started job step items) (after_event (Started job step items) deck old) begun room
-  started_may job step items deck begun room follow few has some =
+  started_may job step items deck begun room follow few empty has some =
       let there = run-there old job (started_follows layout old step items.items) follow in
       let within = row_within old job there.0 there.1 in
       let same = runs-stay old numbered (Started job step items) deck refl refl in
       record {
         few = omega arith;
+        empty = empty;
         prepared = step_behind (after_event (Started job step items) deck old) old same job step begun has;
         rows = accepted-behind old (Started job step items) deck numbered refl tt rows;
         numbered = numbered-behind layout old (Started job step items) deck refl follow numbered;
         fit = all-fit layout (after_event (Started job step items) deck old).sets (seen_by holding_of (after_event (Started job step items) deck old).sets) (laid-behind layout old laid (Started job step items) deck refl follow) refl;
+        some = some;
+      }
+
+  restarted_may : (job initiator : ℕ) (code : Code) (deck : Option Job) (again : Option RunningStep) (room : ℕ) → follows layout old (Restarted job initiator code true) deck ≡ true → length old.runs ≤ 9999999 → IfSome again (IsEmpty job) → 0 < room
+      → MayGoBack job (after_event (Restarted job initiator code true) deck old) again room
+  restarted_may job initiator code deck again room follow few empty some =
+      let there = run-there old job (λ row. (is_running row && option_eq nat_eq row.initiator (Some initiator) || is_in_state Released row && is_free layout old initiator) && may_restart_again true row) follow in
+      let within = row_within old job there.0 there.1 in
+      record {
+        few = subst (λ n. n ≤ 9999999) (sym (long-stay old.runs (after_event (Restarted job initiator code true) deck old).runs (runs-stay old numbered (Restarted job initiator code true) deck refl refl))) few;
+        within = omega arith;
+        empty = empty;
+        rows = accepted-behind old (Restarted job initiator code true) deck numbered refl tt rows;
+        numbered = numbered-behind layout old (Restarted job initiator code true) deck refl follow numbered;
+        fit = all-fit layout (after_event (Restarted job initiator code true) deck old).sets (seen_by holding_of (after_event (Restarted job initiator code true) deck old).sets) (laid-behind layout old laid (Restarted job initiator code true) deck refl follow) refl;
         some = some;
       }
 
@@ -105,15 +126,17 @@ module _ (layout : Layout) (old : TablesModel) (numbered : AreNumbered 1 old.run
 
   may : (event : Event) (deck : Option Job) (begun : Option RunningStep) (jobs : JobsView) → jobs.tables.desk ≡ old → is_forward_event event ≡ true → follows layout old event deck ≡ true → length old.runs ≤ 9999999 → HasStarted event jobs begun → MayRun event (after_event event deck old) begun jobs.running_room
   may (Started job step items) deck begun jobs is plain follow few has =
-      started_may job step items deck begun jobs.running_room follow few (subst (λ t. HasStep t job step begun) is has.step) has.room
+      started_may job step items deck begun jobs.running_room follow few has.empty (subst (λ t. HasStep t job step begun) is has.step) has.room
+  may (Restarted job initiator code true) deck begun jobs is plain follow few has = restarted_may job initiator code deck begun jobs.running_room follow few has.empty has.room
+  may (Restarted job initiator code false) deck begun jobs is plain follow few has = tt
   may (Checkpointed job id taken writes lengths place bytes) deck begun jobs is plain follow few has = checkpointed_may job taken writes place bytes id lengths deck begun jobs.running_room follow few
   may _ deck begun jobs is plain follow few has = tt
 
   -- ---- the running steps behind it can go on
 
-  started_runnable : (job step : ℕ) (items : ArrayVec Made) (deck : Option Job) (begun : Option RunningStep) (before now : List RunningStepView) → follows layout old (Started job step items) deck ≡ true → HasStep old job step begun
-      → GoesOn (Started job step items) (after_event (Started job step items) deck old) before now → AllByRecursion (IsRunnable layout) before → AllByRecursion (IsRunnable layout) now
-  started_runnable job step items deck begun before now follow has goes all =
+  started_runnable : (job step : ℕ) (items : ArrayVec Made) (deck : Option Job) (begun : Option RunningStep) (points : List PointView) (before now : List RunningStepView) → follows layout old (Started job step items) deck ≡ true → HasStep old job step begun
+      → GoesOn (Started job step items) (after_event (Started job step items) deck old) points before now → AllByRecursion (IsRunnable layout) before → AllByRecursion (IsRunnable layout) now
+  started_runnable job step items deck begun points before now follow has goes all =
       let there = run-there old job (started_follows layout old step items.items) follow in
       let after : TablesModel = after_event (Started job step items) deck old in
       let owned = started_step layout old step items.items there.0 there.2 in
@@ -126,14 +149,49 @@ module _ (layout : Layout) (old : TablesModel) (numbered : AreNumbered 1 old.run
         all-filtered (IsRunnable layout) _ before all,
       )
 
+  -- one that goes on from its run's point
+  again_runnable : (job initiator : ℕ) (code : Code) (deck : Option Job) (again : Option RunningStep) (points : List PointView) (before now : List RunningStepView) → follows layout old (Restarted job initiator code true) deck ≡ true
+      → HasAgain (find (is_point_of job) points) old job again → GoesOn (Restarted job initiator code true) (after_event (Restarted job initiator code true) deck old) points before now → AllByRecursion (IsRunnable layout) before → AllByRecursion (IsRunnable layout) now
+  again_runnable job initiator code deck again points before now follow has goes all =
+      let after : TablesModel = after_event (Restarted job initiator code true) deck old in
+      let others = all-filtered (IsRunnable layout) (λ (on : RunningStepView). not (on.run == job)) before all in
+      let back = is-back layout old job initiator code deck numbered placed follow in
+      again-cases old after job points before now back goes
+      (λ gone. subst (AllByRecursion (IsRunnable layout)) (sym gone) others)
+      (λ point is new.
+      let prepared = subst (λ (found : Option PointView). HasAgain found old job again) is has back.row back.owned back.row_at back.was in
+      subst (AllByRecursion (IsRunnable layout)) (sym new.starts.first) (
+        runnable-at layout old job (step_in (place_of back.row)) back.row back.owned new.starts.on after.sets numbered rows back.row_at back.was (laid-behind layout old laid (Restarted job initiator code true) deck refl follow)
+            (ap (λ (s : StepRun). s.files) new.starts.step) (subst AreCounted (prepared.2.step ∙ sym new.starts.step) prepared.2.counted) (λ name among. has-among after.sets (names_of job back.owned) name new.has among) new.starts.sets,
+        others,
+      ))
+
+  -- the step that goes on is prepared by the tables behind the event too
+  again_behind : (job initiator : ℕ) (code : Code) (deck : Option Job) (again : Option RunningStep) (point : Option PointView) → follows layout old (Restarted job initiator code true) deck ≡ true → HasAgain point old job again
+      → HasAgain point (after_event (Restarted job initiator code true) deck old) job again
+  again_behind job initiator code deck again None follow has = has
+  again_behind job initiator code deck again (Some point) follow has = λ row owned at found.
+      let after : TablesModel = after_event (Restarted job initiator code true) deck old in
+      let back = is-back layout old job initiator code deck numbered placed follow in
+      let same : back.owned ≡ owned = same_Some _ _ (sym back.found ∙ ap own_step (some-one back.next row (run_of after job) back.next_at at) ∙ found) in
+      subst (λ (o : OwnedStep). (on : RunningStep) × (again ≡ Some on) × StandsEmpty job (resumed job o.step point) on) same (has back.row back.owned back.row_at back.was)
+
+  pub started-from : (event : Event) (deck : Option Job) (begun : Option RunningStep) (jobs : JobsView) → jobs.tables.desk ≡ old → follows layout old event deck ≡ true → HasStarted event jobs begun → IsStartedFrom event (after_event event deck old) jobs.points begun
+  started-from (Restarted job initiator code true) deck begun jobs is follow has =
+      again_behind job initiator code deck begun (find (is_point_of job) jobs.points) follow (subst (λ t. HasAgain (find (is_point_of job) jobs.points) t job begun) is has.step)
+  started-from (Restarted job initiator code false) deck begun jobs is follow has = tt
+  started-from _ deck begun jobs is follow has = tt
+
   runnable : (event : Event) (deck : Option Job) (begun : Option RunningStep) (jobs : JobsView) (before now : List RunningStepView) → jobs.tables.desk ≡ old → follows layout old event deck ≡ true → HasStarted event jobs begun
-      → GoesOn event (after_event event deck old) before now → AllByRecursion (IsRunnable layout) before → AllByRecursion (IsRunnable layout) now
-  runnable (Started job step items) deck begun jobs before now is follow has goes all = started_runnable job step items deck begun before now follow (subst (λ t. HasStep t job step begun) is has.step) goes all
+      → GoesOn event (after_event event deck old) jobs.points before now → AllByRecursion (IsRunnable layout) before → AllByRecursion (IsRunnable layout) now
+  runnable (Started job step items) deck begun jobs before now is follow has goes all = started_runnable job step items deck begun jobs.points before now follow (subst (λ t. HasStep t job step begun) is has.step) goes all
   runnable (Checkpointed job id taken writes lengths place bytes) deck begun jobs before now is follow has goes all =
       entered-all layout job (check_name_in (after_event (Checkpointed job id taken writes lengths place bytes) deck old) job) (place + records_of bytes) before now goes all
   runnable (Cancelled job) deck begun jobs before now is follow has goes all = subst (AllByRecursion (IsRunnable layout)) (sym goes) (served-runnable layout job before all)
   runnable (StepEnded job step rc writes lengths) deck begun jobs before now is follow has goes all = subst (AllByRecursion (IsRunnable layout)) (sym goes) (all-filtered (IsRunnable layout) _ before all)
-  runnable (Restarted job initiator code checkpoint) deck begun jobs before now is follow has goes all = subst (AllByRecursion (IsRunnable layout)) (sym goes) (all-filtered (IsRunnable layout) _ before all)
+  runnable (Restarted job initiator code true) deck begun jobs before now is follow has goes all =
+      again_runnable job initiator code deck begun jobs.points before now follow (subst (λ t. HasAgain (find (is_point_of job) jobs.points) t job begun) is has.step) goes all
+  runnable (Restarted job initiator code false) deck begun jobs before now is follow has goes all = subst (AllByRecursion (IsRunnable layout)) (sym goes) (all-filtered (IsRunnable layout) _ before all)
   runnable (Ended job ending) deck begun jobs before now is follow has goes all = subst (AllByRecursion (IsRunnable layout)) (sym goes) (all-filtered (IsRunnable layout) _ before all)
   runnable _ deck begun jobs before now is follow has goes all = subst (AllByRecursion (IsRunnable layout)) (sym goes) all
 
@@ -141,19 +199,26 @@ module _ (layout : Layout) (old : TablesModel) (numbered : AreNumbered 1 old.run
 
 -- what holds of the jobs holds behind an event that follows
 pub jobs-behind : (layout : Layout) (old new : JobsView) (event : Event) (deck : Option Job) (begun : Option RunningStep) → AreNumbered 1 old.tables.desk.runs → is_forward_event event ≡ true → IsAnyAccepted event deck → follows layout old.tables.desk event deck ≡ true
-    → HasStarted event old begun → new.tables.desk ≡ after_event event deck old.tables.desk → GoesOn event new.tables.desk old.running new.running → AreJobs layout old → AreJobs layout new
+    → HasStarted event old begun → new.tables.desk ≡ after_event event deck old.tables.desk → GoesOn event new.tables.desk old.points old.running new.running → AreJobs layout old → AreJobs layout new
 jobs-behind layout old new event deck begun numbered plain is follow has tables goes are = record {
   laid = subst (λ (t : TablesModel). AreLaidOut layout t.sets) (sym tables) (laid-behind layout old.tables.desk are.laid event deck plain follow);
   rows = subst (λ (t : TablesModel). AllByRecursion IsAcceptedRow t.runs) (sym tables) (accepted-behind old.tables.desk event deck numbered plain is are.rows);
   placed = subst (λ (t : TablesModel). AllByRecursion IsPlacedRow t.runs) (sym tables) (placed-behind layout old.tables.desk event deck plain follow are.placed);
   running =
-      runnable layout old.tables.desk numbered are.rows are.laid event deck begun old old.running new.running refl follow has
-      (subst (λ (t : TablesModel). GoesOn event t old.running new.running) tables goes) are.running;
+      runnable layout old.tables.desk numbered are.rows are.laid are.placed event deck begun old old.running new.running refl follow has
+      (subst (λ (t : TablesModel). GoesOn event t old.points old.running new.running) tables goes) are.running;
 }
+
+-- the step that goes on from its run's point is prepared by the tables behind the event
+pub started-behind : (layout : Layout) (seen : JobsView) (event : Event) (deck : Option Job) (begun : Option RunningStep) (after : TablesModel) → AreNumbered 1 seen.tables.desk.runs → AreJobs layout seen → follows layout seen.tables.desk event deck ≡ true
+    → HasStarted event seen begun → after ≡ after_event event deck seen.tables.desk → IsStartedFrom event after seen.points begun
+started-behind layout seen event deck begun after numbered are follow has is =
+    subst (λ (t : TablesModel). IsStartedFrom event t seen.points begun) (sym is)
+    (started-from layout seen.tables.desk numbered are.rows are.laid are.placed event deck begun seen refl follow has)
 
 -- the step that is prepared may start, by the tables behind the event
 pub may-run : (layout : Layout) (seen : JobsView) (event : Event) (deck : Option Job) (begun : Option RunningStep) (after : TablesModel) → AreNumbered 1 seen.tables.desk.runs → length seen.tables.desk.runs ≤ 9999999 → AreJobs layout seen → is_forward_event event ≡ true
     → follows layout seen.tables.desk event deck ≡ true → HasStarted event seen begun → after ≡ after_event event deck seen.tables.desk → MayRun event after begun seen.running_room
 may-run layout seen event deck begun after numbered few are plain follow has is =
     subst (λ (t : TablesModel). MayRun event t begun seen.running_room) (sym is)
-    (may layout seen.tables.desk numbered are.rows are.laid event deck begun seen refl plain follow few has)
+    (may layout seen.tables.desk numbered are.rows are.laid are.placed event deck begun seen refl plain follow few has)

@@ -7,6 +7,7 @@ use Rattle.ckr_base.proofs.Numbers.{one-plus}
 use Rattle.ckr_base.proofs.Sequences.{find-holds}
 use Rattle.ckr_volumes.specs.declared.layout.Layout.{Layout}
 use Rattle.ckr_desk_memory.specs.declared.jobs.RunningStep.{RunningStep}
+use Rattle.ckr_desk_memory.proofs.FoundRuns.{find-map}
 use Rattle.ckr_desk_memory.specs.EventChanges.{is_of_run, without_first}
 use Rattle.ckr_desk_memory.specs.Parts.{step_seen}
 use Rattle.ckr_desk_memory.specs.View.{JobsView, RunningStepView}
@@ -55,6 +56,11 @@ module _ (run : ℕ) where
         | true ↦ λ none. absurd (omega (arith, none))
         | false ↦ λ later. ap (λ (rest : List RunningStepView). step_seen on ∷ rest) (none-gone items (omega (arith, later)))
       ] beyond
+
+-- it is seen where it is found
+pub seen-first : (run : ℕ) (items : List RunningStep) (found : Option RunningStep) → found ≡ find (λ (on : RunningStep). on.run == run) items → find (is_of_run run) (map step_seen items) ≡ option_map step_seen found
+seen-first run items found is =
+    find-map step_seen (λ (on : RunningStep). on.run == run) (is_of_run run) (λ on. refl) items ∙ ap (option_map step_seen) (sym is)
 
 -- what holds of all holds of those without the first
 pub all-without : (P : RunningStepView → Type 0) (run : ℕ) (running : List RunningStepView) → AllByRecursion P running → AllByRecursion P (without_first run running)

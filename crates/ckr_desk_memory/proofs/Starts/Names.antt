@@ -3,7 +3,7 @@ use Rattle.std.proofs.Common.{◌≡◌, ◌||◌, ℕ, suc, Bool, true, false, 
 use Rattle.std.proofs.lemmas.Bool.{false≢true}
 use Rattle.std.specs.List.{AllByRecursion, cons_option, filter_map, list_any}
 use Rattle.std.specs.Option.{is_some, option_map}
-use Rattle.ckr_base.proofs.Bools.{bool-cases}
+use Rattle.ckr_base.proofs.Bools.{and-first, and-second, bool-cases}
 use Rattle.ckr_events.specs.declared.event.Made.{Made}
 use Rattle.ckr_jcl.specs.declared.deck.Dd.{Dd}
 use Rattle.ckr_jcl.specs.declared.deck.Status.{Status}
@@ -18,6 +18,7 @@ use Rattle.ckr_meaning.specs.EffectiveJob.{OwnedStep, flaw_in, flaws_in, is_amon
 use Rattle.ckr_points.specs.Tables.{after_started, fresh_table, made_table, made_tables, parts_from}
 use Rattle.ckr_points.specs.Follows.{is_empty}
 use Rattle.ckr_points.specs.Rows.{RunRow, TableSet, TablesModel, standing_of, table_ways}
+use Rattle.ckr_desk_memory.specs.Start.{has_sets}
 
 abbrev Has : Named TableSet → Name → Type 0
 Has sets name = is_some (entry_at sets name) ≡ true
@@ -143,3 +144,11 @@ names-there tables row owned step items none name among =
     (λ one has. opened_all_has (stamp_of owned step) placed tables.sets one has) (empty-none (flaws_in placed) none)
     (placed_there (standing_of row tables) row.job.root owned 1 owned.step.dds) name
     (placed_names (standing_of row tables) row.job.root owned 1 owned.step.dds name ∙ among)
+
+-- where all names are there, so is one among them
+pub has-among : (sets : Named TableSet) (names : List Name) (name : Name) → has_sets sets names ≡ true → is_among names name ≡ true → is_some (entry_at sets name) ≡ true
+has-among sets [] name has among = absurd (false≢true among)
+has-among sets (first ∷ rest) name has among =
+    bool-cases (same_name name first)
+    (λ same. ap (λ n. is_some (entry_at sets n)) (name-same name first same) ∙ and-first (is_some (entry_at sets first)) _ has)
+    (λ apart. has-among sets rest name (and-second (is_some (entry_at sets first)) _ has) (sym (ap (λ b. b || is_among rest name) apart) ∙ among))

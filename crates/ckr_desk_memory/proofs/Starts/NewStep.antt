@@ -1,50 +1,133 @@
 -- A step has started: it is running before the others.
-use Rattle.std.proofs.Common.{◌≡◌, ◌==◌, ℕ, not, filter, List, [], ◌∷◌, map, ap, sym, ◌∙◌, subst, None, Some}
+use Rattle.std.proofs.Common.{◌≡◌, ◌==◌, ◌&&◌, ℕ, Bool, true, false, not, filter, List, [], ◌∷◌, map, refl, ap, sym, ◌∙◌, subst, Option, None, Some}
+use Rattle.std.proofs.lemmas.Option.{same_Some}
 use Rattle.std.specs.List.{AllByRecursion}
-use Rattle.std.specs.Option.{option_map}
+use Rattle.std.specs.Prelude.{if◌then◌else◌}
+use Rattle.std.specs.List.{cons_option, filter_map}
+use Rattle.std.specs.Option.{is_some, option_map}
 use Rattle.ckr_base.proofs.Options.{some-not-none}
 use Rattle.ckr_points_library.specs.Holdings.{owned}
+use Rattle.ckr_jcl.specs.declared.deck.Dd.{Dd}
 use Rattle.ckr_jcl.specs.declared.deck.Step.{Step}
 use Rattle.ckr_library.specs.Catalog.{Catalog, Holding}
-use Rattle.ckr_library.specs.NameMaps.{Named}
-use Rattle.ckr_meaning.specs.EffectiveJob.{OwnedStep, name_of}
-use Rattle.ckr_points.specs.Rows.{RunRow, TablesModel, holding_of, run_of, step_of_run}
+use Rattle.ckr_library.specs.NameMaps.{Name, Named, entry_at}
+use Rattle.ckr_library.proofs.Named.{at-viewed}
+use Rattle.ckr_meaning.specs.EffectiveJob.{OwnedStep, name_of, names_of}
+use Rattle.ckr_points.specs.Follows.{own_step}
+use Rattle.ckr_points.specs.Restart.{place_of, step_in}
+use Rattle.ckr_points.specs.Rows.{RunRow, TableSet, TablesModel, holding_of, run_of, step_of_run}
 use Rattle.ckr_points_tables.specs.declared.run_table.RunTable.{RunTable}
 use Rattle.ckr_points_tables.specs.View.{facts_in, facts_of, seen_by}
+use Rattle.ckr_steps.specs.declared.step_run.StepRun.{StepRun}
 use Rattle.ckr_desk_turn.specs.Queue.{AreNumbered}
 use Rattle.ckr_desk_memory.specs.declared.jobs.RunningStep.{RunningStep}
 use Rattle.ckr_desk_memory.specs.Invariant.{IsAcceptedRow}
 use Rattle.ckr_desk_memory.specs.Parts.{step_seen}
-use Rattle.ckr_desk_memory.specs.Preparation.{HasStep}
-use Rattle.ckr_desk_memory.specs.View.{RunningStepView}
-use Rattle.ckr_desk_memory.specs.Start.{HasNew, with_all_taken}
-use Rattle.ckr_desk_memory.proofs.Starts.Steps.{IsStepAt, begun-of, no-step, owned-is}
+use Rattle.ckr_desk_memory.specs.Preparation.{HasAgain, HasStep, IsEmpty}
+use Rattle.ckr_desk_memory.specs.EventChanges.{without_run}
+use Rattle.ckr_desk_memory.specs.View.{PointView, RunningStepView}
+use Rattle.ckr_desk_memory.specs.RunningSteps.{GoesFrom, StepGoesBack, StepStarts}
+use Rattle.ckr_desk_memory.specs.Start.{HasNew, has_all, has_any, has_sets, with_all_taken}
+use Rattle.ckr_desk_memory.proofs.Starts.Steps.{IsNumberOf, IsStepAt, number-in, own-found, owned-is}
 use Rattle.ckr_desk_memory.proofs.Invariant.{seen-without}
 use Rattle.ckr_desk_memory.proofs.SetCopies.{taken-sets}
 
--- where there is no such step, none starts
-pub none-new : (tables : TablesModel) (job step : ℕ) (table : RunTable) (old new : List RunningStepView) → AllByRecursion IsAcceptedRow tables.runs → option_map facts_of (Some table) ≡ option_map facts_in (run_of tables job) → IsStepAt table.job step None
-    → (row : RunRow) (owned : OwnedStep) → run_of tables job ≡ Some row → step_of_run row step ≡ Some owned → HasNew job owned tables.sets old new
-none-new tables job step table old new rows seen is row owned at there =
-    let its = no-step tables job step table rows seen is row owned at there in
-    absurd (some-not-none its.0 (sym its.1))
-
 module _ (tables : TablesModel) (job step : ℕ) (table : RunTable) (own : Step) (on : RunningStep) where
   pub has-new : (sets : Catalog) (from : Named Holding) (before after : List RunningStep) → AreNumbered 1 tables.runs → AllByRecursion IsAcceptedRow tables.runs
-      → option_map facts_of (Some table) ≡ option_map facts_in (run_of tables job) → IsStepAt table.job step (Some own) → HasStep tables job step (Some on)
+      → option_map facts_of (Some table) ≡ option_map facts_in (run_of tables job) → IsStepAt table.job step (Some own) → IsEmpty job on
       → from ≡ seen_by holding_of tables.sets → sets.sets ≡ with_all_taken (name_of job (owned own job [])) from own.dds on.sets.sets
       → after ≡ record on { sets = sets } ∷ filter (λ (other : RunningStep). not (other.run == job)) before
-      → (row : RunRow) (owned : OwnedStep) → run_of tables job ≡ Some row → step_of_run row step ≡ Some owned → HasNew job owned tables.sets (map step_seen before) (map step_seen after)
-  has-new sets from before after numbered rows seen is has from_is sets_is after_is row its at there =
-      let begun = begun-of tables job step table own on rows seen is has in
-      subst (λ (o : OwnedStep). HasNew job o tables.sets (map step_seen before) (map step_seen after))
+      → (row : RunRow) (owned : OwnedStep) → run_of tables job ≡ Some row → step_of_run row step ≡ Some owned → HasNew job owned on.step tables.sets (map step_seen before) (map step_seen after)
+  has-new sets from before after numbered rows seen is empty from_is sets_is after_is row its at there =
+      subst (λ (o : OwnedStep). HasNew job o on.step tables.sets (map step_seen before) (map step_seen after))
       (sym (owned-is tables job step table own numbered rows seen is row its at there))
       (record {
         on = step_seen (record on { sets = sets });
         first =
             ap (map step_seen) after_is
             ∙ ap (λ (others : List RunningStepView). step_seen (record on { sets = sets }) ∷ others) (seen-without job before);
-        run = begun.run;
-        step = begun.step;
-        sets = taken-sets (name_of job (owned own job [])) own.dds tables.sets from sets from_is (sets_is ∙ ap (with_all_taken (name_of job (owned own job [])) from own.dds) begun.empty);
+        run = empty.run;
+        step = refl;
+        sets = taken-sets (name_of job (owned own job [])) own.dds tables.sets from sets from_is (sets_is ∙ ap (with_all_taken (name_of job (owned own job [])) from own.dds) empty.empty);
       })
+
+-- ---- the step that a run is in
+
+-- whether the tables have its data sets, as a library shows them
+seen-has : (sets : Named TableSet) (name : Name) → is_some (entry_at (seen_by holding_of sets) name) ≡ is_some (entry_at sets name)
+seen-has sets name = ap is_some (at-viewed holding_of sets name) ∙ by (entry_at sets name)
+  where
+    by : (entry : Option TableSet) → is_some (option_map holding_of entry) ≡ is_some entry
+    by None = refl
+    by (Some table) = refl
+
+has-all : (sets : Named TableSet) (name : Dd → Option Name) (dds : List Dd) → has_all name (seen_by holding_of sets) dds ≡ has_sets sets (filter_map name dds)
+has-all sets name [] = refl
+has-all sets name (dd ∷ dds) = by (name dd) (has-all sets name dds)
+  where
+    by : (named : Option Name) → has_all name (seen_by holding_of sets) dds ≡ has_sets sets (filter_map name dds)
+        → (has_any (seen_by holding_of sets) named && has_all name (seen_by holding_of sets) dds) ≡ has_sets sets (cons_option named (filter_map name dds))
+    by None same = same
+    by (Some one) same = ap (λ b. b && has_all name (seen_by holding_of sets) dds) (seen-has sets one) ∙ ap (λ b. is_some (entry_at sets one) && b) same
+
+-- so it is found, and its number
+pub found-there : (tables : TablesModel) (job step : ℕ) (table : RunTable) (own : Step) (from : Named Holding) (there : Bool) → AreNumbered 1 tables.runs → AllByRecursion IsAcceptedRow tables.runs → option_map facts_of (Some table) ≡ option_map facts_in (run_of tables job)
+    → IsStepAt table.job step (Some own) → IsNumberOf table step → from ≡ seen_by holding_of tables.sets → there ≡ has_all (name_of job (owned own job [])) from own.dds
+    → (row : RunRow) (owned : OwnedStep) → run_of tables job ≡ Some row → own_step row ≡ Some owned → (if there then Some step else None) ≡ (if has_sets tables.sets (names_of job owned) then Some (step_in (place_of row)) else None)
+found-there tables job step table own from there numbered rows seen is number from_is there_is row its at found =
+    let same = owned-is tables job step table own numbered rows seen is row its at (own-found tables job step table seen number row its at found) in
+    ap (λ n. if there then Some n else None) (number-in tables job step table seen number row at)
+    ∙ ap (λ b. if b then Some (step_in (place_of row)) else None)
+    (there_is ∙ ap (λ sets. has_all (name_of job (owned own job [])) sets own.dds) from_is ∙ has-all tables.sets (name_of job (owned own job [])) own.dds ∙ ap (λ (o : OwnedStep). has_sets tables.sets (names_of job o)) (sym same))
+
+-- what its number says of its data sets
+pub is-there : (has : Bool) (number step : ℕ) → Some step ≡ (if has then Some number else None) → (has ≡ true) × (step ≡ number)
+is-there true number step is = (refl, same_Some step number is)
+is-there false number step is = absurd (some-not-none step is)
+
+pub isnt-there : (has : Bool) (number : ℕ) → None ≡ (if has then Some number else None) → has ≡ false
+isnt-there true number is = absurd (some-not-none number (sym is))
+isnt-there false number is = refl
+
+-- ---- as it was prepared
+
+-- at its beginning
+pub starts-prepared : (tables : TablesModel) (job step : ℕ) (old new : List RunningStepView) (begun : Option RunningStep) (on : RunningStep) → begun ≡ Some on → HasStep tables job step begun
+    → ((row : RunRow) (owned : OwnedStep) → run_of tables job ≡ Some row → step_of_run row step ≡ Some owned → HasNew job owned on.step tables.sets old new) → StepStarts job step tables old new
+starts-prepared tables job step old new begun on is has goes row owned at there =
+    let prepared = has row owned at there in
+    let same : on.step ≡ prepared.0.step = ap (λ (o : RunningStep). o.step) (same_Some _ _ (sym is ∙ prepared.1)) in
+    subst (λ (place : StepRun). HasNew job owned place tables.sets old new) (same ∙ prepared.2.step) (goes row owned at there)
+
+-- none is prepared exactly where there is none to start
+pub starts-none : (tables : TablesModel) (job step : ℕ) (old new : List RunningStepView) (begun : Option RunningStep) → begun ≡ None → HasStep tables job step begun → StepStarts job step tables old new
+starts-none tables job step old new begun none has row owned at there =
+    let prepared = has row owned at there in absurd (some-not-none prepared.0 (sym prepared.1 ∙ none))
+
+-- ---- as a run goes on from its point
+
+module _ (tables : TablesModel) (job : ℕ) (old new : List RunningStepView) where
+  -- none is prepared where no point is known, or where the run is in no step
+  pub again-none : (point : Option PointView) (again : Option RunningStep) → again ≡ None → HasAgain point tables job again → new ≡ without_run job old → StepGoesBack point job tables old new
+  again-none None again none has leaves = leaves
+  again-none (Some point) again none has leaves = λ row owned at found.
+      let prepared = has row owned at found in absurd (some-not-none prepared.0 (sym prepared.1 ∙ none))
+
+  -- the tables don't have all its data sets
+  pub again-left : (on : RunningStep) (point : Option PointView) (again : Option RunningStep) → again ≡ Some on → HasAgain point tables job again → new ≡ without_run job old
+      → ((row : RunRow) (owned : OwnedStep) → run_of tables job ≡ Some row → own_step row ≡ Some owned → has_sets tables.sets (names_of job owned) ≡ false) → StepGoesBack point job tables old new
+  again-left on None again is has leaves lacks = leaves
+  again-left on (Some point) again is has leaves lacks = λ row owned at found.
+      subst (λ b. GoesFrom b job owned point tables old new) (sym (lacks row owned at found)) leaves
+
+  -- they have, and it goes on from there
+  pub again-some : (on : RunningStep) (point : Option PointView) (again : Option RunningStep) → again ≡ Some on → HasAgain point tables job again
+      → ((row : RunRow) (owned : OwnedStep) → run_of tables job ≡ Some row → own_step row ≡ Some owned → (has_sets tables.sets (names_of job owned) ≡ true) × HasNew job owned on.step tables.sets old new)
+      → StepGoesBack point job tables old new
+  again-some on None again is has goes = absurd (some-not-none on (sym is ∙ has))
+  again-some on (Some point) again is has goes = λ row owned at found.
+      let prepared = has row owned at found in
+      let gone = goes row owned at found in
+      let same : on.step ≡ prepared.0.step = ap (λ (o : RunningStep). o.step) (same_Some _ _ (sym is ∙ prepared.1)) in
+      subst (λ b. GoesFrom b job owned point tables old new) (sym gone.0)
+      (subst (λ (place : StepRun). HasNew job owned place tables.sets old new) (same ∙ prepared.2.step) gone.1)

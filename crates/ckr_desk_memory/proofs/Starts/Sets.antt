@@ -131,6 +131,30 @@ few_second : (job : ℕ) (owned : OwnedStep) → IsStepFew 100000 owned.step →
 unfolding files_of
 few_second job owned few = few_of_input job owned.owner owned.step 1 few
 
+-- a running step can go on whose data sets the tables have
+pub runnable-at : (layout : Layout) (tables : TablesModel) (job step : ℕ) (row : RunRow) (owned : OwnedStep) (on : RunningStepView) (after : Named TableSet) → AreNumbered 1 tables.runs → AllByRecursion IsAcceptedRow tables.runs
+    → run_of tables job ≡ Some row → step_of_run row step ≡ Some owned → AreLaidOut layout after → on.step.files ≡ files_of job job owned.step → AreCounted on.step
+    → ((name : Name) → is_among (names_of job owned) name ≡ true → is_some (entry_at after name) ≡ true)
+    → ((name : Name) → set_of on.sets name ≡ cond (is_among (names_of job owned) name) (set_in_tables after name) None)
+    → IsRunnable layout on
+runnable-at layout tables job step row owned on after numbered rows at there laid is counted kept has =
+    let own = is_own tables job step row owned numbered rows at there in
+    let start : StepStart = record { root = job; owned = owned; number = step; standing = record { sets = []; passed = [] }; earlier = [] } in
+    let names : (name : Name) → is_among (names_of job owned) name ≡ true → (set : DataSet) × (set_of on.sets name ≡ Some set) =
+    λ name among.
+    let set = set_there after name (kept name among) in
+    (set.0, has name ∙ ap (λ b. cond b (set_in_tables after name) None) among ∙ set.1) in
+    let first : HasFewCards (files_at start).first = few_first job owned own.few in
+    let second : HasFewCards (files_at start).second = few_second job owned own.few in
+    record {
+      stored = are-stored layout after on.sets (is_among (names_of job owned)) laid has;
+      there =
+          subst (λ files. AreThere files on.sets)
+          (ap (λ n. files_of job n owned.step) own.owner ∙ sym is)
+          (are-there start on.sets names own.distinct first second);
+      counted = counted;
+    }
+
 -- a step that has started can go on
 pub is-runnable : (layout : Layout) (tables : TablesModel) (job step : ℕ) (items : ArrayVec Made) (deck : Option Job) (row : RunRow) (owned : OwnedStep) (on : RunningStepView) → AreNumbered 1 tables.runs → AllByRecursion IsAcceptedRow tables.runs
     → run_of tables job ≡ Some row → step_of_run row step ≡ Some owned → started_follows layout tables step items.items row ≡ true → AreLaidOut layout (after_event (Started job step items) deck tables).sets
@@ -140,20 +164,7 @@ pub is-runnable : (layout : Layout) (tables : TablesModel) (job step : ℕ) (ite
 is-runnable layout tables job step items deck row owned on numbered rows at there follow laid is counted has =
     let own = is_own tables job step row owned numbered rows at there in
     let after : Named TableSet = (after_event (Started job step items) deck tables).sets in
-    let start : StepStart = record { root = job; owned = owned; number = step; standing = record { sets = []; passed = [] }; earlier = [] } in
-    let names : (name : Name) → is_among (names_of job owned) name ≡ true → (set : DataSet) × (set_of on.sets name ≡ Some set) =
-    λ name among.
-    let kept = subst (λ (t : TablesModel). is_some (entry_at t.sets name) ≡ true) (sym (behind_start tables job step items deck row owned at there))
-    (names-there tables row owned step items.items (no_flaws layout tables step items.items row owned follow there) name (ap (λ n. is_among (names_of n owned) name) own.root ∙ among)) in
-    let set = set_there after name kept in
-    (set.0, has name ∙ ap (λ b. cond b (set_in_tables after name) None) among ∙ set.1) in
-    let first : HasFewCards (files_at start).first = few_first job owned own.few in
-    let second : HasFewCards (files_at start).second = few_second job owned own.few in
-    record {
-      stored = are-stored layout after on.sets (is_among (names_of job owned)) laid has;
-      there =
-          subst (λ files. AreThere files on.sets)
-          (ap (λ n. files_of job n owned.step) own.owner ∙ sym (ap (λ (s : StepRun). s.files) is))
-          (are-there start on.sets names own.distinct first second);
-      counted = counted;
-    }
+    runnable-at layout tables job step row owned on after numbered rows at there laid (ap (λ (s : StepRun). s.files) is) counted
+    (λ name among.
+    subst (λ (t : TablesModel). is_some (entry_at t.sets name) ≡ true) (sym (behind_start tables job step items deck row owned at there))
+    (names-there tables row owned step items.items (no_flaws layout tables step items.items row owned follow there) name (ap (λ n. is_among (names_of n owned) name) own.root ∙ among))) has

@@ -1,18 +1,24 @@
 -- The step of a run that starts.
-use Rattle.std.proofs.Common.{◌≡◌, ◌≤◌, ◌<◌, ℕ, zero, suc, List, [], ◌∷◌, map, slice_get, refl, ap, sym, ◌∙◌, subst, Option, None, Some, length}
+use Rattle.std.proofs.Common.{◌≡◌, ◌≤◌, ◌<◌, ℕ, zero, suc, true, List, [], ◌∷◌, map, slice_get, refl, ap, sym, ◌∙◌, subst, Option, None, Some, length}
 use Rattle.std.proofs.lemmas.Option.{same_Some}
 use Rattle.std.specs.List.{AllByRecursion}
-use Rattle.std.specs.Option.{option_map}
+use Rattle.std.specs.Prelude.{IfSome, find}
+use Rattle.std.specs.Option.{option_map, option_map_or}
 use Rattle.ckr_base.proofs.Options.{some-not-none}
 use Rattle.arrayvec.specs.ArrayVec.{ArrayVec}
+use Rattle.ckr_base.specs.declared.code.Code.{Code}
 use Rattle.ckr_events.specs.declared.event.Event.{Event}
-use Rattle.ckr_events.specs.declared.event.Event.TheVariants.{Started}
+use Rattle.ckr_events.specs.declared.event.Event.TheVariants.{Checkpointed, Restarted, Started}
 use Rattle.ckr_events.specs.declared.event.Made.{Made}
 use Rattle.ckr_jcl.specs.declared.deck.Job.{Job}
 use Rattle.ckr_jcl.specs.declared.deck.Step.{Step}
 use Rattle.ckr_library.specs.declared.uses.Use.{Use}
+use Rattle.ckr_library.specs.NameMaps.{Name}
 use Rattle.ckr_meaning.specs.EffectiveJob.{Effective, OwnedStep, owned_by, plain_job, step_at}
+use Rattle.ckr_meaning.specs.declared.place.Place.TheVariants.{Before}
 use Rattle.ckr_programs.specs.Ranges.{IsInRange}
+use Rattle.ckr_points.specs.Follows.{own_step as own_step_of}
+use Rattle.ckr_points.specs.Restart.{place_of, step_in}
 use Rattle.ckr_points.specs.Rows.{RunRow, TablesModel, run_of, step_of_run}
 use Rattle.ckr_points_decks.specs.DeckLimits.{IsWithinLimits}
 use Rattle.ckr_points_decks.proofs.DeckLimits.{steps_within}
@@ -23,9 +29,10 @@ use Rattle.ckr_desk_turn.specs.Queue.{AreNumbered}
 use Rattle.ckr_desk_turn.proofs.Queue.Events.{run_number}
 use Rattle.ckr_desk_memory.specs.declared.jobs.RunningStep.{RunningStep}
 use Rattle.ckr_desk_memory.specs.Invariant.{IsAcceptedRow}
-use Rattle.ckr_desk_memory.specs.EventChanges.{HasUses}
-use Rattle.ckr_desk_memory.specs.Preparation.{HasQueueRoom, HasStarted, HasStep, IsBegun, IsPrepared}
-use Rattle.ckr_desk_memory.specs.View.{JobsView}
+use Rattle.ckr_desk_memory.specs.EventChanges.{HasUses, is_point_of}
+use Rattle.ckr_desk_memory.specs.Preparation.{HasAgain, HasPointRoom, HasQueueRoom, HasStarted, HasStep, IsEmpty, IsPrepared, StandsEmpty}
+use Rattle.ckr_desk_memory.specs.Plans.{row_for}
+use Rattle.ckr_desk_memory.specs.View.{JobsView, PointView, begun, resumed}
 
 -- a row among rows
 pub row-among : (P : RunRow → Type 0) (tables : TablesModel) (job : ℕ) (row : RunRow) → AllByRecursion P tables.runs → run_of tables job ≡ Some row → P row
@@ -81,24 +88,82 @@ own_step tables job step table found rows seen is row at =
     ap (λ (j : Effective). step_at j step) (accepted.plain ∙ ap (plain_job row.number) deck) ∙ sym (is row.number)
 
 pub has-step : (tables : TablesModel) (job step : ℕ) (table : RunTable) (own : Step) (on : RunningStep) → AllByRecursion IsAcceptedRow tables.runs → option_map facts_of (Some table) ≡ option_map facts_in (run_of tables job) → IsStepAt table.job step (Some own)
-    → IsBegun job own on → HasStep tables job step (Some on)
-has-step tables job step table own on rows seen is begun = λ row owned at there.
-    (on, refl, subst (λ (o : OwnedStep). IsBegun job o.step on) (same_Some _ _ (sym (own_step tables job step table (Some own) rows seen is row at) ∙ there)) begun)
+    → StandsEmpty job (begun job own) on → HasStep tables job step (Some on)
+has-step tables job step table own on rows seen is stands = λ row owned at there.
+    (on, refl, subst (λ (o : OwnedStep). StandsEmpty job (begun job o.step) on) (same_Some _ _ (sym (own_step tables job step table (Some own) rows seen is row at) ∙ there)) stands)
 
 pub no-step : (tables : TablesModel) (job step : ℕ) (table : RunTable) → AllByRecursion IsAcceptedRow tables.runs → option_map facts_of (Some table) ≡ option_map facts_in (run_of tables job) → IsStepAt table.job step None → HasStep tables job step None
 no-step tables job step table rows seen is = λ row owned at there. absurd (some-not-none owned (sym (sym (own_step tables job step table None rows seen is row at) ∙ there)))
 
+-- where there is no such step, none starts
+pub none-starts : {A : Type 0} (tables : TablesModel) (job step : ℕ) (table : RunTable) → AllByRecursion IsAcceptedRow tables.runs → option_map facts_of (Some table) ≡ option_map facts_in (run_of tables job) → IsStepAt table.job step None
+    → (row : RunRow) (owned : OwnedStep) → run_of tables job ≡ Some row → step_of_run row step ≡ Some owned → A
+none-starts tables job step table rows seen is row owned at there = absurd (some-not-none owned (sym (sym (own_step tables job step table None rows seen is row at) ∙ there)))
+
 pub no-run : (tables : TablesModel) (job step : ℕ) (found : Option RunTable) → found ≡ None → option_map facts_of found ≡ option_map facts_in (run_of tables job) → HasStep tables job step None
 no-run tables job step found none seen = λ row owned at there. absurd (some-not-none _ (sym (sym (ap (option_map facts_of) none) ∙ seen ∙ ap (option_map facts_in) at)))
 
--- the memory for a step that starts
+-- ---- the step that a run is in
+
+-- its number, by what the tables keep of the run
+abbrev pub IsNumberOf : RunTable → ℕ → Type 0
+IsNumberOf table step = (run : ℕ) → step ≡ step_in (place_of (row_for run table))
+
+pub number-in : (tables : TablesModel) (job step : ℕ) (table : RunTable) → option_map facts_of (Some table) ≡ option_map facts_in (run_of tables job) → IsNumberOf table step → (row : RunRow) → run_of tables job ≡ Some row → step ≡ step_in (place_of row)
+number-in tables job step table seen is row at =
+    is job ∙ ap (λ (f : RunTableView). step_in (option_map_or (λ place. place) f.place (Before 1))) (same_Some _ _ (seen ∙ ap (option_map facts_in) at))
+
+-- the step that a run is in is found by that
+pub own-found : (tables : TablesModel) (job step : ℕ) (table : RunTable) → option_map facts_of (Some table) ≡ option_map facts_in (run_of tables job) → IsNumberOf table step → (row : RunRow) (owned : OwnedStep) → run_of tables job ≡ Some row → own_step_of row ≡ Some owned → step_of_run row step ≡ Some owned
+own-found tables job step table seen is row owned at there = ap (step_of_run row) (number-in tables job step table seen is row at) ∙ there
+
+pub has-again : (tables : TablesModel) (job step : ℕ) (table : RunTable) (own : Step) (point : PointView) (on : RunningStep) → AllByRecursion IsAcceptedRow tables.runs → option_map facts_of (Some table) ≡ option_map facts_in (run_of tables job) → IsStepAt table.job step (Some own) → IsNumberOf table step
+    → StandsEmpty job (resumed job own point) on → HasAgain (Some point) tables job (Some on)
+has-again tables job step table own point on rows seen is number stands = λ row owned at there.
+    (on, refl, subst (λ (o : OwnedStep). StandsEmpty job (resumed job o.step point) on) (same_Some _ _ (sym (own_step tables job step table (Some own) rows seen is row at) ∙ own-found tables job step table seen number row owned at there)) stands)
+
+pub no-again-step : (tables : TablesModel) (job step : ℕ) (table : RunTable) (point : PointView) → AllByRecursion IsAcceptedRow tables.runs → option_map facts_of (Some table) ≡ option_map facts_in (run_of tables job) → IsStepAt table.job step None → IsNumberOf table step
+    → HasAgain (Some point) tables job None
+no-again-step tables job step table point rows seen is number = λ row owned at there.
+    none-starts tables job step table rows seen is row owned at (own-found tables job step table seen number row owned at there)
+
+pub no-again-run : (tables : TablesModel) (job : ℕ) (point : PointView) → None ≡ option_map facts_in (run_of tables job) → HasAgain (Some point) tables job None
+no-again-run tables job point seen = λ row owned at there. absurd (some-not-none _ (sym (seen ∙ ap (option_map facts_in) at)))
+
+-- ---- the memory for a step
+
+-- for one that starts
 pub prepared-start : (jobs : JobsView) (event : Event) (deck : Option Job) (job step : ℕ) (items : ArrayVec Made) (uses : Option (List Use)) (prepared : Option RunningStep) → event ≡ Started job step items
-    → HasRoom jobs.tables event → HasQueueRoom event jobs.queue_room → HasUses event deck uses → 0 < jobs.running_room → HasStep jobs.tables.desk job step prepared → IsPrepared jobs event deck (record { uses = uses; step = prepared })
-prepared-start jobs event deck job step items uses prepared is tables queue its room has = record {
+    → HasRoom jobs.tables event → HasQueueRoom event jobs.queue_room → HasUses event deck uses → 0 < jobs.running_room → IfSome prepared (IsEmpty job) → HasStep jobs.tables.desk job step prepared → IsPrepared jobs event deck (record { uses = uses; step = prepared })
+prepared-start jobs event deck job step items uses prepared is tables queue its room empty has = record {
   tables = tables;
   queue = queue;
   uses = its;
-  started = subst (λ (e : Event). HasStarted e jobs prepared) (sym is) (record { room = room; step = has });
+  started = subst (λ (e : Event). HasStarted e jobs prepared) (sym is) (record { room = room; empty = empty; step = has });
+  points = subst (λ (e : Event). HasPointRoom e jobs.points_room) (sym is) tt;
+}
+
+-- for one that goes on from its run's point
+pub prepared-again : (jobs : JobsView) (event : Event) (deck : Option Job) (job initiator : ℕ) (code : Code) (uses : Option (List Use)) (prepared : Option RunningStep) → event ≡ Restarted job initiator code true
+    → HasRoom jobs.tables event → HasQueueRoom event jobs.queue_room → HasUses event deck uses → 0 < jobs.running_room → IfSome prepared (IsEmpty job) → HasAgain (find (is_point_of job) jobs.points) jobs.tables.desk job prepared
+    → IsPrepared jobs event deck (record { uses = uses; step = prepared })
+prepared-again jobs event deck job initiator code uses prepared is tables queue its room empty has = record {
+  tables = tables;
+  queue = queue;
+  uses = its;
+  started = subst (λ (e : Event). HasStarted e jobs prepared) (sym is) (record { room = room; empty = empty; step = has });
+  points = subst (λ (e : Event). HasPointRoom e jobs.points_room) (sym is) tt;
+}
+
+-- for the point of a checkpoint
+pub prepared-point : (jobs : JobsView) (event : Event) (deck : Option Job) (job taken writes place bytes : ℕ) (id : Name) (lengths : ArrayVec ℕ) (uses : Option (List Use)) → event ≡ Checkpointed job id taken writes lengths place bytes
+    → HasRoom jobs.tables event → HasQueueRoom event jobs.queue_room → HasUses event deck uses → 0 < jobs.points_room → IsPrepared jobs event deck (record { uses = uses; step = None })
+prepared-point jobs event deck job taken writes place bytes id lengths uses is tables queue its room = record {
+  tables = tables;
+  queue = queue;
+  uses = its;
+  started = subst (λ (e : Event). HasStarted e jobs None) (sym is) tt;
+  points = subst (λ (e : Event). HasPointRoom e jobs.points_room) (sym is) room;
 }
 
 -- ---- a step that was prepared
@@ -110,14 +175,6 @@ few-dds tables job step table own rows seen is =
     let accepted = row-among IsAcceptedRow tables job its.row rows its.at in
     let within = subst (λ (d : Job). AllByRecursion IsWithinLimits d.steps) (sym its.deck) (steps_within accepted.cards its.row.deck accepted.accepted) in
     (step-among IsWithinLimits 0 table.job step (owned_by 0 table.job own) within (sym (is 0))).few_dds
-
--- it is the step of the run
-pub begun-of : (tables : TablesModel) (job step : ℕ) (table : RunTable) (own : Step) (on : RunningStep) → AllByRecursion IsAcceptedRow tables.runs → option_map facts_of (Some table) ≡ option_map facts_in (run_of tables job) → IsStepAt table.job step (Some own)
-    → HasStep tables job step (Some on) → IsBegun job own on
-begun-of tables job step table own on rows seen is has =
-    let its = row_of_table tables job table seen in
-    let prepared = has its.row (owned_by its.row.number table.job own) its.at (own_step tables job step table (Some own) rows seen is its.row its.at) in
-    subst (λ (o : RunningStep). IsBegun job own o) (sym (same_Some _ _ prepared.1)) prepared.2
 
 -- the step of a run, with the run that owns it
 pub owned-is : (tables : TablesModel) (job step : ℕ) (table : RunTable) (own : Step) → AreNumbered 1 tables.runs → AllByRecursion IsAcceptedRow tables.runs → option_map facts_of (Some table) ≡ option_map facts_in (run_of tables job) → IsStepAt table.job step (Some own)

@@ -1,6 +1,4 @@
-use Rattle.std.proofs.Common.{◌≡◌, sym, subst}
-use Rattle.ckr_entry.specs.Numbers.{given}
-use Rattle.ckr_entry.specs.Sets.{present}
+use Rattle.std.proofs.Common.{sym, subst}
 use Rattle.ckr_fields.specs.Fields.{ds_name}
 use Rattle.ckr_desk_memory.proofs.EntryTypes.{ds_name-fits}
 use Rattle.ckr_desk_memory.proofs.entry_marks.copy_of_mark.Goals as goal

@@ -1,9 +1,8 @@
-use Rattle.std.proofs.Common.{◌≡◌, [], ◌∷◌, ◌++◌, IsTrue, arith, sym, subst, ◌∙◌}
+use Rattle.std.proofs.Common.{[], ◌∷◌, IsTrue, arith, sym, subst, ◌∙◌}
 use Rattle.std.proofs.lemmas.Grind.{common_steps}
 use Rattle.std.proofs.lemmas.List.{take_all}
 use Rattle.std.specs.List.{AllByRecursion}
 use Rattle.ckr_base.proofs.Sequences.{each-append}
-use Rattle.ckr_entry.specs.declared.point.Mark.{Mark}
 use Rattle.ckr_points_tables.specs.MarkOrder.{are_in_order}
 use Rattle.ckr_desk_memory.specs.EntryTypes.{IsTypedMark}
 use Rattle.ckr_desk_memory.proofs.entry_marks.marks_of.Goals as goal

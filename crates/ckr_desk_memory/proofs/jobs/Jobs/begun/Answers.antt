@@ -12,15 +12,15 @@ begin_step-requires-clause-parm c =
     (subst (λ (j : JobsView). AllByRecursion IsAcceptedRow j.tables.desk.runs) (sym c.self.view_is) c.requires)
     c.in-Some.ensures c.in-Some-step_at.ensures
 
-pub returns-in_ok-begin_step-in-Some-step_at : goal.returns-in_ok-begin_step-in-Some-step_at
-returns-in_ok-begin_step-in-Some-step_at c =
+pub returns-in_ok-begin_step-in-Some-step_at-clause-step : goal.returns-in_ok-begin_step-in-Some-step_at-clause-step
+returns-in_ok-begin_step-in-Some-step_at-clause-step c =
     subst (λ (j : JobsView). HasStep j.tables.desk c.args.job c.args.step (Some c.in_ok-begin_step-in-Some-step_at.field-0)) c.self.view_is
     (has-step c.self.inside.tables.desk c.args.job c.args.step c.in-Some.table.now c.in-Some-step_at.own.now c.in_ok-begin_step-in-Some-step_at.field-0
     (subst (λ (j : JobsView). AllByRecursion IsAcceptedRow j.tables.desk.runs) (sym c.self.view_is) c.requires)
     c.in-Some.ensures c.in-Some-step_at.ensures c.in_ok-begin_step-in-Some-step_at.ensures)
 
-pub returns-in-None : goal.returns-in-None
-returns-in-None c =
+pub returns-in-None-clause-step : goal.returns-in-None-clause-step
+returns-in-None-clause-step c =
     subst (λ (j : JobsView). HasStep j.tables.desk c.args.job c.args.step None) c.self.view_is
     (no-step c.self.inside.tables.desk c.args.job c.args.step c.in-Some.table.now
     (subst (λ (j : JobsView). AllByRecursion IsAcceptedRow j.tables.desk.runs) (sym c.self.view_is) c.requires)

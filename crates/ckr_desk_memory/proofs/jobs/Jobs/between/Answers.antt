@@ -18,7 +18,7 @@ use Rattle.ckr_desk_memory.proofs.jobs.Jobs.between.Goals as goal
 pub returns-in_default-clause-plan : goal.returns-in_default-clause-plan
 returns-in_default-clause-plan c = λ row at.
     let desk = ap (λ v. v.tables.desk) c.self.view_is in
-    let number = run_number c.args.self.now.tables.desk c.args.job row (subst (λ tables. AreNumbered 1 tables.runs) desk c.self.invariant.numbered) at in
+    let number = run_number c.args.self.now.tables.desk c.args.job row (subst (λ tables. AreNumbered 1 tables.runs) desk c.self.invariant.queued.numbered) at in
     ap (Tell (JobEnded c.args.job Completed)) c.completed_event.ensures.event
     ∙ ap (λ n. Tell (JobEnded n Completed) (EndedEvent n CompletedEnding)) (sym number)
     ∙ sym (between-ended c.args.layout.now (jobs_of c.args.self.now) row c.args.number (no-step (step_of_run row c.args.number) (c.in_default.ensures.name row at)))
@@ -35,7 +35,7 @@ pub returns-in-Ok-clause-plan : goal.returns-in-Ok-clause-plan
 unfolding jobs_of
 returns-in-Ok-clause-plan c = λ row at.
     let desk = ap (λ v. v.tables.desk) c.self.view_is in
-    let number = run_number c.args.self.now.tables.desk c.args.job row (subst (λ tables. AreNumbered 1 tables.runs) desk c.self.invariant.numbered) at in
+    let number = run_number c.args.self.now.tables.desk c.args.job row (subst (λ tables. AreNumbered 1 tables.runs) desk c.self.invariant.queued.numbered) at in
     let own = named-step (step_of_run row c.args.number) c.in-Some.name (c.in-Some.ensures.name row at) in
     let is = c.in_ok-made.ensures.allocated row own.0 (ap (λ tables. run_of tables c.args.job) desk ∙ at) own.1 in
     let here = subst (λ found. IsAllocation (allocation_in c.args.layout.now row own.0 c.args.number c.args.self.now.tables.desk) found) c.in-Ok.is
@@ -49,7 +49,7 @@ pub returns-in-Err-clause-plan : goal.returns-in-Err-clause-plan
 unfolding jobs_of
 returns-in-Err-clause-plan c = λ row at.
     let desk = ap (λ v. v.tables.desk) c.self.view_is in
-    let number = run_number c.args.self.now.tables.desk c.args.job row (subst (λ tables. AreNumbered 1 tables.runs) desk c.self.invariant.numbered) at in
+    let number = run_number c.args.self.now.tables.desk c.args.job row (subst (λ tables. AreNumbered 1 tables.runs) desk c.self.invariant.queued.numbered) at in
     let own = named-step (step_of_run row c.args.number) c.in-Some.name (c.in-Some.ensures.name row at) in
     let is = c.in_ok-made.ensures.allocated row own.0 (ap (λ tables. run_of tables c.args.job) desk ∙ at) own.1 in
     let here = subst (λ found. IsAllocation (allocation_in c.args.layout.now row own.0 c.args.number c.args.self.now.tables.desk) found) c.in-Err.is

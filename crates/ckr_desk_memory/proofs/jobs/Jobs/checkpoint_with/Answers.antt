@@ -1,11 +1,10 @@
-use Rattle.std.proofs.Common.{◌≡◌, ap, refl, sym, subst, ◌∙◌, Some}
+use Rattle.std.proofs.Common.{ap, refl, sym, ◌∙◌}
 use Rattle.ckr_base.proofs.Options.{some-not-none}
 use Rattle.ckr_entry.specs.Parts.{entry_of}
 use Rattle.ckr_meaning.specs.EffectiveJob.{owned_by, plain_job, step_at}
 use Rattle.ckr_points.specs.Restart.{step_in}
 use Rattle.ckr_points.specs.Rows.{holding_of, step_of_run}
 use Rattle.ckr_points_tables.specs.View.{seen_by}
-use Rattle.ckr_desk_turn.specs.Queue.{AreNumbered}
 use Rattle.ckr_desk_memory.specs.Entries.{step_now}
 use Rattle.ckr_desk_memory.specs.Parts.{step_seen}
 use Rattle.ckr_desk_memory.specs.View.{JobsView}

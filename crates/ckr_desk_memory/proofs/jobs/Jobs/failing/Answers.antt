@@ -18,6 +18,7 @@ pub coded-requires-clause-counted : goal.coded-requires-clause-counted
 coded-requires-clause-counted c = counted-all c.args.layout.now c.args.self.now.running c.requires.jobs.running
 
 pub returns-in-Within-clause-plan : goal.returns-in-Within-clause-plan
+unfolding jobs_of
 returns-in-Within-clause-plan c = λ row at on.
     let layout = c.args.layout.now in
     let jobs = c.args.self.now in

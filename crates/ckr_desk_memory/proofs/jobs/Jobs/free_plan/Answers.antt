@@ -9,13 +9,13 @@ unfolding jobs_of
 returns-in-Idle-clause-plan c =
     let desk = ap (λ v. v.tables.desk) c.self.view_is in
     sym (free-idle c.args.layout.now (jobs_of c.args.self.now) c.args.initiator c.args.fail (sym c.if-is_some.ensures)
-    (next-none c.args.self.now.tables.desk c.self.inside.queue.entries (c.self.invariant.same ∙ ap queue_of desk) c.in-Idle.ensures.selection))
+    (next-none c.args.self.now.tables.desk c.self.inside.queue.entries (c.self.invariant.queued.same ∙ ap queue_of desk) c.in-Idle.ensures.selection))
 
 pub returns-in-Job-clause-plan : goal.returns-in-Job-clause-plan
 unfolding jobs_of
 returns-in-Job-clause-plan c =
     let desk = ap (λ v. v.tables.desk) c.self.view_is in
-    let numbered = subst (λ tables. AreNumbered 1 tables.runs) desk c.self.invariant.numbered in
-    let one = next-one c.args.self.now.tables.desk c.self.inside.queue.entries (c.self.invariant.same ∙ ap queue_of desk) numbered c.in-Job.job c.in-Job.ensures.selection in
+    let numbered = subst (λ tables. AreNumbered 1 tables.runs) desk c.self.invariant.queued.numbered in
+    let one = next-one c.args.self.now.tables.desk c.self.inside.queue.entries (c.self.invariant.queued.same ∙ ap queue_of desk) numbered c.in-Job.job c.in-Job.ensures.selection in
     c.chosen.ensures.plan one.0 one.2
     ∙ sym (free-chosen c.args.layout.now (jobs_of c.args.self.now) c.args.initiator c.args.fail (sym c.if-is_some.ensures) one.0 one.1)

@@ -11,16 +11,18 @@ apply-requires-clause-kept c = forward-plain c.args.event.now c.requires.plain
 pub keep_queue-requires-clause-may : goal.keep_queue-requires-clause-may
 keep_queue-requires-clause-may c =
     may-go c.self.inside.tables.desk c.args.self.now.tables.desk c.self.inside.queue.entries c.args.event.now c.args.deck
-    (ap (λ (j : JobsView). j.tables.desk) c.self.view_is) c.self.invariant c.requires.plain c.requires.follows
+    (ap (λ (j : JobsView). j.tables.desk) c.self.view_is) c.self.invariant.queued c.requires.plain c.requires.follows
 
 pub invariant_of-self : goal.invariant_of-self
-invariant_of-self c =
-    queued-behind c.self.inside.tables.desk c.apply.new.self.desk c.self.inside.queue.entries c.keep_queue.new.queue.entries c.args.event.now c.args.deck c.requires.plain
-    (follow-inside c.self.inside.tables.desk c.args.self.now.tables.desk c.args.event.now c.args.deck (ap (λ (j : JobsView). j.tables.desk) c.self.view_is) c.requires.follows)
-    c.requires.deck c.self.invariant c.apply.ensures (c.keep_queue.ensures c.args.deck c.requires.uses)
+invariant_of-self c = record {
+  queued = queued-behind c.self.inside.tables.desk c.apply.new.self.desk c.self.inside.queue.entries c.keep_queue.new.queue.entries c.args.event.now c.args.deck c.requires.plain
+      (follow-inside c.self.inside.tables.desk c.args.self.now.tables.desk c.args.event.now c.args.deck (ap (λ (j : JobsView). j.tables.desk) c.self.view_is) c.requires.follows)
+      c.requires.deck c.self.invariant.queued c.apply.ensures (c.keep_queue.ensures c.args.deck c.requires.uses);
+  counted = c.self.invariant.counted;
+}
 
 pub returns-clause-numbered : goal.returns-clause-numbered
-returns-clause-numbered c = subst (λ (j : JobsView). AreNumbered 1 j.tables.desk.runs) c.self.view_is c.self.invariant.numbered
+returns-clause-numbered c = subst (λ (j : JobsView). AreNumbered 1 j.tables.desk.runs) c.self.view_is c.self.invariant.queued.numbered
 
 pub returns-clause-few : goal.returns-clause-few
-returns-clause-few c = subst (λ (j : JobsView). length j.tables.desk.runs ≤ 9999999) c.self.view_is c.self.invariant.few
+returns-clause-few c = subst (λ (j : JobsView). length j.tables.desk.runs ≤ 9999999) c.self.view_is c.self.invariant.queued.few

@@ -9,7 +9,7 @@ use Rattle.ckr_desk_memory.proofs.jobs.Jobs.known.Goals as goal
 pub returns-clause-some : goal.returns-clause-some
 returns-clause-some c =
     let same = ap (λ v. v.tables.desk) c.self.view_is in
-    known-some c.args.self.now.tables.desk (subst (λ tables. AreNumbered 1 tables.runs) same c.self.invariant.numbered) (subst (λ tables. length tables.runs ≤ 9999999) same c.self.invariant.few) c.requires c.args.job
+    known-some c.args.self.now.tables.desk (subst (λ tables. AreNumbered 1 tables.runs) same c.self.invariant.queued.numbered) (subst (λ tables. length tables.runs ≤ 9999999) same c.self.invariant.queued.few) c.requires c.args.job
     (option_copied c.run.result) (c.run.ensures ∙ ap (λ tables. option_map facts_in (run_of tables c.args.job)) same)
 
 pub returns-clause-none : goal.returns-clause-none

@@ -12,5 +12,5 @@ returns-clause-jobs c = λ layout are.
 
 pub returns-clause-own : goal.returns-clause-own
 returns-clause-own c =
-    own-served c.args.self.now _ (ap (λ (j : JobsView). j.tables) c.self.view_is) c.args.run
+    own-served c.args.self.now _ (ap (λ (j : JobsView). j.tables) c.self.view_is) (ap (λ (j : JobsView). j.points) c.self.view_is) c.args.run
     (c.serve.ensures ∙ ap (λ (j : JobsView). served_in c.args.run j.running) c.self.view_is)

@@ -10,4 +10,4 @@ returns-in_ok-step-in-Started-clause-ok c =
     let tables = subst (λ (j : JobsView). HasRoom j.tables c.args.event.now) (sym c.self.view_is) c.in_ok-uses.ensures.tables in
     let queue = subst (λ (j : JobsView). HasQueueRoom c.args.event.now j.queue_room) (sym c.self.view_is) c.in_ok-uses.ensures.queue in
     prepared-start _ c.args.event.now _ c.in-Started.job c.in-Started.step c.in-Started.made c.in_ok-uses.uses c.in_ok-step-in-Started.step c.in-Started.is
-    tables queue c.in_ok-uses.ensures.uses (omega (arith, c.in_ok-reserve-in-Started.ensures.ok)) c.in_ok-step-in-Started.ensures
+    tables queue c.in_ok-uses.ensures.uses (omega (arith, c.in_ok-reserve-in-Started.ensures.ok)) c.in_ok-step-in-Started.ensures.empty c.in_ok-step-in-Started.ensures.step

@@ -21,6 +21,7 @@ pub coded-requires-clause-counted : goal.coded-requires-clause-counted
 coded-requires-clause-counted c = counted-all c.args.layout.now c.args.self.now.running c.requires.jobs.running
 
 pub returns-then-is_marked-clause-plan : goal.returns-then-is_marked-clause-plan
+unfolding jobs_of
 returns-then-is_marked-clause-plan c = λ row at on.
     let jobs = c.args.self.now in
     let table = c.in-Some.table.now in

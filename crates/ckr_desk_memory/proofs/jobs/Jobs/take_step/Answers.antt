@@ -19,7 +19,7 @@ returns-clause-runnable c = λ layout are.
 
 pub returns-clause-own : goal.returns-clause-own
 returns-clause-own c =
-    own-without c.args.self.now _ (ap (λ (j : JobsView). j.tables) c.self.view_is) c.args.run
+    own-without c.args.self.now _ (ap (λ (j : JobsView). j.tables) c.self.view_is) (ap (λ (j : JobsView). j.points) c.self.view_is) c.args.run
     (c.take_first.ensures.others ∙ ap (λ (j : JobsView). without_first c.args.run j.running) c.self.view_is)
 
 pub returns-clause-own_step : goal.returns-clause-own_step

@@ -1,4 +1,4 @@
-use Rattle.std.proofs.Common.{◌≡◌, ap, sym, ◌∙◌, subst}
+use Rattle.std.proofs.Common.{◌≡◌, ap, ◌∙◌, subst}
 use Rattle.std.specs.Option.{option_map_or}
 use Rattle.ckr_points_tables.specs.View.{run_on}
 use Rattle.ckr_desk_turn.specs.declared.plan.Plan.TheVariants.{Work}
@@ -16,7 +16,7 @@ unfolding plan_of jobs_of
 planned-so c layout =
     let jobs = jobs_of c.args.self.now in
     let desk = ap (λ v. v.tables.desk) c.self.view_is in
-    let numbered = subst (λ tables. AreNumbered 1 tables.runs) desk c.self.invariant.numbered in
+    let numbered = subst (λ tables. AreNumbered 1 tables.runs) desk c.self.invariant.queued.numbered in
     let one = on-run c.args.self.now.tables.desk numbered c.args.turn.initiator c.in_ok-job.job (c.in_ok-job.ensures ∙ ap (run_on c.args.turn.initiator) desk) in
     ap (λ found. option_map_or (run_plan layout jobs c.args.turn.fail) found (free_plan layout jobs c.args.turn.initiator c.args.turn.fail)) one.1
     ∙ c.works_on.ensures c.if-works_on.true layout one.0 one.2
