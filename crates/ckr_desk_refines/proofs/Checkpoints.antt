@@ -9,3 +9,4 @@ pub mod Desk
 pub mod NextEvent
 pub mod Turns
 pub mod StateForm
+pub mod Points

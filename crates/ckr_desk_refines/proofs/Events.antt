@@ -1,8 +1,10 @@
 pub mod OtherRows
 pub mod OtherSteps
+pub mod IdleRuns
 pub mod StartNeeds
 pub mod Commits
 pub mod Start
+pub mod Restarts
 pub mod Plans
 pub mod Cancel
 pub mod Desk

@@ -11,3 +11,4 @@ pub mod Records
 pub mod Requests
 pub mod Desk
 pub mod LastRecord
+pub mod Points

@@ -4,3 +4,5 @@ pub mod Lengths
 pub mod Plans
 pub mod DeskView
 pub mod Served
+pub mod Points
+pub mod Openings

@@ -4,6 +4,7 @@ use Rattle.std.specs.Option.{option_map}
 use Rattle.std.specs.List.{AllByRecursion}
 use Rattle.ckr_entry.specs.declared.point.State.{State}
 use Rattle.ckr_entry.specs.Entry.{IsEntry, entry_in, spelling}
+use Rattle.ckr_entry.specs.Parts.{Entry}
 use Rattle.ckr_events.specs.declared.event.Event.{Event}
 use Rattle.ckr_events.specs.declared.event.Event.TheVariants.{Checkpointed}
 use Rattle.ckr_jcl.specs.declared.deck.Dd.{Dd}
@@ -18,10 +19,13 @@ use Rattle.ckr_meaning.specs.JobRun.{start_at}
 use Rattle.ckr_meaning.specs.StepRun.{StepStart, case_at}
 use Rattle.ckr_meaning.specs.States.{StandsFor}
 use Rattle.ckr_points_library.specs.Commit.{output_names}
+use Rattle.ckr_points.specs.Follows.{is_running}
 use Rattle.ckr_points.specs.Office.{Leg, Office}
 use Rattle.ckr_points.specs.Restart.{place_of, step_in}
 use Rattle.ckr_points.specs.Rows.{EffectPoint, KeptEntry, RunRow, TableSet, TablesModel, run_of, step_of_run}
 use Rattle.ckr_points.specs.Tables.{committed, entry_point, is_checkpoints, kept_entry, name_with_role}
+use Rattle.ckr_desk_memory.specs.EventChanges.{is_point_of}
+use Rattle.ckr_desk_memory.specs.View.{PointView}
 use Rattle.ckr_desk_turn.specs.Checkpoints.{entry_with}
 use Rattle.ckr_desk_turn.specs.EntryStates.{checkpoint_state}
 use Rattle.ckr_steps.specs.EntryRecords.{HasEntry, bytes_on}
@@ -101,6 +105,21 @@ pub record IsReadInEffect (layout : Layout) (office : Office) (image : List ℕ)
   pub stands : StandsFor state (case_at start) entry.point.taken
   pub unclosed : is_closed state ≡ false
   pub served : AreServed true false state
+
+-- ---- points that are read
+
+-- the point of a run in memory is that of an entry: it has its program's state, and its writes
+pub record IsPointOfEntry (points : List PointView) (run : ℕ) (entry : Entry) : Type 0 where
+  pub point : PointView
+  pub found : find (is_point_of run) points ≡ Some point
+  pub state : point.state ≡ entry.state
+  pub writes : point.writes ≡ entry.writes
+
+-- so it is with each run on an initiator, within its step, and the entry of its checkpoint in effect that the image has
+abbrev pub AreRead : Layout → TablesModel → List ℕ → List PointView → Type 0
+AreRead layout tables image points =
+    (run : ℕ) (row : RunRow) (effect : EffectPoint) (table : TableSet) (entry : Entry) → run_of tables run ≡ Some row → is_running row ≡ true → row.in_effect ≡ Some effect → entry_at tables.sets effect.set ≡ Some table
+    → entry_in (bytes_on image layout table.set effect.kept.place effect.kept.bytes) ≡ Ok entry → IsPointOfEntry points run entry
 
 -- ---- entries within their data sets
 

@@ -2,6 +2,7 @@
 use Rattle.std.specs.Prelude.{◌≡◌, ◌≢◌, ◌≤◌, ◌<◌, ℕ, IsTrue, List, Option, None, Some, slice_set}
 use Rattle.ckr_events.specs.declared.event.Event.{Event}
 use Rattle.ckr_jcl.specs.declared.deck.Job.{Job}
+use Rattle.ckr_desk_memory.specs.EventChanges.{points_behind}
 use Rattle.ckr_desk_memory.specs.RunningSteps.{GoesOn}
 use Rattle.ckr_desk_memory.specs.View.{JobsView}
 use Rattle.ckr_library.specs.declared.sets.DataSet.{DataSet}
@@ -18,8 +19,9 @@ use Rattle.ckr_volumes.specs.Layouts.{StandsIn, lie_apart}
 -- the jobs in memory went on by the event; the deck is that of one that is submitted
 pub record HaveMoved (event : Event) (deck : Option Job) (old new : JobsView) : Type 0 where
   pub tables : new.tables.desk ≡ after_event event deck old.tables.desk
-  pub running : GoesOn event new.tables.desk old.running new.running
+  pub running : GoesOn event new.tables.desk old.points old.running new.running
   pub failed : new.failed ≡ failed_behind event old.failed
+  pub points : new.points ≡ points_behind event new.running old.points
 
 -- the records of each data set that stands in the layout are the same
 abbrev pub HasSameRecords : Layout → List ℕ → List ℕ → Type 0

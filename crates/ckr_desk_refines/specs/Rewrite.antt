@@ -25,8 +25,9 @@ pub record AsksToRewrite (layout : Layout) (old : JobsView) (before after : List
       → IsToRewrite (Unit {0}) after layout start taken_before taken place image on.step moved.step moved.sets
   pub keeps : Keeps layout on.sets before after
 
--- the step is put back among the running ones, and the tables and the failed runs are as they were
+-- the step is put back among the running ones, and the tables, the failed runs and the points are as they were
 pub record IsPutBack (run : ℕ) (moved : RunningStepView) (old put : JobsView) : Type 0 where
   pub tables : put.tables.desk ≡ old.tables.desk
   pub failed : put.failed ≡ old.failed
   pub running : put.running ≡ moved ∷ without_first run old.running
+  pub points : put.points ≡ old.points

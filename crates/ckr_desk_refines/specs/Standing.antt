@@ -1,21 +1,27 @@
 -- The jobs in memory stand for the desk of the events, and an image of the disk has what those events and the running steps have written.
-use Rattle.std.specs.Prelude.{◌≡◌, ℕ, ◌==◌, Bool, true, ◌&&◌, not, List, [], ◌∷◌, filter, map, Some}
+use Rattle.std.specs.Prelude.{◌≡◌, ℕ, ◌==◌, Bool, true, false, ◌&&◌, not, List, [], ◌∷◌, filter, find, map, Some}
 use Rattle.std.specs.List.{list_any}
-use Rattle.ckr_desk_memory.specs.View.{JobsView, RunningStepView}
+use Rattle.ckr_desk_memory.specs.EventChanges.{is_point_of}
+use Rattle.ckr_desk_memory.specs.View.{JobsView, PointView, RunningStepView}
 use Rattle.ckr_library.specs.declared.sets.Content.TheVariants.{Checkpoints}
 use Rattle.ckr_library.specs.declared.sets.DataSet.{DataSet}
 use Rattle.ckr_library.specs.Catalog.{set_of}
 use Rattle.ckr_library.specs.NameMaps.{Name, entry_at}
+use Rattle.ckr_base.specs.declared.programs.NextDue.TheVariants.{Checkpoint}
+use Rattle.ckr_desk_turn.specs.Due.{next_due}
 use Rattle.ckr_desk_turn.specs.Invariant.{IsDesk}
 use Rattle.ckr_desk_refines.specs.Commits.{HasCommitted}
 use Rattle.ckr_desk_refines.specs.StepSets.{HasSets}
 use Rattle.ckr_meaning.specs.EffectiveJob.{is_among, names_of}
-use Rattle.ckr_meaning.specs.StepRun.{StepStart}
+use Rattle.ckr_meaning.specs.States.{StandsFor}
+use Rattle.ckr_meaning.specs.StepRun.{StepStart, case_at}
+use Rattle.ckr_points.specs.Follows.{is_running}
 use Rattle.ckr_points.specs.Office.{Office}
-use Rattle.ckr_points.specs.Rows.{RunRow, TableSet, run_of}
+use Rattle.ckr_points.specs.Rows.{KeptEntry, RunRow, TableSet, run_of}
 use Rattle.ckr_steps.specs.Places.{ShowsWithin, IsStepPlace}
 use Rattle.ckr_steps.specs.Units.{AreServed, is_cancelled, is_checkpointed, is_closed, taken_of}
 use Rattle.ckr_desk_turn.specs.Desk.{DeskModel, DeskStep, start_of}
+use Rattle.ckr_desk_turn.specs.Jobs.{effect_entry}
 use Rattle.ckr_volumes.specs.declared.layout.Layout.{Layout}
 
 -- a running step in memory stands where its job comes to, and the image has what it has written
@@ -27,6 +33,8 @@ pub record StandsForStep (layout : Layout) (office : Office) (image : List ℕ) 
   pub run : on.run ≡ step.run
   pub stands : IsStepPlace start step.progress.taken step.progress.closed on.step on.sets
   pub served : AreServed step.progress.checkpointed step.progress.cancelled on.step.state
+  -- a cancel comes behind the checkpoint that is due at its count
+  pub ordered : next_due start step.progress ≡ Checkpoint → step.progress.cancelled ≡ false
   pub writes : on.step.writes ≡ step.progress.writes
   pub sets : HasSets office.tables.sets (names_of start.root start.owned) on.sets
   -- it has no other data sets than those of its names
@@ -52,8 +60,23 @@ abbrev pub differ : List DeskStep → Bool
 differ [] = true
 differ (step ∷ running) = not (is_of_one step.run running) && differ running
 
--- The desk is kept, and the jobs in memory stand for it: their tables, their failed runs and their running steps are those of the desk, and
--- the image has what the events have committed.
+-- the point of a run's checkpoint in effect stands in memory for its entry
+pub record StandsForPoint (points : List PointView) (run : ℕ) (start : StepStart) (entry : KeptEntry) : Type 0 where
+  pub point : PointView
+  pub found : find (is_point_of run) points ≡ Some point
+  pub stands : StandsFor point.state (case_at start) entry.point.taken
+  pub writes : point.writes ≡ entry.point.writes
+  pub unclosed : is_closed point.state ≡ false
+  pub served : AreServed true false point.state
+
+-- so it is with each run on an initiator, within its step, that has a checkpoint in effect
+abbrev pub PointsStand : Office → List PointView → Type 0
+PointsStand office points =
+    (run : ℕ) (row : RunRow) (entry : KeptEntry) (start : StepStart) → run_of office.tables run ≡ Some row → is_running row ≡ true → effect_entry office.tables row ≡ Some entry
+    → start_of office row ≡ Some start → StandsForPoint points run start entry
+
+-- The desk is kept, and the jobs in memory stand for it: their tables, their failed runs, their running steps and the points of their
+-- checkpoints in effect are those of the desk, and the image has what the events have committed.
 pub record StandsForDesk (layout : Layout) (jobs : JobsView) (image : List ℕ) (desk : DeskModel) : Type 0 where
   pub layout_is : desk.layout ≡ layout
   pub is_desk : IsDesk desk
@@ -61,6 +84,7 @@ pub record StandsForDesk (layout : Layout) (jobs : JobsView) (image : List ℕ) 
   pub failed : jobs.failed ≡ desk.failed
   pub running : AllStand desk.layout desk.office image jobs.running desk.running
   pub differ_so : differ desk.running ≡ true
+  pub points : PointsStand desk.office jobs.points
   pub committed : HasCommitted desk.layout desk.office image
 
 -- ---- while a run ends
@@ -79,6 +103,7 @@ pub record StandsBut (run : ℕ) (layout : Layout) (jobs : JobsView) (image : Li
   pub failed : jobs.failed ≡ desk.failed
   pub running : AllStand desk.layout desk.office image (seen_without run jobs.running) (steps_without run desk.running)
   pub differ_so : differ desk.running ≡ true
+  pub points : PointsStand desk.office jobs.points
   pub committed : HasCommitted desk.layout desk.office image
 
 -- ---- what is seen of the desk in memory

@@ -30,9 +30,11 @@ pub record IsPutBack (run : ℕ) (moved : RunningStepView) (old put : JobsView) 
   pub tables : put.tables.desk ≡ old.tables.desk
   pub failed : put.failed ≡ old.failed
   pub running : put.running ≡ moved ∷ without_first run old.running
+  pub points : put.points ≡ old.points
 
 -- the checkpoint that is due of the running step of a run is done, with no entry
 pub record HasPassed (run : ℕ) (old new : JobsView) : Type 0 where
   pub tables : new.tables.desk ≡ old.tables.desk
   pub failed : new.failed ≡ old.failed
   pub running : new.running ≡ served_in run old.running
+  pub points : new.points ≡ old.points

@@ -1,5 +1,5 @@
 //! The jobs in memory behind an event. A law is the contract of a function that does nothing.
-ghost use Rattle.std.specs.Prelude.{◌≡◌, ◌≤◌, ℕ, suc, true, false, List, length, None, Some, Ok};
+ghost use Rattle.std.specs.Prelude.{◌≡◌, ◌≤◌, ℕ, suc, Bool, true, List, length, None, Some, Ok};
 ghost use Rattle.arrayvec.specs.ArrayVec.{ArrayVec};
 ghost use Rattle.ckr_base.specs.declared.code.Code.{Code};
 ghost use Rattle.ckr_events.specs.declared.event.Ending.TheVariants.{Coded};
@@ -51,14 +51,14 @@ pub fn desks_behind_codes_stand()
         → StandsForDesk layout new after (behind (EndedEvent run (Coded code rule writes lengths)) None desk) }
 {}
 
-/// Behind the event by which a run with a code is restarted at the start of its step, whatever the step has come to. Its running step leaves
-/// memory, and the records on the disk stay.
+/// Behind the event by which a run with a code is restarted, whatever its step has come to: at the start of its step, where its running step
+/// leaves memory, or at its checkpoint in effect, where the step goes on from the point. The records on the disk stay.
 pub fn desks_behind_restarts_stand()
-    ensures { (layout : Layout) (old new : JobsView) (before after : List ℕ) (desk : DeskModel) (run initiator : ℕ) (code : Code)
-        → StandsBut run layout old before desk → Comes desk (RestartedEvent run initiator code false)
-        → IsDesk (behind (RestartedEvent run initiator code false) None desk)
-        → HaveMoved (RestartedEvent run initiator code false) None old new → HasSameRecords desk.layout before after
-        → StandsForDesk layout new after (behind (RestartedEvent run initiator code false) None desk) }
+    ensures { (layout : Layout) (old new : JobsView) (before after : List ℕ) (desk : DeskModel) (run initiator : ℕ) (code : Code) (checkpoint : Bool)
+        → StandsBut run layout old before desk → Comes desk (RestartedEvent run initiator code checkpoint)
+        → IsDesk (behind (RestartedEvent run initiator code checkpoint) None desk)
+        → HaveMoved (RestartedEvent run initiator code checkpoint) None old new → HasSameRecords desk.layout before after
+        → StandsForDesk layout new after (behind (RestartedEvent run initiator code checkpoint) None desk) }
 {}
 
 /// The event is committed on each image that has the records.
@@ -77,9 +77,9 @@ pub fn events_are_committed()
         → IsDesk (behind (EndedEvent run (Coded code rule writes lengths)) None desk) → HasWithinRun desk.layout desk.office run writes before
         → (image : List ℕ) → HasSameRecords desk.layout before image
         → HasCommitted desk.layout (behind (EndedEvent run (Coded code rule writes lengths)) None desk).office image }
-    ensures restarted { (layout : Layout) (jobs : JobsView) (before : List ℕ) (desk : DeskModel) (run initiator : ℕ) (code : Code)
-        → StandsBut run layout jobs before desk → Comes desk (RestartedEvent run initiator code false)
-        → IsDesk (behind (RestartedEvent run initiator code false) None desk)
+    ensures restarted { (layout : Layout) (jobs : JobsView) (before : List ℕ) (desk : DeskModel) (run initiator : ℕ) (code : Code) (checkpoint : Bool)
+        → StandsBut run layout jobs before desk → Comes desk (RestartedEvent run initiator code checkpoint)
+        → IsDesk (behind (RestartedEvent run initiator code checkpoint) None desk)
         → (image : List ℕ) → HasSameRecords desk.layout before image
-        → HasCommitted desk.layout (behind (RestartedEvent run initiator code false) None desk).office image }
+        → HasCommitted desk.layout (behind (RestartedEvent run initiator code checkpoint) None desk).office image }
 {}

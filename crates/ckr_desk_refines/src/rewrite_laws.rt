@@ -27,7 +27,7 @@ pub fn rewrites_are_told()
     ensures set { (layout : Layout) (old : JobsView) (before after : List ℕ) (desk : DeskModel) (turn : Turn) (run : ℕ) (on moved : RunningStepView) (place : ℕ) (image : List ℕ) (taken : ℕ) → AsksToRewrite layout old before after desk turn run on moved place image taken
         → (name : Name) × (set : DataSet) × (moved.step.files.first ≡ InSet name) × (set_of moved.sets name ≡ Some set) × (place < set.length) × (length image ≡ set.lrecl) × StandsIn layout set }
     ensures event { (layout : Layout) (old : JobsView) (before after : List ℕ) (desk : DeskModel) (turn : Turn) (run : ℕ) (on moved : RunningStepView) (place : ℕ) (image : List ℕ) (taken : ℕ) → AsksToRewrite layout old before after desk turn run on moved place image taken
-        → (row : RunRow) → run_of desk.office.tables run ≡ Some row → (work_of run desk).event ≡ event_in (told_by layout row (running_of desk.office.tables moved) (Rewrite place image taken)) }
+        → (row : RunRow) → run_of desk.office.tables run ≡ Some row → (work_of run desk).event ≡ event_in (told_by layout desk.office.tables row (running_of desk.office.tables moved) (Rewrite place image taken)) }
 {}
 
 /// Once the event is kept by the jobs in memory, with the step put back among the running ones, and the record is written on the disk, the

@@ -43,7 +43,7 @@ pub fn running_steps_have_a_unit_due()
 pub fn turns_that_work_tell_what_the_unit_came_to()
     ensures { (layout : Layout) (old : JobsView) (before after : List ℕ) (desk : DeskModel) (turn : Turn) (run : ℕ) (on moved : RunningStepView) (worked : Worked) → StandsBehindUnit layout old before after desk turn run on moved worked
         → (row : RunRow) → run_of desk.office.tables run ≡ Some row
-        → (reply_in (told_by layout row (running_of desk.office.tables moved) worked) ≡ (work_of run desk).reply) × (event_in (told_by layout row (running_of desk.office.tables moved) worked) ≡ (work_of run desk).event) }
+        → (reply_in (told_by layout desk.office.tables row (running_of desk.office.tables moved) worked) ≡ (work_of run desk).reply) × (event_in (told_by layout desk.office.tables row (running_of desk.office.tables moved) worked) ≡ (work_of run desk).event) }
 {}
 
 /// What the answer to a unit foretells before the unit is done, the turn tells behind it: an event of the same kind and run, with as many bytes.
@@ -51,7 +51,7 @@ pub fn turns_that_work_tell_what_was_foretold()
     ensures { (layout : Layout) (jobs : JobsView) (image : List ℕ) (desk : DeskModel) (turn : Turn) (run : ℕ) (on : RunningStepView) (worked : Worked)
         → StandsForDesk layout jobs image desk → plan_of desk.layout (jobs_of desk) turn ≡ Work run → find (is_of_run run) jobs.running ≡ Some on → AreThere on.step.files on.sets
         → HasLooked (Unit {0}) image layout on.step on.sets worked → (row : RunRow) → run_of desk.office.tables run ≡ Some row
-        → (foretold : Event) → event_in (told_by layout row (running_of desk.office.tables on) worked) ≡ Some foretold → IsTold foretold (work_of run desk).event }
+        → (foretold : Event) → event_in (told_by layout desk.office.tables row (running_of desk.office.tables on) worked) ≡ Some foretold → IsTold foretold (work_of run desk).event }
 {}
 
 /// Where the step goes on and is put back, the jobs in memory stand for the desk behind the unit. Where it ends with a code, they stand for

@@ -1,24 +1,23 @@
 -- The jobs in memory stand for the desk behind a checkpoint whose entry was written, and images have what is committed.
-use Rattle.std.proofs.Common.{◌≡◌, ◌≢◌, ◌≤◌, ℕ, true, false, cond, ◌&&◌, List, ◌∷◌, find, refl, ap, sym, ◌∙◌, subst, Option, Some, None, arith}
+use Rattle.std.proofs.Common.{◌≡◌, ◌≢◌, ◌≤◌, ℕ, true, false, cond, List, ◌∷◌, find, refl, ap, sym, ◌∙◌, subst, Option, Some, None, arith}
 use Rattle.std.specs.Prelude.{nat_le, option_and_then}
 use Rattle.std.specs.Option.{option_map, option_map_or}
 use Rattle.std.proofs.lemmas.Option.{same_Some}
-use Rattle.ckr_base.proofs.Bools.{and-first, bool-cases}
+use Rattle.ckr_base.proofs.Bools.{and-first}
 use Rattle.ckr_base.proofs.Numbers.{nat_le-from, nat_le-true}
 use Rattle.ckr_base.proofs.Options.{some-not-none}
 use Rattle.ckr_events.specs.declared.event.Event.{Event}
 use Rattle.ckr_library.specs.declared.sets.Content.TheVariants.{Checkpoints}
 use Rattle.ckr_library.specs.declared.sets.DataSet.{DataSet}
-use Rattle.ckr_library.specs.Catalog.{Holding, set_of, with_length}
+use Rattle.ckr_library.specs.Catalog.{Holding, with_length}
 use Rattle.ckr_library.specs.NameMaps.{Name, Named, entry_at, with_changed}
 use Rattle.ckr_library.proofs.Named.{each-at}
 use Rattle.ckr_meaning.specs.EffectiveJob.{Effective, OwnedStep, is_among, name_of, names_of}
 use Rattle.ckr_meaning.specs.StepRun.{StepStart, within_at}
-use Rattle.ckr_points_library.specs.Commit.{output_names}
 use Rattle.ckr_points.specs.Office.{Office}
 use Rattle.ckr_points.specs.Payload.{start_in_office}
-use Rattle.ckr_points.specs.Restart.{after_event, place_of, step_in}
-use Rattle.ckr_points.specs.Rows.{RunRow, TableSet, TablesModel, run_of, step_of_run}
+use Rattle.ckr_points.specs.Restart.{after_event, step_in}
+use Rattle.ckr_points.specs.Rows.{TableSet, TablesModel, run_of, step_of_run}
 use Rattle.ckr_points.specs.Tables.{is_checkpoints, name_with_role}
 use Rattle.ckr_points_invariant.proofs.Holders.Places.{outputs-among}
 use Rattle.ckr_points_invariant.proofs.Steps.Commits.{place_so}
@@ -28,7 +27,6 @@ use Rattle.ckr_desk_turn.specs.declared.reply.Turn.{Turn}
 use Rattle.ckr_volumes.specs.declared.layout.Layout.{Layout}
 use Rattle.ckr_volumes.specs.Layouts.{StandsIn}
 use Rattle.ckr_desk_memory.specs.EventChanges.{FirstEnters, IsEntered, check_name, check_name_in, has_space, is_of_run, without_first}
-use Rattle.ckr_desk_memory.specs.RunningSteps.{GoesOn}
 use Rattle.ckr_desk_memory.specs.View.{JobsView, RunningStepView}
 use Rattle.ckr_desk_turn.proofs.Checkpoints.Events.{check-among, check-named, kept-behind, may-come}
 use Rattle.ckr_desk_turn.proofs.NextEvents.WithinStep.{by-step}
@@ -41,10 +39,11 @@ use Rattle.ckr_desk_turn.specs.Taken.{taken_of}
 use Rattle.ckr_desk_refines.specs.Checkpoints.{IsStepOf, IsToTake, IsWrittenBehind}
 use Rattle.ckr_desk_refines.specs.Commits.{HasCommitted, HasWithin, HasWithinRun}
 use Rattle.ckr_desk_refines.specs.Moves.{HasSameRecords, HaveMoved}
-use Rattle.ckr_desk_refines.specs.Standing.{AllStand, StandsForDesk, StandsForStep}
+use Rattle.ckr_desk_refines.specs.Standing.{AllStand, PointsStand, StandsForDesk, StandsForStep}
 use Rattle.ckr_desk_refines.proofs.Checkpoints.Images.{keeps-outside}
 use Rattle.ckr_desk_refines.proofs.Checkpoints.Office.{end, its-dd, leaves, leaves-others, may, office_then, row-then}
 use Rattle.ckr_desk_refines.proofs.Checkpoints.OwnStep.{own-stands}
+use Rattle.ckr_desk_refines.proofs.Checkpoints.Points.{points-written}
 use Rattle.ckr_desk_refines.proofs.Checkpoints.Turn.{due-so, its-step, numbered, pair, taken-by, taken-kept, unclosed}
 use Rattle.ckr_desk_refines.proofs.Durable.Checkpoint.{checkpointed-stays}
 use Rattle.ckr_desk_refines.proofs.Durable.Units.{committed-kept, within-shown}
@@ -52,6 +51,7 @@ use Rattle.ckr_desk_refines.proofs.Entries.CheckSets.{check-dd as has-check-dd}
 use Rattle.ckr_desk_refines.proofs.Entries.RunningStep.{checkpoint-checks}
 use Rattle.ckr_desk_refines.proofs.Events.OtherSteps.{step-stands, still-stands}
 use Rattle.ckr_desk_refines.proofs.Rewrites.OwnStep.{shown-again}
+use Rattle.ckr_desk_refines.proofs.Standing.StepViews.{place-due}
 use Rattle.ckr_desk_refines.proofs.Rewrites.StepLists.{others-stand}
 use Rattle.ckr_desk_refines.proofs.Units.OtherSteps.{fits-so, other-stays, same-start}
 use Rattle.ckr_desk_refines.proofs.Units.StepLists.{IsPair, differ-put}
@@ -116,6 +116,7 @@ module _ (layout : Layout) (old : JobsView) (before : List ℕ) (desk : DeskMode
       run = p.stands.run;
       stands = p.stands.stands;
       served = p.stands.served;
+      ordered = p.stands.ordered;
       writes = p.stands.writes;
       sets = p.stands.sets;
       named = p.stands.named;
@@ -281,6 +282,11 @@ module _ (layout : Layout) (old new : JobsView) (before written after : List ℕ
             failed = moved.failed ∙ to.stands.failed;
             running = subst (λ (seen : List RunningStepView). AllStand desk.layout now after seen (own ∷ without_run its.going.row.number desk.running)) (sym entered.1) (all-then entered.0 entered.2);
             differ_so = differ-put own desk.running to.stands.differ_so;
+            points =
+                subst (PointsStand now) (sym moved.points)
+                (points-written desk to.stands.is_desk its.step its.going goes_open fits behind.name named after entered.0 (without_first its.going.row.number old.running) new.running its.going.row.number
+                (its.same ∙ sym (number_is layout old before desk turn run on to)) (all-then entered.0 entered.2).0
+                (its.stands.ordered (sym (place-due its.stands.start its.step.progress on its.stands.stands its.stands.served) ∙ due-so layout old before desk turn run on to)) entered.1 old.points to.stands.points);
             committed = committed-then;
           })
           (taken-kept layout old before desk turn run on to)

@@ -1,6 +1,6 @@
 -- What stays of an image where records are written behind the last one of a data set for checkpoints.
 use Rattle.std.proofs.Common.{◌≡◌, ◌≤◌, inl, ℕ, List, ap, sym, ◌∙◌, subst, Some, arith}
-use Rattle.std.specs.Prelude.{false, IsTrue}
+use Rattle.std.specs.Prelude.{false}
 use Rattle.std.proofs.lemmas.Option.{same_Some}
 use Rattle.ckr_base.proofs.Bools.{bool-cases}
 use Rattle.ckr_library.specs.declared.sets.DataSet.{DataSet}
@@ -12,7 +12,7 @@ use Rattle.ckr_points.specs.Soundness.{AreLaidOut}
 use Rattle.ckr_steps.specs.EntryRecords.{SameRecordsOutside}
 use Rattle.ckr_steps.specs.Writes.{Keeps}
 use Rattle.ckr_volumes.specs.declared.layout.Layout.{Layout}
-use Rattle.ckr_volumes.specs.Layouts.{StandsIn, lie_apart}
+use Rattle.ckr_volumes.specs.Layouts.{StandsIn}
 use Rattle.ckr_volumes.specs.Lists.{same_records}
 use Rattle.ckr_volumes.specs.Records.{records_on}
 use Rattle.ckr_volumes.specs.SamePlaces.{SamePlaces, same_places}

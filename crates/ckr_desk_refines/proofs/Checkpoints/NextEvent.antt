@@ -1,10 +1,9 @@
 -- The checkpoint that the jobs in memory make is that of the desk: its event is that of the turn, and its entry that of the running step.
-use Rattle.std.proofs.Common.{◌≡◌, ℕ, suc, Bool, true, false, ◌&&◌, cond, List, length, map, find, refl, ap, sym, ◌∙◌, subst, Option, Some, None}
+use Rattle.std.proofs.Common.{◌≡◌, ℕ, suc, Bool, true, false, ◌&&◌, cond, List, length, map, find, refl, ap, sym, ◌∙◌, Option, Some, None}
 use Rattle.std.specs.Prelude.{◌==◌, ◌+◌, if◌then◌else◌, option_and_then}
 use Rattle.std.specs.Option.{option_map_or}
-use Rattle.std.proofs.lemmas.Bool.{false≢true}
 use Rattle.std.proofs.lemmas.Option.{same_Some}
-use Rattle.ckr_base.proofs.Bools.{and-first, bool-cases}
+use Rattle.ckr_base.proofs.Bools.{and-first}
 use Rattle.ckr_base.proofs.Numbers.{equal-true}
 use Rattle.ckr_base.proofs.Options.{some-not-none}
 use Rattle.ckr_entry.specs.Entry.{spelling}
@@ -12,8 +11,8 @@ use Rattle.ckr_entry.specs.Parts.{Entry}
 use Rattle.ckr_events.specs.declared.event.Event.{Event}
 use Rattle.ckr_events.specs.declared.event.Event.TheVariants.{Checkpointed}
 use Rattle.ckr_library.specs.Catalog.{records_of}
-use Rattle.ckr_library.specs.NameMaps.{Name, entry_at, same_name}
-use Rattle.ckr_meaning.specs.EffectiveJob.{OwnedStep, is_among, name_of}
+use Rattle.ckr_library.specs.NameMaps.{Name, entry_at}
+use Rattle.ckr_meaning.specs.EffectiveJob.{OwnedStep, name_of}
 use Rattle.ckr_meaning.specs.StepRun.{StepStart}
 use Rattle.ckr_points_library.specs.Commit.{output_names}
 use Rattle.ckr_points.specs.Rows.{RunRow, TableSet, TablesModel}

@@ -1,5 +1,5 @@
 -- The office behind the event of a checkpoint: the rows and data sets of other runs, the row of its run, and the lengths that it commits.
-use Rattle.std.proofs.Common.{◌≡◌, ◌≢◌, ℕ, Bool, true, false, ◌||◌, List, [], ◌∷◌, map, refl, ap, sym, ◌∙◌, subst, Option, Some, None}
+use Rattle.std.proofs.Common.{◌≡◌, ◌≢◌, ℕ, Bool, true, false, ◌||◌, List, [], ◌∷◌, map, refl, ap, sym, ◌∙◌, subst, Some, None}
 use Rattle.std.specs.Prelude.{◌==◌, find, if◌then◌else◌, option_and_then}
 use Rattle.std.proofs.lemmas.Bool.{false≢true}
 use Rattle.std.proofs.lemmas.Option.{same_Some}
@@ -13,12 +13,11 @@ use Rattle.ckr_meaning.specs.EffectiveJob.{Effective, OwnedStep, is_among, name_
 use Rattle.ckr_meaning.specs.StepRun.{StepStart, within_at}
 use Rattle.ckr_points_library.specs.Commit.{output_names}
 use Rattle.ckr_points.specs.Follows.{is_length_of}
-use Rattle.ckr_points.specs.Office.{Leg, Office}
+use Rattle.ckr_points.specs.Office.{Office}
 use Rattle.ckr_points.specs.Payload.{length_now}
-use Rattle.ckr_points.specs.Rows.{RunRow, TableSet, TablesModel, run_of}
+use Rattle.ckr_points.specs.Rows.{RunRow, TableSet, run_of}
 use Rattle.ckr_points.specs.Tables.{committed, is_checkpoints, name_with_role}
 use Rattle.ckr_points_invariant.proofs.Holders.Rows.{run-other}
-use Rattle.ckr_points_invariant.proofs.Steps.Commits.{its_start}
 use Rattle.ckr_points_invariant.proofs.Writes.Likeness.{committed-other}
 use Rattle.ckr_uses.specs.Uses.{are_distinct}
 use Rattle.ckr_desk_memory.specs.EventChanges.{check_name}

@@ -1,39 +1,35 @@
 -- The running step whose entry was written stands for that of the desk behind the event.
 use Rattle.std.proofs.Common.{◌≡◌, ◌≤◌, ℕ, Bool, true, false, cond, List, refl, ap, sym, ◌∙◌, subst, Option, Some, None, arith}
 use Rattle.std.specs.Option.{option_map, option_map_or}
-use Rattle.std.specs.Prelude.{option_and_then}
-use Rattle.std.proofs.lemmas.Bool.{false≢true}
 use Rattle.std.proofs.lemmas.Option.{same_Some}
 use Rattle.ckr_base.proofs.Bools.{bool-cases}
-use Rattle.ckr_base.proofs.Options.{some-not-none}
 use Rattle.ckr_base.specs.declared.programs.NextDue.TheVariants.{Checkpoint}
-use Rattle.ckr_library.specs.declared.sets.Content.{Content}
 use Rattle.ckr_library.specs.declared.sets.Content.TheVariants.{Plain, Checkpoints}
 use Rattle.ckr_library.specs.declared.sets.DataSet.{DataSet}
 use Rattle.ckr_library.specs.Catalog.{set_of, with_length}
 use Rattle.ckr_library.specs.NameMaps.{Name, entry_at, same_name, with_changed}
-use Rattle.ckr_library.proofs.Named.{name-itself, name-same}
+use Rattle.ckr_library.proofs.Named.{name-same}
 use Rattle.ckr_meaning.specs.EffectiveJob.{is_among, names_of}
 use Rattle.ckr_meaning.specs.LibrarySet.{LibrarySet}
-use Rattle.ckr_meaning.specs.Program.{OutputRoom, room_after}
+use Rattle.ckr_meaning.specs.Program.{OutputRoom}
 use Rattle.ckr_meaning.specs.StepRun.{StepStart, made_at, within_at}
 use Rattle.ckr_points_library.specs.Commit.{output_names}
 use Rattle.ckr_points.specs.Office.{Office}
 use Rattle.ckr_points.specs.Payload.{length_now}
-use Rattle.ckr_points.specs.Rows.{RunRow, TableSet, run_of}
+use Rattle.ckr_points.specs.Rows.{TableSet, run_of}
 use Rattle.ckr_points_invariant.proofs.Holders.Places.{outputs-among}
 use Rattle.ckr_steps.proofs.Served.{checkpoint-served}
 use Rattle.ckr_steps.proofs.Start.{served_stands}
 use Rattle.ckr_steps.specs.declared.files.Files.{Files}
 use Rattle.ckr_steps.specs.declared.step_run.StepRun.{StepRun}
-use Rattle.ckr_steps.specs.Places.{IsPlain, IsStepPlace, ShowsWithin, first_room, writes_by}
+use Rattle.ckr_steps.specs.Places.{IsPlain, IsStepPlace, ShowsWithin}
 use Rattle.ckr_steps.specs.Units.{AreServed, due_of, is_cancelled, served_of}
 use Rattle.ckr_steps.specs.Writes.{IsShown, room_at, room_of, room_of_set}
 use Rattle.ckr_uses.specs.Uses.{are_distinct}
 use Rattle.ckr_desk_memory.specs.View.{RunningStepView}
 use Rattle.ckr_desk_turn.proofs.Checkpoints.Events.{check-among}
 use Rattle.ckr_desk_turn.specs.Checkpoints.{check_set, checkpoint_fits, is_check_set}
-use Rattle.ckr_desk_turn.specs.Desk.{DeskModel, DeskStep, checkpoint_done, start_of}
+use Rattle.ckr_desk_turn.specs.Desk.{DeskModel, DeskStep, checkpoint_done}
 use Rattle.ckr_desk_turn.specs.Invariant.{IsDesk, IsGoing}
 use Rattle.ckr_desk_refines.specs.SharedSets.{LieStill, LiesStill}
 use Rattle.ckr_desk_refines.specs.Standing.{StandsForStep}
@@ -42,6 +38,7 @@ use Rattle.ckr_desk_refines.proofs.Checkpoints.Office.{HasLength, end, its-dd, l
 use Rattle.ckr_desk_refines.proofs.Checkpoints.OwnSets.{IsBehind, now-of, other-of, was-of}
 use Rattle.ckr_desk_refines.proofs.Checkpoints.Progress.{own-length}
 use Rattle.ckr_desk_refines.proofs.Standing.Lengths.{in-sets}
+use Rattle.ckr_desk_refines.proofs.Standing.Served.{checkpoint-once}
 use Rattle.ckr_desk_refines.proofs.Units.Contents.{content_at, made-content, within-content}
 use Rattle.ckr_desk_refines.proofs.Units.OtherSteps.{same-start}
 
@@ -223,6 +220,7 @@ module _ (desk : DeskModel) (is : IsDesk desk) (image : List ℕ) (on moved : Ru
         run = same_run ∙ stands.run ∙ sym same;
         stands = own-place;
         served = own-served;
+        ordered = λ again. absurd (checkpoint-once stands.start step.progress again);
         writes = ap (λ (s : StepRun). s.writes) entered_step ∙ stands.writes;
         sets = own-sets;
         named = λ name set e. let old = was name set e in stands.named name old.0 old.1;

@@ -1,16 +1,14 @@
 -- A running step in memory is as far as its job says, with the lengths of its outputs and with the state of its program.
-use Rattle.std.proofs.Common.{◌≡◌, ◌≤◌, ℕ, true, List, length, ap, sym, ◌∙◌, subst, Some}
+use Rattle.std.proofs.Common.{◌≡◌, ◌≤◌, ℕ, true, List, length, ap, sym, ◌∙◌, subst}
 use Rattle.ckr_desk_memory.specs.EntryModels.{IsAsFar}
 use Rattle.ckr_desk_memory.specs.View.{RunningStepView, length_in}
 use Rattle.ckr_library.specs.NameMaps.{Name}
-use Rattle.ckr_meaning.specs.EffectiveJob.{Effective, OwnedStep, is_among, names_of}
+use Rattle.ckr_meaning.specs.EffectiveJob.{Effective, is_among, names_of}
 use Rattle.ckr_meaning.specs.StepRun.{StepStart, case_at, within_at, work_at}
 use Rattle.ckr_points_library.specs.Commit.{output_names}
-use Rattle.ckr_points.specs.Office.{Leg}
 use Rattle.ckr_points.specs.Payload.{length_now, rewrites_nothing}
 use Rattle.ckr_points.specs.Restart.{step_in}
-use Rattle.ckr_points.specs.Rows.{RunRow}
-use Rattle.ckr_points_invariant.proofs.Steps.Commits.{IsRunning, its_start, place_so}
+use Rattle.ckr_points_invariant.proofs.Steps.Commits.{its_start, place_so}
 use Rattle.ckr_steps.specs.Places.{ShowsWithin}
 use Rattle.ckr_steps.proofs.NextUnits.{taken_is}
 use Rattle.ckr_desk_turn.proofs.Checkpoints.States.{state-so}

@@ -9,7 +9,7 @@ use Rattle.ckr_desk_turn.specs.Taken.{taken_of}
 use Rattle.ckr_desk_turn.specs.declared.reply.Turn.{Turn}
 use Rattle.ckr_volumes.specs.declared.layout.Layout.{Layout}
 use Rattle.ckr_desk_refines.specs.Checkpoints.{IsToTake}
-use Rattle.ckr_desk_refines.specs.Standing.{AllStand, StandsForDesk, StandsForStep}
+use Rattle.ckr_desk_refines.specs.Standing.{AllStand, PointsStand, StandsForDesk, StandsForStep}
 use Rattle.ckr_desk_refines.specs.Unit.{HasPassed}
 use Rattle.ckr_desk_refines.proofs.Checkpoints.Turn.{due-so, numbered, pair, taken-by, taken-kept}
 use Rattle.ckr_desk_refines.proofs.Standing.Served.{checkpoint-stands, served-first}
@@ -47,6 +47,7 @@ module _ (layout : Layout) (old new : JobsView) (image : List ℕ) (desk : DeskM
             subst (λ (seen : List RunningStepView). AllStand desk.layout desk.office image seen (own ∷ without_run its.going.row.number desk.running)) (sym (passed.running ∙ served-first run on old.running to.found))
             (own-stands, rest);
         differ_so = differ-put own desk.running to.stands.differ_so;
+        points = subst (PointsStand desk.office) (sym passed.points) to.stands.points;
         committed = to.stands.committed;
       })
       (taken-kept layout old image desk turn run on to)

@@ -22,7 +22,8 @@ use Rattle.ckr_points_invariant.proofs.PlainRuns.Readiness.{kept-entry}
 use Rattle.ckr_points_invariant.proofs.Steps.Events.{led-by}
 use Rattle.ckr_steps.specs.Units.{AreServed, is_closed}
 use Rattle.ckr_volumes.specs.declared.layout.Layout.{Layout}
-use Rattle.ckr_desk_turn.specs.Desk.{effect_entry, start_of}
+use Rattle.ckr_desk_turn.specs.Desk.{start_of}
+use Rattle.ckr_desk_turn.specs.Jobs.{effect_entry}
 use Rattle.ckr_desk_turn.specs.EntryStates.{checkpoint_state}
 use Rattle.ckr_desk_refines.specs.Entries.{HasEntries, IsReadBack, IsReadInEffect, IsStateOfJob, jobs_of}
 use Rattle.ckr_desk_refines.specs.EntryRefusal.{AreInEffect, IsInEffect}

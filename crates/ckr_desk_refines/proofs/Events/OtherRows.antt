@@ -5,7 +5,7 @@ use Rattle.std.specs.Option.{option_map_or}
 use Rattle.std.proofs.lemmas.Bool.{false≢true}
 use Rattle.std.proofs.lemmas.Option.{same_Some, slice_get_past}
 use Rattle.ckr_base.specs.declared.code.Code.{Code}
-use Rattle.ckr_base.proofs.Options.{option-cases, some-not-none}
+use Rattle.ckr_base.proofs.Options.{option-cases, some-not-none, some-one}
 use Rattle.arrayvec.specs.ArrayVec.{ArrayVec}
 use Rattle.ckr_events.specs.declared.event.Ending.{Ending}
 use Rattle.ckr_events.specs.declared.event.Ending.TheVariants.{Allocation, Coded, Completed}
@@ -22,7 +22,7 @@ use Rattle.ckr_meaning.specs.declared.place.Place.TheVariants.{Before, Opened, W
 use Rattle.ckr_points.specs.declared.run.RunState.{RunState}
 use Rattle.ckr_points.specs.declared.run.RunState.TheVariants.{Ended as EndedRun, On, Purged as PurgedRun, Queued}
 use Rattle.ckr_points.specs.Tables.{after_commit, after_dispositions, after_started, after_step_ended, committed, made_tables, queued_run, start_point}
-use Rattle.ckr_points.specs.Follows.{state_number}
+use Rattle.ckr_points.specs.Follows.{is_running, state_number}
 use Rattle.ckr_points.specs.Marks.{deck_names, point_at, put_back, put_back_passed, removed_all, with_point}
 use Rattle.ckr_points.specs.Office.{Office, leg_of, office_after}
 use Rattle.ckr_points.specs.Restart.{Back, after_abnormal, after_ended, after_passed_ended, after_put_back, after_restarted, back_to_entry, back_to_start, by_run, effect_restarted, kept_at, place_of, point_restarted, row_on, step_in}
@@ -31,7 +31,8 @@ use Rattle.ckr_points.specs.Soundness.{may_come}
 use Rattle.ckr_points_invariant.specs.Invariant.{IsAgreed}
 use Rattle.ckr_points_invariant.proofs.Select.Invariant.{led_there}
 use Rattle.ckr_points_invariant.proofs.WaitingRuns.{by-selected}
-use Rattle.ckr_points_invariant.proofs.Holders.Rows.{run-other}
+use Rattle.ckr_points_invariant.proofs.Holders.Rows.{run-other, run-same}
+use Rattle.ckr_desk_memory.proofs.Holders.Events.{row-before}
 use Rattle.ckr_volumes.specs.declared.layout.Layout.{Layout}
 
 -- the rows and the legs of the other runs are as they were
@@ -45,6 +46,8 @@ pub record Enters (now later : Office) : Type 0 where
   pub leaves : LeavesRuns now later run
   pub sets : later.tables.sets ≡ now.tables.sets
   pub waits : (row : RunRow) → run_of now.tables run ≡ Some row → row.state ≡ On → ⊥
+  -- it isn't within a step yet
+  pub out : (row : RunRow) → run_of later.tables run ≡ Some row → is_running row ≡ false
 
 -- ---- tables with other rows
 
@@ -179,6 +182,10 @@ cancelled-leaves layout now job kept = record {
 queued-off : (state : RunState) → (state_number state == 1) ≡ true → state ≡ On → ⊥
 queued-off state queued on = false≢true (ap (λ (s : RunState). state_number s == 1) (sym on) ∙ queued)
 
+-- a row that is put in place of that of its run
+out-of : (tables : TablesModel) (row next one : RunRow) → run_of tables row.number ≡ Some row → next.number ≡ row.number → run_of (with_run next tables) row.number ≡ Some one → is_running one ≡ is_running next
+out-of tables row next one at same there = ap is_running (sym (some-one next one (run_of (with_run next tables) row.number) (run-same tables next row row.number at same) there))
+
 pub selected-enters : (layout : Layout) (now : Office) (job initiator step : ℕ) → IsAgreed layout now → may_come layout now (Selected job initiator 0 step None, None) ≡ true → Enters now (office_after (Selected job initiator 0 step None, None) now)
 selected-enters layout now job initiator step kept may =
     by-selected (Enters now) layout now job initiator step None None kept may
@@ -190,6 +197,7 @@ selected-enters layout now job initiator step kept may =
       };
       sets = refl;
       waits = λ one there on. queued-off one.state (ap (λ (r : RunRow). state_number r.state == 1) (same_Some one row (sym there ∙ at)) ∙ queued) on;
+      out = λ one there. out-of now.tables row (record row { state = On; initiator = Some initiator; place = Some (Before 1) }) one at refl there;
     })
 
 pub purged-enters : (layout : Layout) (now : Office) (job : ℕ) (row : RunRow) → IsAgreed layout now → run_of now.tables job ≡ Some row → row.state ≡ Queued → Enters now (office_after (Purged job, None) now)
@@ -201,6 +209,10 @@ purged-enters layout now job row kept at queued = record {
   };
   sets = ap (λ (o : Option RunRow). (option_map_or (λ row. with_run (record row { state = PurgedRun }) now.tables) o now.tables).sets) at;
   waits = λ one there on. queued-off one.state (ap (λ (r : RunRow). state_number r.state == 1) (same_Some one row (sym there ∙ at)) ∙ ap (λ (s : RunState). state_number s == 1) queued) on;
+  out = λ one there.
+      let next : RunRow = record row { state = PurgedRun } in
+      ap is_running (sym (some-one next one (run_of (with_run next now.tables) job) (run-same now.tables next row job at (kept.numbered job row at))
+      (sym (ap (λ (o : Option RunRow). run_of (option_map_or (λ row. with_run (record row { state = PurgedRun }) now.tables) o now.tables) job) at) ∙ there)));
 }
 
 front_row : (runs : List RunRow) (row : RunRow) (place : ℕ) → place ≢ length runs → slice_get (runs ++ row ∷ []) place ≡ slice_get runs place
@@ -215,6 +227,9 @@ submitted-enters now cards deck = record {
   leaves = record { rows = rows; legs = λ other apart. refl };
   sets = refl;
   waits = λ row at on. some-not-none row (sym at ∙ slice_get_past now.tables.runs (length now.tables.runs) (omega arith));
+  out = λ row at.
+      row-before now.tables (suc (length now.tables.runs)) deck (suc (length now.tables.runs)) row at (λ new. ap is_running (sym new))
+      (λ was. absurd (some-not-none row (sym was ∙ slice_get_past now.tables.runs (length now.tables.runs) (omega arith))));
 }
   where
     rows : (other : ℕ) → other ≢ suc (length now.tables.runs) → run_of (office_after (Submitted (suc (length now.tables.runs)) cards, Some deck) now).tables other ≡ run_of now.tables other

@@ -180,6 +180,7 @@ module _ (desk : DeskModel) (is : IsDesk desk) (later : Office) (before after : 
     run = stands.run;
     stands = stands.stands;
     served = stands.served;
+    ordered = stands.ordered;
     writes = stands.writes;
     sets = record {
       from = λ name set own. let from = stands.sets.from name set own in (from.0, entries name (stands.named name set own) ∙ from.1, from.2);

@@ -55,7 +55,7 @@ pub record OfEach (desk : DeskModel) (image : List ℕ) (Q : Event → Type 0) :
   pub started : (job step : ℕ) (items : ArrayVec Made) → Q (Started job step items)
   pub cancelled : (job : ℕ) (step : TurnStep) → running_in (jobs_of desk) job ≡ Some step → step.due ≡ Cancel → Q (Cancelled job)
   pub step_ended : (job step rc writes : ℕ) (lengths : ArrayVec ℕ) → HasWithinRun desk.layout desk.office job writes image → Q (StepEnded job step rc writes lengths)
-  pub restarted : (job initiator : ℕ) (code : Code) → Q (Restarted job initiator code false)
+  pub restarted : (job initiator : ℕ) (code : Code) (checkpoint : Bool) → Q (Restarted job initiator code checkpoint)
   pub completed : (job : ℕ) → Q (Ended job Completed)
   pub refused : (job dd cause first second : ℕ) → Q (Ended job (Allocation dd cause first second))
   pub coded : (job rule writes : ℕ) (code : Code) (lengths : ArrayVec ℕ) → HasWithinRun desk.layout desk.office job writes image → Q (Ended job (Coded code rule writes lengths))
@@ -73,13 +73,14 @@ module _ (desk : DeskModel) (is : IsDesk desk) (image : List ℕ) (seen : List R
   -- ---- a run within a step
 
   module _ (row : RunRow) (number committed : ℕ) (start : StepStart) (within : IsWithinStep desk.office row.number row number committed start) where
-    code-tells : (initiator : ℕ) (code : Code) → OfPlan Q (code_plan desk.layout row initiator code (reached_by (jobs_of desk) row))
+    code-tells : (initiator : ℕ) (code : Code) → OfPlan Q (code_plan desk.layout desk.office.tables row initiator code (reached_by (jobs_of desk) row))
     code-tells initiator code =
-        by-verdict (OfPlan Q) desk.layout row initiator code (reached_by (jobs_of desk) row)
+        by-verdict (OfPlan Q) desk.layout desk.office.tables row initiator code (reached_by (jobs_of desk) row)
         (λ rule ends.
         each.coded row.number (rule_number rule) (reached_by (jobs_of desk) row).writes code (record { items = (reached_by (jobs_of desk) row).lengths })
         (reached-written desk is image seen all had row.number row number committed start within))
-        (λ judged. each.restarted row.number initiator code)
+        (λ judged. each.restarted row.number initiator code false)
+        (λ entry judged there. each.restarted row.number initiator code true)
 
     checkpoint-tells : (number : ℕ) → OfPlan Q (checkpoint_plan row number)
     checkpoint-tells number = by (suppresses (rd_in_effect row number))
@@ -106,7 +107,7 @@ module _ (desk : DeskModel) (is : IsDesk desk) (image : List ℕ) (seen : List R
     fail-tells None = placed-tells
     fail-tells (Some code) =
         subst (λ place. OfPlan Q (elim (is_planned place) [
-          | true ↦ code_plan desk.layout row (initiator_of row) code (reached_by (jobs_of desk) row)
+          | true ↦ code_plan desk.layout desk.office.tables row (initiator_of row) code (reached_by (jobs_of desk) row)
           | false ↦ Rest NothingToFail
         ])) (sym within.place) (code-tells (initiator_of row) code)
 
@@ -114,7 +115,7 @@ module _ (desk : DeskModel) (is : IsDesk desk) (image : List ℕ) (seen : List R
     step-tells fail = by (is_failed (jobs_of desk) row.number)
       where
         by : (b : Bool) → OfPlan Q (elim b [
-          | true ↦ code_plan desk.layout row (initiator_of row) system_failure (reached_by (jobs_of desk) row)
+          | true ↦ code_plan desk.layout desk.office.tables row (initiator_of row) system_failure (reached_by (jobs_of desk) row)
           | false ↦ fail_plan desk.layout (jobs_of desk) row fail
         ])
         by true = code-tells (initiator_of row) system_failure
@@ -145,7 +146,7 @@ module _ (desk : DeskModel) (is : IsDesk desk) (image : List ℕ) (seen : List R
   out-tells : (row : RunRow) → run_of desk.office.tables row.number ≡ Some row → is_within (place_of row) ≡ false → (fail : Option Code) → OfPlan Q (run_plan desk.layout (jobs_of desk) fail row)
   out-tells row at out fail =
       subst (λ b. OfPlan Q (elim b [
-        | true ↦ code_plan desk.layout row (initiator_of row) system_failure (reached_by (jobs_of desk) row)
+        | true ↦ code_plan desk.layout desk.office.tables row (initiator_of row) system_failure (reached_by (jobs_of desk) row)
         | false ↦ fail_plan desk.layout (jobs_of desk) row fail
       ])) (sym (not-failed desk is row at out)) (by fail)
     where
@@ -158,7 +159,7 @@ module _ (desk : DeskModel) (is : IsDesk desk) (image : List ℕ) (seen : List R
       by None = placed (place_of row) out
       by (Some code) =
           subst (λ b. OfPlan Q (elim b [
-            | true ↦ code_plan desk.layout row (initiator_of row) code (reached_by (jobs_of desk) row)
+            | true ↦ code_plan desk.layout desk.office.tables row (initiator_of row) code (reached_by (jobs_of desk) row)
             | false ↦ Rest NothingToFail
           ])) (sym (planned-within (place_of row) ∙ out)) tt
 
@@ -178,7 +179,7 @@ module _ (desk : DeskModel) (is : IsDesk desk) (image : List ℕ) (seen : List R
   chosen-tells i row no_code =
       subst (λ (o : Option Code). OfPlan Q (elim o [
         | None ↦ Tell (SelectedReply row.number) (Selected row.number i 0 0 None)
-        | Some code ↦ code_plan desk.layout row i code (reached_by (jobs_of desk) row)
+        | Some code ↦ code_plan desk.layout desk.office.tables row i code (reached_by (jobs_of desk) row)
       ])) (sym no_code) (each.selected row.number i)
 
   free-tells : (i : ℕ) (fail : Option Code) → OfPlan Q (free_plan desk.layout (jobs_of desk) i fail)

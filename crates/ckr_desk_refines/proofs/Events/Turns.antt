@@ -1,5 +1,5 @@
 -- The jobs in memory stand for the desk behind the event of a turn, of another call, and of a code: the end of a run, and its restart.
-use Rattle.std.proofs.Common.{◌≡◌, ◌≤◌, ℕ, suc, true, false, List, length, refl, subst, Some, None, Ok}
+use Rattle.std.proofs.Common.{◌≡◌, ◌≤◌, ℕ, suc, Bool, true, List, length, refl, subst, Some, None, Ok}
 use Rattle.arrayvec.specs.ArrayVec.{ArrayVec}
 use Rattle.ckr_base.specs.declared.code.Code.{Code}
 use Rattle.ckr_events.specs.declared.event.Ending.TheVariants.{Coded}
@@ -15,7 +15,7 @@ use Rattle.ckr_desk_turn.proofs.Turns.Initiator.{turn-keeps}
 use Rattle.ckr_desk_refines.specs.Commits.{HasCommitted, HasWithinRun}
 use Rattle.ckr_desk_refines.proofs.Durable.Events.{purged-stays, submitted-stays}
 use Rattle.ckr_desk_refines.proofs.Durable.Fellows.{others-coded}
-use Rattle.ckr_desk_refines.proofs.Durable.Restart.{others-restarted, restarted-stays}
+use Rattle.ckr_desk_refines.proofs.Durable.Restart.{restarted-stays}
 use Rattle.ckr_points.specs.declared.run.RunState.TheVariants.{Queued}
 use Rattle.ckr_points.specs.Rows.{RunRow, run_of}
 use Rattle.ckr_desk_refines.specs.Moves.{HasSameRecords, HaveMoved}
@@ -30,10 +30,11 @@ use Rattle.ckr_desk_turn.specs.Desk.{DeskModel, behind, jobs_of, purged, submitt
 use Rattle.ckr_desk_turn.specs.Turns.{carried_out, turn_of}
 use Rattle.ckr_desk_turn.specs.Plans.{plan_of}
 use Rattle.ckr_volumes.specs.declared.layout.Layout.{Layout}
-use Rattle.ckr_desk_refines.proofs.Events.Desk.{BehindStands, IsCommitted, coded-committed, each-committed, each-stands, ended-stands, entered-stands}
+use Rattle.ckr_desk_refines.proofs.Events.Desk.{BehindStands, IsCommitted, coded-committed, each-committed, each-stands, ended-stands, entered-stands, restart-stands}
 use Rattle.ckr_desk_refines.proofs.Events.Commits.{committed-moves}
 use Rattle.ckr_desk_refines.proofs.Events.Plans.{OfPlan, turn-tells}
-use Rattle.ckr_desk_refines.proofs.Events.OtherRows.{ended-leaves, purged-enters, restarted-leaves, submitted-enters}
+use Rattle.ckr_desk_refines.proofs.Events.OtherRows.{ended-leaves, purged-enters, submitted-enters}
+use Rattle.ckr_desk_refines.proofs.Events.IdleRuns.{ended-idle}
 
 -- ---- a turn
 
@@ -74,7 +75,7 @@ pub submitted-stands : (layout : Layout) (old new : JobsView) (before after : Li
     → HaveMoved (Submitted (suc (length desk.office.tables.runs)) (kept_of_stored cards)) (Some deck) old new → HasSameRecords desk.layout before after → StandsForDesk layout new after (submitted (kept_of_stored cards) deck desk)
 submitted-stands layout old new before after desk cards deck stands some accepted runs moved same =
     entered-stands layout old new before after desk (Submitted (suc (length desk.office.tables.runs)) (kept_of_stored cards)) (Some deck) stands moved same refl
-    (stored-keeps desk stands.is_desk cards deck some accepted runs) (submitted-enters desk.office (kept_of_stored cards) deck) moved.running refl
+    (stored-keeps desk stands.is_desk cards deck some accepted runs) (submitted-enters desk.office (kept_of_stored cards) deck) moved.running refl moved.points
     (submitted-committed layout old before desk cards deck stands some accepted runs after same)
 
 pub purged-committed : (layout : Layout) (jobs : JobsView) (before : List ℕ) (desk : DeskModel) (job : ℕ) (row : RunRow) → StandsForDesk layout jobs before desk → run_of desk.office.tables job ≡ Some row → row.state ≡ Queued
@@ -88,7 +89,7 @@ pub purged-stands : (layout : Layout) (old new : JobsView) (before after : List 
     → HaveMoved (Purged job) None old new → HasSameRecords desk.layout before after → StandsForDesk layout new after (purged job desk)
 purged-stands layout old new before after desk job row stands at queued moved same =
     entered-stands layout old new before after desk (Purged job) None stands moved same refl
-    (purged-keeps desk stands.is_desk job row at queued) (purged-enters desk.layout desk.office job row stands.is_desk.kept.events at queued) moved.running refl
+    (purged-keeps desk stands.is_desk job row at queued) (purged-enters desk.layout desk.office job row stands.is_desk.kept.events at queued) moved.running refl moved.points
     (purged-committed layout old before desk job row stands at queued after same)
 
 -- ---- a code, whatever the step of its run has come to
@@ -104,25 +105,24 @@ pub code-stands : (layout : Layout) (old new : JobsView) (before after : List �
     → IsDesk (behind (Ended run (Coded code rule writes lengths)) None desk) → HasWithinRun desk.layout desk.office run writes before
     → HaveMoved (Ended run (Coded code rule writes lengths)) None old new → HasSameRecords desk.layout before after → StandsForDesk layout new after (behind (Ended run (Coded code rule writes lengths)) None desk)
 code-stands layout old new before after desk run rule writes code lengths stands comes later has moved same =
-    ended-stands layout old new before after desk (Ended run (Coded code rule writes lengths)) run stands.layout_is stands.is_desk stands.tables stands.failed stands.differ_so stands.running moved same refl later
+    ended-stands layout old new before after desk (Ended run (Coded code rule writes lengths)) run refl stands.layout_is stands.is_desk stands.tables stands.failed stands.differ_so stands.points
+    (ended-idle desk.layout desk.office stands.is_desk.kept.events stands.is_desk.ready run (Coded code rule writes lengths)) stands.running moved same refl later
     (ended-leaves desk.layout desk.office run (Coded code rule writes lengths) stands.is_desk.kept.events)
     (others-coded desk.layout desk.office run rule writes code lengths None stands.is_desk.kept comes.may comes.carried) moved.running refl
     (code-committed layout old before desk run rule writes code lengths stands comes later has after same)
 
--- ---- a restart at the start of the step, whatever the step has come to
+-- ---- a restart, whatever the step has come to
 
-pub restart-committed : (layout : Layout) (jobs : JobsView) (before : List ℕ) (desk : DeskModel) (run initiator : ℕ) (code : Code) → StandsBut run layout jobs before desk → Comes desk (Restarted run initiator code false)
-    → IsDesk (behind (Restarted run initiator code false) None desk)
-    → (image : List ℕ) → HasSameRecords desk.layout before image → HasCommitted desk.layout (behind (Restarted run initiator code false) None desk).office image
-restart-committed layout jobs before desk run initiator code stands comes later image same =
-    committed-moves desk.layout (behind (Restarted run initiator code false) None desk).office before image later.kept same
-    (restarted-stays desk.layout desk.office before run initiator code false None stands.is_desk.kept later.kept stands.committed)
+pub restart-committed : (layout : Layout) (jobs : JobsView) (before : List ℕ) (desk : DeskModel) (run initiator : ℕ) (code : Code) (checkpoint : Bool) → StandsBut run layout jobs before desk → Comes desk (Restarted run initiator code checkpoint)
+    → IsDesk (behind (Restarted run initiator code checkpoint) None desk)
+    → (image : List ℕ) → HasSameRecords desk.layout before image → HasCommitted desk.layout (behind (Restarted run initiator code checkpoint) None desk).office image
+restart-committed layout jobs before desk run initiator code checkpoint stands comes later image same =
+    committed-moves desk.layout (behind (Restarted run initiator code checkpoint) None desk).office before image later.kept same
+    (restarted-stays desk.layout desk.office before run initiator code checkpoint None stands.is_desk.kept later.kept stands.committed)
 
-pub restart-stands : (layout : Layout) (old new : JobsView) (before after : List ℕ) (desk : DeskModel) (run initiator : ℕ) (code : Code) → StandsBut run layout old before desk → Comes desk (Restarted run initiator code false)
-    → IsDesk (behind (Restarted run initiator code false) None desk)
-    → HaveMoved (Restarted run initiator code false) None old new → HasSameRecords desk.layout before after → StandsForDesk layout new after (behind (Restarted run initiator code false) None desk)
-restart-stands layout old new before after desk run initiator code stands comes later moved same =
-    ended-stands layout old new before after desk (Restarted run initiator code false) run stands.layout_is stands.is_desk stands.tables stands.failed stands.differ_so stands.running moved same refl later
-    (restarted-leaves desk.layout desk.office run initiator code false stands.is_desk.kept.events)
-    (others-restarted desk.layout desk.office run initiator code false None stands.is_desk.kept stands.is_desk.pointed stands.is_desk.ready comes.may comes.carried) moved.running refl
-    (restart-committed layout old before desk run initiator code stands comes later after same)
+pub restarted-stands : (layout : Layout) (old new : JobsView) (before after : List ℕ) (desk : DeskModel) (run initiator : ℕ) (code : Code) (checkpoint : Bool) → StandsBut run layout old before desk → Comes desk (Restarted run initiator code checkpoint)
+    → IsDesk (behind (Restarted run initiator code checkpoint) None desk)
+    → HaveMoved (Restarted run initiator code checkpoint) None old new → HasSameRecords desk.layout before after → StandsForDesk layout new after (behind (Restarted run initiator code checkpoint) None desk)
+restarted-stands layout old new before after desk run initiator code checkpoint stands comes later moved same =
+    restart-stands layout old new before after desk run initiator code checkpoint stands.layout_is stands.is_desk stands.tables stands.failed stands.differ_so stands.points stands.running moved same comes later
+    (restart-committed layout old before desk run initiator code checkpoint stands comes later after same)

@@ -13,7 +13,7 @@ use Rattle.ckr_points.specs.Office.{Office}
 use Rattle.ckr_points.specs.Restart.{after_event}
 use Rattle.ckr_desk_refines.specs.Rewrite.{AsksToRewrite, IsPutBack}
 use Rattle.ckr_desk_refines.specs.Moves.{HasSameRecords, HaveMoved, IsWritten}
-use Rattle.ckr_desk_refines.specs.Standing.{AllStand, StandsForStep, StandsForDesk}
+use Rattle.ckr_desk_refines.specs.Standing.{AllStand, PointsStand, StandsForDesk, StandsForStep}
 use Rattle.ckr_steps.specs.declared.files.Files.{Files}
 use Rattle.ckr_steps.specs.declared.files.RecordSource.TheVariants.{InSet}
 use Rattle.ckr_desk_turn.specs.Desk.{DeskModel, DeskStep, TurnDone, without_run, work_of}
@@ -22,6 +22,7 @@ use Rattle.ckr_desk_turn.specs.Units.{arrived}
 use Rattle.ckr_volumes.specs.declared.layout.Layout.{Layout}
 use Rattle.ckr_volumes.specs.Layouts.{StandsIn}
 use Rattle.ckr_desk_refines.proofs.Rewrites.Requests.{IsAsked, desk-then, done, event, event-is, is-asked, kept-then, leaves, name-is, number-is, office-is, still, then, work-is}
+use Rattle.ckr_desk_refines.proofs.Rewrites.Points.{points-rewritten}
 use Rattle.ckr_desk_refines.proofs.Rewrites.Commits.{written-committed}
 use Rattle.ckr_desk_refines.proofs.Rewrites.Legs.{led-step}
 use Rattle.ckr_desk_refines.proofs.Rewrites.StepLists.{others-stand, put-differ}
@@ -83,6 +84,9 @@ module _ (old : JobsView) (before after : List ℕ) (desk : DeskModel) (turn : T
           (subst (λ seen. AllStand desk.layout office_then written seen (moved_on ∷ without_run asked.led.row.number desk.running))
           (sym (goes.running ∙ back.running ∙ ap (λ n. moved ∷ without_first n old.running) (sym (number-is before after desk is run on moved place image taken asked)))) all_stand);
       differ_so = put-differ moved_on desk.running asks.stands.differ_so;
+      points =
+          subst (λ office. PointsStand office later.points) (sym (office-is before after desk is run on moved place image taken asked))
+          (subst (PointsStand office_then) (sym (goes.points ∙ back.points)) (points-rewritten before after desk is run on moved place image taken asked old.points asks.stands.points));
       committed = subst (λ office. HasCommitted desk.layout office written) (sym (office-is before after desk is run on moved place image taken asked)) committed_then;
     }
 

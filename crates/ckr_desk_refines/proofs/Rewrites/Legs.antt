@@ -1,10 +1,12 @@
 -- A running step in memory beside its leg: its data sets stand in the layout, apart from each other, and have space for their records.
-use Rattle.std.proofs.Common.{◌≡◌, ◌≤◌, ◌+◌, ◌-◌, ℕ, true, List, length, refl, ap, sym, ◌∙◌, subst, Option, None, Some, arith}
+use Rattle.std.proofs.Common.{◌≡◌, ◌≤◌, ◌+◌, ◌-◌, ℕ, true, false, List, length, refl, ap, sym, ◌∙◌, subst, Option, None, Some, arith}
 use Rattle.std.specs.Prelude.{IsTrue, nat_lt, sum_by}
 use Rattle.std.specs.List.{list_all}
 use Rattle.std.specs.Option.{option_map}
 use Rattle.std.proofs.lemmas.Option.{same_Some}
 use Rattle.ckr_base.proofs.Options.{some-not-none}
+use Rattle.ckr_base.specs.declared.programs.NextDue.TheVariants.{Checkpoint}
+use Rattle.ckr_desk_turn.specs.Due.{next_due}
 use Rattle.ckr_desk_turn.specs.Invariant.{IsDesk, IsGoing}
 use Rattle.ckr_desk_turn.proofs.Units.Outputs.{distinct-job, distinct-step}
 use Rattle.ckr_desk_turn.proofs.RunningSteps.{going-within}
@@ -60,6 +62,7 @@ pub record IsLedStep (desk : DeskModel) (image : List ℕ) (on : RunningStepView
   pub run : on.run ≡ step.run
   pub stands : IsStepPlace (its_start leg owned (step_now row)) step.progress.taken step.progress.closed on.step on.sets
   pub served : AreServed step.progress.checkpointed step.progress.cancelled on.step.state
+  pub ordered : next_due (its_start leg owned (step_now row)) step.progress ≡ Checkpoint → step.progress.cancelled ≡ false
   pub writes : on.step.writes ≡ step.progress.writes
   pub sets : HasSets desk.office.tables.sets (names_of leg.job.root owned) on.sets
   pub named : (name : Name) (set : DataSet) → set_of on.sets name ≡ Some set → is_among (names_of leg.job.root owned) name ≡ true
@@ -95,6 +98,7 @@ led-step desk is image on step going stands =
       run = stands.run;
       stands = subst (λ (s : StepStart). IsStepPlace s step.progress.taken step.progress.closed on.step on.sets) its stands.stands;
       served = stands.served;
+      ordered = subst (λ (s : StepStart). next_due s step.progress ≡ Checkpoint → step.progress.cancelled ≡ false) its stands.ordered;
       writes = stands.writes;
       sets = subst (λ (s : StepStart). HasSets desk.office.tables.sets (names_of s.root s.owned) on.sets) its stands.sets;
       named = λ name set e. ap (λ (s : StepStart). is_among (names_of s.root s.owned) name) (sym its) ∙ stands.named name set e;

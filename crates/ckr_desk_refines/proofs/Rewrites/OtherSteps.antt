@@ -130,6 +130,7 @@ module _ (desk : DeskModel) (is : IsDesk desk) (before : List ℕ) (on : Running
           run = theirs.run;
           stands = theirs.stands;
           served = theirs.served;
+          ordered = theirs.ordered;
           writes = theirs.writes;
           sets = record {
             from = λ name set e. let its = theirs.sets.from name set e in (its.0, stays name (theirs.named name set e) ∙ its.1, its.2);

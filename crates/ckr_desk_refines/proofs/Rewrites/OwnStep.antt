@@ -212,6 +212,7 @@ module _ (desk : DeskModel) (is : IsDesk desk) (before : List ℕ) (on : Running
     run = run ∙ led.run ∙ sym led.numbered;
     stands = rewrite.stands;
     served = rewrite.served;
+    ordered = λ due. refl;
     writes = refl;
     sets = own-sets desk before on step led moved.step.writes moved.sets same still;
     named = λ name set e. led.named name set (sym (same name) ∙ e);

@@ -88,7 +88,7 @@ module _ (before after : List ℕ) (desk : DeskModel) (is : IsDesk desk) (run : 
   abbrev pub then : Office
   then = behind desk before on asked.step asked.led moved.step.writes moved.sets asked.same
 
-  abbrev lengths : List ℕ
+  abbrev pub lengths : List ℕ
   lengths = lengths_now desk before on asked.step asked.led moved.step.writes moved.sets asked.same
 
   abbrev pub event : Event
@@ -123,7 +123,7 @@ module _ (before after : List ℕ) (desk : DeskModel) (is : IsDesk desk) (run : 
   pub desk-then : IsDesk done.desk
   desk-then = kept-so.kept
 
-  comes : Comes desk event
+  pub comes : Comes desk event
   comes = kept-so.comes
 
   pub office-is : office_after (event, None) desk.office ≡ then
@@ -149,7 +149,7 @@ module _ (before after : List ℕ) (desk : DeskModel) (is : IsDesk desk) (run : 
       same_Some name asked.rewrite.name (sym (ap set_of_source e) ∙ ap (λ (files : Files). set_of_source files.first) asked.rewrite.stands.files ∙ ap set_of_source asked.rewrite.updates)
 
   -- the event, by the step in memory
-  pub event-seen : moved.run ≡ on.run → (row : RunRow) → run_of desk.office.tables run ≡ Some row → (work_of run desk).event ≡ event_in (told_by desk.layout row (running_of desk.office.tables moved) (Rewrite place image taken))
+  pub event-seen : moved.run ≡ on.run → (row : RunRow) → run_of desk.office.tables run ≡ Some row → (work_of run desk).event ≡ event_in (told_by desk.layout desk.office.tables row (running_of desk.office.tables moved) (Rewrite place image taken))
   event-seen same_run row e =
       let mine : row ≡ asked.led.row = same_Some row asked.led.row (sym e ∙ ap (run_of desk.office.tables) (sym asked.run_is) ∙ asked.led.running.holder.row_at) in
       let records : taken_of moved.step.state ≡ taken = taken_is moved.step.state (case_at start) taken asked.rewrite.stands.state in

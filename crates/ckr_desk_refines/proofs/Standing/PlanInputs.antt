@@ -30,8 +30,8 @@ module _ (layout : Layout) (tables : TablesModel) (failed : List ℕ) (one two :
   same-reached : (row : RunRow) → reached_by first row ≡ reached_by second row
   same-reached row = ap (λ (o : Option TurnStep). option_map_or running_reached o (kept_reached first row)) (same row.number)
 
-  same-coded : (row : RunRow) (initiator : ℕ) (code : Code) → code_plan layout row initiator code (reached_by first row) ≡ code_plan layout row initiator code (reached_by second row)
-  same-coded row initiator code = ap (code_plan layout row initiator code) (same-reached row)
+  same-coded : (row : RunRow) (initiator : ℕ) (code : Code) → code_plan layout tables row initiator code (reached_by first row) ≡ code_plan layout tables row initiator code (reached_by second row)
+  same-coded row initiator code = ap (code_plan layout tables row initiator code) (same-reached row)
 
   same-placed : (row : RunRow) (place : Place) → placed_plan layout first row place ≡ placed_plan layout second row place
   same-placed row (Before number) = refl
@@ -47,8 +47,8 @@ module _ (layout : Layout) (tables : TablesModel) (failed : List ℕ) (one two :
   same-run fail row =
       by (is_failed first row.number)
     where
-      by : (b : Bool) → (elim b as (λ _. Plan) [ true ↦ code_plan layout row (initiator_of row) system_failure (reached_by first row) | false ↦ fail_plan layout first row fail ])
-          ≡ (elim b as (λ _. Plan) [ true ↦ code_plan layout row (initiator_of row) system_failure (reached_by second row) | false ↦ fail_plan layout second row fail ])
+      by : (b : Bool) → (elim b as (λ _. Plan) [ true ↦ code_plan layout tables row (initiator_of row) system_failure (reached_by first row) | false ↦ fail_plan layout first row fail ])
+          ≡ (elim b as (λ _. Plan) [ true ↦ code_plan layout tables row (initiator_of row) system_failure (reached_by second row) | false ↦ fail_plan layout second row fail ])
       by true = same-coded row (initiator_of row) system_failure
       by false = same-failing row fail
 

@@ -16,7 +16,7 @@ use Rattle.ckr_desk_refines.proofs.Units.Replies.{told-went}
 
 pub told-unit : (layout : Layout) (old : JobsView) (before after : List ℕ) (desk : DeskModel) (turn : Turn) (run : ℕ) (on moved : RunningStepView) (worked : Worked) → StandsBehindUnit layout old before after desk turn run on moved worked
     → (row : RunRow) → run_of desk.office.tables run ≡ Some row
-    → (reply_in (told_by layout row (running_of desk.office.tables moved) worked) ≡ (work_of run desk).reply) × (event_in (told_by layout row (running_of desk.office.tables moved) worked) ≡ (work_of run desk).event)
+    → (reply_in (told_by layout desk.office.tables row (running_of desk.office.tables moved) worked) ≡ (work_of run desk).reply) × (event_in (told_by layout desk.office.tables row (running_of desk.office.tables moved) worked) ≡ (work_of run desk).event)
 told-unit layout old before after desk turn run on moved (Went taken) unit = told-went layout old before after desk turn run on moved taken unit
 told-unit layout old before after desk turn run on moved (Rewrite place image taken) unit = told-rewriting layout old before after desk turn run on moved place taken image unit
 told-unit layout old before after desk turn run on moved (Abend code) unit = told-coded layout old before after desk turn run on moved code unit

@@ -13,7 +13,7 @@ use Rattle.ckr_desk_turn.specs.declared.plan.Plan.TheVariants.{Pass}
 use Rattle.ckr_desk_turn.specs.declared.reply.Reply.{Reply}
 use Rattle.ckr_desk_turn.specs.declared.reply.Turn.{Turn}
 use Rattle.ckr_desk_turn.proofs.Turns.Initiator.{turn-keeps}
-use Rattle.ckr_desk_refines.specs.Standing.{AllStand, StandsForDesk, StandsForStep, differ}
+use Rattle.ckr_desk_refines.specs.Standing.{AllStand, PointsStand, StandsForDesk, StandsForStep, differ}
 use Rattle.ckr_desk_refines.specs.Unit.{HasPassed}
 use Rattle.ckr_steps.specs.Units.{due_of}
 use Rattle.ckr_volumes.specs.declared.layout.Layout.{Layout}
@@ -73,5 +73,6 @@ module _ (layout : Layout) (old new : JobsView) (image : List ℕ) (desk : DeskM
         subst (λ (running : List DeskStep). AllStand desk.layout desk.office image new.running running) (sym changed)
         (subst (λ (seen : List RunningStepView). AllStand desk.layout desk.office image seen (own ∷ without_run run desk.running)) (sym (passed.running ∙ served-first run on old.running there.1)) all-stand);
     differ_so = ap (λ (running : List DeskStep). differ running) changed ∙ differ-put own desk.running stands.differ_so;
+    points = subst (PointsStand desk.office) (sym passed.points) stands.points;
     committed = stands.committed;
   }

@@ -1,6 +1,7 @@
 -- A unit by which a step ends with a code: what the desk tells, and what stands until its run ends, or is restarted, in memory too.
-use Rattle.std.proofs.Common.{◌≡◌, ◌≤◌, ◌<◌, ℕ, true, false, not, cond, List, ◌∷◌, length, refl, ap, sym, ◌∙◌, subst, Some, None, arith}
+use Rattle.std.proofs.Common.{◌≡◌, ◌≤◌, ◌<◌, ℕ, Bool, true, false, not, cond, List, ◌∷◌, length, refl, ap, sym, ◌∙◌, subst, Some, None, arith}
 use Rattle.std.specs.Prelude.{◌==◌}
+use Rattle.std.specs.Option.{option_map_or}
 use Rattle.std.proofs.lemmas.Option.{same_Some}
 use Rattle.ckr_base.specs.declared.code.Code.{Code}
 use Rattle.ckr_base.proofs.Numbers.{equal-itself}
@@ -19,14 +20,15 @@ use Rattle.ckr_desk_refines.proofs.Durable.Units.{within-shown}
 use Rattle.ckr_desk_refines.specs.Commits.{HasWithin, HasWithinRun}
 use Rattle.ckr_meaning.specs.StepRun.{StepStart, work_at}
 use Rattle.ckr_points.specs.Payload.{rewrites_nothing, start_in_office}
-use Rattle.ckr_points.specs.Rows.{RunRow, run_of}
+use Rattle.ckr_points.specs.Rows.{RunRow, TablesModel, run_of}
 use Rattle.ckr_rules.specs.RuleTables.{rule_number}
 use Rattle.ckr_desk_refines.specs.Moves.{event_in, reply_in}
-use Rattle.ckr_desk_refines.specs.Standing.{AllStand, StandsBut, seen_without, steps_without}
+use Rattle.ckr_desk_refines.specs.Standing.{AllStand, PointsStand, StandsBut, seen_without, steps_without}
 use Rattle.ckr_steps.specs.declared.step_run.Worked.TheVariants.{Abend}
 use Rattle.ckr_steps.specs.Places.{EndsSo}
 use Rattle.ckr_desk_turn.specs.Codes.{CodePlaceModel, code_plan, initiator_of, running_reached}
-use Rattle.ckr_desk_turn.specs.Desk.{DeskModel, DeskStep, TurnDone, behind, done_by, seen, unit_done, with_progress, without_run, work_of}
+use Rattle.ckr_desk_turn.specs.Desk.{DeskModel, DeskStep, TurnDone, at_entry, behind, done_by, seen, unit_done, with_progress, without_run, work_of}
+use Rattle.ckr_desk_turn.specs.Jobs.{effect_entry}
 use Rattle.ckr_desk_turn.specs.declared.reply.Turn.{Turn}
 use Rattle.ckr_desk_turn.specs.Units.{StepProgress, unit_end}
 use Rattle.ckr_volumes.specs.declared.layout.Layout.{Layout}
@@ -49,20 +51,24 @@ behind-moved : (run : ℕ) (ending : Ending) (progress : StepProgress) (desk : D
 behind-moved run ending progress desk =
     ap (λ (running : List DeskStep). record (behind (EndedEvent run ending) None desk) { running = running }) (without-moved run progress desk.running)
 
--- nor behind its restart at the start of the step
-behind-restarted : (run initiator : ℕ) (code : Code) (progress : StepProgress) (desk : DeskModel) → behind (RestartedEvent run initiator code false) None (with_progress run progress desk) ≡ behind (RestartedEvent run initiator code false) None desk
-behind-restarted run initiator code progress desk =
+-- nor behind its restart
+behind-restarted : (run initiator : ℕ) (code : Code) (checkpoint : Bool) (progress : StepProgress) (desk : DeskModel) → behind (RestartedEvent run initiator code checkpoint) None (with_progress run progress desk) ≡ behind (RestartedEvent run initiator code checkpoint) None desk
+behind-restarted run initiator code false progress desk =
     ap (λ (running : List DeskStep). record (behind (RestartedEvent run initiator code false) None desk) { running = running }) (without-moved run progress desk.running)
+behind-restarted run initiator code true progress desk =
+    ap (λ (running : List DeskStep). record (behind (RestartedEvent run initiator code true) None desk) { running = option_map_or (λ entry. at_entry run entry.point ∷ running) (option_map_or (effect_entry desk.office.tables) (run_of desk.office.tables run) None) running })
+    (without-moved run progress desk.running)
 
 -- nor behind either of them, whatever the rules say of the code
-code-behind : (layout : Layout) (row : RunRow) (initiator : ℕ) (code : Code) (reached : CodePlaceModel) (progress : StepProgress) (desk : DeskModel) (event : Event)
-    → (done_by (code_plan layout row initiator code reached) (with_progress row.number progress desk)).event ≡ Some event
-    → (done_by (code_plan layout row initiator code reached) (with_progress row.number progress desk)).desk ≡ behind event None desk
-code-behind layout row initiator code reached progress desk event =
+code-behind : (layout : Layout) (tables : TablesModel) (row : RunRow) (initiator : ℕ) (code : Code) (reached : CodePlaceModel) (progress : StepProgress) (desk : DeskModel) (event : Event)
+    → (done_by (code_plan layout tables row initiator code reached) (with_progress row.number progress desk)).event ≡ Some event
+    → (done_by (code_plan layout tables row initiator code reached) (with_progress row.number progress desk)).desk ≡ behind event None desk
+code-behind layout tables row initiator code reached progress desk event =
     by-verdict (λ plan. (done_by plan (with_progress row.number progress desk)).event ≡ Some event → (done_by plan (with_progress row.number progress desk)).desk ≡ behind event None desk)
-    layout row initiator code reached
+    layout tables row initiator code reached
     (λ rule ends is. behind-moved row.number (CodedEnding code (rule_number rule) reached.writes (record { items = reached.lengths })) progress desk ∙ ap (λ (e : Event). behind e None desk) (same_Some _ event is))
-    (λ judged is. behind-restarted row.number initiator code progress desk ∙ ap (λ (e : Event). behind e None desk) (same_Some _ event is))
+    (λ judged is. behind-restarted row.number initiator code false progress desk ∙ ap (λ (e : Event). behind e None desk) (same_Some _ event is))
+    (λ entry judged there is. behind-restarted row.number initiator code true progress desk ∙ ap (λ (e : Event). behind e None desk) (same_Some _ event is))
 
 module _ (layout : Layout) (old : JobsView) (before after : List ℕ) (desk : DeskModel) (turn : Turn) (run : ℕ) (on moved : RunningStepView) (code : Code) (unit : StandsBehindUnit layout old before after desk turn run on moved (Abend code)) where
   abbrev p : IsPair desk.layout desk.office before run on desk.running
@@ -115,11 +121,11 @@ module _ (layout : Layout) (old : JobsView) (before after : List ℕ) (desk : De
       ∙ sym (ap running_reached (seen-behind layout old before after desk turn run on moved (Abend code) unit its_progress))
 
   pub told-coded : (row : RunRow) → run_of desk.office.tables run ≡ Some row
-      → (reply_in (told_by layout row (running_of desk.office.tables moved) (Abend code)) ≡ (work_of run desk).reply) × (event_in (told_by layout row (running_of desk.office.tables moved) (Abend code)) ≡ (work_of run desk).event)
+      → (reply_in (told_by layout desk.office.tables row (running_of desk.office.tables moved) (Abend code)) ≡ (work_of run desk).reply) × (event_in (told_by layout desk.office.tables row (running_of desk.office.tables moved) (Abend code)) ≡ (work_of run desk).event)
   told-coded =
       told-so layout old before after desk turn run on moved (Abend code) unit (end_coded on.step.state code p.step.progress.taken moved.step.writes) coded-done
-      (ap (λ (l : Layout). code_plan l p.stands.row (initiator_of p.stands.row) code (running_reached (running_of desk.office.tables moved))) (sym unit.stands.layout_is)
-      ∙ ap (code_plan desk.layout p.stands.row (initiator_of p.stands.row) code) reached-so)
+      (ap (λ (l : Layout). code_plan l desk.office.tables p.stands.row (initiator_of p.stands.row) code (running_reached (running_of desk.office.tables moved))) (sym unit.stands.layout_is)
+      ∙ ap (code_plan desk.layout desk.office.tables p.stands.row (initiator_of p.stands.row) code) reached-so)
 
   -- ---- what stands meanwhile
 
@@ -140,6 +146,7 @@ module _ (layout : Layout) (old : JobsView) (before after : List ℕ) (desk : De
     failed = back.failed ∙ unit.stands.failed;
     running = others put back;
     differ_so = unit.stands.differ_so;
+    points = subst (PointsStand desk.office) (sym back.points) unit.stands.points;
     committed = committed-so layout old before after desk turn run on moved (Abend code) unit before after unit.stands.committed unit.keeps;
   }
 
@@ -156,4 +163,4 @@ module _ (layout : Layout) (old : JobsView) (before after : List ℕ) (desk : De
   pub coded-behind : (event : Event) → (work_of run desk).event ≡ Some event → (work_of run desk).desk ≡ behind event None desk
   coded-behind event is =
       ap (λ (d : TurnDone). d.desk) coded-done
-      ∙ code-behind desk.layout p.stands.row (initiator_of p.stands.row) code (running_reached (seen desk.office p.stands.row.number its_progress)) its_progress desk event (sym (ap (λ (d : TurnDone). d.event) coded-done) ∙ is)
+      ∙ code-behind desk.layout desk.office.tables p.stands.row (initiator_of p.stands.row) code (running_reached (seen desk.office p.stands.row.number its_progress)) its_progress desk event (sym (ap (λ (d : TurnDone). d.event) coded-done) ∙ is)

@@ -9,7 +9,7 @@ use Rattle.ckr_desk_refines.specs.Commits.{HasCommitted}
 use Rattle.ckr_meaning.specs.EffectiveJob.{names_of}
 use Rattle.ckr_meaning.specs.StepRun.{StepStart}
 use Rattle.ckr_points.specs.Rows.{run_of}
-use Rattle.ckr_desk_refines.specs.Standing.{AllStand, StandsForStep, StandsForDesk}
+use Rattle.ckr_desk_refines.specs.Standing.{AllStand, PointsStand, StandsForDesk, StandsForStep}
 use Rattle.ckr_steps.specs.declared.step_run.Worked.{Worked}
 use Rattle.ckr_steps.specs.declared.step_run.Worked.TheVariants.{Went}
 use Rattle.ckr_steps.specs.Places.{GoesOn, GoesTo, ShowsWithin, IsStepPlace}
@@ -145,5 +145,6 @@ module _ (layout : Layout) (old : JobsView) (before after : List ℕ) (desk : De
         failed = back.failed ∙ unit.stands.failed;
         running = subst (λ (seen : List RunningStepView). AllStand desk.layout desk.office after seen later.running) (sym back.running) running-so;
         differ_so = differ-put (put_step p.stands.row.number) desk.running unit.stands.differ_so;
+        points = subst (PointsStand desk.office) (sym back.points) unit.stands.points;
         committed = committed-so layout old before after desk turn run on moved (Went taken) unit before after unit.stands.committed unit.keeps;
       })

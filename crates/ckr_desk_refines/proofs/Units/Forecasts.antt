@@ -27,7 +27,7 @@ use Rattle.ckr_meaning.specs.Program.{fitting, room_after, unit_done as program_
 use Rattle.ckr_meaning.specs.StepRun.{StepStart, case_at, work_at}
 use Rattle.ckr_points.specs.Payload.{lengths_at, rewrites_nothing}
 use Rattle.ckr_points.specs.Restart.{place_of, step_in}
-use Rattle.ckr_points.specs.Rows.{RunRow, run_of, step_of_run}
+use Rattle.ckr_points.specs.Rows.{KeptEntry, RunRow, TablesModel, run_of, step_of_run}
 use Rattle.ckr_rules.specs.RuleTables.{rule_number}
 use Rattle.ckr_rules.specs.declared.cases.Rule.{Rule}
 use Rattle.ckr_rules.specs.declared.cases.Rule.TheVariants.{A6}
@@ -48,11 +48,11 @@ use Rattle.ckr_steps.specs.Places.{AreNext, ShowsWithin, IsStepPlace}
 use Rattle.ckr_steps.specs.StepUnit.{HasDone, HasLooked, HasWritten, behind_unit, done_for, heads_on, unit_for, worked_for, writes_for}
 use Rattle.ckr_steps.specs.Units.{state_of, taken_of}
 use Rattle.ckr_steps.specs.Writes.{Shows, answer_of, done_of, done_unless, grown, put_all, rewrite_of, room_of, worked_by}
-use Rattle.ckr_desk_turn.specs.Codes.{ended_by, initiator_of, judged_plan, running_reached, verdict_for}
+use Rattle.ckr_desk_turn.specs.Codes.{ended_by, initiator_of, judged_plan, restarted_at, running_reached, verdict_for}
 use Rattle.ckr_desk_turn.specs.declared.plan.Plan.TheVariants.{Work}
 use Rattle.ckr_desk_turn.specs.declared.reply.Turn.{Turn}
 use Rattle.ckr_desk_turn.specs.Desk.{DeskModel, TurnDone, jobs_of, seen, seen_from, with_progress, work_of}
-use Rattle.ckr_desk_turn.specs.Jobs.{TurnStep}
+use Rattle.ckr_desk_turn.specs.Jobs.{TurnStep, effect_entry}
 use Rattle.ckr_desk_turn.specs.Plans.{plan_of}
 use Rattle.ckr_desk_turn.specs.Units.{StepProgress, finished_by, unit_end}
 use Rattle.ckr_volumes.specs.declared.layout.Layout.{Layout}
@@ -90,9 +90,9 @@ BothTell (Some foretold) None = ⊥
 BothTell (Some foretold) (Some told) = IsAsForetold foretold told
 
 -- what is told of a code, whatever the rules say of it
-code-tell : (row : RunRow) (initiator : ℕ) (code : Code) (one two : TurnStep) → length one.lengths ≡ length two.lengths → (verdict : Verdict)
-    → BothTell (event_in (judged_plan row initiator code (running_reached one) verdict)) (event_in (judged_plan row initiator code (running_reached two) verdict))
-code-tell row initiator code one two same verdict = by verdict
+code-tell : (tables : TablesModel) (row : RunRow) (initiator : ℕ) (code : Code) (one two : TurnStep) → length one.lengths ≡ length two.lengths → (verdict : Verdict)
+    → BothTell (event_in (judged_plan tables row initiator code (running_reached one) verdict)) (event_in (judged_plan tables row initiator code (running_reached two) verdict))
+code-tell tables row initiator code one two same verdict = by verdict
   where
     ended : (rule : Rule) → BothTell (event_in (ended_by row code rule (running_reached one))) (event_in (ended_by row code rule (running_reached two)))
     ended rule = record {
@@ -100,21 +100,25 @@ code-tell row initiator code one two same verdict = by verdict
       long = coded-long row.number one.writes two.writes (rule_number rule) code one.lengths two.lengths same;
     }
 
-    by : (verdict : Verdict) → BothTell (event_in (judged_plan row initiator code (running_reached one) verdict)) (event_in (judged_plan row initiator code (running_reached two) verdict))
+    back : (entry : Option KeptEntry) → BothTell (event_in (option_map_or (restarted_at row initiator code) entry (ended_by row code A6 (running_reached one)))) (event_in (option_map_or (restarted_at row initiator code) entry (ended_by row code A6 (running_reached two))))
+    back None = ended A6
+    back (Some entry) = record { like = equal-itself row.number; long = refl }
+
+    by : (verdict : Verdict) → BothTell (event_in (judged_plan tables row initiator code (running_reached one) verdict)) (event_in (judged_plan tables row initiator code (running_reached two) verdict))
     by (Denied rule) = ended rule
     by Step = record { like = equal-itself row.number; long = refl }
-    by Checkpoint = ended A6
+    by Checkpoint = back (effect_entry tables row)
 
 -- what is told of two steps with one answer, which have as many outputs
-pub both-tell : (layout : Layout) (row : RunRow) (one two : TurnStep) (worked : Worked) → length one.lengths ≡ length two.lengths → BothTell (event_in (told_by layout row one worked)) (event_in (told_by layout row two worked))
-both-tell layout row one two (Went taken) same = tt
-both-tell layout row one two (Rewrite place image taken) same = record {
+pub both-tell : (layout : Layout) (tables : TablesModel) (row : RunRow) (one two : TurnStep) (worked : Worked) → length one.lengths ≡ length two.lengths → BothTell (event_in (told_by layout tables row one worked)) (event_in (told_by layout tables row two worked))
+both-tell layout tables row one two (Went taken) same = tt
+both-tell layout tables row one two (Rewrite place image taken) same = record {
   like = equal-itself row.number;
   long = rewritten-long row.number two.taken two.writes place two.lengths image
       ∙ ap (λ n. 20 + 4 * n + length image) (sym same)
       ∙ sym (rewritten-long row.number one.taken one.writes place one.lengths image);
 }
-both-tell layout row one two (Abend code) same = code-tell row (initiator_of row) code one two same (verdict_for layout row code)
+both-tell layout tables row one two (Abend code) same = code-tell tables row (initiator_of row) code one two same (verdict_for layout row code)
 
 pub told-by-both : (one two : Option Event) → BothTell one two → (foretold : Event) → one ≡ Some foretold → IsTold foretold two
 told-by-both None two both foretold is = absurd (some-not-none foretold (sym is))
@@ -190,10 +194,10 @@ module _ (layout : Layout) (jobs : JobsView) (image : List ℕ) (desk : DeskMode
       keeps = record { records = λ name set n is le. refl; others = λ other n clear its le. refl; front = refl };
     }
 
-    rewrite-told : (row : RunRow) → run_of desk.office.tables run ≡ Some row → BothTell (event_in (told_by layout row (running_of desk.office.tables on) (Rewrite place bytes now))) (work_of run desk).event
+    rewrite-told : (row : RunRow) → run_of desk.office.tables run ≡ Some row → BothTell (event_in (told_by layout desk.office.tables row (running_of desk.office.tables on) (Rewrite place bytes now))) (work_of run desk).event
     rewrite-told row at =
-        subst (BothTell (event_in (told_by layout row (running_of desk.office.tables on) (Rewrite place bytes now)))) (told-unit layout jobs image image desk turn run on moved (Rewrite place bytes now) unit row at).1
-        (both-tell layout row (running_of desk.office.tables on) (running_of desk.office.tables moved) (Rewrite place bytes now) refl)
+        subst (BothTell (event_in (told_by layout desk.office.tables row (running_of desk.office.tables on) (Rewrite place bytes now)))) (told-unit layout jobs image image desk turn run on moved (Rewrite place bytes now) unit row at).1
+        (both-tell layout desk.office.tables row (running_of desk.office.tables on) (running_of desk.office.tables moved) (Rewrite place bytes now) refl)
 
   -- ---- an end with a code
 
@@ -262,16 +266,16 @@ module _ (layout : Layout) (jobs : JobsView) (image : List ℕ) (desk : DeskMode
               (sym (ap (λ (u : UnitOfProgram). u.finish) unit-is) ∙ finish),
         ))
 
-    coded-told : (row : RunRow) → run_of desk.office.tables run ≡ Some row → BothTell (event_in (told_by layout row (running_of desk.office.tables on) (Abend code))) (work_of run desk).event
+    coded-told : (row : RunRow) → run_of desk.office.tables run ≡ Some row → BothTell (event_in (told_by layout desk.office.tables row (running_of desk.office.tables on) (Abend code))) (work_of run desk).event
     coded-told row at =
         let mine : p.stands.row ≡ row = same_Some p.stands.row row (sym (row-found layout jobs image desk turn run on stands planned found) ∙ at) in
-        subst (λ (r : RunRow). BothTell (event_in (told_by layout r (running_of desk.office.tables on) (Abend code))) (work_of run desk).event) mine
-        (subst (λ (l : Layout). BothTell (event_in (told_by l p.stands.row (running_of desk.office.tables on) (Abend code))) (work_of run desk).event) stands.layout_is
-        (subst (λ (done : TurnDone). BothTell (event_in (told_by desk.layout p.stands.row (running_of desk.office.tables on) (Abend code))) done.event)
+        subst (λ (r : RunRow). BothTell (event_in (told_by layout desk.office.tables r (running_of desk.office.tables on) (Abend code))) (work_of run desk).event) mine
+        (subst (λ (l : Layout). BothTell (event_in (told_by l desk.office.tables p.stands.row (running_of desk.office.tables on) (Abend code))) (work_of run desk).event) stands.layout_is
+        (subst (λ (done : TurnDone). BothTell (event_in (told_by desk.layout desk.office.tables p.stands.row (running_of desk.office.tables on) (Abend code))) done.event)
         (sym (work-found layout jobs image desk turn run on stands planned found (end_coded on.step.state code taken ends-so.0) ends-so.1))
-        (subst (BothTell (event_in (told_by desk.layout p.stands.row (running_of desk.office.tables on) (Abend code))))
-        (event-done (told_by desk.layout p.stands.row behind (Abend code)) (with_progress p.stands.row.number progress desk))
-        (both-tell desk.layout p.stands.row (running_of desk.office.tables on) behind (Abend code) (as-many-seen progress)))))
+        (subst (BothTell (event_in (told_by desk.layout desk.office.tables p.stands.row (running_of desk.office.tables on) (Abend code))))
+        (event-done (told_by desk.layout desk.office.tables p.stands.row behind (Abend code)) (with_progress p.stands.row.number progress desk))
+        (both-tell desk.layout desk.office.tables p.stands.row (running_of desk.office.tables on) behind (Abend code) (as-many-seen progress)))))
       where
         progress : StepProgress
         progress = open_at on.step.state taken ends-so.0
@@ -282,7 +286,7 @@ module _ (layout : Layout) (jobs : JobsView) (image : List ℕ) (desk : DeskMode
   -- ---- whatever the answer
 
   answer-told : (worked : Worked) → HasLooked (Unit {0}) image layout on.step on.sets worked → (row : RunRow) → run_of desk.office.tables run ≡ Some row
-      → (foretold : Event) → event_in (told_by layout row (running_of desk.office.tables on) worked) ≡ Some foretold → IsTold foretold (work_of run desk).event
+      → (foretold : Event) → event_in (told_by layout desk.office.tables row (running_of desk.office.tables on) worked) ≡ Some foretold → IsTold foretold (work_of run desk).event
   answer-told (Went taken) looked row at foretold is = absurd (some-not-none foretold (sym is))
   answer-told (Rewrite place bytes now) looked row at foretold is = told-by-both _ (work_of run desk).event (rewrite-told place now bytes looked row at) foretold is
   answer-told (Abend code) looked row at foretold is = told-by-both _ (work_of run desk).event (coded-told code looked row at) foretold is
@@ -291,6 +295,6 @@ module _ (layout : Layout) (jobs : JobsView) (image : List ℕ) (desk : DeskMode
 pub foretold-so : (layout : Layout) (jobs : JobsView) (image : List ℕ) (desk : DeskModel) (turn : Turn) (run : ℕ) (on : RunningStepView) (worked : Worked)
     → StandsForDesk layout jobs image desk → plan_of desk.layout (jobs_of desk) turn ≡ Work run → find (is_of_run run) jobs.running ≡ Some on → AreThere on.step.files on.sets
     → HasLooked (Unit {0}) image layout on.step on.sets worked → (row : RunRow) → run_of desk.office.tables run ≡ Some row
-    → (foretold : Event) → event_in (told_by layout row (running_of desk.office.tables on) worked) ≡ Some foretold → IsTold foretold (work_of run desk).event
+    → (foretold : Event) → event_in (told_by layout desk.office.tables row (running_of desk.office.tables on) worked) ≡ Some foretold → IsTold foretold (work_of run desk).event
 foretold-so layout jobs image desk turn run on worked stands planned found there looked row at foretold is =
     answer-told layout jobs image desk turn run on stands planned found there worked looked row at foretold is

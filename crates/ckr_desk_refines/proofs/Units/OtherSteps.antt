@@ -121,6 +121,7 @@ module _ (desk : DeskModel) (is : IsDesk desk) (image : List ℕ) (on other : Ru
     run = keeps_on.run;
     stands = keeps_on.stands;
     served = keeps_on.served;
+    ordered = keeps_on.ordered;
     writes = keeps_on.writes;
     sets = keeps_on.sets;
     named = keeps_on.named;

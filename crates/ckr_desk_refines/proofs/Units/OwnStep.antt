@@ -1,9 +1,12 @@
 -- A running step behind its unit: its data sets in memory are those of the tables still.
-use Rattle.std.proofs.Common.{◌≡◌, ◌≤◌, ℕ, Bool, true, false, List, refl, ap, sym, ◌∙◌, subst, Option, Some, arith}
+use Rattle.std.proofs.Common.{◌≡◌, ◌≤◌, ◌&&◌, ℕ, Bool, true, false, List, refl, ap, sym, ◌∙◌, subst, Option, Some, arith}
 use Rattle.std.specs.Option.{option_map}
 use Rattle.std.proofs.lemmas.Bool.{false≢true}
 use Rattle.std.proofs.lemmas.Option.{same_Some}
 use Rattle.ckr_desk_memory.specs.View.{RunningStepView}
+use Rattle.ckr_base.specs.declared.programs.NextDue.TheVariants.{Checkpoint}
+use Rattle.ckr_desk_turn.specs.Due.{next_due}
+use Rattle.ckr_desk_refines.proofs.Standing.Served.{is_checkpoint_due}
 use Rattle.ckr_desk_turn.specs.Invariant.{IsDesk, IsGoing}
 use Rattle.ckr_desk_refines.specs.StepSets.{HasSets, LiesThere}
 use Rattle.ckr_library.specs.Catalog.{set_of}
@@ -20,6 +23,7 @@ use Rattle.ckr_steps.specs.declared.files.Files.{Files}
 use Rattle.ckr_steps.specs.declared.step_run.Worked.{Worked}
 use Rattle.ckr_steps.specs.Places.{GoesTo, IsPlain}
 use Rattle.ckr_steps.specs.StepUnit.{HasWorked, done_for}
+use Rattle.ckr_steps.specs.Units.{is_cancelled}
 use Rattle.ckr_desk_turn.specs.Desk.{DeskModel, DeskStep}
 use Rattle.ckr_desk_refines.proofs.Units.Contents.{content_at, made-content}
 use Rattle.ckr_desk_refines.proofs.Units.Lengths.{IsLengthened, lengthened-from, lengthened-to}
@@ -78,6 +82,11 @@ module _ (desk : DeskModel) (is : IsDesk desk) (before after : List ℕ) (on mov
       (λ rejects. no-output name table was.0 at was.1 checks _ stands.stands.may.rejects (ap (λ (files : Files). files.rejects) (sym stands.stands.files) ∙ rejects))
       ∙ stands.checked name table was.0 at was.1 checks
 
+  -- a checkpoint isn't due of a closed step, and where a record was taken no cancel is done yet
+  closed-ordered : (taken writes : ℕ) (closed : Bool) → next_due stands.start (further_at on.step.state taken writes closed) ≡ Checkpoint → (closed && is_cancelled on.step.state) ≡ false
+  closed-ordered taken writes true due = absurd (false≢true (ap is_checkpoint_due due))
+  closed-ordered taken writes false due = refl
+
   -- where it goes on, it stands for the step of the desk that has come so far
   pub own-stands : moved.run ≡ on.run → (taken : ℕ) (goes : GoesTo (Unit {0}) after desk.layout stands.start taken on.step moved.step moved.sets)
       → StandsForStep desk.layout desk.office after moved (record { run = step.run; progress = further_at on.step.state taken moved.step.writes goes.closed })
@@ -89,6 +98,7 @@ module _ (desk : DeskModel) (is : IsDesk desk) (before after : List ℕ) (on mov
     run = run ∙ stands.run;
     stands = goes.stands;
     served = goes.served;
+    ordered = closed-ordered taken moved.step.writes goes.closed;
     writes = refl;
     sets = own-sets;
     named = own-named;

@@ -68,9 +68,9 @@ module _ (layout : Layout) (jobs : TurnJobs) (run : ℕ) (due : NextDue) (takes 
   never plan isnt e = absurd (some-not-none _ (sym e.0 ∙ isnt))
 
   -- a code is told
-  code-none : (row : RunRow) (initiator : ℕ) (code : Code) (reached : CodePlaceModel) → asked_in (code_plan layout row initiator code reached) ≡ None
+  code-none : (row : RunRow) (initiator : ℕ) (code : Code) (reached : CodePlaceModel) → asked_in (code_plan layout jobs.tables row initiator code reached) ≡ None
   code-none row initiator code reached =
-      by-verdict (λ plan. asked_in plan ≡ None) layout row initiator code reached (λ rule ends. refl) (λ judged. refl)
+      by-verdict (λ plan. asked_in plan ≡ None) layout jobs.tables row initiator code reached (λ rule ends. refl) (λ judged. refl) (λ entry judged there. refl)
 
   chosen-none : (initiator : ℕ) (row : RunRow) → asked_in (chosen_plan layout jobs initiator row) ≡ None
   chosen-none initiator row = by row.code
@@ -148,16 +148,16 @@ module _ (layout : Layout) (jobs : TurnJobs) (run : ℕ) (due : NextDue) (takes 
     fail-works None e = placed-works (place_of row) refl e
     fail-works (Some code) e = never (fail_plan layout jobs row (Some code)) (by (is_within (place_of row))) e
       where
-        by : (b : Bool) → asked_in (elim b as (λ _. Plan) [ true ↦ code_plan layout row (initiator_of row) code (reached_by jobs row) | false ↦ Rest NothingToFail ]) ≡ None
+        by : (b : Bool) → asked_in (elim b as (λ _. Plan) [ true ↦ code_plan layout jobs.tables row (initiator_of row) code (reached_by jobs row) | false ↦ Rest NothingToFail ]) ≡ None
         by true = code-none row (initiator_of row) code (reached_by jobs row)
         by false = refl
 
     run-works : (fail : Option Code) → Asks (run_plan layout jobs fail row) → Works jobs row run due takes
     run-works fail e = by (is_failed jobs row.number) e
       where
-        by : (b : Bool) → Asks (elim b as (λ _. Plan) [ true ↦ code_plan layout row (initiator_of row) system_failure (reached_by jobs row) | false ↦ fail_plan layout jobs row fail ]) → Works jobs row run due takes
+        by : (b : Bool) → Asks (elim b as (λ _. Plan) [ true ↦ code_plan layout jobs.tables row (initiator_of row) system_failure (reached_by jobs row) | false ↦ fail_plan layout jobs row fail ]) → Works jobs row run due takes
         by true e =
-            never (code_plan layout row (initiator_of row) system_failure (reached_by jobs row)) (code-none row (initiator_of row) system_failure (reached_by jobs row)) e
+            never (code_plan layout jobs.tables row (initiator_of row) system_failure (reached_by jobs row)) (code-none row (initiator_of row) system_failure (reached_by jobs row)) e
         by false e = fail-works fail e
 
 -- the run of a turn that works

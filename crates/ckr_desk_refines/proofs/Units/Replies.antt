@@ -59,12 +59,12 @@ module _ (layout : Layout) (old : JobsView) (before after : List ℕ) (desk : De
   plan_at end = unit_plan desk.layout (jobs_of (with_progress p.stands.row.number end.progress desk)) p.stands.row (seen desk.office p.stands.row.number end.progress) end.unit
 
   -- where the plans are the same, so are what they tell
-  pub told-so : (end : UnitEnd) → work_of run desk ≡ unit_done p.stands.row end desk → told_by layout p.stands.row (running_of desk.office.tables moved) worked ≡ plan_at end
+  pub told-so : (end : UnitEnd) → work_of run desk ≡ unit_done p.stands.row end desk → told_by layout desk.office.tables p.stands.row (running_of desk.office.tables moved) worked ≡ plan_at end
       → (row : RunRow) → run_of desk.office.tables run ≡ Some row
-      → (reply_in (told_by layout row (running_of desk.office.tables moved) worked) ≡ (work_of run desk).reply) × (event_in (told_by layout row (running_of desk.office.tables moved) worked) ≡ (work_of run desk).event)
+      → (reply_in (told_by layout desk.office.tables row (running_of desk.office.tables moved) worked) ≡ (work_of run desk).reply) × (event_in (told_by layout desk.office.tables row (running_of desk.office.tables moved) worked) ≡ (work_of run desk).event)
   told-so end done same row at =
       let mine : p.stands.row ≡ row = same_Some p.stands.row row (sym (row-at layout old before after desk turn run on moved worked unit) ∙ at) in
-      subst (λ (r : RunRow). (reply_in (told_by layout r (running_of desk.office.tables moved) worked) ≡ (work_of run desk).reply) × (event_in (told_by layout r (running_of desk.office.tables moved) worked) ≡ (work_of run desk).event)) mine (
+      subst (λ (r : RunRow). (reply_in (told_by layout desk.office.tables r (running_of desk.office.tables moved) worked) ≡ (work_of run desk).reply) × (event_in (told_by layout desk.office.tables r (running_of desk.office.tables moved) worked) ≡ (work_of run desk).event)) mine (
         ap reply_in same ∙ reply-done (plan_at end) (with_progress p.stands.row.number end.progress desk) ∙ sym (ap (λ (d : TurnDone). d.reply) done),
         ap event_in same ∙ event-done (plan_at end) (with_progress p.stands.row.number end.progress desk) ∙ sym (ap (λ (d : TurnDone). d.event) done),
       )
@@ -106,7 +106,7 @@ module _ (layout : Layout) (old : JobsView) (before after : List ℕ) (desk : De
   to = goes-to layout old before after desk turn run on moved taken unit
 
   pub told-went : (row : RunRow) → run_of desk.office.tables run ≡ Some row
-      → (reply_in (told_by layout row (running_of desk.office.tables moved) (Went taken)) ≡ (work_of run desk).reply) × (event_in (told_by layout row (running_of desk.office.tables moved) (Went taken)) ≡ (work_of run desk).event)
+      → (reply_in (told_by layout desk.office.tables row (running_of desk.office.tables moved) (Went taken)) ≡ (work_of run desk).reply) × (event_in (told_by layout desk.office.tables row (running_of desk.office.tables moved) (Went taken)) ≡ (work_of run desk).event)
   told-went =
       told-so layout old before after desk turn run on moved (Went taken) unit
       (record { unit = went None; progress = further_at on.step.state taken moved.step.writes to.closed })

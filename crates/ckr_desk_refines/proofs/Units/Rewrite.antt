@@ -293,7 +293,7 @@ module _ (layout : Layout) (old : JobsView) (before after : List ℕ) (desk : De
   seen_step step = tell_so step.taken step.writes step.lengths (fitted (updated_lrecl (jobs_of (with_progress p.stands.row.number its_end.progress desk)) p.stands.row) to.write.image)
 
   pub told-rewriting : (row : RunRow) → run_of desk.office.tables run ≡ Some row
-      → (reply_in (told_by layout row (running_of desk.office.tables moved) (Rewrite place bytes now)) ≡ (work_of run desk).reply) × (event_in (told_by layout row (running_of desk.office.tables moved) (Rewrite place bytes now)) ≡ (work_of run desk).event)
+      → (reply_in (told_by layout desk.office.tables row (running_of desk.office.tables moved) (Rewrite place bytes now)) ≡ (work_of run desk).reply) × (event_in (told_by layout desk.office.tables row (running_of desk.office.tables moved) (Rewrite place bytes now)) ≡ (work_of run desk).event)
   told-rewriting =
       told-so layout old before after desk turn run on moved (Rewrite place bytes now) unit its_end rewriting-done
       (ap (λ n. tell_so n moved.step.writes (running_of desk.office.tables moved).lengths bytes) taken-so

@@ -1,5 +1,5 @@
-use Rattle.ckr_desk_refines.proofs.Events.Turns.{restart-stands}
+use Rattle.ckr_desk_refines.proofs.Events.Turns.{restarted-stands}
 use Rattle.ckr_desk_refines.proofs.event_laws.desks_behind_restarts_stand.Goals as goal
 
 pub returns : goal.returns
-returns c = restart-stands
+returns c = restarted-stands
