@@ -5,7 +5,7 @@ use Rattle.ckr_base.proofs.Options.{some-not-none}
 use Rattle.ckr_desk_memory.specs.Invariant.{AreJobs, IsAcceptedRow, IsPlacedRow, IsRunnable}
 use Rattle.ckr_desk_memory.specs.Holders.{AreHolders}
 use Rattle.ckr_desk_memory.specs.OwnSets.{IsRunningOf}
-use Rattle.ckr_desk_memory.specs.OwnSteps.{AreLeft, AreSingle, HoldTheirOwn, IsLeft}
+use Rattle.ckr_desk_memory.specs.OwnSteps.{AreLeft, AreSingle, HavePoints, HoldTheirOwn, IsLeft}
 use Rattle.ckr_desk_memory.specs.View.{JobsView}
 use Rattle.ckr_desk_turn.specs.Queue.{AreNumbered}
 use Rattle.ckr_points.specs.Rows.{TablesModel, no_tables}
@@ -32,13 +32,14 @@ jobs-stay layout later one two same desk running jobs =
     })
 
 -- so do those that hold their own, with what else holds of them on any disk
-pub kept-stay : (layout later : Layout) (one two : JobsView) → later ≡ layout → two.tables.desk ≡ one.tables.desk → two.running ≡ one.running → two.failed ≡ one.failed → AreKept layout one → AreKept later two
-kept-stay layout later one two same desk running failed kept = record {
+pub kept-stay : (layout later : Layout) (one two : JobsView) → later ≡ layout → two.tables.desk ≡ one.tables.desk → two.running ≡ one.running → two.failed ≡ one.failed → two.points ≡ one.points → AreKept layout one → AreKept later two
+kept-stay layout later one two same desk running failed points kept = record {
   are = jobs-stay layout later one two same desk running kept.are;
   own = record {
     holders = subst AreHolders (sym desk) kept.own.holders;
     running = subst (λ (tables : TablesModel). AllByRecursion (IsRunningOf tables) two.running) (sym desk) (subst (AllByRecursion (IsRunningOf one.tables.desk)) (sym running) kept.own.running);
     single = subst AreSingle (sym running) kept.own.single;
+    points = subst (HavePoints two.tables.desk) (sym points) (subst (λ (tables : TablesModel). HavePoints tables one.points) (sym desk) kept.own.points);
   };
   left = left-same one two desk failed kept.left;
   numbered = subst (λ (tables : TablesModel). AreNumbered 1 tables.runs) (sym desk) kept.numbered;
@@ -54,13 +55,14 @@ kept-moved layout one two desk failed are own kept = record {
 }
 
 -- where no step is running, and the runs stay apart
-pub kept-opened : (layout : Layout) (one two : JobsView) → two.tables.desk ≡ one.tables.desk → two.running ≡ [] → AreJobs layout two → AreLeft two → AreHolders one.tables.desk → AreNumbered 1 one.tables.desk.runs → AreKept layout two
-kept-opened layout one two desk running are left holders numbered = record {
+pub kept-opened : (layout : Layout) (one two : JobsView) → two.tables.desk ≡ one.tables.desk → two.running ≡ [] → AreJobs layout two → AreLeft two → AreHolders one.tables.desk → HavePoints one.tables.desk two.points → AreNumbered 1 one.tables.desk.runs → AreKept layout two
+kept-opened layout one two desk running are left holders points numbered = record {
   are = are;
   own = record {
     holders = subst AreHolders (sym desk) holders;
     running = subst (AllByRecursion (IsRunningOf two.tables.desk)) (sym running) tt;
     single = subst AreSingle (sym running) tt;
+    points = subst (λ (tables : TablesModel). HavePoints tables two.points) (sym desk) points;
   };
   left = left;
   numbered = subst (λ (tables : TablesModel). AreNumbered 1 tables.runs) (sym desk) numbered;

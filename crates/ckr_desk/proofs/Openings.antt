@@ -5,6 +5,8 @@ pub mod EntryRefusals
 pub mod Replay
 pub mod Lengths
 pub mod LastRecord
+pub mod Points
+pub mod NextPoints
 pub mod RecordTest
 pub mod Trust
 pub mod FreshDisks

@@ -37,6 +37,7 @@ pub record HasSameJobs {D : Type 0} (old new : DeskView D) : Type 0 where
   pub tables : new.jobs.tables.desk ≡ old.jobs.tables.desk
   pub running : new.jobs.running ≡ old.jobs.running
   pub failed : new.jobs.failed ≡ old.jobs.failed
+  pub points : new.jobs.points ≡ old.jobs.points
 
 -- what the jobs are is the same, and so is the disk
 pub record IsSame {D : Type 0} (old new : DeskView D) : Type 0 where

@@ -1,7 +1,9 @@
 -- What opening refuses of the entries of checkpoints in effect: one without its places in its data set, or one that isn't read as a
 -- point of the step that its run is in.
-use Rattle.std.specs.Prelude.{◌≡◌, ℕ, Bool, true, if◌then◌else◌, List, [], Option, None, Some, option_and_then}
+use Rattle.std.specs.Prelude.{◌≡◌, ℕ, Bool, true, if◌then◌else◌, IfOk, List, [], find, Option, None, Some, option_and_then, Result, Ok, Err}
 use Rattle.std.specs.Option.{is_some, option_map_or}
+use Rattle.ckr_entry.specs.Entry.{IsEntry, entry_in, told_offset}
+use Rattle.ckr_entry.specs.Parts.{Entry}
 use Rattle.ckr_entry.specs.declared.point.Mark.{Mark}
 use Rattle.ckr_jcl.specs.declared.deck.Dd.{Dd}
 use Rattle.ckr_jcl.specs.declared.deck.Step.{Step}
@@ -12,8 +14,11 @@ use Rattle.ckr_meaning.specs.EffectiveJob.{name_of}
 use Rattle.ckr_points.specs.Marks.{present_at}
 use Rattle.ckr_points.specs.Office.{is_holder}
 use Rattle.ckr_points.specs.Rows.{EffectPoint, RunRow, TableSet, TablesModel, run_of}
+use Rattle.ckr_desk_memory.specs.EventChanges.{is_point_of}
 use Rattle.ckr_desk_memory.specs.Model.Holdings.{owned}
-use Rattle.ckr_desk_refines.specs.EntryRefusal.{effect_fault, first_fault}
+use Rattle.ckr_desk_memory.specs.View.{PointView}
+use Rattle.ckr_desk_refines.specs.EntryRefusal.{effect_fault, first_fault, is_of_run}
+use Rattle.ckr_steps.specs.EntryRecords.{bytes_on}
 use Rattle.ckr_volumes.specs.declared.layout.Layout.{Layout}
 use Rattle.ckr_desk.specs.declared.error.OpenError.{OpenError}
 use Rattle.ckr_desk.specs.declared.error.OpenError.TheVariants as OpenErrors
@@ -58,3 +63,51 @@ EntriesCause rose told refused OpenErrors.NoMemory = Unit {0}
 EntriesCause rose told refused OpenErrors.Fault = rose
 EntriesCause rose told refused (OpenErrors.BadEntry job offset) = told → refused ≡ Some (job, offset)
 EntriesCause rose told refused _ = ⊥
+
+-- ---- the points of checkpoints in effect
+
+-- where an entry has the step of a run
+abbrev pub point_in : ℕ → Entry → PointView
+point_in run entry = record { run = run; state = entry.state; writes = entry.writes }
+
+-- the point that an entry is, or where it is refused
+abbrev pub point_read : ℕ → (Entry → Bool) → Result Entry ℕ → Result PointView ℕ
+point_read run is_right (Ok entry) = if is_right entry then Ok (point_in run entry) else Err 0
+point_read run is_right (Err offset) = Err (told_offset offset)
+
+abbrev pub refused_at : Result PointView ℕ → Option ℕ
+refused_at (Ok point) = None
+refused_at (Err offset) = Some offset
+
+-- What was found where an entry has its places: a point, or where it is refused. It is what the disk reads there, if it tells that.
+pub record IsFoundAt (told : Type 0) (run : ℕ) (is_right : Entry → Bool) (there : Result Entry ℕ) (found : Result PointView ℕ) : Type 0 where
+  pub read : Result Entry ℕ
+  pub is : found ≡ point_read run is_right read
+  pub form : IfOk read IsEntry
+  pub same : told → read ≡ there
+
+-- a point is where an entry has the step that its run is in; it is the entry of the checkpoint in effect, if the disk tells what it holds
+pub record IsPointRead (told : Type 0) (layout : Layout) (tables : TablesModel) (image : List ℕ) (row : RunRow) (effect : EffectPoint) (point : PointView) : Type 0 where
+  pub entry : Entry
+  pub form : IsEntry entry
+  pub its : is_of_run row entry ≡ true
+  pub is : point ≡ point_in row.number entry
+  pub read : told → (table : TableSet) → entry_at tables.sets effect.set ≡ Some table → entry_in (bytes_on image layout table.set effect.kept.place effect.kept.bytes) ≡ Ok entry
+
+-- what was found of a run: none only where it has no checkpoint in effect, or doesn't hold its names
+abbrev pub IsFoundOf : Type 0 → Layout → TablesModel → List ℕ → RunRow → Option (Result PointView ℕ) → Type 0
+IsFoundOf told layout tables image row None = is_holder row.state ≡ true → row.in_effect ≡ None
+IsFoundOf told layout tables image row (Some (Err offset)) = Unit {0}
+IsFoundOf told layout tables image row (Some (Ok point)) = (effect : EffectPoint) × (row.in_effect ≡ Some effect) × IsPointRead told layout tables image row effect point
+
+-- the first point of a run is that of its checkpoint in effect
+pub record HasPointRead (told : Type 0) (layout : Layout) (tables : TablesModel) (image : List ℕ) (number : ℕ) (row : RunRow) (effect : EffectPoint) (points : List PointView) : Type 0 where
+  pub point : PointView
+  pub found : find (is_point_of number) points ≡ Some point
+  pub read : IsPointRead told layout tables image row effect point
+
+-- so it is with each run that holds its names and has one
+abbrev pub ArePointsRead : Type 0 → Layout → TablesModel → List ℕ → List PointView → Type 0
+ArePointsRead told layout tables image points =
+    (number : ℕ) (row : RunRow) (effect : EffectPoint) → run_of tables number ≡ Some row → is_holder row.state ≡ true → row.in_effect ≡ Some effect
+    → HasPointRead told layout tables image number row effect points

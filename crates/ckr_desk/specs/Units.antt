@@ -42,7 +42,7 @@ use Rattle.ckr_desk.specs.Turn.{behind_turn, event_of_turn, reply_of, turn_fits}
 abbrev pub IsToldOf : Layout → TablesModel → RunningStepView → Worked → Plan → Type 0
 IsToldOf layout tables moved worked plan =
     (row : RunRow) (own : OwnedStep) → run_of tables moved.run ≡ Some row → step_of_run row (step_in (place_of row)) ≡ Some own
-    → plan ≡ told_by layout row (running_of tables moved) worked
+    → plan ≡ told_by layout tables row (running_of tables moved) worked
 
 module _ {D : Type 0} (told : Type 0) (content : D → List ℕ) (may_leave : D → List ℕ → Type 0) (moment : D → ℕ) (left_since : D → ℕ → List ℕ → Type 0) where
   -- One unit of the running step of a run was done, and the step stands before the others. The plan is what the turn tells of it.
@@ -60,6 +60,7 @@ module _ {D : Type 0} (told : Type 0) (content : D → List ℕ) (may_leave : D 
     pub tables : new.jobs.tables.desk ≡ old.jobs.tables.desk
     pub failed : new.jobs.failed ≡ old.jobs.failed
     pub running : new.jobs.running ≡ moved ∷ without_first run old.jobs.running
+    pub points : new.jobs.points ≡ old.jobs.points
     pub store : new.store ≡ record old.store { disk = new.store.disk }
     pub planned : IsToldOf old.store.layout old.jobs.tables.desk moved worked plan
 

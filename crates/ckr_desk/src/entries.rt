@@ -1,12 +1,13 @@
 //! The entries of checkpoints in effect, which opening reads: a run could be restarted there.
-ghost use Rattle.std.specs.Prelude.{◌≡◌, ◌≤◌, ◌++◌, [], ℕ, IfErr, IfOk, IsTrue, List, None, Some, OnOk, false};
-ghost use Rattle.std.specs.List.{list_all};
+ghost use Rattle.std.specs.Prelude.{◌≡◌, ◌≤◌, ◌++◌, ◌∷◌, [], ℕ, Err, IfErr, IfOk, IsTrue, List, None, Some, OnOk, false, option_and_then};
+ghost use Rattle.std.specs.List.{AllByRecursion, list_all};
 ghost use Rattle.std.specs.Option.{is_some, option_copied};
 ghost use Rattle.ckr_desk_memory.specs.Invariant.{AreJobs};
+ghost use Rattle.ckr_desk_memory.specs.Parts.{IsPointCounted};
 ghost use Rattle.ckr_desk_memory.specs.Plans.{row_for};
-ghost use Rattle.ckr_desk_refines.specs.EntryRefusal.{entry_refusal, fault_in, is_of_run, is_of_step};
+ghost use Rattle.ckr_desk_refines.specs.EntryRefusal.{entry_refusal, is_of_run, is_of_step};
 ghost use Rattle.ckr_desk_turn.specs.Queue.{AreNumbered};
-ghost use Rattle.ckr_entry.specs.Entry.{entry_in};
+ghost use Rattle.ckr_entry.specs.Entry.{IsEntry, entry_in};
 ghost use Rattle.ckr_entry.specs.Parts.{entry_of};
 ghost use Rattle.ckr_library.specs.Catalog.{ends_within, records_of};
 ghost use Rattle.ckr_outside.specs.Disk.{OnlyReads};
@@ -21,11 +22,11 @@ ghost use Rattle.ckr_steps.specs.EntryRecords.{bytes_on};
 ghost use Rattle.ckr_steps.specs.Units.{program_of};
 ghost use Rattle.ckr_volumes.specs.Layouts.{StandsIn, disk_needed, is_laid_out};
 ghost use Rattle.ckr_volumes.specs.declared.layout.Layout.{Layout as LayoutOfDisk};
-ghost use Rattle.ckr_desk.specs.Entries.{ArePlaced, EntriesCause, EntryCause, bad_entry, is_dd_present, run_refusal};
+ghost use Rattle.ckr_desk.specs.Entries.{ArePlaced, ArePointsRead, EntriesCause, EntryCause, IsFoundAt, IsFoundOf, bad_entry, is_dd_present, point_read, refused_at, run_refusal};
 
 use crate::OpenError;
 use ckr_base::{DsName, NoMemory};
-use ckr_desk_memory::Jobs;
+use ckr_desk_memory::{Jobs, StepPoint};
 use ckr_entry::{EntryError, Mark, Point, State, decode_entry};
 use ckr_jcl::{Dd, Kind, Step};
 use ckr_library::{DataSet, Kept};
@@ -181,30 +182,36 @@ fn is_of_run(point: &Point, run: u32, table: &RunTable) -> bool
     }
 }
 
-/// Where bytes aren't the entry of a point of the step that a run is in: the decoder's offset, or 0 where they are another point.
-fn fault_of(
+/// The point that bytes are the entry of, one of the step that a run is in, or where they are refused: the decoder's offset, or 0 where they
+/// are another point.
+fn point_of(
     alloc: Global,
     bytes: &[u8],
     run: u32,
     table: &RunTable,
-) -> Result<Option<u32>, NoMemory>
+) -> Result<Result<StepPoint, u32>, NoMemory>
     requires { run ≤ 9999999 }
-    ensures { IfOk result (λ found. found ≡ fault_in (is_of_run (row_for run table.now)) (entry_in bytes.now)) }
+    ensures found { IfOk result (λ found. found ≡ point_read run (is_of_run (row_for run table.now)) (entry_in bytes.now)) }
+    ensures form { OnOk result (IfOk (entry_in bytes.now) IsEntry) }
 {
     match decode_entry(alloc, bytes) {
         Ok(point) => {
             if is_of_run(&point, run, table) {
-                return Ok(None);
+                return Ok(Ok(StepPoint {
+                    run,
+                    state: point.state,
+                    writes: point.writes,
+                }));
             }
-            Ok(Some(0))
+            Ok(Err(0))
         }
         Err(EntryError::NoMemory) => Err(NoMemory),
-        Err(EntryError::Bad { offset }) => Ok(Some(offset)),
+        Err(EntryError::Bad { offset }) => Ok(Err(offset)),
     }
 }
 
-/// Where the entry of the checkpoint in effect of a run is refused, in this data set.
-fn refusal_in<D: Disk>(
+/// The point of the checkpoint in effect of a run, or where its entry is refused, in this data set.
+fn point_in<D: Disk>(
     alloc: Global,
     disk: &mut D,
     layout: &Layout,
@@ -212,39 +219,41 @@ fn refusal_in<D: Disk>(
     kept: &Kept,
     run: u32,
     table: &RunTable,
-) -> Result<Option<u32>, OpenError>
+) -> Result<Result<StepPoint, u32>, OpenError>
     requires layout { IsTrue (is_laid_out layout.now) }
     requires fits { disk_needed layout.now ≤ D.size disk.old }
     requires stands { StandsIn layout.now set.now }
     requires run { run ≤ 9999999 }
-    ensures placed { D.told → IsTrue (ends_within set.now.space kept.now) → IfOk result (λ found. found ≡ fault_in (is_of_run (row_for run table.now))
+    ensures placed { IsTrue (ends_within set.now.space kept.now) → IfOk result (IsFoundAt D.told run (is_of_run (row_for run table.now))
         (entry_in (bytes_on (D.content disk.old) layout.now set.now kept.now.place kept.now.bytes))) }
-    ensures unplaced { ends_within set.now.space kept.now ≡ false → IfOk result (λ found. found ≡ Some 0) }
+    ensures unplaced { ends_within set.now.space kept.now ≡ false → IfOk result (λ found. found ≡ Err 0) }
     ensures only_reads { OnlyReads D.content D.may_leave D.moment D.left_since disk.old disk.new }
     ensures size { D.size disk.new ≡ D.size disk.old }
     ensures faults { D.faults disk.old ≤ D.faults disk.new }
     ensures cause { IfErr result (EntryCause (Rose (D.faults disk.old) (D.faults disk.new))) }
 {
     if !ends_within(kept, set.space) {
-        return Ok(Some(0));
+        return Ok(Err(0));
     }
     let bytes = read_entry(alloc, disk, layout, set, kept)?;
-    Ok(fault_of(alloc, bytes.as_slice(), run, table)?)
+    Ok(point_of(alloc, bytes.as_slice(), run, table)?)
 }
 
-/// Where the entry of the checkpoint in effect of a run is refused. None where it isn't, the run has none, or it doesn't hold its names.
-fn refusal_of<D: Disk>(
+/// The point of the checkpoint in effect of a run, or where its entry is refused. None where the run has none, or it doesn't hold its names.
+fn effect_point<D: Disk>(
     alloc: Global,
     disk: &mut D,
     layout: &Layout,
     jobs: &Jobs,
     run: &Run,
-) -> Result<Option<u32>, OpenError>
+) -> Result<Option<Result<StepPoint, u32>>, OpenError>
     requires layout { IsTrue (is_laid_out layout.now) }
     requires fits { disk_needed layout.now ≤ D.size disk.old }
     requires jobs { AreJobs layout.now jobs.now }
     ensures refused { D.told → IfOk result (λ found. (row : RunRow) → run_of jobs.now.tables.desk row.number ≡ Some row → run.now ≡ line_of row
-        → found ≡ run_refusal layout.now jobs.now.tables.desk (D.content disk.old) row) }
+        → option_and_then refused_at found ≡ run_refusal layout.now jobs.now.tables.desk (D.content disk.old) row) }
+    ensures found { IfOk result (λ found. (row : RunRow) → run_of jobs.now.tables.desk row.number ≡ Some row → run.now ≡ line_of row
+        → IsFoundOf D.told layout.now jobs.now.tables.desk (D.content disk.old) row found) }
     ensures only_reads { OnlyReads D.content D.may_leave D.moment D.left_since disk.old disk.new }
     ensures size { D.size disk.new ≡ D.size disk.old }
     ensures faults { D.faults disk.old ≤ D.faults disk.new }
@@ -262,12 +271,21 @@ fn refusal_of<D: Disk>(
         return Ok(None);
     };
     let Some(set) = jobs.library().get(&effect.set) else {
-        return Ok(Some(0));
+        return Ok(Some(Err(0)));
     };
-    refusal_in(alloc, disk, layout, set, &effect.kept, run.number, table)
+    let found = point_in(alloc, disk, layout, set, &effect.kept, run.number, table)?;
+    Ok(Some(found))
 }
 
-/// Reads the entry of each checkpoint in effect, those of ended runs aside.
+/// Puts a point behind the others.
+fn put_point(points: &mut Vec<StepPoint>, point: StepPoint) -> Result<(), NoMemory>
+    ensures { OnOk result (points.new.items ≡ points.old.items ++ point ∷ []) }
+{
+    points.push(point)?;
+    Ok(())
+}
+
+/// Reads the entry of each checkpoint in effect, those of ended runs aside: where the steps of their runs stand there.
 ///
 /// `NoMemory`. `Fault`: only where the disk's faults rose in this call. `BadEntry`: exactly by the bytes that the disk reads, for the least
 /// run whose entry hasn't its places in its data set, isn't read, or is no point of the step that the run is in (IBM GC28-6708).
@@ -276,26 +294,33 @@ pub(crate) fn check_entries<D: Disk>(
     disk: &mut D,
     layout: &Layout,
     jobs: &Jobs,
-) -> Result<(), OpenError>
+) -> Result<Vec<StepPoint>, OpenError>
     requires layout { IsTrue (is_laid_out layout.now) }
     requires fits { disk_needed layout.now ≤ D.size disk.old }
     requires jobs { AreJobs layout.now jobs.now }
     requires numbered { AreNumbered 1 jobs.now.tables.desk.runs }
     ensures none { D.told → OnOk result (bad_entry layout.now jobs.now.tables.desk (D.content disk.old) ≡ None) }
+    ensures points { IfOk result (λ points. ArePointsRead D.told layout.now jobs.now.tables.desk (D.content disk.old) points.items) }
+    ensures counted { IfOk result (λ points. AllByRecursion IsPointCounted points.items) }
     ensures only_reads { OnlyReads D.content D.may_leave D.moment D.left_since disk.old disk.new }
     ensures size { D.size disk.new ≡ D.size disk.old }
     ensures faults { D.faults disk.old ≤ D.faults disk.new }
     ensures cause { IfErr result (EntriesCause (Rose (D.faults disk.old) (D.faults disk.new)) D.told (bad_entry layout.now jobs.now.tables.desk (D.content disk.old))) }
 {
+    let mut points = Vec::new(alloc);
     for run in jobs.runs() {
-        if let Some(offset) = refusal_of(alloc, disk, layout, jobs, run)? {
-            return Err(OpenError::BadEntry {
-                job: run.number,
-                offset,
-            });
+        match effect_point(alloc, disk, layout, jobs, run)? {
+            None => {}
+            Some(Ok(point)) => put_point(&mut points, point)?,
+            Some(Err(offset)) => {
+                return Err(OpenError::BadEntry {
+                    job: run.number,
+                    offset,
+                });
+            }
         }
     }
-    Ok(())
+    Ok(points)
 }
 
 /// Where each checkpoint in effect has its places in its data set, an entry is refused exactly by its bytes.

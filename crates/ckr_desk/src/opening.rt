@@ -14,6 +14,7 @@ ghost use Rattle.ckr_desk_refines.specs.RewriteRecord.{last_event};
 ghost use Rattle.ckr_desk_store.specs.OpenImages.{event_records};
 ghost use Rattle.ckr_volumes.specs.Header.{header_of, IsHeader};
 ghost use Rattle.ckr_volumes.specs.Layouts.{is_laid_out};
+ghost use Rattle.ckr_desk.specs.Entries.{ArePointsRead};
 ghost use Rattle.ckr_desk.specs.Opening.{by_book, by_entries, opening_of};
 ghost use Rattle.ckr_desk.specs.Calls.{HasSameJobs};
 ghost use Rattle.ckr_desk.specs.FirstSync.{FromSync, IsLeft};
@@ -123,16 +124,17 @@ fn replay<D: Disk>(alloc: Global, disk: &mut D, layout: &Layout) -> Result<Repla
     Ok(found)
 }
 
-/// Reads the events of the book, and behind them the entries of the checkpoints in effect.
+/// Reads the events of the book, and behind them the entries of the checkpoints in effect: the jobs that they have brought about, with no
+/// step running.
 fn read_jobs<D: Disk>(alloc: Global, disk: &mut D, layout: &Layout) -> Result<Replayed, OpenError>
     requires header { IsHeader layout.now (D.size disk.old) }
     requires laid { IsTrue (is_laid_out layout.now) }
     ensures read { D.told → IfOk result (λ found. IsReadTo layout.now (D.content disk.old) found.jobs.tables.desk found.place) }
     ensures last { D.told → IfOk result (λ found. last_event (events_in (records_from 0 (part 512 layout.now.book (D.content disk.old)))) ≡ found.last) }
     ensures place { IfOk result (λ found. found.place ≤ layout.now.book) }
-    ensures jobs { IfOk result (λ found. AreJobs layout.now found.jobs) }
-    ensures holders { IfOk result (λ found. AreHolders found.jobs.tables.desk) }
-    ensures numbered { IfOk result (λ found. AreNumbered 1 found.jobs.tables.desk.runs) }
+    ensures kept { IfOk result (λ found. AreKept layout.now found.jobs) }
+    ensures failed { IfOk result (λ found. found.jobs.failed ≡ failed_in found.jobs.tables.desk) }
+    ensures points { IfOk result (λ found. ArePointsRead D.told layout.now found.jobs.tables.desk (D.content disk.old) found.jobs.points) }
     ensures running { IfOk result (λ found. found.jobs.running ≡ []) }
     ensures only_reads { OnlyReads D.content D.may_leave D.moment D.left_since disk.old disk.new }
     ensures size { D.size disk.new ≡ D.size disk.old }
@@ -140,8 +142,9 @@ fn read_jobs<D: Disk>(alloc: Global, disk: &mut D, layout: &Layout) -> Result<Re
     ensures cause { IfErr result (OpenCause (Rose (D.faults disk.old) (D.faults disk.new)) D.told
         (by_entries (D.content disk.old) (by_book layout.now (part 512 layout.now.book (D.content disk.old))))) }
 {
-    let found = replay(alloc, disk, layout)?;
-    check_entries(alloc, disk, layout, &found.jobs)?;
+    let mut found = replay(alloc, disk, layout)?;
+    let points = check_entries(alloc, disk, layout, &found.jobs)?;
+    found.jobs.open(points)?;
     Ok(found)
 }
 
@@ -185,6 +188,7 @@ fn read_disk<D: Disk>(alloc: Global, disk: &mut D) -> Result<Found, OpenError>
     ensures end { IfOk result (λ found. found.end ≤ found.layout.book) }
     ensures kept { IfOk result (λ found. AreKept found.layout found.jobs) }
     ensures failed { IfOk result (λ found. found.jobs.failed ≡ failed_in found.jobs.tables.desk) }
+    ensures points { IfOk result (λ found. ArePointsRead D.told found.layout found.jobs.tables.desk (D.content disk.new) found.jobs.points) }
     ensures running { IfOk result (λ found. found.jobs.running ≡ []) }
     ensures settled { OnOk result (Only (D.content disk.new) (D.may_leave disk.new)) }
     ensures synced { OnOk result (FromSync D.content D.may_leave D.moment D.left_since disk.old disk.new (λ image. image ≡ D.content disk.old)) }
@@ -195,12 +199,7 @@ fn read_disk<D: Disk>(alloc: Global, disk: &mut D) -> Result<Found, OpenError>
 {
     disk.sync()?;
     let layout = layout_of(disk)?;
-    let Replayed {
-        mut jobs,
-        place,
-        last,
-    } = read_jobs(alloc, disk, &layout)?;
-    jobs.open()?;
+    let Replayed { jobs, place, last } = read_jobs(alloc, disk, &layout)?;
     let event_bytes = EventBytes::new(alloc)?;
     Ok(Found {
         layout,
@@ -233,6 +232,7 @@ impl<D: Disk> Desk<D> {
         ensures opened { D.told → IfOk result (λ found. opening_of (D.content disk) (D.size disk) ≡ Ok (opened_of found.desk)) }
         ensures last { D.told → IfOk result (λ found. last_on found.desk.store.layout (D.content disk) ≡ found.last) }
         ensures failed { IfOk result (λ found. found.desk.jobs.failed ≡ failed_in found.desk.jobs.tables.desk) }
+        ensures points { IfOk result (λ found. ArePointsRead D.told found.desk.store.layout found.desk.jobs.tables.desk (D.content disk) found.desk.jobs.points) }
         ensures running { IfOk result (λ found. found.desk.jobs.running ≡ []) }
         ensures is_open { IfOk result (λ found. found.desk.store.fault ≡ None) }
         ensures settled { IfOk result (λ found. Only (D.content found.desk.store.disk) (D.may_leave found.desk.store.disk)) }
@@ -335,9 +335,10 @@ impl<D: Disk> Desk<D> {
     /// have failed.
     ///
     /// `OpenError`: `NoMemory`, and `Fault` only where the disk's faults rose in this call; the causes behind them exactly by the bytes
-    /// that the disk reads, the first one in their order (this project's profile). So the entry of each checkpoint in effect is read. Until the first sync has succeeded a stop leaves an image
-    /// that the disk might have left before, and from then on a sound one with exactly the events that the disk reads. A disk that isn't
-    /// opened was only read, unless it failed while that record was written again.
+    /// that the disk reads, the first one in their order (this project's profile). So the entry of each checkpoint in effect is read, and
+    /// where its step stands there is kept, so that the run can be restarted there. Until the first sync has succeeded a stop leaves an
+    /// image that the disk might have left before, and from then on a sound one with exactly the events that the disk reads. A disk that
+    /// isn't opened was only read, unless it failed while that record was written again.
     pub fn open_on(alloc: Global, disk: D) -> Result<Desk<D>, Opening<D>>
         ensures opened { AllSound D.told D.may_leave D.size disk → IfOk result (λ desk. desk_opening (D.content disk) (D.size disk) ≡ Ok (state_of D.content desk)) }
         ensures trusted { AllSound D.told D.may_leave D.size disk → IfOk result (λ desk. IsTrusted D.told D.content D.may_leave desk) }

@@ -123,6 +123,8 @@ impl<D: Disk> Desk<D> {
         requires unit { IsWorkedOut D.told D.content run self.old unit }
         ensures done { OnOk result ((plan : PlanOf) → IsLookedAhead D.told D.content run self.old unit plan → HasDoneUnit D.told D.content D.may_leave D.moment D.left_since run self.old self.new plan) }
         ensures tables { OnOk result (self.new.jobs.tables ≡ self.old.jobs.tables) }
+        ensures points { OnOk result (self.new.jobs.points ≡ self.old.jobs.points) }
+        ensures place { OnOk result (self.new.jobs.running_room ≡ self.old.jobs.running_room) }
         ensures commits { OnOk result ((plan : PlanOf) → IsLookedAhead D.told D.content run self.old unit plan → PlanCommits self.new.jobs.tables.desk self.new.jobs.running plan) }
         ensures left { EachSince D.moment D.left_since self.old.store.disk self.new.store.disk (IsLeftByUnit D.content D.may_leave D.size run self.old) }
         ensures events { D.told → OnOk result (event_records self.old.store.layout (D.content self.new.store.disk) ≡ event_records self.old.store.layout (D.content self.old.store.disk)) }

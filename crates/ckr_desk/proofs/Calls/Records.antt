@@ -49,7 +49,7 @@ module _ {D : Type 0} (told : Type 0) (content : D → List ℕ) (may_leave : D 
   pub read-before : (jobs : JobsView) (old new : StoreView D) → new ≡ record old { disk = new.disk } → OnlyReads content may_leave moment left_since old.disk new.disk
       → IsAsBefore told content may_leave (record { store = old; jobs = jobs }) (record { store = new; jobs = jobs })
   read-before jobs old new kept reads = record {
-    jobs = record { tables = refl; running = refl; failed = refl };
+    jobs = record { tables = refl; running = refl; failed = refl; points = refl };
     layout = ap (λ (s : StoreView D). s.layout) kept;
     room = ap (λ (s : StoreView D). room_of s.book) kept;
     reads = reads.same;
@@ -110,7 +110,7 @@ module _ {D : Type 0} (faults : D → ℕ) (old new : StoreView D) where
   pub reading-stays : (content : D → List ℕ) (may_leave : D → List ℕ → Type 0) (moment : D → ℕ) (left_since : D → ℕ → List ℕ → Type 0) (jobs : JobsView) → OnlyReads content may_leave moment left_since old.disk new.disk
       → (error : DeskError) → ReadingCause faults old new error → StaysBy content may_leave faults (record { store = old; jobs = jobs }) (record { store = new; jobs = jobs }) error
   reading-stays content may_leave moment left_since jobs reads NoMemory cause =
-      read-unchanged content may_leave (record { store = old; jobs = jobs }) (record { store = new; jobs = jobs }) moment left_since (record { tables = refl; running = refl; failed = refl }) cause reads
+      read-unchanged content may_leave (record { store = old; jobs = jobs }) (record { store = new; jobs = jobs }) moment left_since (record { tables = refl; running = refl; failed = refl; points = refl }) cause reads
   reading-stays content may_leave moment left_since jobs reads DiskFault cause = ap (λ (s : StoreView D). s.fault) cause.1
   reading-stays content may_leave moment left_since jobs reads (BookFull need room) cause = absurd cause
   reading-stays content may_leave moment left_since jobs reads (Stopped fault) cause = absurd cause

@@ -4,10 +4,11 @@ use Rattle.ckr_base.proofs.Options.{some-not-none}
 use Rattle.ckr_book.specs.Book.{IsBeforeOrAfter, room_of}
 use Rattle.ckr_events.specs.declared.event.Event.{Event}
 use Rattle.ckr_events.specs.Event.{spelling}
+use Rattle.ckr_desk_memory.specs.EventChanges.{points_behind}
 use Rattle.ckr_desk_memory.specs.Model.RewriteCounts.{may_count}
 use Rattle.ckr_jcl.specs.declared.deck.Job.{Job}
 use Rattle.ckr_desk_memory.specs.RunningSteps.{GoesOn}
-use Rattle.ckr_desk_memory.specs.View.{JobsView, RunningStepView}
+use Rattle.ckr_desk_memory.specs.View.{JobsView, PointView, RunningStepView}
 use Rattle.ckr_library.specs.declared.sets.DataSet.{DataSet}
 use Rattle.ckr_outside.specs.Disk.{ChangesWithin, EachSince, Only, OnlyReads, SameOutside, StemsFrom}
 use Rattle.ckr_outside.specs.Moments.{and_then, both_since, in_other_words, started}
@@ -117,14 +118,16 @@ module _ {D : Type 0} (event : Event) (deck : Option Job) (store : StoreView D) 
       (IsLeftBy content may_leave size event deck (record { store = store; jobs = one })) left
       (λ image by. ⊎_elim (λ before. inl before) (λ behind. inr (prepared-may behind.0, behind.1, behind.2)) by)
 
-  module _ (running : two.running ≡ one.running) (failed : two.failed ≡ one.failed) where
+  module _ (running : two.running ≡ one.running) (failed : two.failed ≡ one.failed) (points : two.points ≡ one.points) where
     pub prepared-gone : (new : DeskView D) → HasGoneOn event deck (record { store = store; jobs = two }) new → HasGoneOn event deck (record { store = store; jobs = one }) new
     prepared-gone new gone = record {
       might = prepared-may gone.might;
       moved = record {
         tables = gone.moved.tables ∙ ap (after_event event deck) desk;
-        running = subst (λ (steps : List RunningStepView). GoesOn event new.jobs.tables.desk steps new.jobs.running) running gone.moved.running;
+        running = subst (λ (its : List PointView). GoesOn event new.jobs.tables.desk its one.running new.jobs.running) points
+            (subst (λ (steps : List RunningStepView). GoesOn event new.jobs.tables.desk two.points steps new.jobs.running) running gone.moved.running);
         failed = gone.moved.failed ∙ ap (failed_behind event) failed;
+        points = gone.moved.points ∙ ap (points_behind event new.jobs.running) points;
       };
       layout = gone.layout;
       is_open = gone.is_open;
@@ -133,7 +136,7 @@ module _ {D : Type 0} (event : Event) (deck : Option Job) (store : StoreView D) 
     }
 
     same-as-before : (new : DeskView D) → HasSameJobs (record { store = store; jobs = two }) new → HasSameJobs (record { store = store; jobs = one }) new
-    same-as-before new same = record { tables = same.tables ∙ desk; running = same.running ∙ running; failed = same.failed ∙ failed }
+    same-as-before new same = record { tables = same.tables ∙ desk; running = same.running ∙ running; failed = same.failed ∙ failed; points = same.points ∙ points }
 
     same-store : (new : DeskView D) → IsSame (record { store = store; jobs = two }) new → IsSame (record { store = store; jobs = one }) new
     same-store new same = record { jobs = same-as-before new same.jobs; store = same.store }
@@ -154,7 +157,7 @@ unready-cause event deck faults old new (Stopped fault) cause = absurd cause
 
 -- an event that is ready isn't kept where the disk doesn't sync, or doesn't take its bytes
 pub unsynced : {D : Type 0} (faults : D → ℕ) (old : DeskView D) (mid : StoreView D) (error : StoreError) → old.store.fault ≡ None → DiskCause faults old.store mid error → NotEntered faults old (record { store = mid; jobs = old.jobs }) (of_store error)
-unsynced faults old mid OfStore.DiskFault is_open cause = (cause, record { tables = refl; running = refl; failed = refl })
+unsynced faults old mid OfStore.DiskFault is_open cause = (cause, record { tables = refl; running = refl; failed = refl; points = refl })
 unsynced faults old mid (OfStore.BookFull need room) is_open cause = absurd cause
 unsynced faults old mid (OfStore.Stopped fault) is_open cause = absurd (some-not-none fault (sym cause.0 ∙ is_open))
 
@@ -165,7 +168,7 @@ unappended {D} faults old mid new needed OfStore.DiskFault is_open kept later fi
     rose_before (faults old.store.disk) (faults mid.disk) (faults new.disk) later cause.0,
     cause.1 ∙ ap (λ (s : StoreView D). let its : StoreView D = record s { disk = new.disk; fault = Some (faults new.disk) } in its) kept,
   ),
-  record { tables = refl; running = refl; failed = refl },
+  record { tables = refl; running = refl; failed = refl; points = refl },
 )
 unappended {D} faults old mid new needed (OfStore.BookFull need room) is_open kept later fits cause =
     let same : room_of mid.book ≡ room_of old.store.book = ap (λ (s : StoreView D). room_of s.book) kept in

@@ -7,6 +7,7 @@ use Rattle.ckr_book.specs.Book.{IsBeforeOrAfter, ends_closed, room_of}
 use Rattle.ckr_events.specs.declared.event.Event.{Event}
 use Rattle.ckr_events.specs.Event.{spelling}
 use Rattle.ckr_desk_memory.specs.declared.checkpoint.Checkpoint.{Checkpoint}
+use Rattle.ckr_desk_memory.specs.EventChanges.{points_behind}
 use Rattle.ckr_desk_memory.specs.Model.RewriteCounts.{may_count}
 use Rattle.ckr_desk_memory.specs.Replay.{deck_of, goes_on, is_run_by}
 use Rattle.ckr_desk_memory.specs.RunningSteps.{GoesOn}
@@ -179,8 +180,9 @@ module _ {D : Type 0} (told : Type 0) (content : D → List ℕ) (may_leave : D 
       moved : HaveMoved event None old.jobs new.jobs
       moved = record {
         tables = gone.moved.tables ∙ ap (after_event event None) tables-same;
-        running = subst (λ (running : List RunningStepView). GoesOn event new.jobs.tables.desk running new.jobs.running) (ap (λ (jobs : JobsView). jobs.running) wrote.jobs) gone.moved.running;
+        running = subst (λ (jobs : JobsView). GoesOn event new.jobs.tables.desk jobs.points jobs.running new.jobs.running) wrote.jobs gone.moved.running;
         failed = gone.moved.failed ∙ ap (λ (jobs : JobsView). failed_behind event jobs.failed) wrote.jobs;
+        points = gone.moved.points ∙ ap (λ (jobs : JobsView). points_behind event new.jobs.running jobs.points) wrote.jobs;
       }
 
       behind-so : IsBehind told content may_leave event old new later

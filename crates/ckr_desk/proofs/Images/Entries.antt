@@ -101,6 +101,9 @@ module _ (layout : Layout) (records : List (List ℕ)) (tables : TablesModel) (s
   pub are-within : AreWithin (office (events_in records)).tables.sets
   are-within = kept-within.0
 
+  pub are-in-effect : AreInEffect (office (events_in records)).tables
+  are-in-effect = kept-within.1
+
   pub checks-keep : OnlyCheckSetsKeep (office (events_in records)).tables.sets
   checks-keep =
       sound-plain layout (events_in records) [] (subst (AreSound layout) (sym (append-nil (events_in records))) sound) (subst AreRunEvents (sym (append-nil (events_in records))) run)

@@ -1,10 +1,10 @@
 -- The entries that opening reads: their bytes, the points that they are, and the first one that is refused.
-use Rattle.std.proofs.Common.{◌≡◌, ◌≤◌, ◌+◌, ◌++◌, ◌&&◌, ℕ, zero, suc, Bool, true, List, [], ◌∷◌, drop, take, length, slice_get, map, refl, ap, sym, ◌∙◌, append-nil, Option, None, Some, arith}
+use Rattle.std.proofs.Common.{◌≡◌, ◌≤◌, ◌+◌, ◌++◌, ◌&&◌, ℕ, zero, suc, Bool, true, List, [], ◌∷◌, drop, take, length, slice_get, map, refl, ap, sym, ◌∙◌, subst, append-nil, Option, None, Some, arith}
 use Rattle.std.specs.List.{cons_option, filter_map, flat_map, list_all, range_with_len}
 use Rattle.std.specs.Option.{is_some, option_map_or}
 use Rattle.std.proofs.lemmas.List.{append_assoc, drop_all, length-map}
 use Rattle.std.proofs.lemmas.Option.{get_or_from_slice_get, same_Some}
-use Rattle.ckr_base.proofs.Options.{some-not-none}
+use Rattle.ckr_base.proofs.Options.{some-not-none, some-one}
 use Rattle.ckr_base.proofs.Sequences.{drop-at, get-inside}
 use Rattle.ckr_entry.specs.declared.point.Mark.{Mark}
 use Rattle.ckr_jcl.specs.declared.deck.Dd.{Dd}
@@ -131,3 +131,13 @@ module _ (layout : Layout) (tables : TablesModel) (image : List ℕ) where
     bad-here offset so =
         first-here (run_refusal layout tables image) tables.runs place its.0 its.1 offset (sym (so its.0 known (sym its.2)))
         ∙ ap (λ (line : Run). Some (line.number, offset)) its.2
+
+    -- what was found of this run is found of the row of its number
+    pub found-of : (P : RunRow → Type 0) → ((row : RunRow) → run_of tables row.number ≡ Some row → run ≡ line_of row → P row) → (row : RunRow) → run_of tables (suc place) ≡ Some row → (row.number ≡ suc place) × P row
+    found-of P so row found =
+        let same : its.0 ≡ row = some-one its.0 row (slice_get tables.runs place) its.1 found in
+        subst (λ (r : RunRow). (r.number ≡ suc place) × P r) same
+        (numbered-at 1 tables.runs place its.0 numbered its.1 ∙ (let e : place + 1 ≡ suc place = omega arith in e), so its.0 known (sym its.2))
+
+    pub row-of : (row : RunRow) × (run_of tables row.number ≡ Some row) × (run ≡ line_of row) × (row.number ≡ suc place)
+    row-of = (its.0, known, sym its.2, numbered-at 1 tables.runs place its.0 numbered its.1 ∙ (let e : place + 1 ≡ suc place = omega arith in e))

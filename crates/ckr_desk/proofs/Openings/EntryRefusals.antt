@@ -3,14 +3,15 @@ use Rattle.std.proofs.Common.{◌≡◌, ◌≤◌, ℕ, Bool, true, false, cond
 use Rattle.std.specs.Option.{option_map, option_map_or}
 use Rattle.std.proofs.lemmas.Option.{same_Some}
 use Rattle.ckr_base.proofs.Bools.{bool-cases}
-use Rattle.ckr_base.proofs.Options.{some-not-none}
-use Rattle.ckr_entry.specs.Entry.{entry_in}
+use Rattle.ckr_base.proofs.Options.{some-not-none, some-one}
+use Rattle.ckr_entry.specs.Entry.{IsEntry, entry_in}
 use Rattle.ckr_entry.specs.Parts.{Entry}
 use Rattle.ckr_library.specs.Catalog.{Catalog, Holding, ends_within, set_of}
 use Rattle.ckr_library.specs.NameMaps.{Name, Named, entry_at}
 use Rattle.ckr_library.specs.declared.sets.DataSet.{DataSet}
 use Rattle.ckr_library.proofs.Named.{at-viewed}
 use Rattle.ckr_desk_memory.specs.Plans.{row_for}
+use Rattle.ckr_desk_memory.specs.View.{PointView}
 use Rattle.ckr_points.specs.Office.{is_holder}
 use Rattle.ckr_points.specs.Rows.{EffectPoint, RunRow, TableSet, TablesModel, holding_of, run_of}
 use Rattle.ckr_points.specs.declared.run.Run.{Run}
@@ -22,8 +23,8 @@ use Rattle.ckr_desk_refines.specs.EntryRefusal.{fault_in, is_of_run}
 use Rattle.ckr_steps.specs.EntryRecords.{bytes_on}
 use Rattle.ckr_volumes.specs.declared.layout.Layout.{Layout}
 use Rattle.ckr_desk.proofs.Images.Rewrite.{IsInTables, in-tables}
-use Rattle.ckr_desk.specs.declared.error.OpenError.{OpenError}
-use Rattle.ckr_desk.specs.Entries.{effect_refusal, has_places, run_refusal}
+use Rattle.ckr_desk.proofs.Openings.Points.{refused-read, right-read}
+use Rattle.ckr_desk.specs.Entries.{IsFoundAt, IsFoundOf, effect_refusal, has_places, point_in, refused_at, run_refusal}
 
 -- what is judged by a test that answers the same
 fault-same : (one other : Entry → Bool) → ((entry : Entry) → one entry ≡ other entry) → (read : Result Entry ℕ) → fault_in one read ≡ fault_in other read
@@ -149,13 +150,62 @@ module _ (layout : Layout) (tables : TablesModel) (image : List ℕ) (line : Run
       subst (λ (l : Run). found ≡ fault_in (is_of_run (row_for l.number table)) (entry_in (bytes_on image layout set effect.kept.place effect.kept.bytes))) line_is same
       ∙ placed layout tables image row table (is.plain row.number row at) facts-row holds-row effect is.effect_is catalog is.seen set there within
 
-pub refused-so : (layout : Layout) (tables : TablesModel) (image : List ℕ) (line : Run) (table : RunTable) (effect : InEffect) (catalog : Catalog) → IsJudged tables line table effect catalog
-    → (set : DataSet) → set_of catalog effect.set ≡ Some set → (result : Result (Option ℕ) OpenError)
-    → (IsTrue (ends_within set.space effect.kept) → IfOk result (λ found. found ≡ fault_in (is_of_run (row_for line.number table)) (entry_in (bytes_on image layout set effect.kept.place effect.kept.bytes))))
-    → (ends_within set.space effect.kept ≡ false → IfOk result (λ found. found ≡ Some 0))
-    → IfOk result (λ found. (row : RunRow) → run_of tables row.number ≡ Some row → line ≡ line_of row → found ≡ run_refusal layout tables image row)
-refused-so layout tables image line table effect catalog is set held (Err error) within beyond = tt
-refused-so layout tables image line table effect catalog is set held (Ok found) within beyond = λ row at line_is.
-    bool-cases (ends_within set.space effect.kept)
-    (λ fits. refused-within layout tables image line table effect catalog is row at line_is set held fits found (within fits))
-    (λ past. refused-beyond layout tables image line table effect catalog is row at line_is set held past found (beyond past))
+module _ (told : Type 0) (layout : Layout) (tables : TablesModel) (image : List ℕ) (line : Run) (table : RunTable) (effect : InEffect) (catalog : Catalog) (is : IsJudged tables line table effect catalog)
+    (set : DataSet) (held : set_of catalog effect.set ≡ Some set) (found : Result PointView ℕ)
+    (within : IsTrue (ends_within set.space effect.kept) → IsFoundAt told line.number (is_of_run (row_for line.number table)) (entry_in (bytes_on image layout set effect.kept.place effect.kept.bytes)) found)
+    (beyond : ends_within set.space effect.kept ≡ false → found ≡ Err 0) where
+  pub refused-so : told → (row : RunRow) → run_of tables row.number ≡ Some row → line ≡ line_of row → refused_at found ≡ run_refusal layout tables image row
+  refused-so tells row at line_is =
+      bool-cases (ends_within set.space effect.kept)
+      (λ fits.
+      let its = within fits in
+      refused-within layout tables image line table effect catalog is row at line_is set held fits (refused_at found)
+      (ap refused_at its.is ∙ refused-read line.number (is_of_run (row_for line.number table)) its.read ∙ ap (fault_in (is_of_run (row_for line.number table))) (its.same tells)))
+      (λ past. refused-beyond layout tables image line table effect catalog is row at line_is set held past (refused_at found) (ap refused_at (beyond past)))
+
+  -- a point that was found is that of the run's checkpoint in effect
+  pub found-so : (row : RunRow) → run_of tables row.number ≡ Some row → line ≡ line_of row → IsFoundOf told layout tables image row (Some found)
+  found-so row at line_is = by found refl
+    where
+      same_row : (entry : Entry) → is_of_run (row_for line.number table) entry ≡ is_of_run row entry
+      same_row entry =
+          ap (λ (l : Run). is_of_run (row_for l.number table) entry) line_is
+          ∙ same-run layout tables image row table (is.plain row.number row at) (facts-row layout tables image line table effect catalog is row at line_is) (holds-row layout tables image line table effect catalog is row at line_is) entry
+
+      in_effect : row.in_effect ≡ Some (effect_of effect)
+      in_effect =
+          sym (ap (λ (f : RunTableView). f.in_effect) (facts-row layout tables image line table effect catalog is row at line_is)) ∙ ap (option_map effect_of) is.effect_is
+
+      there : IsInTables tables.sets effect.set set
+      there = in-tables catalog tables.sets effect.set set is.seen held
+
+      its-point : (point : PointView) → IsFoundAt told line.number (is_of_run (row_for line.number table)) (entry_in (bytes_on image layout set effect.kept.place effect.kept.bytes)) (Ok point) → IsFoundOf told layout tables image row (Some (Ok point))
+      its-point point its =
+          let right = right-read line.number (is_of_run (row_for line.number table)) its.read point its.is in (
+            effect_of effect,
+            in_effect,
+            record {
+              entry = right.entry;
+              form = subst (λ (r : Result Entry ℕ). IfOk r IsEntry) right.is its.form;
+              its = sym (same_row right.entry) ∙ right.right;
+              is = right.point_is ∙ ap (λ (l : Run). point_in l.number right.entry) line_is;
+              read = λ tells other at_other.
+                  ap (λ (s : DataSet). entry_in (bytes_on image layout s effect.kept.place effect.kept.bytes))
+                  (ap (λ (t : TableSet). t.set) (some-one other there.table (entry_at tables.sets effect.set) at_other there.at) ∙ sym there.same)
+                  ∙ sym (its.same tells) ∙ right.is;
+            },
+          )
+
+      by : (its : Result PointView ℕ) → found ≡ its → IsFoundOf told layout tables image row (Some its)
+      by (Err offset) same = tt
+      by (Ok point) same =
+          bool-cases (ends_within set.space effect.kept)
+          (λ fits.
+          its-point point
+          (subst (IsFoundAt told line.number (is_of_run (row_for line.number table)) (entry_in (bytes_on image layout set effect.kept.place effect.kept.bytes))) same (within fits)))
+          (λ past. let none : found ≡ Err 0 = beyond past in absurd (let no : ⊥ = cc in no))
+
+-- where the tables in code have no checkpoint in effect of a run, it has none
+pub none-in-effect : (found : Option RunTable) (table : RunTable) (rows : Option RunRow) (row : RunRow) → option_map facts_of found ≡ option_map facts_in rows → rows ≡ Some row → found ≡ Some table → table.in_effect ≡ None → row.in_effect ≡ None
+none-in-effect found table rows row same is some none =
+    sym (ap (λ (f : RunTableView). f.in_effect) (facts-known found rows row table same is some)) ∙ ap (option_map effect_of) none

@@ -10,11 +10,13 @@ use Rattle.ckr_desk_memory.specs.EventChanges.{failed_in}
 use Rattle.ckr_desk_memory.specs.View.{RunningStepView}
 use Rattle.ckr_desk_turn.proofs.Opening.{opened-is}
 use Rattle.ckr_desk_turn.proofs.Runs.Lists.{events-kept, events-run}
-use Rattle.ckr_desk_turn.specs.Invariant.{HasRuns, IsDesk}
+use Rattle.ckr_desk_turn.specs.Invariant.{HasRuns}
 use Rattle.ckr_desk_turn.specs.RunEvents.{AreRunEvents}
 use Rattle.ckr_desk_refines.proofs.Entries.There.{has-then}
 use Rattle.ckr_desk_refines.specs.Commits.{HasCommitted}
-use Rattle.ckr_desk_refines.specs.Entries.{HasEntries, OnlyCheckSetsKeep, SameKept}
+use Rattle.ckr_desk_refines.proofs.Standing.Openings.{opened-stands}
+use Rattle.ckr_desk_refines.specs.Entries.{AreRead, HasEntries, OnlyCheckSetsKeep, SameKept}
+use Rattle.ckr_desk_refines.specs.EntryRefusal.{AreInEffect}
 use Rattle.ckr_outside.specs.Disk.{EachSince, Only, part}
 use Rattle.ckr_outside.specs.Moments.{and_then}
 use Rattle.ckr_points.specs.Events.{AreSound}
@@ -22,7 +24,7 @@ use Rattle.ckr_points.specs.Office.{Office}
 use Rattle.ckr_points.specs.Rows.{TablesModel, no_tables}
 use Rattle.ckr_points_invariant.specs.Invariant.{IsKept}
 use Rattle.ckr_desk_refines.specs.RewriteRecord.{HasCommittedAgain, HasLast, last_event}
-use Rattle.ckr_desk_refines.specs.Standing.{AllStand, differ, step_on}
+use Rattle.ckr_desk_refines.specs.Standing.{StandsForDesk, step_on}
 use Rattle.ckr_desk_store.specs.OpenImages.{event_records}
 use Rattle.ckr_desk_store.specs.State.{IsSound, StoreView}
 use Rattle.ckr_desk_turn.specs.Desk.{opened as opened_desk}
@@ -31,19 +33,20 @@ use Rattle.ckr_volumes.specs.declared.header.HeaderError.TheVariants as HeaderEr
 use Rattle.ckr_volumes.specs.declared.layout.Layout.{Layout}
 use Rattle.ckr_volumes.specs.Header.{header_of}
 use Rattle.ckr_desk.proofs.Images.NextEvent.{office-same}
-use Rattle.ckr_desk.proofs.Images.Entries.{are-within, checks-keep, none-bad-on}
+use Rattle.ckr_desk.proofs.Images.Entries.{are-in-effect, are-within, checks-keep, none-bad-on}
 use Rattle.ckr_desk.proofs.Images.Soundness.{sound-at}
 use Rattle.ckr_desk.proofs.Images.WrittenRecord.{same-again, same-lacking}
 use Rattle.ckr_desk.proofs.Openings.LastRecord.{IsDue, again-lacking, committed-already, committed-written, due}
 use Rattle.ckr_desk.proofs.Openings.Answers.{by_its_book}
 use Rattle.ckr_desk.proofs.Openings.Lengths.{HaveLengths, office-lengths}
+use Rattle.ckr_desk.proofs.Openings.Points.{points-read}
 use Rattle.ckr_desk.proofs.Openings.RunRecords.{run-records}
 use Rattle.ckr_desk.specs.Calls.{HasSameJobs}
 use Rattle.ckr_desk.specs.FirstSync.{FromSync}
 use Rattle.ckr_desk.specs.declared.error.OpenError.{OpenError}
 use Rattle.ckr_desk.specs.declared.error.OpenError.TheVariants.{BadBook}
 use Rattle.ckr_desk.specs.declared.error.OpenError.TheVariants as OpenErrors
-use Rattle.ckr_desk.specs.Entries.{bad_entry}
+use Rattle.ckr_desk.specs.Entries.{ArePointsRead, bad_entry}
 use Rattle.ckr_desk.specs.Opening.{behind_records, by_book, by_end, by_entries, by_header, opened_at, opening_of, refused_or}
 use Rattle.ckr_desk.specs.Replay.{IsLackingAgain, IsWrittenAgain, IsWrittenIf, LacksLast, OpenCause, has_record}
 use Rattle.ckr_desk.specs.Soundness.{HasKept, IsTrusted, Sound, desk_of_opened, desk_opening, events_in, last_on, office_on, state_of}
@@ -155,6 +158,10 @@ module _ (image : List ℕ) (size : ℕ) (opened : Opened) (sound : Sound size i
   unfolding office_on
   checks-so = checks-keep opened.layout (event_records opened.layout image) opened.tables events-so (gives-tables image size opened opens)
 
+  effects-so : AreInEffect (office_on opened.layout image).tables
+  unfolding office_on
+  effects-so = are-in-effect opened.layout (event_records opened.layout image) opened.tables events-so (gives-tables image size opened opens)
+
   tables-so : (office_on opened.layout image).tables ≡ opened.tables
   tables-so = subst (λ l. (office_on l image).tables ≡ opened.tables) layout-same (ap (λ (o : Opened). o.tables) same-opened)
 
@@ -181,6 +188,7 @@ module _ {D : Type 0} (told : Type 0) (content : D → List ℕ) (may_leave : D 
     pub opens : opening_of (content disk) (size disk) ≡ Ok (opened_of new)
     pub failed : new.jobs.failed ≡ failed_in new.jobs.tables.desk
     pub running : new.jobs.running ≡ []
+    pub points : ArePointsRead told new.store.layout new.jobs.tables.desk (content disk) new.jobs.points
     pub is_open : new.store.fault ≡ None
     pub same_size : size new.store.disk ≡ size disk
     pub settled : Only (content new.store.disk) (may_leave new.store.disk)
@@ -231,11 +239,6 @@ module _ {D : Type 0} (told : Type 0) (content : D → List ℕ) (may_leave : D 
     unfolding desk_opening
     opens-desk = ap (desk_of_opened (content disk)) is.opens ∙ ap (λ (s : RoomyDesk). Ok s) state-so
 
-    desk-new : IsDesk (state_of content new).desk
-    desk-new =
-        subst IsDesk (ap (λ (s : RoomyDesk). s.desk) state-so)
-        (opened-is new.store.layout here (kept-so (content disk) (size disk) (opened_of new) sound is.opens) (runs-so (content disk) (size disk) (opened_of new) sound is.opens))
-
     brings-new : behind_records new.store.layout no_tables 0 (event_records new.store.layout (content new.store.disk)) ≡ Ok new.jobs.tables.desk
     brings-new = ap (λ records. behind_records new.store.layout no_tables 0 records) is.events ∙ gives-tables (content disk) (size disk) (opened_of new) is.opens
 
@@ -245,20 +248,22 @@ module _ {D : Type 0} (told : Type 0) (content : D → List ℕ) (may_leave : D 
     events-new : AreSound new.store.layout (events_in (event_records new.store.layout (content new.store.disk)))
     events-new = subst (λ records. AreSound new.store.layout (events_in records)) (sym is.events) (events-so (content disk) (size disk) (opened_of new) sound is.opens)
 
+    -- its points are those that were read before the record was written again
+    stands-here : StandsForDesk new.store.layout new.jobs (content new.store.disk) (opened_desk new.store.layout here)
+    stands-here =
+        opened-stands new.store.layout here new.jobs (content disk) (content new.store.disk)
+        (opened-is new.store.layout here (kept-so (content disk) (size disk) (opened_of new) sound is.opens) (runs-so (content disk) (size disk) (opened_of new) sound is.opens))
+        (effects-so (content disk) (size disk) (opened_of new) sound is.opens) committed-new (entries-there (content disk) (size disk) (opened_of new) sound is.opens)
+        (sym tables-here) (is.failed ∙ ap failed_in (sym tables-here)) is.running
+        (subst (λ (t : TablesModel). AreRead new.store.layout t (content disk) new.jobs.points) (sym tables-here)
+        (points-read told new.store.layout new.jobs.tables.desk (content disk) tells new.jobs.points is.points))
+
     pub trusted-opened : IsTrusted told content may_leave new
     trusted-opened = record {
       tells = tells;
       opens = brings-new;
       events = events-new;
-      stands = record {
-        layout_is = refl;
-        is_desk = desk-new;
-        tables = sym tables-here ∙ ap (λ (o : Office). o.tables) (sym office-new);
-        failed = refl;
-        running = subst (λ (r : List RunningStepView). AllStand new.store.layout (office_on new.store.layout (content new.store.disk)) (content new.store.disk) r (map step_on r)) (sym is.running) tt;
-        differ_so = ap (λ (r : List RunningStepView). differ (map step_on r)) is.running;
-        committed = committed-now;
-      };
+      stands = subst (λ (s : RoomyDesk). StandsForDesk new.store.layout new.jobs (content new.store.disk) s.desk) state-so stands-here;
       last = subst (λ o. HasLast o (last_on new.store.layout (content new.store.disk))) (sym office-new)
           (subst (HasLast here) (sym last-new) (last-there (content disk) (size disk) (opened_of new) sound is.opens));
       committed = λ image may. subst (HasCommitted new.store.layout (office_on new.store.layout (content new.store.disk))) (sym (is.settled image may)) committed-now;
@@ -396,6 +401,7 @@ module _ {D : Type 0} (told : Type 0) (content : D → List ℕ) (may_leave : D 
     pub reads : IsReadAs disk mid last
     pub failed : mid.jobs.failed ≡ failed_in mid.jobs.tables.desk
     pub running : mid.jobs.running ≡ []
+    pub points : ArePointsRead told mid.store.layout mid.jobs.tables.desk (content disk) mid.jobs.points
     pub is_open : mid.store.fault ≡ None
 
   -- the record is written
@@ -422,6 +428,9 @@ module _ {D : Type 0} (told : Type 0) (content : D → List ℕ) (may_leave : D 
             ∙ ap (λ (b : OpenBook). Ok (opened_with new.store.layout new.jobs.tables.desk new.jobs.failed b)) (sym book);
         failed = wrote.jobs.failed ∙ read.failed ∙ ap failed_in (sym wrote.jobs.tables);
         running = wrote.jobs.running ∙ read.running;
+        points = subst (λ (l : Layout). ArePointsRead told l new.jobs.tables.desk (content disk) new.jobs.points) (sym layout)
+            (subst (λ (t : TablesModel). ArePointsRead told mid.store.layout t (content disk) new.jobs.points) (sym wrote.jobs.tables)
+            (subst (ArePointsRead told mid.store.layout mid.jobs.tables.desk (content disk)) (sym wrote.jobs.points) read.points));
         is_open = ap (λ (s : StoreView D). s.fault) wrote.kept ∙ read.is_open;
         same_size = wrote.same_size ∙ read.reads.same_size;
         settled = wrote.settled;

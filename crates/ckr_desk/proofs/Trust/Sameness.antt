@@ -7,7 +7,7 @@ use Rattle.ckr_desk_refines.specs.Entries.{HasEntries}
 use Rattle.ckr_points.specs.Events.{AreSound}
 use Rattle.ckr_points.specs.Rows.{no_tables}
 use Rattle.ckr_desk_refines.specs.RewriteRecord.{HasLast}
-use Rattle.ckr_desk_refines.specs.Standing.{AllStand, StandsForDesk, step_on}
+use Rattle.ckr_desk_refines.specs.Standing.{AllStand, PointsStand, StandsForDesk, step_on}
 use Rattle.ckr_desk_store.specs.OpenImages.{event_records}
 use Rattle.ckr_desk_turn.specs.Desk.{DeskModel}
 use Rattle.ckr_volumes.specs.declared.layout.Layout.{Layout}
@@ -20,6 +20,7 @@ pub record AreSame (old new : JobsView) : Type 0 where
   pub tables : new.tables.desk ≡ old.tables.desk
   pub running : new.running ≡ old.running
   pub failed : new.failed ≡ old.failed
+  pub points : new.points ≡ old.points
 
 pub stands-same : (layout : Layout) (old new : JobsView) (image : List ℕ) (desk : DeskModel) → AreSame old new → StandsForDesk layout old image desk → StandsForDesk layout new image desk
 stands-same layout old new image desk same stands = record {
@@ -29,6 +30,7 @@ stands-same layout old new image desk same stands = record {
   failed = same.failed ∙ stands.failed;
   running = subst (λ (r : List RunningStepView). AllStand desk.layout desk.office image r desk.running) (sym same.running) stands.running;
   differ_so = stands.differ_so;
+  points = subst (PointsStand desk.office) (sym same.points) stands.points;
   committed = stands.committed;
 }
 

@@ -15,7 +15,7 @@ use Rattle.ckr_meaning.specs.declared.place.Place.{Place}
 use Rattle.ckr_meaning.specs.declared.place.Place.TheVariants.{Before, Opened, Within}
 use Rattle.ckr_points.specs.Restart.{place_of}
 use Rattle.ckr_points.specs.RuleCases.{rd_in_effect}
-use Rattle.ckr_points.specs.Rows.{RunRow, step_of_run}
+use Rattle.ckr_points.specs.Rows.{RunRow, TablesModel, step_of_run}
 use Rattle.ckr_rules.specs.RuleTables.{suppresses}
 use Rattle.ckr_steps.specs.declared.step_run.Worked.{Worked}
 use Rattle.ckr_steps.specs.declared.step_run.Worked.TheVariants.{Went, Rewrite, Abend}
@@ -67,9 +67,9 @@ cond-quiet : (b : Bool) (one two : Plan) → IsQuietPlan one → IsQuietPlan two
 cond-quiet true one two first second = first
 cond-quiet false one two first second = second
 
--- a run with a code ends, or is restarted at the start of its step
-code-quiet : (layout : Layout) (row : RunRow) (initiator : ℕ) (code : Code) (reached : CodePlaceModel) → IsQuietPlan (code_plan layout row initiator code reached)
-code-quiet layout row initiator code reached = by-verdict IsQuietPlan layout row initiator code reached (λ rule ends. refl) (λ judged. refl)
+-- a run with a code ends, or is restarted
+code-quiet : (layout : Layout) (tables : TablesModel) (row : RunRow) (initiator : ℕ) (code : Code) (reached : CodePlaceModel) → IsQuietPlan (code_plan layout tables row initiator code reached)
+code-quiet layout tables row initiator code reached = by-verdict IsQuietPlan layout tables row initiator code reached (λ rule ends. refl) (λ judged. refl) (λ entry judged found. refl)
 
 module _ (layout : Layout) (jobs : TurnJobs) where
   start-quiet : (row : RunRow) (owned : OwnedStep) (number : ℕ) → IsQuietPlan (start_plan layout jobs row owned number)
@@ -94,13 +94,13 @@ module _ (layout : Layout) (jobs : TurnJobs) where
 
   fail-quiet : (row : RunRow) (fail : Option Code) → IsQuietPlan (fail_plan layout jobs row fail)
   fail-quiet row None = placed-quiet row (place_of row)
-  fail-quiet row (Some code) = if-quiet (is_within (place_of row)) _ _ (code-quiet layout row (initiator_of row) code (reached_by jobs row)) tt
+  fail-quiet row (Some code) = if-quiet (is_within (place_of row)) _ _ (code-quiet layout jobs.tables row (initiator_of row) code (reached_by jobs row)) tt
 
   run-quiet : (fail : Option Code) (row : RunRow) → IsQuietPlan (run_plan layout jobs fail row)
-  run-quiet fail row = if-quiet (is_failed jobs row.number) _ _ (code-quiet layout row (initiator_of row) system_failure (reached_by jobs row)) (fail-quiet row fail)
+  run-quiet fail row = if-quiet (is_failed jobs row.number) _ _ (code-quiet layout jobs.tables row (initiator_of row) system_failure (reached_by jobs row)) (fail-quiet row fail)
 
   chosen-quiet : (initiator : ℕ) (row : RunRow) → IsQuietPlan (chosen_plan layout jobs initiator row)
-  chosen-quiet initiator row = some-quiet row.code _ _ refl (λ code. code-quiet layout row initiator code (reached_by jobs row))
+  chosen-quiet initiator row = some-quiet row.code _ _ refl (λ code. code-quiet layout jobs.tables row initiator code (reached_by jobs row))
 
   free-quiet : (initiator : ℕ) (fail : Option Code) → IsQuietPlan (free_plan layout jobs initiator fail)
   free-quiet initiator (Some code) = tt
@@ -128,7 +128,7 @@ pub plan-plain : (layout : Layout) (jobs : TurnJobs) (turn : Turn) (plan : Plan)
 plan-plain layout jobs turn plan is = plain-by plan (subst IsQuietPlan (sym is) (plan-quiet layout jobs turn))
 
 -- so is what it tells of a unit
-pub told-plain : (layout : Layout) (row : RunRow) (step : TurnStep) (worked : Worked) → IsPlainPlan (told_by layout row step worked)
-told-plain layout row step (Went taken) = tt
-told-plain layout row step (Rewrite place image taken) = refl
-told-plain layout row step (Abend code) = by-verdict IsPlainPlan layout row (initiator_of row) code (running_reached step) (λ rule ends. refl) (λ judged. refl)
+pub told-plain : (layout : Layout) (tables : TablesModel) (row : RunRow) (step : TurnStep) (worked : Worked) → IsPlainPlan (told_by layout tables row step worked)
+told-plain layout tables row step (Went taken) = tt
+told-plain layout tables row step (Rewrite place image taken) = refl
+told-plain layout tables row step (Abend code) = by-verdict IsPlainPlan layout tables row (initiator_of row) code (running_reached step) (λ rule ends. refl) (λ judged. refl) (λ entry judged found. refl)

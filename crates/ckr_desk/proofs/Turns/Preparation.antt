@@ -39,7 +39,7 @@ jobs-same old new same =
     jobs_with tables running failed = record { tables = tables; running = map (running_of tables) running; failed = failed }
 
 pub seen-alike : {D : Type 0} (old new : DeskView D) → HasSameJobs old new → AreSame old.jobs new.jobs
-seen-alike old new same = record { tables = same.tables; running = same.running; failed = same.failed }
+seen-alike old new same = record { tables = same.tables; running = same.running; failed = same.failed; points = same.points }
 
 -- ---- what is the same, and what is unchanged
 
@@ -69,12 +69,12 @@ module _ {D : Type 0} (content : D → List ℕ) (may_leave : D → List ℕ →
 
 -- nothing was done
 pub nothing-changed : {D : Type 0} (content : D → List ℕ) (may_leave : D → List ℕ → Type 0) (desk : DeskView D) → IsUnchanged content may_leave desk desk
-nothing-changed content may_leave desk = record { jobs = record { tables = refl; running = refl; failed = refl }; store = refl; reads = refl; none_new = λ image may. may }
+nothing-changed content may_leave desk = record { jobs = record { tables = refl; running = refl; failed = refl; points = refl }; store = refl; reads = refl; none_new = λ image may. may }
 
 -- one after the other
 pub twice-unchanged : {D : Type 0} (content : D → List ℕ) (may_leave : D → List ℕ → Type 0) (old mid new : DeskView D) → IsUnchanged content may_leave old mid → IsUnchanged content may_leave mid new → IsUnchanged content may_leave old new
 twice-unchanged {D} content may_leave old mid new one two = record {
-  jobs = record { tables = two.jobs.tables ∙ one.jobs.tables; running = two.jobs.running ∙ one.jobs.running; failed = two.jobs.failed ∙ one.jobs.failed };
+  jobs = record { tables = two.jobs.tables ∙ one.jobs.tables; running = two.jobs.running ∙ one.jobs.running; failed = two.jobs.failed ∙ one.jobs.failed; points = two.jobs.points ∙ one.jobs.points };
   store = two.store ∙ ap (λ (s : StoreView D). let its : StoreView D = record s { disk = new.store.disk } in its) one.store;
   reads = two.reads ∙ one.reads;
   none_new = λ image may. one.none_new image (two.none_new image may);

@@ -1,5 +1,5 @@
 -- What the event of a unit brings about, where its step ends with a code, and its run ends or is restarted, and where it rewrites a record.
-use Rattle.std.proofs.Common.{◌≡◌, ◌≤◌, ◌<◌, ℕ, true, false, List, cond, refl, ap, sym, ◌∙◌, subst, slice_set, Option, Some, None}
+use Rattle.std.proofs.Common.{◌≡◌, ◌≤◌, ◌<◌, ℕ, Bool, true, false, List, cond, refl, ap, sym, ◌∙◌, subst, slice_set, Option, Some, None}
 use Rattle.std.specs.Prelude.{IsTrue}
 use Rattle.std.specs.Option.{option_map, option_map_or}
 use Rattle.std.proofs.lemmas.Option.{same_Some}
@@ -46,7 +46,7 @@ use Rattle.ckr_steps.specs.declared.files.RecordSource.TheVariants.{InSet}
 use Rattle.ckr_steps.specs.declared.step_run.Worked.{Worked}
 use Rattle.ckr_steps.specs.declared.step_run.Worked.TheVariants.{Abend, Rewrite}
 use Rattle.ckr_steps.specs.Writes.{IsShown}
-use Rattle.ckr_desk_refines.proofs.Events.Turns.{code-committed, code-stands, restart-committed, restart-stands}
+use Rattle.ckr_desk_refines.proofs.Events.Turns.{code-committed, code-stands, restart-committed, restarted-stands}
 use Rattle.ckr_desk_turn.specs.declared.reply.Turn.{Turn}
 use Rattle.ckr_desk_turn.specs.Desk.{DeskModel, TurnDone, behind, work_of}
 use Rattle.ckr_volumes.specs.declared.layout.Layout.{Layout}
@@ -183,15 +183,15 @@ module _ (old : JobsView) (before after : List ℕ) (desk : DeskModel) (turn : T
       within : HasWithinRun desk.layout desk.office run moved.step.writes after
       within = coded-within desk.layout old before after desk turn run on moved code unit
 
-  -- it is restarted at the start of the step
-  pub restarted-ensues : (initiator : ℕ) → (work_of run desk).event ≡ Some (Restarted run initiator code false) → Ensues put after desk run (Restarted run initiator code false)
-  restarted-ensues initiator is =
+  -- it is restarted, at the start of the step or at its checkpoint in effect
+  pub restarted-ensues : (initiator : ℕ) (checkpoint : Bool) → (work_of run desk).event ≡ Some (Restarted run initiator code checkpoint) → Ensues put after desk run (Restarted run initiator code checkpoint)
+  restarted-ensues initiator checkpoint is =
       quiet-ensues restarted is refl
-      (λ later goes written same. restart-stands desk.layout put later after written desk run initiator code but (comes-then restarted is) (kept-then restarted is) goes same)
-      (restart-committed desk.layout put after desk run initiator code but (comes-then restarted is) (kept-then restarted is))
+      (λ later goes written same. restarted-stands desk.layout put later after written desk run initiator code checkpoint but (comes-then restarted is) (kept-then restarted is) goes same)
+      (restart-committed desk.layout put after desk run initiator code checkpoint but (comes-then restarted is) (kept-then restarted is))
     where
       restarted : Event
-      restarted = Restarted run initiator code false
+      restarted = Restarted run initiator code checkpoint
 
 -- ---- the step rewrites a record
 
@@ -313,7 +313,7 @@ module _ (old : JobsView) (before after : List ℕ) (desk : DeskModel) (turn : T
       record_told = of-event (λ e tables. TellsRecord tables e) due-then;
       stands = λ later goes told written same wrote.
           stands-then desk.layout old before after desk turn run on moved place image taken asks put later
-          (record { tables = back.tables; failed = back.failed; running = back.running }) event is goes told written same name shown.set first-is shown.is
+          (record { tables = back.tables; failed = back.failed; running = back.running; points = back.points }) event is goes told written same name shown.set first-is shown.is
           (written-then told written (by-event (λ e tables. IsWrittenBy desk.layout tables e told written) wrote));
       same = λ stopped same.
           again-then old before after desk turn run on moved place image taken asks event is stopped stopped same name shown.set first-is shown.is

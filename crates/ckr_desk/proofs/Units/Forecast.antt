@@ -88,20 +88,20 @@ module _ {D : Type 0} (told : Type 0) (content : D → List ℕ) (may_leave : D 
       pair.stands.run ∙ pair.same
 
   abbrev told-with : RunningStepView → Option Event
-  told-with step = event_in (told_by layout row (running_of office.tables step) unit.worked)
+  told-with step = event_in (told_by layout office.tables row (running_of office.tables step) unit.worked)
 
   told-is : event_in plan ≡ told-with (behind_unit on unit)
   told-is =
       ap event_in
       (looked.planned row within.1
       (ap (λ (tables : TablesModel). run_of tables on.run) trusted.stands.tables ∙ ap (run_of office.tables) run-on ∙ within.2) within.3
-      ∙ ap (λ (tables : TablesModel). told_by layout row (running_of tables (behind_unit on unit)) unit.worked) trusted.stands.tables)
+      ∙ ap (λ (tables : TablesModel). told_by layout tables row (running_of tables (behind_unit on unit)) unit.worked) trusted.stands.tables)
 
   -- as the step stands before the unit, the turn would tell as much
   both : BothTell (told-with on) (event_in plan)
   both =
       subst (BothTell (told-with on)) (sym told-is)
-      (both-tell layout row (running_of office.tables on) (running_of office.tables (behind_unit on unit)) unit.worked (as-many (run_of office.tables on.run) on (behind_unit on unit)))
+      (both-tell layout office.tables row (running_of office.tables on) (running_of office.tables (behind_unit on unit)) unit.worked (as-many (run_of office.tables on.run) on (behind_unit on unit)))
 
   told-before : (event : Event) → told-with on ≡ Some event → IsTold event (event_of_turn (state_of content old) turn)
   unfolding event_of_turn

@@ -79,8 +79,8 @@ module _ {D : Type 0} (told : Type 0) (content : D → List ℕ) (faults : D →
     };
     planned = λ row own at within.
         planned row own (ap (λ (t : TablesModel). run_of t on.run) (sym tables-are) ∙ at) within
-        ∙ ap (λ (l : Layout). told_by l row (running_of old.jobs.tables.desk moved) unit.worked) (sym layout-is)
-        ∙ ap (λ (t : TablesModel). told_by new.store.layout row (running_of t moved) unit.worked) (sym tables-are);
+        ∙ ap (λ (l : Layout). told_by l old.jobs.tables.desk row (running_of old.jobs.tables.desk moved) unit.worked) (sym layout-is)
+        ∙ ap (λ (t : TablesModel). told_by new.store.layout t row (running_of t moved) unit.worked) (sym tables-are);
     shape = shape;
     spelled = spelled;
     follows = subst (λ (l : Layout). PlanFollows l new.jobs.tables.desk plan) (sym layout-is) (subst (λ (t : TablesModel). PlanFollows old.store.layout t plan) (sym tables-are) follows);
@@ -161,7 +161,7 @@ told-moved layout tables on moved unit worked plan run step sets same planned ro
     ∙ ap (λ n. told-with n moved.step moved.sets.sets worked) (sym run)
   where
     told-with : ℕ → StepRun → Named Holding → Worked → Plan
-    told-with n s its w = told_by layout row (running_of tables (record { run = n; step = s; sets = record { sets = its; room = 0; entry_rooms = [] } })) w
+    told-with n s its w = told_by layout tables row (running_of tables (record { run = n; step = s; sets = record { sets = its; room = 0; entry_rooms = [] } })) w
 
 -- the step that was looked at is the one that is found
 pub same-on : {D : Type 0} (told : Type 0) (content : D → List ℕ) (run : ℕ) (desk : DeskView D) (unit : UnitAhead) (of : IsWorkedOut told content run desk unit) (on : RunningStepView) → find (is_of_run run) desk.jobs.running ≡ Some on → of.on ≡ on

@@ -1,5 +1,5 @@
 -- What is ready for the event of a unit is ready behind the unit too.
-use Rattle.std.proofs.Common.{◌≡◌, ◌≤◌, ℕ, true, List, [], ◌∷◌, refl, ap, sym, ◌∙◌, subst, Option, Some, None}
+use Rattle.std.proofs.Common.{◌≡◌, ◌≤◌, ◌<◌, ℕ, true, false, find, List, [], ◌∷◌, refl, ap, sym, ◌∙◌, subst, Option, Some, None}
 use Rattle.std.specs.List.{AllByRecursion}
 use Rattle.std.proofs.lemmas.Bool.{false≢true}
 use Rattle.ckr_book.specs.Book.{room_of}
@@ -7,11 +7,12 @@ use Rattle.ckr_events.specs.declared.event.Event.{Event}
 use Rattle.ckr_events.specs.declared.event.Event.TheVariants.{Rewritten, Restarted, Ended}
 use Rattle.ckr_desk_memory.specs.Model.RewriteCounts.{may_count}
 use Rattle.ckr_desk_memory.specs.declared.preparation.Prepared.{Prepared}
+use Rattle.ckr_desk_memory.specs.EventChanges.{is_point_of}
 use Rattle.ckr_desk_memory.proofs.Holders.OwnUnits.{others-commit}
 use Rattle.ckr_desk_memory.specs.OwnSteps.{IsOfOther, LeavesLeft, PlanCommits, PlanIsOf, PlanLeaves}
 use Rattle.ckr_desk_memory.specs.Plans.{IsUnitPlan, is_unit_event}
-use Rattle.ckr_desk_memory.specs.Preparation.{IsPrepared}
-use Rattle.ckr_desk_memory.specs.View.{RunningStepView}
+use Rattle.ckr_desk_memory.specs.Preparation.{HasAgain, IsPrepared}
+use Rattle.ckr_desk_memory.specs.View.{PointView, RunningStepView}
 use Rattle.ckr_points.specs.Rows.{TablesModel}
 use Rattle.ckr_points_tables.specs.Invariant.{HasRoom}
 use Rattle.ckr_desk_memory.specs.ForwardEvents.{is_forward_event}
@@ -27,7 +28,7 @@ use Rattle.ckr_desk.specs.Units.{IsPlainTold}
 -- what a unit tells is plain
 plain-event : (event : Event) → is_unit_event event ≡ true → is_forward_event event ≡ true
 plain-event (Rewritten job taken writes lengths place image) its = refl
-plain-event (Restarted job initiator code checkpoint) its = its
+plain-event (Restarted job initiator code checkpoint) its = refl
 plain-event (Ended job ending) its = refl
 plain-event _ its = absurd (false≢true its)
 
@@ -62,25 +63,40 @@ commits-beside tables run (Work job) seen moved others of_run same sets apart co
 commits-beside tables run (Pass job reply) seen moved others of_run same sets apart commits = tt
 commits-beside tables run (Take job) seen moved others of_run same sets apart commits = tt
 
-module _ {D : Type 0} (old mid : DeskView D) (tables : mid.jobs.tables ≡ old.jobs.tables) (book : room_of mid.store.book ≡ room_of old.store.book) where
+module _ {D : Type 0} (old mid : DeskView D) (tables : mid.jobs.tables ≡ old.jobs.tables) (points : mid.jobs.points ≡ old.jobs.points) (place : mid.jobs.running_room ≡ old.jobs.running_room) (book : room_of mid.store.book ≡ room_of old.store.book) where
   still-prepared : (event : Event) → is_unit_event event ≡ true → (prepared : Prepared) → IsPrepared old.jobs event None prepared → IsPrepared mid.jobs event None prepared
   still-prepared (Rewritten job taken writes lengths place image) its prepared is = record {
     tables = subst (λ (t : RoomyTables). HasRoom t (Rewritten job taken writes lengths place image)) (sym tables) is.tables;
     queue = tt;
     uses = is.uses;
     started = tt;
+    points = tt;
   }
-  still-prepared (Restarted job initiator code checkpoint) its prepared is = record {
-    tables = subst (λ (t : RoomyTables). HasRoom t (Restarted job initiator code checkpoint)) (sym tables) is.tables;
+  still-prepared (Restarted job initiator code false) its prepared is = record {
+    tables = subst (λ (t : RoomyTables). HasRoom t (Restarted job initiator code false)) (sym tables) is.tables;
     queue = tt;
     uses = is.uses;
     started = tt;
+    points = tt;
+  }
+  still-prepared (Restarted job initiator code true) its prepared is = record {
+    tables = subst (λ (t : RoomyTables). HasRoom t (Restarted job initiator code true)) (sym tables) is.tables;
+    queue = tt;
+    uses = is.uses;
+    started = record {
+      room = subst (λ (n : ℕ). 0 < n) (sym place) is.started.room;
+      empty = is.started.empty;
+      step = subst (λ (t : RoomyTables). HasAgain (find (is_point_of job) mid.jobs.points) t.desk job prepared.step) (sym tables)
+          (subst (λ (its : List PointView). HasAgain (find (is_point_of job) its) old.jobs.tables.desk job prepared.step) (sym points) is.started.step);
+    };
+    points = tt;
   }
   still-prepared (Ended job ending) its prepared is = record {
     tables = subst (λ (t : RoomyTables). HasRoom t (Ended job ending)) (sym tables) is.tables;
     queue = tt;
     uses = is.uses;
     started = tt;
+    points = tt;
   }
   still-prepared _ its prepared is = absurd (false≢true its)
 

@@ -1,5 +1,5 @@
 -- A turn that works: the unit of its running step, the desk behind it, and what a stop leaves.
-use Rattle.std.proofs.Common.{◌≡◌, ◌≤◌, ◌+◌, ◌-◌, ◌++◌, ◌&&◌, ℕ, List, [], ◌∷◌, true, false, length, take, find, refl, ap, sym, ◌∙◌, subst, ⊎_elim, arith, Option, Some, None, Ok}
+use Rattle.std.proofs.Common.{◌≡◌, ◌≤◌, ◌+◌, ◌-◌, ◌++◌, ◌&&◌, ℕ, Bool, List, [], ◌∷◌, true, false, length, take, find, refl, ap, sym, ◌∙◌, subst, ⊎_elim, arith, Option, Some, None, Ok}
 use Rattle.std.proofs.lemmas.Bool.{and_from, le-leb}
 use Rattle.std.proofs.lemmas.Option.{same_Some}
 use Rattle.ckr_base.proofs.Options.{some-not-none}
@@ -180,7 +180,7 @@ module _ {D : Type 0} (told : Type 0) (content : D → List ℕ) (may_leave : D 
     entries-after = keeps-entries on done.found image after unit-done.keeps trusted.entries
 
     put-back : IsPutBack run moved old.jobs mid.jobs
-    put-back = record { tables = done.tables; failed = done.failed; running = done.running }
+    put-back = record { tables = done.tables; failed = done.failed; running = done.running; points = done.points }
 
     layout-same : mid.store.layout ≡ layout
     layout-same = ap (λ (store : StoreView D). store.layout) done.store
@@ -193,12 +193,12 @@ module _ {D : Type 0} (told : Type 0) (content : D → List ℕ) (may_leave : D 
     run-same : moved.run ≡ run
     run-same = run-moved layout old.jobs image after desk turn run on moved done.worked unit-done
 
-    pub plan-so : plan ≡ told_by layout row (running_of office.tables moved) done.worked
+    pub plan-so : plan ≡ told_by layout office.tables row (running_of office.tables moved) done.worked
     plan-so =
         done.planned row row-within.1 (ap (λ (tables : TablesModel). run_of tables moved.run) trusted.stands.tables ∙ ap (run_of office.tables) run-same ∙ row-within.2) row-within.3
-        ∙ ap (λ (tables : TablesModel). told_by layout row (running_of tables moved) done.worked) trusted.stands.tables
+        ∙ ap (λ (tables : TablesModel). told_by layout tables row (running_of tables moved) done.worked) trusted.stands.tables
 
-    told-so : (reply_in (told_by layout row (running_of office.tables moved) done.worked) ≡ (work_of run desk).reply) × (event_in (told_by layout row (running_of office.tables moved) done.worked) ≡ (work_of run desk).event)
+    told-so : (reply_in (told_by layout office.tables row (running_of office.tables moved) done.worked) ≡ (work_of run desk).reply) × (event_in (told_by layout office.tables row (running_of office.tables moved) done.worked) ≡ (work_of run desk).event)
     told-so = told-unit layout old.jobs image after desk turn run on moved done.worked unit-done row row-within.2
 
     pub reply-so : reply_in plan ≡ reply_of (state_of content old) turn
@@ -215,17 +215,18 @@ module _ {D : Type 0} (told : Type 0) (content : D → List ℕ) (may_leave : D 
     -- ---- where no event comes
 
     -- a code is told, whatever the rules say of it
-    tells-code : (code : Code) → event_in (told_by layout row (running_of office.tables moved) (Abend code)) ≡ None → ⊥
+    tells-code : (code : Code) → event_in (told_by layout office.tables row (running_of office.tables moved) (Abend code)) ≡ None → ⊥
     tells-code code =
-        by-verdict (λ its. event_in its ≡ None → ⊥) layout row (initiator_of row) code (running_reached (running_of office.tables moved)) (λ rule ends none. some-not-none _ none) (λ judged none. some-not-none _ none)
+        by-verdict (λ its. event_in its ≡ None → ⊥) layout office.tables row (initiator_of row) code (running_reached (running_of office.tables moved)) (λ rule ends none. some-not-none _ none) (λ judged none. some-not-none _ none)
+        (λ entry judged found none. some-not-none _ none)
 
     is-went : event_in plan ≡ None → (taken : ℕ) × (done.worked ≡ Went taken)
     is-went none = by done.worked refl
       where
         by : (worked : Worked) → done.worked ≡ worked → (taken : ℕ) × (done.worked ≡ Went taken)
         by (Went taken) is = (taken, is)
-        by (Rewrite place bytes taken) is = absurd (some-not-none _ (sym (sym none ∙ ap event_in plan-so ∙ ap (λ (w : Worked). event_in (told_by layout row (running_of office.tables moved) w)) is)))
-        by (Abend code) is = absurd (tells-code code (sym (ap (λ (w : Worked). event_in (told_by layout row (running_of office.tables moved) w)) is) ∙ sym (ap event_in plan-so) ∙ none))
+        by (Rewrite place bytes taken) is = absurd (some-not-none _ (sym (sym none ∙ ap event_in plan-so ∙ ap (λ (w : Worked). event_in (told_by layout office.tables row (running_of office.tables moved) w)) is)))
+        by (Abend code) is = absurd (tells-code code (sym (ap (λ (w : Worked). event_in (told_by layout office.tables row (running_of office.tables moved) w)) is) ∙ sym (ap event_in plan-so) ∙ none))
 
     office-after : office_on layout after ≡ office
     office-after = office-same layout image after events
@@ -293,7 +294,7 @@ module _ {D : Type 0} (told : Type 0) (content : D → List ℕ) (may_leave : D 
       then = (work_of run desk).desk
 
       unit-plain : is_forward_event event ≡ true
-      unit-plain = plain-in plan (subst IsPlainPlan (sym plan-so) (told-plain layout row (running_of office.tables moved) done.worked)) event is
+      unit-plain = plain-in plan (subst IsPlainPlan (sym plan-so) (told-plain layout office.tables row (running_of office.tables moved) done.worked)) event is
 
       spelled-so : IsSpelled event
       spelled-so = spelled-in plan shape event is
@@ -305,7 +306,7 @@ module _ {D : Type 0} (told : Type 0) (content : D → List ℕ) (may_leave : D 
       event-then = sym work-event ∙ is
 
       abbrev event_by : Worked → Option Event
-      event_by worked = event_in (told_by layout row (running_of office.tables moved) worked)
+      event_by worked = event_in (told_by layout office.tables row (running_of office.tables moved) worked)
 
       abbrev lengths : ArrayVec ℕ
       lengths = record { items = (running_of office.tables moved).lengths }
@@ -313,19 +314,23 @@ module _ {D : Type 0} (told : Type 0) (content : D → List ℕ) (may_leave : D 
       -- the step ends with a code: its run ends by a rule, or is restarted
       code-ensues : (code : Code) → done.worked ≡ Abend code → event_by (Abend code) ≡ Some event → Ensues mid.jobs after desk run event
       code-ensues code same =
-          by-verdict (λ its. event_in its ≡ Some event → Ensues mid.jobs after desk run event) layout row (initiator_of row) code (running_reached (running_of office.tables moved))
+          by-verdict (λ its. event_in its ≡ Some event → Ensues mid.jobs after desk run event) layout office.tables row (initiator_of row) code (running_reached (running_of office.tables moved))
           (λ rule ends tells.
           let told_is : Ended run (Coded code (rule_number rule) moved.step.writes lengths) ≡ event =
           ap (λ n. Ended n (Coded code (rule_number rule) moved.step.writes lengths)) (sym row-within.4) ∙ same_Some _ event tells in
           subst (Ensues mid.jobs after desk run) told_is
           (ended-ensues old.jobs image after desk turn run on moved code unit-coded mid.jobs put-back (rule_number rule) lengths (event-then ∙ ap Some (sym told_is))))
-          (λ judged tells.
-          let told_is : Restarted run (initiator_of row) code false ≡ event = ap (λ n. Restarted n (initiator_of row) code false) (sym row-within.4) ∙ same_Some _ event tells in
-          subst (Ensues mid.jobs after desk run) told_is
-          (restarted-ensues old.jobs image after desk turn run on moved code unit-coded mid.jobs put-back (initiator_of row) (event-then ∙ ap Some (sym told_is))))
+          (λ judged tells. restart-ensues false tells)
+          (λ entry judged found tells. restart-ensues true tells)
         where
           unit-coded : StandsBehindUnit layout old.jobs image after desk turn run on moved (Abend code)
           unit-coded = subst (StandsBehindUnit layout old.jobs image after desk turn run on moved) same unit-done
+
+          restart-ensues : (checkpoint : Bool) → Some (Restarted row.number (initiator_of row) code checkpoint) ≡ Some event → Ensues mid.jobs after desk run event
+          restart-ensues checkpoint tells =
+              let told_is : Restarted run (initiator_of row) code checkpoint ≡ event = ap (λ n. Restarted n (initiator_of row) code checkpoint) (sym row-within.4) ∙ same_Some _ event tells in
+              subst (Ensues mid.jobs after desk run) told_is
+              (restarted-ensues old.jobs image after desk turn run on moved code unit-coded mid.jobs put-back (initiator_of row) checkpoint (event-then ∙ ap Some (sym told_is)))
 
       ensues : Ensues mid.jobs after desk run event
       ensues = by done.worked refl

@@ -1,8 +1,13 @@
-use Rattle.std.proofs.Common.{◌∙◌, ℕ, List, ap, arith, refl, sym}
+use Rattle.std.proofs.Common.{◌≡◌, ◌∙◌, ◌+◌, ℕ, List, None, Some, Ok, Err, ap, arith, refl, subst, sym, length}
+use Rattle.std.proofs.lemmas.List.{length-map}
 use Rattle.ckr_base.proofs.Sequences.{get-from}
-use Rattle.ckr_desk.proofs.Openings.EntryReads.{bad-all, bad-end, bad-here, bad-later}
+use Rattle.ckr_desk_memory.specs.View.{PointView}
+use Rattle.ckr_points_tables.specs.View.{line_of}
+use Rattle.ckr_desk.proofs.Openings.EntryReads.{bad-all, bad-end, bad-here, bad_from}
+use Rattle.ckr_desk.proofs.Openings.NextPoints.{AreSoFar, next-none, next-some, none-refused, refused-as}
+use Rattle.ckr_desk.proofs.Openings.Points.{points-all, points-none}
 use Rattle.ckr_desk.proofs.Openings.Syncs.{reads-nothing, reads-on}
-use Rattle.ckr_desk.specs.Entries.{run_refusal}
+use Rattle.ckr_desk.proofs.entries.check_entries.Goals.{in-None, in-Some-Ok+in_ok-put_point-in-Some-Ok}
 use Rattle.ckr_desk.proofs.entries.check_entries.Goals as goal
 
 pub loop-run-init : goal.loop-run-init
@@ -11,41 +16,68 @@ loop-run-init g c =
     let laws = g.met.D.Disk g.world.𝓛 g.world.𝓜 g.world.𝓡 ((λ s x. x), (λ x. x), (λ x. x), λ x. x) in
     record {
       none = λ told. bad-all c.args.layout.now c.args.jobs.now.tables.desk (d.content c.args.disk.now);
+      points = subst (AreSoFar d.told c.args.layout.now c.args.jobs.now.tables.desk (d.content c.args.disk.now) 0) (sym c.new-points.ensures.items)
+          (record { points_to = points-none d.told c.args.layout.now c.args.jobs.now.tables.desk (d.content c.args.disk.now) _; upto = tt; counted = tt });
       only_reads = reads-nothing d.content d.may_leave d.moment d.left_since c.args.disk.now (λ image left. laws.only_now c.args.disk.now image left);
       size = refl;
       faults = omega arith;
     }
 
-pub returns-in-Some-clause-cause : goal.returns-in-Some-clause-cause
-returns-in-Some-clause-cause g c = λ told.
+pub returns-in-Some-Err-clause-cause : goal.returns-in-Some-Err-clause-cause
+returns-in-Some-Err-clause-cause g c = λ told.
+    let d = g.D.Disk in
     let i = c.loop-run.invariant in
     let lines = c.runs-run-items.result.now in
+    let at = get-from lines c.loop-run.run-index c.run-item.result c.loop-run-test.true c.run-item.is in
     sym (i.none told)
-    ∙ bad-here c.args.layout.now c.args.jobs.now.tables.desk (g.D.Disk.content c.args.disk.now) c.loop-run.run-index c.run-item.result lines c.runs-run-items.ensures.lines
-    (get-from lines c.loop-run.run-index c.run-item.result c.loop-run-test.true c.run-item.is) c.requires.numbered c.in-Some.offset
-    (λ row at line.
-    sym c.in-Some.is ∙ c.in_ok-offset.ensures.refused told row at line
-    ∙ ap (λ (image : List ℕ). run_refusal c.args.layout.now c.args.jobs.now.tables.desk image row) i.only_reads.same)
+    ∙ bad-here c.args.layout.now c.args.jobs.now.tables.desk (d.content c.args.disk.now) c.loop-run.run-index c.run-item.result lines c.runs-run-items.ensures.lines at c.requires.numbered c.in-Some-Err.offset
+    (refused-as d.told c.args.layout.now c.args.jobs.now.tables.desk (d.content c.loop-run.disk) (d.content c.args.disk.now) i.only_reads.same c.loop-run.run-index c.run-item.result lines c.runs-run-items.ensures.lines at
+    c.requires.numbered c.in_ok-effect_point.field-0 c.in_ok-effect_point.ensures.refused told (Some (Err c.in-Some-Err.offset)) (c.in-Some-Err.is ∙ ap (λ r. Some r) c.in-Some-Err.field-0-is))
 
 pub returns-clause-none : goal.returns-clause-none
 returns-clause-none g c = λ told.
     sym (c.loop-run.invariant.none told)
     ∙ bad-end c.args.layout.now c.args.jobs.now.tables.desk (g.D.Disk.content c.args.disk.now) c.loop-run.run-index c.runs-run-items.result.now c.runs-run-items.ensures.lines c.loop-run-test.false
 
+pub returns-clause-points : goal.returns-clause-points
+returns-clause-points g c =
+    let d = g.D.Disk in
+    let tables = c.args.jobs.now.tables.desk in
+    let same : length c.runs-run-items.result.now ≡ length tables.runs = ap length c.runs-run-items.ensures.lines ∙ length-map tables.runs line_of in
+    points-all d.told c.args.layout.now tables (d.content c.args.disk.now) c.loop-run.run-index c.loop-run.points.items (omega (arith, same, c.loop-run-test.false)) c.loop-run.invariant.points.points_to
+
+pub returns-clause-counted : goal.returns-clause-counted
+returns-clause-counted g c = c.loop-run.invariant.points.counted
+
 pub loop-run-preserved : goal.loop-run-preserved
 loop-run-preserved g c =
     let d = g.D.Disk in
     let i = c.loop-run.invariant in
+    let layout = c.args.layout.now in
+    let tables = c.args.jobs.now.tables.desk in
+    let image = d.content c.args.disk.now in
+    let place = c.loop-run.run-index in
     let lines = c.runs-run-items.result.now in
+    let answer = c.in_ok-effect_point.field-0 in
+    let at = get-from lines place c.run-item.result c.loop-run-test.true c.run-item.is in
+    let both : (d.told → bad_from layout tables image (place + 1) ≡ bad_from layout tables image place) × AreSoFar d.told layout tables image (place + 1) c.match-branch-2.points.items =
+    elim c.match-branch-2.branch [
+      | in-None w ↦ (
+        (λ told. none-refused d.told layout tables (d.content c.loop-run.disk) image i.only_reads.same place c.run-item.result lines c.runs-run-items.ensures.lines at c.requires.numbered answer c.in_ok-effect_point.ensures.refused told None w.in-None.is refl),
+        subst (λ (v : _). AreSoFar d.told layout tables image (place + 1) v.items) (sym w.points-is)
+            (next-none d.told layout tables (d.content c.loop-run.disk) image i.only_reads.same place c.run-item.result lines c.runs-run-items.ensures.lines at c.requires.numbered answer c.in_ok-effect_point.ensures.found w.in-None.is c.loop-run.points.items i.points),
+      )
+      | in-Some-Ok+in_ok-put_point-in-Some-Ok w ↦ (
+        (λ told. none-refused d.told layout tables (d.content c.loop-run.disk) image i.only_reads.same place c.run-item.result lines c.runs-run-items.ensures.lines at c.requires.numbered answer c.in_ok-effect_point.ensures.refused told (Some (Ok w.in-Some-Ok.point)) (w.in-Some-Ok.is ∙ ap (λ r. Some r) w.in-Some-Ok.field-0-is) refl),
+        subst (λ (v : _). AreSoFar d.told layout tables image (place + 1) v.items) (sym w.points-is)
+            (subst (AreSoFar d.told layout tables image (place + 1)) (sym w.in_ok-put_point-in-Some-Ok.ensures)
+            (next-some d.told layout tables (d.content c.loop-run.disk) image i.only_reads.same place c.run-item.result lines c.runs-run-items.ensures.lines at c.requires.numbered answer c.in_ok-effect_point.ensures.found w.in-Some-Ok.point (w.in-Some-Ok.is ∙ ap (λ r. Some r) w.in-Some-Ok.field-0-is) c.loop-run.points.items i.points)),
+      )
+    ] in
     record {
-      none = λ told.
-          bad-later c.args.layout.now c.args.jobs.now.tables.desk (d.content c.args.disk.now) c.loop-run.run-index c.run-item.result lines c.runs-run-items.ensures.lines
-          (get-from lines c.loop-run.run-index c.run-item.result c.loop-run-test.true c.run-item.is) c.requires.numbered
-          (λ row at line.
-          sym c.in_default.is ∙ c.in_ok-offset.ensures.refused told row at line
-          ∙ ap (λ (image : List ℕ). run_refusal c.args.layout.now c.args.jobs.now.tables.desk image row) i.only_reads.same)
-          ∙ i.none told;
-      only_reads = reads-on d.content d.may_leave d.moment d.left_since c.args.disk.now c.loop-run.disk c.refusal_of.new.disk i.only_reads c.refusal_of.ensures.only_reads;
-      size = c.refusal_of.ensures.size ∙ i.size;
-      faults = omega (arith, i.faults, c.refusal_of.ensures.faults);
+      none = λ told. both.0 told ∙ i.none told;
+      points = both.1;
+      only_reads = reads-on d.content d.may_leave d.moment d.left_since c.args.disk.now c.loop-run.disk c.effect_point.new.disk i.only_reads c.effect_point.ensures.only_reads;
+      size = c.effect_point.ensures.size ∙ i.size;
+      faults = omega (arith, i.faults, c.effect_point.ensures.faults);
     }

@@ -1,11 +1,9 @@
-use Rattle.std.proofs.Common.{◌∙◌, ap, arith, refl, subst, sym}
+use Rattle.std.proofs.Common.{◌∙◌, ℕ, List, ap, arith, subst, sym}
 use Rattle.ckr_outside.specs.Faults.{Rose}
 use Rattle.ckr_desk_refines.specs.RewriteRecord.{last_event}
 use Rattle.ckr_desk_store.specs.OpenImages.{event_records}
-use Rattle.ckr_points_tables.specs.View.{RoomyTables}
-use Rattle.ckr_desk.specs.Replay.{IsFound}
+use Rattle.ckr_desk.specs.Entries.{ArePointsRead}
 use Rattle.ckr_desk.specs.Soundness.{events_in, last_on}
-use Rattle.ckr_desk.proofs.Layouts.{jobs-stay, kept-opened}
 use Rattle.ckr_desk.proofs.Openings.Answers.{found_behind, book_cause_behind, rose_before}
 use Rattle.ckr_desk.proofs.Openings.Replay.{handed_on}
 use Rattle.ckr_desk.proofs.Openings.Syncs.{reads-behind}
@@ -14,10 +12,15 @@ use Rattle.ckr_desk.proofs.opening.read_disk.Goals as goal
 pub returns-clause-found : goal.returns-clause-found
 returns-clause-found g c = λ told.
     let d = g.D.Disk in
-    subst (λ (t : RoomyTables). IsFound (d.content c.read_jobs.new.disk) (d.size c.read_jobs.new.disk) c.in_ok-layout.layout t.desk c.in_ok-jobs.field-0.place) (sym c.open.ensures.tables)
-    (found_behind (d.content c.sync.new.self) (d.content c.layout_of.new.disk) (d.content c.read_jobs.new.disk) (d.size c.sync.new.self) (d.size c.read_jobs.new.disk)
+    found_behind (d.content c.sync.new.self) (d.content c.layout_of.new.disk) (d.content c.read_jobs.new.disk) (d.size c.sync.new.self) (d.size c.read_jobs.new.disk)
     c.in_ok-layout.layout c.in_ok-jobs.field-0.jobs.tables.desk c.in_ok-jobs.field-0.place (c.in_ok-layout.ensures.exact told)
-    c.in_ok-layout.ensures.only_reads.same c.in_ok-jobs.ensures.only_reads.same (c.in_ok-jobs.ensures.size ∙ c.in_ok-layout.ensures.size) (c.in_ok-jobs.ensures.read told))
+    c.in_ok-layout.ensures.only_reads.same c.in_ok-jobs.ensures.only_reads.same (c.in_ok-jobs.ensures.size ∙ c.in_ok-layout.ensures.size) (c.in_ok-jobs.ensures.read told)
+
+pub returns-clause-points : goal.returns-clause-points
+returns-clause-points g c =
+    let d = g.D.Disk in
+    let jobs = c.in_ok-jobs.field-0.jobs in
+    subst (λ (image : List ℕ). ArePointsRead d.told c.in_ok-layout.layout jobs.tables.desk image jobs.points) (sym c.in_ok-jobs.ensures.only_reads.same) c.in_ok-jobs.ensures.points
 
 pub returns-in_err-jobs-clause-cause : goal.returns-in_err-jobs-clause-cause
 returns-in_err-jobs-clause-cause g c =
@@ -38,11 +41,3 @@ returns-clause-synced g c =
     let d = g.D.Disk in
     reads-behind d.content d.may_leave d.moment d.left_since c.args.disk.now c.sync.new.self c.layout_of.new.disk c.read_jobs.new.disk
     c.in_ok-sync.ensures.only_reads c.in_ok-sync.ensures.durable c.in_ok-layout.ensures.only_reads c.in_ok-jobs.ensures.only_reads
-
-pub returns-clause-kept : goal.returns-clause-kept
-returns-clause-kept g c =
-    let layout = c.in_ok-layout.layout in
-    let jobs = c.in_ok-jobs.field-0.jobs in
-    let desk = ap (λ (t : RoomyTables). t.desk) c.open.ensures.tables in
-    kept-opened layout jobs c.open.new.self desk (c.open.ensures.running ∙ c.in_ok-jobs.ensures.running)
-    (jobs-stay layout layout jobs c.open.new.self refl desk c.open.ensures.running c.in_ok-jobs.ensures.jobs) (c.in_ok-open.ensures.left layout c.in_ok-jobs.ensures.jobs) c.in_ok-jobs.ensures.holders c.in_ok-jobs.ensures.numbered

@@ -120,6 +120,7 @@ returns-clause-done g c =
       tables = ap (λ t. t.desk) c.put_step.ensures.tables ∙ ap (λ t. t.desk) c.take_step.ensures.tables;
       failed = c.put_step.ensures.failed ∙ c.take_step.ensures.failed;
       running = c.put_step.ensures.running ∙ ap (λ rest. moved ∷ rest) c.take_step.ensures.running;
+      points = c.put_step.ensures.points ∙ c.take_step.ensures.points;
       store = did.kept;
       planned = told-moved old.store.layout old.jobs.tables.desk on moved unit c.in_ok-do_unit.field-0 plan c.do_unit.ensures.run did.behind did.lengths did.answer
           (subst (λ (its : RunningStepView). IsToldOf old.store.layout old.jobs.tables.desk (behind_unit its unit) unit.worked plan)

@@ -70,12 +70,12 @@ returns-clause-left g c =
 pub invariant_of-self : goal.invariant_of-self
 invariant_of-self g c =
     kept-stay c.self.inside.store.layout c.sync.new.self.layout c.self.inside.jobs c.self.inside.jobs
-    (failed-layout g.D.Disk.faults c.self.inside.store c.sync.new.self c.in_err-sync.field-0.0 c.in_err-sync.ensures.cause) refl refl refl c.self.invariant
+    (failed-layout g.D.Disk.faults c.self.inside.store c.sync.new.self c.in_err-sync.field-0.0 c.in_err-sync.ensures.cause) refl refl refl refl c.self.invariant
 
 pub invariant_of-self-in_err-append : goal.invariant_of-self-in_err-append
 invariant_of-self-in_err-append g c =
     kept-stay c.self.inside.store.layout c.append.new.self.layout c.self.inside.jobs c.self.inside.jobs
-    (append-layout g.D.Disk.faults c.sync.new.self c.append.new.self _ c.in_err-append.field-0.0 c.in_err-append.ensures.cause ∙ ap (λ s. s.layout) c.in_ok-sync.ensures.kept) refl refl refl c.self.invariant
+    (append-layout g.D.Disk.faults c.sync.new.self c.append.new.self _ c.in_err-append.field-0.0 c.in_err-append.ensures.cause ∙ ap (λ s. s.layout) c.in_ok-sync.ensures.kept) refl refl refl refl c.self.invariant
 
 pub invariant_of-self-2 : goal.invariant_of-self-2
 invariant_of-self-2 g c =

@@ -46,7 +46,7 @@ returns-clause-ahead g c =
     (sym c.in-Some.ensures.step) (c.in-Some.ensures.runnable c.self.inside.store.layout c.self.invariant.are).there out
     (λ row own at within.
     c.told-plan.ensures.plan row own at within
-    ∙ ap (λ (l : Layout). told_by l row (running_of c.self.inside.jobs.tables.desk (behind_unit on unit)) unit.worked) c.layout.ensures.layout)
+    ∙ ap (λ (l : Layout). told_by l c.self.inside.jobs.tables.desk row (running_of c.self.inside.jobs.tables.desk (behind_unit on unit)) unit.worked) c.layout.ensures.layout)
     c.told-plan.ensures.unit c.told-plan.ensures.spelled
     (subst (λ (l : Layout). PlanFollows l c.self.inside.jobs.tables.desk c.told-plan.result) c.layout.ensures.layout
     (c.told-plan.ensures.own out.heads c.self.invariant.are.placed (c.in-Some.ensures.own c.self.invariant.own) (stored-fit c.self.inside.store.layout on.sets (c.in-Some.ensures.runnable c.self.inside.store.layout c.self.invariant.are).stored)
@@ -71,7 +71,7 @@ returns-in_err-ready-clause-cause g c =
     (sym c.in-Some.ensures.step) (c.in-Some.ensures.runnable c.self.inside.store.layout c.self.invariant.are).there out
     (λ row own at within.
     c.told-plan.ensures.plan row own at within
-    ∙ ap (λ (l : Layout). told_by l row (running_of c.self.inside.jobs.tables.desk (behind_unit on unit)) unit.worked) c.layout.ensures.layout)
+    ∙ ap (λ (l : Layout). told_by l c.self.inside.jobs.tables.desk row (running_of c.self.inside.jobs.tables.desk (behind_unit on unit)) unit.worked) c.layout.ensures.layout)
     c.told-plan.ensures.unit c.told-plan.ensures.spelled
     (subst (λ (l : Layout). PlanFollows l c.self.inside.jobs.tables.desk c.told-plan.result) c.layout.ensures.layout
     (c.told-plan.ensures.own out.heads c.self.invariant.are.placed (c.in-Some.ensures.own c.self.invariant.own) (stored-fit c.self.inside.store.layout on.sets (c.in-Some.ensures.runnable c.self.inside.store.layout c.self.invariant.are).stored)

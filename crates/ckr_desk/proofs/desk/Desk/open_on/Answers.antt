@@ -27,6 +27,7 @@ returns-in-Ok-clause-opened g c all =
       reads = record { opens = e.opened all.tells; last_is = e.last all.tells; same = e.only_reads.same; same_size = e.size };
       failed = e.failed;
       running = e.running;
+      points = e.points;
       is_open = e.is_open;
     }
     in
@@ -57,6 +58,7 @@ returns-in-Ok-clause-trusted g c all =
       reads = record { opens = e.opened all.tells; last_is = e.last all.tells; same = e.only_reads.same; same_size = e.size };
       failed = e.failed;
       running = e.running;
+      points = e.points;
       is_open = e.is_open;
     }
     in
@@ -87,6 +89,7 @@ returns-in-Ok-clause-events g c all =
       reads = record { opens = e.opened all.tells; last_is = e.last all.tells; same = e.only_reads.same; same_size = e.size };
       failed = e.failed;
       running = e.running;
+      points = e.points;
       is_open = e.is_open;
     }
     in

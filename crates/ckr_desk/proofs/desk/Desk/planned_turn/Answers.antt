@@ -23,7 +23,7 @@ returns-in_err-plan-clause-turned g c =
     let mid : DeskView g.row.D.Denot = record { store = c.self.inside.store; jobs = c.plan.new.self } in
     let turn = c.args.turn in
     let is : IsAsBefore d.told d.content d.may_leave old mid = record {
-      jobs = record { tables = c.plan.ensures.tables; running = c.plan.ensures.running; failed = c.plan.ensures.failed };
+      jobs = record { tables = c.plan.ensures.tables; running = c.plan.ensures.running; failed = c.plan.ensures.failed; points = c.plan.ensures.points };
       layout = refl;
       room = refl;
       reads = refl;
@@ -66,7 +66,7 @@ returns-clause-turned g c =
     let mid : DeskView g.row.D.Denot = record { store = c.self.inside.store; jobs = c.plan.new.self } in
     let turn = c.args.turn in
     let is : IsAsBefore d.told d.content d.may_leave old mid = record {
-      jobs = record { tables = c.plan.ensures.tables; running = c.plan.ensures.running; failed = c.plan.ensures.failed };
+      jobs = record { tables = c.plan.ensures.tables; running = c.plan.ensures.running; failed = c.plan.ensures.failed; points = c.plan.ensures.points };
       layout = refl;
       room = refl;
       reads = refl;

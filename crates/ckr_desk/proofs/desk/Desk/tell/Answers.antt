@@ -58,7 +58,7 @@ returns-clause-ok g c =
     let same = c.make_ready.ensures.jobs in
     on-ok
     (λ gone.
-    prepared-gone c.args.event.now c.args.deck now.store now.jobs mid.jobs same.tables same.running same.failed new
+    prepared-gone c.args.event.now c.args.deck now.store now.jobs mid.jobs same.tables same.running same.failed same.points new
     (subst (λ (s : StoreView g.row.D.Denot). HasGoneOn c.args.event.now c.args.deck (record { store = s; jobs = mid.jobs }) new) c.make_ready.ensures.store gone))
     c.enter.result c.enter.ensures.ok
 
@@ -95,6 +95,6 @@ returns-clause-cause g c =
     let same = c.make_ready.ensures.jobs in
     if-err
     (λ error not.
-    prepared-cause c.args.event.now c.args.deck now.store now.jobs mid.jobs same.tables same.running same.failed d.faults new error
+    prepared-cause c.args.event.now c.args.deck now.store now.jobs mid.jobs same.tables same.running same.failed same.points d.faults new error
     (subst (λ (s : StoreView g.row.D.Denot). NotEntered d.faults (record { store = s; jobs = mid.jobs }) new error) c.make_ready.ensures.store not))
     c.enter.result c.enter.ensures.cause

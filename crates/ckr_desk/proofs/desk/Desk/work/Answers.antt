@@ -22,7 +22,7 @@ returns-in_err-unit-clause-turned g c turn p =
     let new = c.work_out.new.self in
     let e = c.work_out.ensures in
     let is : IsAsBefore d.told d.content d.may_leave now new = record {
-      jobs = record { tables = e.jobs.tables; running = e.jobs.running; failed = e.jobs.failed };
+      jobs = record { tables = e.jobs.tables; running = e.jobs.running; failed = e.jobs.failed; points = e.jobs.points };
       layout = e.layout;
       room = e.room;
       reads = e.only_reads.same;
@@ -44,7 +44,7 @@ returns-in-Went-clause-turned g c turn p =
     let mid = c.work_out.new.self in
     let e = c.work_out.ensures in
     let is : IsAsBefore d.told d.content d.may_leave now mid = record {
-      jobs = record { tables = e.jobs.tables; running = e.jobs.running; failed = e.jobs.failed };
+      jobs = record { tables = e.jobs.tables; running = e.jobs.running; failed = e.jobs.failed; points = e.jobs.points };
       layout = e.layout;
       room = e.room;
       reads = e.only_reads.same;
@@ -62,7 +62,7 @@ returns-in_default-clause-turned g c turn p =
     let mid = c.work_out.new.self in
     let e = c.work_out.ensures in
     let is : IsAsBefore d.told d.content d.may_leave now mid = record {
-      jobs = record { tables = e.jobs.tables; running = e.jobs.running; failed = e.jobs.failed };
+      jobs = record { tables = e.jobs.tables; running = e.jobs.running; failed = e.jobs.failed; points = e.jobs.points };
       layout = e.layout;
       room = e.room;
       reads = e.only_reads.same;

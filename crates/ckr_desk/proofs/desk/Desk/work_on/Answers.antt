@@ -58,7 +58,7 @@ go_on-requires-clause-leaves g c κs within = unit-leaves c.done_unit.new.self.j
 
 pub go_on-requires-clause-ready : goal.go_on-requires-clause-ready
 go_on-requires-clause-ready g c κs within =
-    ready-behind c.args.self.now c.done_unit.new.self c.in_ok-done_unit.ensures.tables (ap (λ (s : StoreView g.row.D.Denot). room_of s.book) c.in_ok-done_unit.ensures.kept)
+    ready-behind c.args.self.now c.done_unit.new.self c.in_ok-done_unit.ensures.tables c.in_ok-done_unit.ensures.points c.in_ok-done_unit.ensures.place (ap (λ (s : StoreView g.row.D.Denot). room_of s.book) c.in_ok-done_unit.ensures.kept)
     c.args.ahead.plan c.requires.ahead.looked.shape c.args.ahead.ready c.requires.ahead.ready
 
 pub invariant_of-self : goal.invariant_of-self

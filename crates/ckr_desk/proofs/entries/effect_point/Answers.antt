@@ -3,8 +3,8 @@ use Rattle.std.specs.Option.{option_copied, option_map}
 use Rattle.ckr_points.specs.Rows.{run_of}
 use Rattle.ckr_points_tables.specs.View.{RoomyTables, facts_in, facts_of}
 use Rattle.ckr_desk.proofs.Images.Rewrite.{set-stands}
-use Rattle.ckr_desk.proofs.Openings.EntryRefusals.{number-few, refused-so, refused-without}
-use Rattle.ckr_desk.proofs.entries.refusal_of.Goals as goal
+use Rattle.ckr_desk.proofs.Openings.EntryRefusals.{found-so, number-few, refused-so, refused-without}
+use Rattle.ckr_desk.proofs.entries.effect_point.Goals as goal
 
 pub returns-in_default-get-clause-refused : goal.returns-in_default-get-clause-refused
 returns-in_default-get-clause-refused g c told row at line =
@@ -18,18 +18,18 @@ returns-in_default-get-clause-refused g c told row at line =
     })
     row at line (sym c.get.ensures ∙ ap option_copied c.in_default-get.is)
 
-pub refusal_in-requires-clause-stands : goal.refusal_in-requires-clause-stands
-refusal_in-requires-clause-stands g c κs within =
+pub point_in-requires-clause-stands : goal.point_in-requires-clause-stands
+point_in-requires-clause-stands g c κs within =
     set-stands c.args.layout.now c.library.result.now c.args.jobs.now.tables.desk.sets c.in-Some-in_effect.effect.set c.in-Some-get.set.now c.library.ensures.sets
     (sym c.get.ensures ∙ ap option_copied c.in-Some-get.is) c.requires.jobs.laid.stand
 
-pub refusal_in-requires-clause-run : goal.refusal_in-requires-clause-run
-refusal_in-requires-clause-run g c κs within =
+pub point_in-requires-clause-run : goal.point_in-requires-clause-run
+point_in-requires-clause-run g c κs within =
     number-few c.tables-tables.result.now.desk c.args.run.now.number (option_copied c.run.result) c.in-Some.table.now c.run.ensures (ap option_copied c.in-Some.is) c.runs-lines.ensures.plain
 
 pub returns-clause-refused : goal.returns-clause-refused
 returns-clause-refused g c = λ told.
-    refused-so c.args.layout.now c.args.jobs.now.tables.desk (g.D.Disk.content c.args.disk.now) c.args.run.now c.in-Some.table.now c.in-Some-in_effect.effect c.library.result.now
+    refused-so g.D.Disk.told c.args.layout.now c.args.jobs.now.tables.desk (g.D.Disk.content c.args.disk.now) c.args.run.now c.in-Some.table.now c.in-Some-in_effect.effect c.library.result.now
     (record {
       facts = ap (option_map facts_of) (sym (ap option_copied c.in-Some.is)) ∙ c.run.ensures ∙ ap (λ (t : RoomyTables). option_map facts_in (run_of t.desk c.args.run.now.number)) c.tables-tables.ensures;
       plain = λ job one at. c.runs-lines.ensures.plain job one (ap (λ (t : RoomyTables). run_of t.desk job) c.tables-tables.ensures ∙ at);
@@ -37,4 +37,16 @@ returns-clause-refused g c = λ told.
       effect_is = c.in-Some-in_effect.is;
       seen = c.library.ensures.sets;
     })
-    c.in-Some-get.set.now (sym c.get.ensures ∙ ap option_copied c.in-Some-get.is) c.refusal_in.result (c.refusal_in.ensures.placed told) c.refusal_in.ensures.unplaced
+    c.in-Some-get.set.now (sym c.get.ensures ∙ ap option_copied c.in-Some-get.is) c.in_ok-found.found c.in_ok-found.ensures.placed c.in_ok-found.ensures.unplaced told
+
+pub returns-clause-found : goal.returns-clause-found
+returns-clause-found g c =
+    found-so g.D.Disk.told c.args.layout.now c.args.jobs.now.tables.desk (g.D.Disk.content c.args.disk.now) c.args.run.now c.in-Some.table.now c.in-Some-in_effect.effect c.library.result.now
+    (record {
+      facts = ap (option_map facts_of) (sym (ap option_copied c.in-Some.is)) ∙ c.run.ensures ∙ ap (λ (t : RoomyTables). option_map facts_in (run_of t.desk c.args.run.now.number)) c.tables-tables.ensures;
+      plain = λ job one at. c.runs-lines.ensures.plain job one (ap (λ (t : RoomyTables). run_of t.desk job) c.tables-tables.ensures ∙ at);
+      holds = sym c.is_holder.ensures ∙ c.if-not-is_holder.false;
+      effect_is = c.in-Some-in_effect.is;
+      seen = c.library.ensures.sets;
+    })
+    c.in-Some-get.set.now (sym c.get.ensures ∙ ap option_copied c.in-Some-get.is) c.in_ok-found.found c.in_ok-found.ensures.placed c.in_ok-found.ensures.unplaced
