@@ -280,6 +280,51 @@ fn any_stop_leaves_a_disk_that_opens_with_what_was_answered(rt: HostRuntime) -> 
     Ok(())
 }
 
+/// A job up to before its second checkpoint, and up to behind it.
+const BEFORE: &[u8] =
+    b"//M JOB\n//S1 EXEC PGM=COPY\n//SYSUT1 DD *\nR01\nR02\nR03\nR04\nR05\nR06\nR07\nR08\nR09\nR10\nR11\nR12\nR13\nR14\nR15\nR16\nR17\nR18\nR19\nR20\nR21\nR22\nR23\nR24\nR25\nR26\nR27\nR28\nR29\nR30\nR31\nR32\nR33\nR34\nR35\nR36\nR37\nR38\nR39\nR40\nR41\nR42\nR43\nR44\nR45\nR46\nR47\nR48\nR49\nR50\nR51\nR52\nR53\nR54\nR55\nR56\nR57\nR58\nR59\nR60\n/*\n//SYSUT2 DD DSN=IN.A,DISP=(NEW,CATLG),SPACE=(80,100)\n//\n$T 1 99\n//K JOB\n//S1 EXEC PGM=COPY,PARM='CHK=20'\n//SYSUT1 DD DSN=IN.A,DISP=SHR\n//SYSUT2 DD DSN=OUT.K,DISP=(NEW,CATLG,CATLG),SPACE=(80,100)\n//CHKDD DD DSN=CHK.K,DISP=(NEW,CATLG,CATLG),SPACE=(256,20)\n//\n$T 1 43\n";
+
+const BEHIND: &[u8] =
+    b"//M JOB\n//S1 EXEC PGM=COPY\n//SYSUT1 DD *\nR01\nR02\nR03\nR04\nR05\nR06\nR07\nR08\nR09\nR10\nR11\nR12\nR13\nR14\nR15\nR16\nR17\nR18\nR19\nR20\nR21\nR22\nR23\nR24\nR25\nR26\nR27\nR28\nR29\nR30\nR31\nR32\nR33\nR34\nR35\nR36\nR37\nR38\nR39\nR40\nR41\nR42\nR43\nR44\nR45\nR46\nR47\nR48\nR49\nR50\nR51\nR52\nR53\nR54\nR55\nR56\nR57\nR58\nR59\nR60\n/*\n//SYSUT2 DD DSN=IN.A,DISP=(NEW,CATLG),SPACE=(80,100)\n//\n$T 1 99\n//K JOB\n//S1 EXEC PGM=COPY,PARM='CHK=20'\n//SYSUT1 DD DSN=IN.A,DISP=SHR\n//SYSUT2 DD DSN=OUT.K,DISP=(NEW,CATLG,CATLG),SPACE=(80,100)\n//CHKDD DD DSN=CHK.K,DISP=(NEW,CATLG,CATLG),SPACE=(256,20)\n//\n$T 1 44\n";
+
+/// How many calls of the disk its formatting and this stream make.
+fn calls_of(alloc: Global, stream: &[u8]) -> Result<u64, Fail> {
+    let disk = formatted(alloc, CARDS, SIZE, None, None)?;
+    let ended = call(alloc, "run", stream, disk)?;
+    Ok(ended.disk.calls().len() as u64)
+}
+
+/// Stopped before the event of the checkpoint is written the step is restarted at the first checkpoint, behind the event at the second, and
+/// while the event is written at one of the two.
+#[test]
+fn a_stop_within_a_checkpoint_restarts_at_it_or_at_the_one_before(
+    rt: HostRuntime,
+) -> Result<(), Fail> {
+    let alloc = rt.alloc();
+    let first = b"I1 J0000002 S1 RESTARTED AT C0000001 TAKEN 20 CHKPT 04\n";
+    let second = b"I1 J0000002 S1 RESTARTED AT C0000002 TAKEN 40 CHKPT 04\n";
+    let before = calls_of(alloc, BEFORE)?;
+    let behind = calls_of(alloc, BEHIND)?;
+    assert!(rt; before < behind);
+    for pick in [Pick::Kept, Pick::Lost, Pick::Filled(165)] {
+        for stop_at in before..=behind {
+            let disk = formatted(alloc, CARDS, SIZE, None, Some(stop_at))?;
+            let ended = call(alloc, "run", BEHIND, disk)?;
+            assert!(rt;
+                (ended.status == 0) == (stop_at == behind),
+                "call {stop_at}"
+            );
+            let again = call(alloc, "run", b"$T 1 1\n", ended.disk.stop(pick))?;
+            let one = again.text.as_slice() == first.as_slice();
+            let two = again.text.as_slice() == second.as_slice();
+            assert!(rt; one || two, "call {stop_at}");
+            assert!(rt; one || stop_at != before, "call {stop_at}");
+            assert!(rt; two || stop_at != behind, "call {stop_at}");
+        }
+    }
+    Ok(())
+}
+
 /// Each put has the lines that were told since the one before: of the deck, of each turn but units of work in a row, of a listing.
 #[test]
 fn each_call_of_the_outside_fails_in_turn(rt: HostRuntime) -> Result<(), Fail> {

@@ -197,7 +197,7 @@ const REFUSED: [(&[u8], &[u8]); 48] = [
 ];
 
 /// For each rule its first deck of the table above, with one byte changed, put in or left out; and decks whose RD in effect comes to no restart.
-const ACCEPTED: [&[u8]; 27] = [
+const ACCEPTED: [&[u8]; 30] = [
     b"//J JOB\n//S EXEC PGM=IEFBR14\n//*XXXXXXXXXXXXXXXXXXXXXXXXXXXXXXXXXXXXXXXXXXXXXXXXXXXXXXXXXXXXXXXXXXXXXXXXXXXXX",
     b"//J JOB\n//S EXEC PGM=IEFBR14 ~",
     b"//J JOB\n//AS EXEC PGM=IEFBR14",
@@ -225,17 +225,16 @@ const ACCEPTED: [&[u8]; 27] = [
     b"//J JOB\n//S EXEC PGM=IEFBR14,RD=RNC",
     b"//J JOB RD=R\n//S EXEC PGM=IEFBR14,RD=NC",
     b"//J JOB\n//S EXEC PGM=IEFBR14,RD=R RD=R",
-];
-
-/// Decks that are accepted, and have a form that the desk doesn't run: a restart is asked for, or the RD in effect on a step, which is JOB's
-/// before EXEC's, may come to one at a checkpoint: R, or none, where checkpoints are taken.
-const NOT_RUN: [&[u8]; 6] = [
-    b"//J JOB RESTART=(S,C1)\n//SYSCHK DD DSN=C.K,DISP=OLD\n//S EXEC PGM=IEFBR14",
-    b"//J JOB RESTART=S\n//S EXEC PGM=IEFBR14",
-    b"//J JOB RESTART=S\n//*YSCHK DD DSN=C.K,DISP=OLD\n//S EXEC PGM=IEFBR14",
     b"//J JOB\n//S EXEC PGM=COPY,PARM='CHK=1'\n//SYSUT1 DD DSN=X.A,DISP=SHR\n//SYSUT2 DD DSN=X.B,DISP=(NEW,CATLG),SPACE=(80,9)\n//CHKDD DD DSN=X.C,DISP=(NEW,CATLG),SPACE=(256,9)",
     b"//J JOB RD=R\n//S EXEC PGM=COPY,RD=NR,PARM='CHK=1'\n//SYSUT1 DD DSN=X.A,DISP=SHR\n//SYSUT2 DD DSN=X.B,DISP=(NEW,CATLG),SPACE=(80,9)\n//CHKDD DD DSN=X.C,DISP=(NEW,CATLG),SPACE=(256,9)",
     b"//J JOB\n//S EXEC PGM=IEFBR14,RD=NC\n//T EXEC PGM=COPY,RD=R,PARM='CHK=1'\n//SYSUT1 DD DSN=X.A,DISP=SHR\n//SYSUT2 DD DSN=X.B,DISP=(NEW,CATLG),SPACE=(80,9)\n//CHKDD DD DSN=X.C,DISP=(NEW,CATLG),SPACE=(256,9)",
+];
+
+/// Decks that are accepted, and have a form that the desk doesn't run: a deferred restart is asked for.
+const NOT_RUN: [&[u8]; 3] = [
+    b"//J JOB RESTART=(S,C1)\n//SYSCHK DD DSN=C.K,DISP=OLD\n//S EXEC PGM=IEFBR14",
+    b"//J JOB RESTART=S\n//S EXEC PGM=IEFBR14",
+    b"//J JOB RESTART=S\n//*YSCHK DD DSN=C.K,DISP=OLD\n//S EXEC PGM=IEFBR14",
 ];
 
 #[test]

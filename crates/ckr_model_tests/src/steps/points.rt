@@ -5,8 +5,6 @@ ghost use Rattle.ckr_steps.specs.Inputs.{AreStored, AreThere};
 ghost use Rattle.ckr_steps.specs.StepUnit.{AreCounted};
 
 use super::{Case, End, Source, are_there, library_of, next, run, small, step_of};
-use ckr_base::Name8;
-use ckr_entry::{Marks, PassedList, Point};
 use ckr_jcl::{Kind, Step};
 use ckr_library::Library;
 use ckr_outside::{CallKind, Disk, MemDisk};
@@ -50,29 +48,6 @@ fn begun<R: Abort>(rt: &R, alloc: Global, step: &Step, library: &Library) -> Res
     Ok(run)
 }
 
-/// The point where a step stands.
-fn point_of<R: Abort>(rt: &R, alloc: Global, run: &StepRun) -> Point
-    requires { AreCounted run.now }
-    ensures state { result.state ≡ run.now.state }
-    ensures writes { result.writes ≡ run.now.writes }
-{
-    let progress = run.progress();
-    Point {
-        id: None,
-        job: Name8::read(b"J").expect(rt, "a name"),
-        run: 1,
-        owner: 1,
-        step: 1,
-        step_name: Name8::read(b"S1").expect(rt, "a name"),
-        count: 1,
-        taken: progress.taken,
-        writes: progress.writes,
-        state: progress.state.copied(),
-        marks: Marks::new(alloc),
-        passed: PassedList::new(alloc),
-    }
-}
-
 /// The step again, from where its run stands.
 fn again<R: Abort>(
     rt: &R,
@@ -87,7 +62,8 @@ fn again<R: Abort>(
 {
     assert!(rt; step.parm.sum.1 <= 15);
     assert!(rt; step.parm.key.1 <= 32);
-    let again = StepRun::at_point(alloc, step, 1, 1, &point_of(rt, alloc, run))?;
+    let progress = run.progress();
+    let again = StepRun::at_point(alloc, step, 1, 1, progress.state, progress.writes)?;
     assert!(rt; are_there(library, &again.files));
     Ok(again)
 }
