@@ -1,17 +1,10 @@
 //! The first line of each table that holds gives the verdict.
 
 use ckr_jcl::Rd;
+use ckr_jcl::Rd::{Nc, Nr, R, Rnc};
+use ckr_rules::Rule::{A1, A2, A3, A4, A5, A6};
+use ckr_rules::Verdict::{Checkpoint, Denied, Step};
 use ckr_rules::{AutoCase, DeferredCase, Rule, Verdict, automatic, deferred};
-
-/// A failed step for which nothing forbids a restart at the checkpoint.
-const FAILED: AutoCase = AutoCase {
-    rd: Some(Rd::R),
-    checkpoint: true,
-    eligible: true,
-    rewritten: false,
-    restarts: 0,
-    refused: false,
-};
 
 /// A job with RESTART for whose checkpoint nothing is wrong.
 const ASKED: DeferredCase = DeferredCase {
@@ -26,70 +19,53 @@ const ASKED: DeferredCase = DeferredCase {
     stale: None,
 };
 
-const AUTOMATIC_CASES: [(AutoCase, Verdict); 9] = [
-    (FAILED, Verdict::Checkpoint),
-    (AutoCase { rd: None, ..FAILED }, Verdict::Checkpoint),
-    (
-        AutoCase {
-            rd: Some(Rd::Rnc),
-            ..FAILED
-        },
-        Verdict::Step,
-    ),
-    (
-        AutoCase {
-            rd: Some(Rd::Nr),
-            eligible: false,
-            ..FAILED
-        },
-        Verdict::Denied(Rule::A1),
-    ),
-    (
-        AutoCase {
-            rd: None,
-            checkpoint: false,
-            ..FAILED
-        },
-        Verdict::Denied(Rule::A2),
-    ),
-    (
-        AutoCase {
-            eligible: false,
-            rewritten: true,
-            ..FAILED
-        },
-        Verdict::Denied(Rule::A3),
-    ),
-    (
-        AutoCase {
-            rewritten: true,
-            restarts: 3,
-            ..FAILED
-        },
-        Verdict::Denied(Rule::A4),
-    ),
-    (
-        AutoCase {
-            restarts: 3,
-            refused: true,
-            ..FAILED
-        },
-        Verdict::Denied(Rule::A5),
-    ),
-    (
-        AutoCase {
-            restarts: 2,
-            refused: true,
-            ..FAILED
-        },
-        Verdict::Denied(Rule::A6),
-    ),
+/// RD, whether a checkpoint is in effect, whether the code is eligible, whether a record was rewritten since the point, the restarts there, whether
+/// the operator refuses, and the verdict.
+type AutomaticRow = (Option<Rd>, bool, bool, bool, u8, bool, Verdict);
+
+/// What permits a restart; each rule alone; and each two of the rules that may hold together, of which the first one wins.
+const AUTOMATIC_CASES: [AutomaticRow; 27] = [
+    (Some(R), true, true, false, 0, false, Checkpoint),
+    (None, true, true, false, 0, false, Checkpoint),
+    (Some(R), true, true, false, 2, false, Checkpoint),
+    (Some(R), false, true, false, 0, false, Step),
+    (Some(Rnc), true, true, false, 0, false, Step),
+    (Some(Rnc), false, true, false, 2, false, Step),
+    (Some(Nr), true, true, false, 0, false, Denied(A1)),
+    (Some(Nc), false, true, false, 0, false, Denied(A1)),
+    (None, false, true, false, 0, false, Denied(A2)),
+    (Some(R), true, false, false, 0, false, Denied(A3)),
+    (Some(R), true, true, true, 0, false, Denied(A4)),
+    (Some(R), true, true, false, 3, false, Denied(A5)),
+    (Some(R), true, true, false, 0, true, Denied(A6)),
+    (Some(Nr), true, false, false, 0, false, Denied(A1)),
+    (Some(Nc), true, true, true, 0, false, Denied(A1)),
+    (Some(Nr), true, true, false, 3, false, Denied(A1)),
+    (Some(Nc), false, true, false, 0, true, Denied(A1)),
+    (None, false, false, false, 0, false, Denied(A2)),
+    (None, false, true, true, 0, false, Denied(A2)),
+    (None, false, true, false, 3, false, Denied(A2)),
+    (None, false, true, false, 0, true, Denied(A2)),
+    (Some(Rnc), false, false, true, 0, false, Denied(A3)),
+    (None, true, false, false, 3, false, Denied(A3)),
+    (Some(R), true, false, false, 0, true, Denied(A3)),
+    (Some(Rnc), false, true, true, 3, false, Denied(A4)),
+    (None, true, true, true, 0, true, Denied(A4)),
+    (Some(R), false, true, false, 3, true, Denied(A5)),
 ];
 
 #[test]
 fn automatic_restarts(rt: HostRuntime) {
-    for (case, verdict) in &AUTOMATIC_CASES {
-        assert!(rt; automatic(case) == *verdict);
+    for (rd, checkpoint, eligible, rewritten, restarts, refused, verdict) in AUTOMATIC_CASES {
+        let case = AutoCase {
+            rd,
+            checkpoint,
+            eligible,
+            rewritten,
+            restarts,
+            refused,
+        };
+        assert!(rt; automatic(&case) == verdict);
     }
 }
 

@@ -1,6 +1,6 @@
 //! The whole call over memory: what is written for a stream, what is left on the disk, and how the call ends.
 use ckr_base::NoMemory;
-use ckr_outside::{MemDisk, MemSink, MemSource, Pick};
+use ckr_outside::{CallKind, DiskCall, MemDisk, MemSink, MemSource, Pick};
 use ckr_service::{Closed, batch_desk};
 use std::alloc::{AllocError, Global};
 use std::test::Fail;
@@ -322,6 +322,37 @@ fn a_stop_within_a_checkpoint_restarts_at_it_or_at_the_one_before(
             assert!(rt; two || stop_at != behind, "call {stop_at}");
         }
     }
+    Ok(())
+}
+
+/// Whether a call reads one of these records of 80 bytes of the first data set of the first volume: it lies behind the header and the book.
+fn reads(call: &DiskCall, from: u32, to: u32) -> bool {
+    let begins = 100_512 + 80 * u64::from(from);
+    let ends = 100_512 + 80 * u64::from(to);
+    matches!(call.kind, CallKind::Read) && begins <= call.at && call.at < ends
+}
+
+/// Behind a restart at the second checkpoint, at 40 records, the step reads on there: none of the records before it is read again.
+#[test]
+fn a_restart_at_a_checkpoint_reads_no_record_again(rt: HostRuntime) -> Result<(), Fail> {
+    let alloc = rt.alloc();
+    let mut stream = BEHIND.to_vec(alloc)?;
+    stream.extend_from_slice(b"$T 1 2\n$F 1 S001\n")?;
+    let restarted = calls_of(alloc, &stream)? as usize;
+    stream.extend_from_slice(b"$T 1 99\n")?;
+    let disk = formatted(alloc, CARDS, SIZE, None, None)?;
+    let ended = call(alloc, "run", &stream, disk)?;
+    let last = b"I1 J0000002 ENDED\nI1 IDLE\n";
+    assert!(rt; ended.status == 0 && ended.text.as_slice().ends_with(last));
+    let Some(before) = ended.disk.calls().get(..restarted) else {
+        return Err("the calls up to the restart are there".into());
+    };
+    let Some(behind) = ended.disk.calls().get(restarted..) else {
+        return Err("the calls behind it are there".into());
+    };
+    assert!(rt; before.iter().any(|call| reads(call, 0, 1)));
+    assert!(rt; !behind.iter().any(|call| reads(call, 0, 40)));
+    assert!(rt; behind.iter().any(|call| reads(call, 40, 41)));
     Ok(())
 }
 
