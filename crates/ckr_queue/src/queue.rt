@@ -99,9 +99,17 @@ impl Queue {
         self.set_state(number, QueueState::Selected);
     }
 
-    /// The operator holds a run that is selected. It keeps its names.
+    /// A run that has its names goes on: it was released, or is selected, held or not. It is selected then.
+    pub fn resume(&mut self, number: u32)
+        requires { IsTrue (is_in has_names number self.old.entries) }
+        ensures { self.new.entries ≡ with_state number SelectedRun self.old.entries }
+    {
+        self.set_state(number, QueueState::Selected);
+    }
+
+    /// The operator holds a run that has its names: it is selected, or was released. It keeps them.
     pub fn hold(&mut self, number: u32)
-        requires { state_of number self.old.entries ≡ Some SelectedRun }
+        requires { IsTrue (is_in has_names number self.old.entries) }
         ensures { self.new.entries ≡ with_state number HeldRun self.old.entries }
     {
         self.set_state(number, QueueState::Held);
