@@ -24,7 +24,6 @@ mod tables;
 
 pub use checkpoint::{checkpoint_dd, checkpoint_name};
 pub use rewrite::{master_dd, master_name};
-pub use run_change::is_plain;
 pub use run_table::{InEffect, ReturnCode, RunTable, StepPoint, WrittenEntries, WrittenEntry};
 pub use start::{point_at, step_at};
 pub use step_end::place_now;

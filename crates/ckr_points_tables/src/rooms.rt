@@ -48,6 +48,27 @@ impl Tables {
         }
     }
 
+    /// Takes the memory for whatever the operator answers about a run: for its restart, at its checkpoint in effect or at the start of its
+    /// step, and for its end. A hold needs none. The tables stay the same in either case, and the room that is there stays.
+    ///
+    /// `NoMemory`: there may be no room for one of them.
+    pub fn room_for_answers(&mut self, job: u32, checkpoint: bool) -> Result<(), NoMemory>
+        ensures desk { self.new.desk ≡ self.old.desk }
+        ensures restart { OnOk result (CanRestart self.new job checkpoint) }
+        ensures end { OnOk result (CanEnd self.new job) }
+        ensures room { IsRoomier self.old.room self.new.room }
+    {
+        match place_in(job, self.tables.as_slice()) {
+            Some(place) => reserve_answers(
+                checkpoint,
+                &mut self.tables[place],
+                &self.library,
+                self.writings.as_slice(),
+            ),
+            None => Ok(()),
+        }
+    }
+
     /// Makes room for one more run.
     fn room_to_submit(&mut self) -> Result<(), NoMemory>
         ensures desk { self.new.desk ≡ self.old.desk }
@@ -253,6 +274,23 @@ fn reserve_restart(
     };
     table.passed.reserve(more)?;
     Ok(())
+}
+
+/// Makes room for the end of the step that a run is before or in, and for a restart of the run.
+fn reserve_answers(
+    checkpoint: bool,
+    table: &mut RunTable,
+    library: &Library,
+    writings: &[WrittenEntries],
+) -> Result<(), NoMemory>
+    requires limits { IsTrue (is_within_limits table.old.job) }
+    ensures facts { facts_of table.new ≡ facts_of table.old }
+    ensures restart { OnOk result (HasPassedFor table.new.passed.room (passed_for checkpoint (map written_of writings.now) library.now.sets (facts_of table.old))) }
+    ensures end { OnOk result (EndsFit table.old table.new) }
+    ensures run { HasNoLess (room_of table.old) (room_of table.new) }
+{
+    reserve_end(table)?;
+    reserve_restart(checkpoint, table, library, writings)
 }
 
 /// The name of the data set to which a run writes its checkpoints in the step that it is in.

@@ -1,7 +1,6 @@
 //! What an event makes of its run, and of the library.
 ghost use Rattle.std.specs.Prelude.{◌≡◌, ◌≤◌, [], IsTrue};
 ghost use Rattle.ckr_points_tables.specs.RunChange.{by_step_of, changed, going, holding_kit, started, written_after};
-ghost use Rattle.ckr_points_tables.specs.Invariant.{is_plain_event};
 ghost use Rattle.ckr_points_tables.specs.Needs.{MayChange};
 ghost use Rattle.ckr_points_tables.specs.View.{facts_of, is_within_limits, written_of};
 ghost use Rattle.ckr_points_tables.specs.Start.{MayStartNow};
@@ -16,27 +15,6 @@ use ckr_events::{Event, Made};
 use ckr_library::{Kept, Library};
 use ckr_meaning::Place;
 use ckr_points::{Run, RunState};
-
-/// Whether an event is of those that the tables go on by: all but those of a run that continues another one, or is denied.
-pub fn is_plain(event: &Event) -> bool
-    ensures { result ≡ is_plain_event event.now }
-{
-    match event {
-        Event::Selected { earlier, .. } => *earlier == 0,
-        Event::Submitted { .. }
-        | Event::Started { .. }
-        | Event::Rewritten { .. }
-        | Event::Checkpointed { .. }
-        | Event::Cancelled { .. }
-        | Event::StepEnded { .. }
-        | Event::Restarted { .. }
-        | Event::Held { .. }
-        | Event::Released { .. }
-        | Event::Ended { .. }
-        | Event::Purged { .. } => true,
-        _ => false,
-    }
-}
 
 /// A step of the run starts. A job without such a step stays as it is.
 fn start(
