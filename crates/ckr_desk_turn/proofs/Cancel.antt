@@ -14,13 +14,14 @@ use Rattle.ckr_points.specs.Rows.{RunRow, run_of}
 use Rattle.ckr_points.specs.Tables.{after_cancelled}
 use Rattle.ckr_points_invariant.proofs.Holders.Rows.{run-other, run-same}
 use Rattle.ckr_points_invariant.proofs.PlainRuns.SoundEvents.{AreKept}
+use Rattle.ckr_desk_turn.specs.declared.failed_run.FailedRun.{FailedRun}
 use Rattle.ckr_desk_turn.specs.Desk.{DeskModel, DeskStep, behind as desk_behind, cancel_done, start_of, without_run}
 use Rattle.ckr_desk_turn.specs.NextEvents.{Comes, IsWithinStep}
 use Rattle.ckr_desk_turn.specs.Invariant.{IsAdmitted, IsDesk, IsFailed, IsGoing, is_accounted}
 use Rattle.ckr_desk_turn.proofs.Checkpoints.Events.{cancel-comes}
-use Rattle.ckr_desk_turn.proofs.OtherRuns.{Changes, admitted-then, each_row, failed-there, going-rest, plain-then, row-admitted, row-plain}
+use Rattle.ckr_desk_turn.proofs.OtherRuns.{Changes, admitted-then, each_row, failed-there, going-rest, plain-then, row-admitted, row-plain, row-stepped, stepped-then}
 use Rattle.ckr_desk_turn.proofs.Readiness.{kept-on}
-use Rattle.ckr_desk_turn.proofs.Units.Invariant.{accounted_so, come-served, with_change-found}
+use Rattle.ckr_desk_turn.proofs.Moves.{accounted_so, come-served, come-uncoded, with_change-found}
 
 module _ (desk : DeskModel) (is : IsDesk desk) (row : RunRow) (number committed : ℕ) (start : StepStart) (within : IsWithinStep desk.office row.number row number committed start) where
   pub cancelled-comes : Comes desk (CancelledEvent row.number)
@@ -42,27 +43,26 @@ module _ (desk : DeskModel) (is : IsDesk desk) (row : RunRow) (number committed 
         legs = refl;
       })
 
-  failed_now : (failed : List ℕ) → AllByRecursion (IsFailed desk.office) failed → AllByRecursion (IsFailed now) failed
+  failed_now : (failed : List FailedRun) → AllByRecursion (IsFailed desk.office) failed → AllByRecursion (IsFailed now) failed
   failed_now [] each = tt
   failed_now (first ∷ rest) each = (
-    number-cases first row.number
+    number-cases first.run row.number
         (λ same.
-        subst (IsFailed now) (sym same)
         (record {
           row = next;
           number = number;
           committed = committed;
           start = start;
-          within = record { row_at = changes.mine; on = within.on; place = within.place; start_at = within.start_at };
+          within = record { row_at = ap (run_of now.tables) same ∙ changes.mine; on = within.on; place = within.place; start_at = within.start_at };
         }))
         (λ apart. failed-there desk.office now row.number next changes first apart each.0),
     failed_now rest each.1,
   )
 
   -- its running step, of which the cancel is done
-  module _ (on : DeskStep) (found : find (λ (step : DeskStep). step.run == row.number) desk.running ≡ Some on) (going : IsGoing desk.office on) (same : on.run ≡ row.number) where
+  module _ (on : DeskStep) (found : find (λ (step : DeskStep). step.run == row.number) desk.running ≡ Some on) (going : IsGoing desk.office on) (same : on.run ≡ row.number) (uncoded : on.code ≡ None) where
     abbrev stepped : DeskStep
-    stepped = record { run = row.number; progress = cancel_done on.progress }
+    stepped = record { run = row.number; progress = cancel_done on.progress; code = None }
 
     abbrev later : DeskModel
     later = record (desk_behind (CancelledEvent row.number) None desk) { running = stepped ∷ without_run row.number desk.running }
@@ -83,7 +83,7 @@ module _ (desk : DeskModel) (is : IsDesk desk) (row : RunRow) (number committed 
       fit = going.fit;
       behind = going.behind;
       plain = going.plain;
-      come = come-served going.start on.progress on.progress.checkpointed true on.progress.closed going.come;
+      come = come-served going.start on.progress on.progress.checkpointed true on.progress.closed (come-uncoded desk.office on uncoded going);
     }
 
     next_accounted : is_accounted later next ≡ true
@@ -103,6 +103,7 @@ module _ (desk : DeskModel) (is : IsDesk desk) (row : RunRow) (number committed 
       admitted =
           admitted-then desk later is row.number next changes
           (let was : IsAdmitted row = row-admitted desk is row.number row within.row_at in record { cards = was.cards; accepted = was.accepted; lodged = was.lodged });
+      stepped = stepped-then desk later is row.number next changes (row-stepped desk is row.number row within.row_at);
       accounted =
           each_row desk later is row.number next changes (is_accounted desk) (is_accounted later) next_accounted is.accounted
           (λ other apart was. accounted_so desk is row.number (cancel_done on.progress) other was);

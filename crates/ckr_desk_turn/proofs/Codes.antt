@@ -17,7 +17,7 @@ use Rattle.ckr_rules.specs.declared.cases.Verdict.{Verdict}
 use Rattle.ckr_rules.specs.declared.cases.Verdict.TheVariants.{Step, Checkpoint, Denied}
 use Rattle.ckr_volumes.specs.declared.layout.Layout.{Layout}
 use Rattle.ckr_desk_turn.specs.declared.plan.Plan.{Plan}
-use Rattle.ckr_desk_turn.specs.Codes.{CodePlaceModel, code_plan, ended_by, initiator_of, judged_plan, restarted_at, restarted_by, verdict_for}
+use Rattle.ckr_desk_turn.specs.Codes.{CodePlaceModel, code_plan, ended_by, initiator_of, asked_at_entry, asked_at_start, judged_plan, verdict_for}
 use Rattle.ckr_desk_turn.specs.Invariant.{IsAdmitted, is_on_one}
 use Rattle.ckr_desk_turn.specs.Jobs.{effect_entry}
 
@@ -25,21 +25,22 @@ use Rattle.ckr_desk_turn.specs.Jobs.{effect_entry}
 abbrev pub may_end : Rule → Verdict → Bool
 may_end rule verdict = rule_number rule == 6 || rule_number rule == denying verdict
 
--- what holds where the run ends by such a rule, where it is restarted at the start of its step, and where it is restarted at its checkpoint
--- in effect, holds of its plan
-pub by-verdict : (P : Plan → Type 0) (layout : Layout) (tables : TablesModel) (row : RunRow) (initiator : ℕ) (code : Code) (reached : CodePlaceModel) → ((rule : Rule) → may_end rule (verdict_for layout row code) ≡ true → P (ended_by row code rule reached)) → (verdict_for layout row code ≡ Step → P (restarted_by row initiator code))
-    → ((entry : KeptEntry) → verdict_for layout row code ≡ Checkpoint → effect_entry tables row ≡ Some entry → P (restarted_at row initiator code entry)) → P (code_plan layout tables row initiator code reached)
-by-verdict P layout tables row initiator code reached ended restarted restarted_back =
+-- what holds where the run ends by such a rule, and where the operator is asked whether it may be restarted, at the start of its step or at its
+-- checkpoint in effect, holds of its plan
+pub by-verdict : (P : Plan → Type 0) (layout : Layout) (tables : TablesModel) (row : RunRow) (initiator : ℕ) (lodged : Bool) (code : Code) (reached : CodePlaceModel)
+    → ((rule : Rule) → may_end rule (verdict_for layout row code) ≡ true → P (ended_by row code rule reached)) → (verdict_for layout row code ≡ Step → P (asked_at_start row initiator lodged code reached))
+    → ((entry : KeptEntry) → verdict_for layout row code ≡ Checkpoint → effect_entry tables row ≡ Some entry → P (asked_at_entry row initiator lodged code reached entry)) → P (code_plan layout tables row initiator lodged code reached)
+by-verdict P layout tables row initiator lodged code reached ended asked asked_back =
     by (verdict_for layout row code) refl
   where
-    by : (verdict : Verdict) → verdict_for layout row code ≡ verdict → P (judged_plan tables row initiator code reached verdict)
+    by : (verdict : Verdict) → verdict_for layout row code ≡ verdict → P (judged_plan tables row initiator lodged code reached verdict)
     by (Denied rule) judged =
         ended rule (ap (may_end rule) judged ∙ or_right (rule_number rule == 6) _ (equal-itself (rule_number rule)))
-    by Step judged = restarted judged
+    by Step judged = asked judged
     by Checkpoint judged =
         option-cases (effect_entry tables row)
-        (λ none. subst (λ (o : Option KeptEntry). P (option_map_or (restarted_at row initiator code) o (ended_by row code A6 reached))) (sym none) (ended A6 refl))
-        (λ entry some. subst (λ (o : Option KeptEntry). P (option_map_or (restarted_at row initiator code) o (ended_by row code A6 reached))) (sym some) (restarted_back entry judged some))
+        (λ none. subst (λ (o : Option KeptEntry). P (option_map_or (asked_at_entry row initiator lodged code reached) o (ended_by row code A6 reached))) (sym none) (ended A6 refl))
+        (λ entry some. subst (λ (o : Option KeptEntry). P (option_map_or (asked_at_entry row initiator lodged code reached) o (ended_by row code A6 reached))) (sym some) (asked_back entry judged some))
 
 -- a run on an initiator has it
 pub initiator-its : (row : RunRow) → row.state ≡ On → IsAdmitted row → row.initiator ≡ Some (initiator_of row)

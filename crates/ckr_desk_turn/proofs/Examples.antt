@@ -6,3 +6,4 @@ pub mod Desks
 pub mod Turns
 pub mod Checkpoints
 pub mod Restarts
+pub mod Operators

@@ -1,6 +1,9 @@
 pub mod Codes
 pub mod RunningSteps
 pub mod OtherRuns
+pub mod Moves
+pub mod Waits
+pub mod Inquiries
 pub mod StepEnd
 pub mod Select
 pub mod RunEnd

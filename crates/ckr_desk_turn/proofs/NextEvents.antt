@@ -1,2 +1,3 @@
 pub mod BetweenSteps
+pub mod Holders
 pub mod WithinStep

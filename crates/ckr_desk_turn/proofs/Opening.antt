@@ -18,20 +18,20 @@ use Rattle.ckr_points.specs.Follows.{is_in_state, is_running, is_within, own_ste
 use Rattle.ckr_points.specs.Payload.{writes_in}
 use Rattle.ckr_points.specs.Office.{Leg, Office}
 use Rattle.ckr_points.specs.Restart.{place_of, step_in}
-use Rattle.ckr_points.specs.Rows.{RunRow, run_of, step_of_run}
+use Rattle.ckr_points.specs.Rows.{RunRow, run_of}
 use Rattle.ckr_points_invariant.proofs.Steps.Commits.{its_start}
 use Rattle.ckr_points_invariant.proofs.Steps.Events.{led-by, on-holds, within-is}
 use Rattle.ckr_points_invariant.proofs.Steps.Walks.{start_at-of}
 use Rattle.ckr_points_invariant.specs.Invariant.{IsKept}
+use Rattle.ckr_desk_turn.specs.declared.failed_run.FailedRun.{FailedRun}
 use Rattle.ckr_desk_turn.specs.Desk.{DeskModel, DeskStep, opened, is_running as has_run}
 use Rattle.ckr_desk_turn.specs.Plans.{is_within as is_planned}
 use Rattle.ckr_volumes.specs.declared.layout.Layout.{Layout}
 use Rattle.ckr_desk_turn.specs.NextEvents.{IsWithinStep}
 use Rattle.ckr_desk_turn.specs.Invariant.{HasRuns, IsAdmitted, IsDesk, IsFailed, IsGoing, has_its_step, is_accounted, is_on_one, is_plain_row, is_plain_state}
-use Rattle.ckr_desk_turn.proofs.OtherRuns.{all-by, some-holds}
+use Rattle.ckr_desk_turn.proofs.OtherRuns.{all-by, some-holds, step-there}
 use Rattle.ckr_desk_turn.proofs.RunningSteps.{going-within}
 use Rattle.ckr_desk_turn.proofs.Start.Invariant.{planned-within}
-use Rattle.ckr_desk_turn.proofs.NextEvents.WithinStep.{by-step}
 
 -- ---- lists
 
@@ -43,17 +43,20 @@ filtered-every P f test (x ∷ xs) each =
     (λ does. subst (λ b. AllByRecursion P (map f (cond b (x ∷ filter test xs) (filter test xs)))) (sym does) (each 0 x refl does, rest))
     (λ isnt. subst (λ b. AllByRecursion P (map f (cond b (x ∷ filter test xs) (filter test xs)))) (sym isnt) rest)
 
-filtered-any : {X : Type 0} (f : X → ℕ) (test : X → Bool) (xs : List X) (place : ℕ) (x : X) → slice_get xs place ≡ Some x → test x ≡ true → list_any (λ n. n == f x) (map f (filter test xs)) ≡ true
-filtered-any f test [] place x at does = absurd (some-not-none x (sym at))
-filtered-any f test (first ∷ xs) zero x at does =
+abbrev mark_of : RunRow → FailedRun
+mark_of row = record { run = row.number; asked = false }
+
+filtered-any : (test : RunRow → Bool) (xs : List RunRow) (place : ℕ) (x : RunRow) → slice_get xs place ≡ Some x → test x ≡ true → list_any (λ (one : FailedRun). one.run == x.number) (map mark_of (filter test xs)) ≡ true
+filtered-any test [] place x at does = absurd (some-not-none x (sym at))
+filtered-any test (first ∷ xs) zero x at does =
     let same : first ≡ x = same_Some first x at in
-    ap (λ b. list_any (λ n. n == f x) (map f (cond b (first ∷ filter test xs) (filter test xs)))) (ap test same ∙ does)
-    ∙ or_left (f first == f x) _ (ap (λ y. f y == f x) same ∙ equal-itself (f x))
-filtered-any f test (first ∷ xs) (suc place) x at does =
-    let rest : list_any (λ n. n == f x) (map f (filter test xs)) ≡ true = filtered-any f test xs place x at does in
+    ap (λ b. list_any (λ (one : FailedRun). one.run == x.number) (map mark_of (cond b (first ∷ filter test xs) (filter test xs)))) (ap test same ∙ does)
+    ∙ or_left (first.number == x.number) _ (ap (λ (y : RunRow). y.number == x.number) same ∙ equal-itself x.number)
+filtered-any test (first ∷ xs) (suc place) x at does =
+    let rest : list_any (λ (one : FailedRun). one.run == x.number) (map mark_of (filter test xs)) ≡ true = filtered-any test xs place x at does in
     bool-cases (test first)
-    (λ here. ap (λ b. list_any (λ n. n == f x) (map f (cond b (first ∷ filter test xs) (filter test xs)))) here ∙ or_right (f first == f x) _ rest)
-    (λ out. ap (λ b. list_any (λ n. n == f x) (map f (cond b (first ∷ filter test xs) (filter test xs)))) out ∙ rest)
+    (λ here. ap (λ b. list_any (λ (one : FailedRun). one.run == x.number) (map mark_of (cond b (first ∷ filter test xs) (filter test xs)))) here ∙ or_right (first.number == x.number) _ rest)
+    (λ out. ap (λ b. list_any (λ (one : FailedRun). one.run == x.number) (map mark_of (cond b (first ∷ filter test xs) (filter test xs)))) out ∙ rest)
 
 -- ---- a run that is running
 
@@ -69,18 +72,18 @@ on-is Purged e = absurd (false≢true e)
 -- it stands where its job comes to, whether its step goes on or failed
 pub running-stands : {A : Type 0} (desk : DeskModel) → IsDesk desk → (row : RunRow) → run_of desk.office.tables row.number ≡ Some row → is_accounted desk row ≡ true → is_running row ≡ true → ((number committed : ℕ) (start : StepStart) → IsWithinStep desk.office row.number row number committed start → A) → A
 running-stands {A = A} desk is row at accounted runs use_it =
-    let some : (list_any (λ (step : DeskStep). step.run == row.number) desk.running || list_any (λ number. number == row.number) desk.failed) ≡ true =
-    sym (ap (λ b. not b || (list_any (λ (step : DeskStep). step.run == row.number) desk.running || list_any (λ number. number == row.number) desk.failed)) runs) ∙ accounted in
+    let some : (list_any (λ (step : DeskStep). step.run == row.number) desk.running || list_any (λ (one : FailedRun). one.run == row.number) desk.failed) ≡ true =
+    sym (ap (λ b. not b || (list_any (λ (step : DeskStep). step.run == row.number) desk.running || list_any (λ (one : FailedRun). one.run == row.number) desk.failed)) runs) ∙ accounted in
     or-cases _ _ some
     (λ running.
     some-holds (IsGoing desk.office) (λ step. step.run == row.number) desk.running is.going running
-    (λ on going same. stands on.run (record { row = going.row; number = going.number; committed = going.committed; start = going.start; within = going-within desk.office on going }) (equal-true on.run row.number same)))
+    (λ on going same. stands (record { run = on.run; asked = false }) (record { row = going.row; number = going.number; committed = going.committed; start = going.start; within = going-within desk.office on going }) (equal-true on.run row.number same)))
     (λ failed.
-    some-holds (IsFailed desk.office) (λ number. number == row.number) desk.failed is.failed failed
-    (λ run its same. stands run its (equal-true run row.number same)))
+    some-holds (IsFailed desk.office) (λ (one : FailedRun). one.run == row.number) desk.failed is.failed failed
+    (λ one its same. stands one its (equal-true one.run row.number same)))
   where
-    stands : (run : ℕ) → IsFailed desk.office run → run ≡ row.number → A
-    stands run failed same =
+    stands : (one : FailedRun) → IsFailed desk.office one → one.run ≡ row.number → A
+    stands one failed same =
         let mine : failed.row ≡ row = same_Some _ _ (sym failed.within.row_at ∙ ap (run_of desk.office.tables) same ∙ at) in
         use_it failed.number failed.committed failed.start
         (subst (λ r. IsWithinStep desk.office row.number r failed.number failed.committed failed.start) mine
@@ -91,25 +94,12 @@ pub has-runs : (desk : DeskModel) → IsDesk desk → HasRuns desk.office
 has-runs desk is = record {
   plain = is.plain;
   admitted = is.admitted;
-  stepped = all-by has_its_step desk.office.tables.runs stepped;
+  stepped = is.stepped;
   spaced = is.spaced;
   spaced_legs = is.spaced_legs;
   pointed = is.pointed;
   ready = is.ready;
 }
-  where
-    stepped : (place : ℕ) (row : RunRow) → slice_get desk.office.tables.runs place ≡ Some row → has_its_step row ≡ true
-    stepped place row at =
-        bool-cases (is_running row)
-        (λ runs.
-        let its : run_of desk.office.tables row.number ≡ Some row = ap (run_of desk.office.tables) (is.kept.events.numbered (suc place) row at) ∙ at in
-        running-stands desk is row its (all-get (is_accounted desk) desk.office.tables.runs place row is.accounted at) runs
-        (λ number committed start within.
-        by-step desk is row.number row number committed start within
-        (λ leg owned running same spaced.
-        or_right (not (is_running row)) (is_some (own_step row))
-        (ap is_some (ap (λ place. step_of_run row (step_in place)) within.place ∙ running.found)))))
-        (λ isnt. or_left (not (is_running row)) (is_some (own_step row)) (ap not isnt))
 
 -- ---- the opening
 
@@ -131,14 +121,14 @@ has-run row plain admitted =
     ∙ ap (λ b. is_in_state On row && b) (planned-within (place_of row))
 
 module _ (layout : Layout) (office : Office) (kept : IsKept layout office) (has : HasRuns office) where
-  failed-so : (place : ℕ) (row : RunRow) → slice_get office.tables.runs place ≡ Some row → is_running row ≡ true → IsFailed office row.number
+  failed-so : (place : ℕ) (row : RunRow) → slice_get office.tables.runs place ≡ Some row → is_running row ≡ true → IsFailed office (mark_of row)
   failed-so place row at runs =
       let its : run_of office.tables row.number ≡ Some row = ap (run_of office.tables) (kept.events.numbered (suc place) row at) ∙ at in
       let on : (state_number row.state == 2) ≡ true = and-first (is_in_state On row) (is_within (place_of row)) runs in
       led-by layout office row.number row kept.events its (on-holds row.state on)
       (λ leg holder.
       option-cases (own_step row)
-      (λ none. absurd (false≢true (sym (ap (λ b. not b || is_some (own_step row)) runs ∙ ap is_some none) ∙ all-get has_its_step office.tables.runs place row has.stepped at)))
+      (λ none. absurd (false≢true (sym (ap is_some none) ∙ step-there row (all-get has_its_step office.tables.runs place row has.stepped at) runs)))
       (λ owned found. record {
         row = row;
         number = step_in (place_of row);
@@ -161,9 +151,10 @@ module _ (layout : Layout) (office : Office) (kept : IsKept layout office) (has 
   opened-is = record {
     kept = kept;
     going = tt;
-    failed = filtered-every (IsFailed office) (λ (row : RunRow). row.number) has_run office.tables.runs (λ place row at runs. failed-so place row at (sym (ran place row at) ∙ runs));
+    failed = filtered-every (IsFailed office) mark_of has_run office.tables.runs (λ place row at runs. failed-so place row at (sym (ran place row at) ∙ runs));
     plain = has.plain;
     admitted = has.admitted;
+    stepped = has.stepped;
     accounted = all-by (is_accounted (opened layout office)) office.tables.runs accounted;
     spaced = has.spaced;
     spaced_legs = has.spaced_legs;
@@ -174,5 +165,5 @@ module _ (layout : Layout) (office : Office) (kept : IsKept layout office) (has 
       accounted : (place : ℕ) (row : RunRow) → slice_get office.tables.runs place ≡ Some row → is_accounted (opened layout office) row ≡ true
       accounted place row at =
           bool-cases (is_running row)
-          (λ runs. or_right (not (is_running row)) _ (filtered-any (λ (row : RunRow). row.number) has_run office.tables.runs place row at (ran place row at ∙ runs)))
+          (λ runs. or_right (not (is_running row)) _ (filtered-any has_run office.tables.runs place row at (ran place row at ∙ runs)))
           (λ isnt. or_left (not (is_running row)) _ (ap not isnt))

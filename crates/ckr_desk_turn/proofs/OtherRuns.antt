@@ -1,11 +1,11 @@
 -- The other runs of a desk are as they were where the row of one run changes.
-use Rattle.std.proofs.Common.{◌≡◌, ◌≢◌, ℕ, zero, suc, Bool, true, false, cond, not, ◌||◌, List, [], ◌∷◌, filter, find, slice_get, refl, ap, sym, ◌∙◌, subst, Option, Some, None}
+use Rattle.std.proofs.Common.{◌≡◌, ◌≢◌, ℕ, zero, suc, Bool, true, false, cond, not, ◌&&◌, ◌||◌, List, [], ◌∷◌, filter, find, slice_get, refl, ap, sym, ◌∙◌, subst, Option, Some, None}
 use Rattle.std.specs.Prelude.{◌==◌}
 use Rattle.std.specs.List.{AllByRecursion, list_all, list_any}
-use Rattle.std.specs.Option.{option_map_or}
-use Rattle.std.proofs.lemmas.Bool.{and_from, false≢true}
+use Rattle.std.specs.Option.{is_none, is_some, option_map_or}
+use Rattle.std.proofs.lemmas.Bool.{and_from, false≢true, or_left, or_right}
 use Rattle.std.proofs.lemmas.Option.{same_Some}
-use Rattle.ckr_base.proofs.Bools.{bool-cases}
+use Rattle.ckr_base.proofs.Bools.{and-first, and-second, bool-cases, if-then}
 use Rattle.ckr_base.proofs.Numbers.{equal-false, equal-true, number-cases}
 use Rattle.ckr_base.proofs.Options.{some-not-none}
 use Rattle.ckr_base.proofs.Sequences.{all-get, each-get}
@@ -13,12 +13,16 @@ use Rattle.ckr_library.specs.NameMaps.{Name, entry_at, taken_over, with_moved}
 use Rattle.ckr_library.proofs.Named.{each-at, each-with_entry, each-without_entry}
 use Rattle.ckr_meaning.specs.LibrarySet.{AreWithinSpace, IsWithinSpace, Library, LibrarySet}
 use Rattle.ckr_meaning.specs.JobRun.{start_at}
-use Rattle.ckr_points.specs.Follows.{is_running}
+use Rattle.ckr_points_decks.specs.Form.{is_run}
+use Rattle.ckr_points.specs.declared.run.RunState.{RunState}
+use Rattle.ckr_points.specs.declared.run.RunState.TheVariants.{On}
+use Rattle.ckr_points.specs.Follows.{is_running, is_within, own_step, state_number}
 use Rattle.ckr_points.specs.Office.{Leg, Office}
 use Rattle.ckr_points.specs.Restart.{place_of, step_in}
 use Rattle.ckr_points.specs.Rows.{RunRow, run_of}
-use Rattle.ckr_desk_turn.specs.Desk.{DeskModel, DeskStep, start_of, without_run}
-use Rattle.ckr_desk_turn.specs.Invariant.{IsAdmitted, IsDesk, IsFailed, IsGoing, is_accounted, is_plain_row}
+use Rattle.ckr_desk_turn.specs.declared.failed_run.FailedRun.{FailedRun}
+use Rattle.ckr_desk_turn.specs.Desk.{DeskModel, DeskStep, start_of, without_mark, without_run}
+use Rattle.ckr_desk_turn.specs.Invariant.{IsAdmitted, IsDesk, IsFailed, IsGoing, has_code_while_off, has_its_step, is_accounted, is_off, is_on_one, is_plain_row, is_plain_state}
 
 -- ---- lists
 
@@ -38,7 +42,7 @@ some-holds P test (x ∷ xs) each some use_it =
     (λ does. use_it x each.0 does)
     (λ isnt. some-holds P test xs each.1 (sym (ap (λ b. b || list_any test xs) isnt) ∙ some) use_it)
 
--- a run of the desk was never held
+-- a run of the desk is of a form that it runs
 pub row-plain : (desk : DeskModel) → IsDesk desk → (run : ℕ) (row : RunRow) → run_of desk.office.tables run ≡ Some row → is_plain_row row ≡ true
 row-plain desk is zero row at = absurd (some-not-none row (sym at))
 row-plain desk is (suc place) row at = all-get is_plain_row desk.office.tables.runs place row is.plain at
@@ -47,6 +51,32 @@ row-plain desk is (suc place) row at = all-get is_plain_row desk.office.tables.r
 pub row-admitted : (desk : DeskModel) → IsDesk desk → (run : ℕ) (row : RunRow) → run_of desk.office.tables run ≡ Some row → IsAdmitted row
 row-admitted desk is zero row at = absurd (some-not-none row (sym at))
 row-admitted desk is (suc place) row at = each-get IsAdmitted desk.office.tables.runs place row is.admitted at
+
+-- the form of its deck
+pub plain-deck : (row : RunRow) → is_plain_row row ≡ true → is_run row.deck ≡ true
+plain-deck row plain = and-second (has_code_while_off row) (is_run row.deck) (and-second (is_none row.initiator || is_on_one row.state) _ (and-second (is_plain_state row.state) _ plain))
+
+-- it has a code while it is off its initiator
+pub plain-code : (row : RunRow) → is_plain_row row ≡ true → has_code_while_off row ≡ true
+plain-code row plain = and-first (has_code_while_off row) (is_run row.deck) (and-second (is_none row.initiator || is_on_one row.state) _ (and-second (is_plain_state row.state) _ plain))
+
+-- the step that it is within
+pub row-stepped : (desk : DeskModel) → IsDesk desk → (run : ℕ) (row : RunRow) → run_of desk.office.tables run ≡ Some row → has_its_step row ≡ true
+row-stepped desk is zero row at = absurd (some-not-none row (sym at))
+row-stepped desk is (suc place) row at = all-get has_its_step desk.office.tables.runs place row is.stepped at
+
+pub step-there : (row : RunRow) → has_its_step row ≡ true → is_running row ≡ true → is_some (own_step row) ≡ true
+step-there row stepped runs = if-then (is_running row || is_off row.state) (is_some (own_step row)) stepped (or_left (is_running row) (is_off row.state) runs)
+
+-- a run between two steps is within none
+pub between-steps : (row : RunRow) → row.state ≡ On → is_within (place_of row) ≡ false → has_its_step row ≡ true
+between-steps row on out =
+    or_left (not (is_running row || is_off row.state)) (is_some (own_step row))
+    (ap (λ (state : RunState). not ((state_number state == 2) && is_within (place_of row) || is_off state)) on ∙ ap (λ b. not (true && b || false)) out)
+
+-- one within the same step has it too
+pub same-step : (row next : RunRow) → has_its_step row ≡ true → is_running row ≡ true → own_step next ≡ own_step row → has_its_step next ≡ true
+same-step row next stepped runs same = or_right (not (is_running next || is_off next.state)) (is_some (own_step next)) (ap is_some same ∙ step-there row stepped runs)
 
 any-kept : {X : Type 0} (test keep : X → Bool) → ((x : X) → test x ≡ true → keep x ≡ true) → (xs : List X) → list_any test xs ≡ list_any test (filter keep xs)
 any-kept test keep sure [] = refl
@@ -99,8 +129,8 @@ going-still office after on going same_row same_start = record {
   come = going.come;
 }
 
-pub failed-still : (office after : Office) (number : ℕ) (failed : IsFailed office number) → run_of after.tables number ≡ run_of office.tables number → start_of after failed.row ≡ start_of office failed.row → IsFailed after number
-failed-still office after number failed same_row same_start = record {
+pub failed-still : (office after : Office) (one : FailedRun) (failed : IsFailed office one) → run_of after.tables one.run ≡ run_of office.tables one.run → start_of after failed.row ≡ start_of office failed.row → IsFailed after one
+failed-still office after one failed same_row same_start = record {
   row = failed.row;
   number = failed.number;
   committed = failed.committed;
@@ -128,24 +158,24 @@ module _ (office after : Office) (job : ℕ) (next : RunRow) (changes : Changes 
       (λ same. subst (λ b. AllByRecursion (IsGoing after) (cond (not b) (first ∷ without_run job rest) (without_run job rest))) (sym same) (going-rest rest going.1))
       (λ isnt. subst (λ b. AllByRecursion (IsGoing after) (cond (not b) (first ∷ without_run job rest) (without_run job rest))) (sym isnt) (going-there first (equal-false first.run job isnt) going.0, going-rest rest going.1))
 
-  pub failed-there : (number : ℕ) → number ≢ job → IsFailed office number → IsFailed after number
-  failed-there number apart failed = failed-still office after number failed (changes.others number apart) (start-there failed.row)
+  pub failed-there : (one : FailedRun) → one.run ≢ job → IsFailed office one → IsFailed after one
+  failed-there one apart failed = failed-still office after one failed (changes.others one.run apart) (start-there failed.row)
 
   -- the other runs that were running when the system failed are still marked
-  pub failed-rest : (failed : List ℕ) → AllByRecursion (IsFailed office) failed → AllByRecursion (IsFailed after) (filter (λ number. not (number == job)) failed)
+  pub failed-rest : (failed : List FailedRun) → AllByRecursion (IsFailed office) failed → AllByRecursion (IsFailed after) (without_mark job failed)
   failed-rest [] each = tt
   failed-rest (first ∷ rest) each =
-      let others : List ℕ = filter (λ number. not (number == job)) rest in
-      bool-cases (first == job)
+      let others : List FailedRun = without_mark job rest in
+      bool-cases (first.run == job)
       (λ same. subst (λ b. AllByRecursion (IsFailed after) (cond (not b) (first ∷ others) others)) (sym same) (failed-rest rest each.1))
-      (λ isnt. subst (λ b. AllByRecursion (IsFailed after) (cond (not b) (first ∷ others) others)) (sym isnt) (failed-there first (equal-false first job isnt) each.0, failed-rest rest each.1))
+      (λ isnt. subst (λ b. AllByRecursion (IsFailed after) (cond (not b) (first ∷ others) others)) (sym isnt) (failed-there first (equal-false first.run job isnt) each.0, failed-rest rest each.1))
 
-  pub failed-all : (failed : List ℕ) → list_any (λ number. number == job) failed ≡ false → AllByRecursion (IsFailed office) failed → AllByRecursion (IsFailed after) failed
+  pub failed-all : (failed : List FailedRun) → list_any (λ (one : FailedRun). one.run == job) failed ≡ false → AllByRecursion (IsFailed office) failed → AllByRecursion (IsFailed after) failed
   failed-all [] out each = tt
   failed-all (first ∷ rest) out each =
-      bool-cases (first == job)
-      (λ same. absurd (false≢true (sym out ∙ ap (λ b. b || list_any (λ number. number == job) rest) same)))
-      (λ isnt. (failed-there first (equal-false first job isnt) each.0, failed-all rest (sym (ap (λ b. b || list_any (λ number. number == job) rest) isnt) ∙ out) each.1))
+      bool-cases (first.run == job)
+      (λ same. absurd (false≢true (sym out ∙ ap (λ b. b || list_any (λ (one : FailedRun). one.run == job) rest) same)))
+      (λ isnt. (failed-there first (equal-false first.run job isnt) each.0, failed-all rest (sym (ap (λ b. b || list_any (λ (one : FailedRun). one.run == job) rest) isnt) ∙ out) each.1))
 
 module _ (desk later : DeskModel) (is : IsDesk desk) (job : ℕ) (next : RunRow) (changes : Changes desk.office later.office job next) where
   -- what holds of each row but one holds of each
@@ -162,6 +192,9 @@ module _ (desk later : DeskModel) (is : IsDesk desk) (job : ℕ) (next : RunRow)
   pub plain-then : is_plain_row next ≡ true → list_all is_plain_row later.office.tables.runs ≡ true
   plain-then plain = each_row is_plain_row is_plain_row plain is.plain (λ row apart was. was)
 
+  pub stepped-then : has_its_step next ≡ true → list_all has_its_step later.office.tables.runs ≡ true
+  stepped-then stepped = each_row has_its_step has_its_step stepped is.stepped (λ row apart was. was)
+
   pub admitted-then : IsAdmitted next → AllByRecursion IsAdmitted later.office.tables.runs
   admitted-then admitted =
       every-by IsAdmitted later.office.tables.runs
@@ -171,19 +204,19 @@ module _ (desk later : DeskModel) (is : IsDesk desk) (job : ℕ) (next : RunRow)
       (λ apart. row-admitted desk is (suc place) row (sym (changes.others (suc place) apart) ∙ at)))
 
   -- a run is accounted for by the steps and the marks of the other runs
-  pub accounted-then : is_running next ≡ false → ((number : ℕ) → number ≢ job → list_any (λ (step : DeskStep). step.run == number) desk.running ≡ list_any (λ (step : DeskStep). step.run == number) later.running) → ((number : ℕ) → number ≢ job → list_any (λ one. one == number) desk.failed ≡ list_any (λ one. one == number) later.failed) → list_all (is_accounted later) later.office.tables.runs ≡ true
+  pub accounted-then : is_running next ≡ false → ((number : ℕ) → number ≢ job → list_any (λ (step : DeskStep). step.run == number) desk.running ≡ list_any (λ (step : DeskStep). step.run == number) later.running) → ((number : ℕ) → number ≢ job → list_any (λ (one : FailedRun). one.run == number) desk.failed ≡ list_any (λ (one : FailedRun). one.run == number) later.failed) → list_all (is_accounted later) later.office.tables.runs ≡ true
   accounted-then rests running failed =
       each_row (is_accounted desk) (is_accounted later)
-      (ap (λ b. not b || (list_any (λ (step : DeskStep). step.run == next.number) later.running || list_any (λ number. number == next.number) later.failed)) rests)
+      (ap (λ b. not b || (list_any (λ (step : DeskStep). step.run == next.number) later.running || list_any (λ (one : FailedRun). one.run == next.number) later.failed)) rests)
       is.accounted
       (λ row apart was.
-      ap (λ b. not (is_running row) || (b || list_any (λ number. number == row.number) later.failed)) (sym (running row.number apart))
+      ap (λ b. not (is_running row) || (b || list_any (λ (one : FailedRun). one.run == row.number) later.failed)) (sym (running row.number apart))
       ∙ ap (λ b. not (is_running row) || (list_any (λ (step : DeskStep). step.run == row.number) desk.running || b)) (sym (failed row.number apart)) ∙ was)
 
 pub running-same : (job : ℕ) (running : List DeskStep) (number : ℕ) → number ≢ job → list_any (λ (step : DeskStep). step.run == number) running ≡ list_any (λ (step : DeskStep). step.run == number) (without_run job running)
 running-same job running number apart =
     any-kept (λ (step : DeskStep). step.run == number) (λ (step : DeskStep). not (step.run == job)) (λ step same. differs step.run job (λ e. apart (sym (equal-true step.run number same) ∙ e))) running
 
-pub failed-same : (job : ℕ) (failed : List ℕ) (number : ℕ) → number ≢ job → list_any (λ one. one == number) failed ≡ list_any (λ one. one == number) (filter (λ one. not (one == job)) failed)
+pub failed-same : (job : ℕ) (failed : List FailedRun) (number : ℕ) → number ≢ job → list_any (λ (one : FailedRun). one.run == number) failed ≡ list_any (λ (one : FailedRun). one.run == number) (without_mark job failed)
 failed-same job failed number apart =
-    any-kept (λ one. one == number) (λ one. not (one == job)) (λ one same. differs one job (λ e. apart (sym (equal-true one number same) ∙ e))) failed
+    any-kept (λ (one : FailedRun). one.run == number) (λ (one : FailedRun). not (one.run == job)) (λ one same. differs one.run job (λ e. apart (sym (equal-true one.run number same) ∙ e))) failed

@@ -1,10 +1,9 @@
 -- A desk whose run ends between two steps: behind its last step, or since a DD of its next step isn't allocated.
-use Rattle.std.proofs.Common.{◌≡◌, ◌≤◌, ◌<◌, ◌+◌, ℕ, suc, true, false, ◌||◌, List, [], ◌∷◌, length, refl, ap, sym, subst, Option, Some, None, Result, Ok, Err, arith}
+use Rattle.std.proofs.Common.{◌≡◌, ◌≤◌, ◌<◌, ◌+◌, ℕ, suc, true, false, List, [], ◌∷◌, length, refl, ap, sym, subst, Option, Some, None, Result, Ok, Err, arith}
 use Rattle.std.specs.Prelude.{◌==◌}
 use Rattle.std.specs.List.{AllByRecursion, cons_option}
-use Rattle.std.specs.Option.{is_none, option_map, option_map_or}
+use Rattle.std.specs.Option.{option_map, option_map_or}
 use Rattle.std.proofs.lemmas.Bool.{false≢true}
-use Rattle.ckr_base.proofs.Bools.{and-second}
 use Rattle.ckr_base.proofs.Sequences.{find-holds}
 use Rattle.ckr_points_library.specs.declared.cause.Cause.{Cause}
 use Rattle.ckr_points_library.specs.declared.cause.Refusal.{Refusal}
@@ -37,11 +36,11 @@ use Rattle.ckr_points_invariant.proofs.Holders.Rows.{run-other, run-same}
 use Rattle.ckr_points_invariant.proofs.PlainRuns.SoundEvents.{AreKept}
 use Rattle.ckr_points_invariant.proofs.Steps.Events.{led-by}
 use Rattle.ckr_desk_turn.specs.Desk.{DeskModel, behind}
-use Rattle.ckr_desk_turn.specs.Invariant.{IsAdmitted, IsDesk, is_on_one, is_plain_state}
+use Rattle.ckr_desk_turn.specs.Invariant.{IsAdmitted, IsDesk}
 use Rattle.ckr_desk_turn.specs.NextEvents.{Comes}
 use Rattle.ckr_desk_turn.proofs.Readiness.{kept-on}
 use Rattle.ckr_desk_turn.proofs.StepEnd.{Rests}
-use Rattle.ckr_desk_turn.proofs.OtherRuns.{accounted-then, admitted-then, failed-rest, failed-same, going-rest, plain-then, row-admitted, row-plain, running-same, taken_over-within}
+use Rattle.ckr_desk_turn.proofs.OtherRuns.{accounted-then, admitted-then, failed-rest, failed-same, going-rest, plain-deck, plain-then, row-admitted, row-plain, running-same, stepped-then, taken_over-within}
 use Rattle.ckr_desk_turn.proofs.Units.Outputs.{distinct-job}
 
 -- ---- the first DD that isn't allocated
@@ -108,9 +107,10 @@ module _ (desk : DeskModel) (is : IsDesk desk) (row : RunRow) (at : run_of desk.
           others = λ other apart. run-other (record desk.office.tables { sets = sets }) next other apart;
           legs = refl;
         };
-        plain = and-second (is_none row.code) _ (and-second (is_none row.initiator || is_on_one row.state) _ (and-second (is_plain_state row.state) _ (row-plain desk is row.number row at)));
+        plain = plain-deck row (row-plain desk is row.number row at);
         admitted = record { cards = was.cards; accepted = was.accepted; lodged = refl };
         rests = refl;
+        stepped = refl;
       }
 
   module _ (ending : Ending) (same : after_ended row ending desk.office.tables ≡ after_passed_ended row desk.office.tables) where
@@ -135,6 +135,7 @@ module _ (desk : DeskModel) (is : IsDesk desk) (row : RunRow) (at : run_of desk.
           failed = failed-rest desk.office later row.number rests.next rests.changes desk.failed is.failed;
           plain = plain-then desk then is row.number rests.next rests.changes rests.plain;
           admitted = admitted-then desk then is row.number rests.next rests.changes rests.admitted;
+          stepped = stepped-then desk then is row.number rests.next rests.changes rests.stepped;
           accounted = accounted-then desk then is row.number rests.next rests.changes rests.rests (running-same row.number desk.running) (failed-same row.number desk.failed);
           spaced = left-within ending;
           spaced_legs = is.spaced_legs;

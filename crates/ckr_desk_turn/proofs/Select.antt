@@ -1,15 +1,16 @@
--- A desk whose run is submitted, selected or purged: the runs on initiators are as they were.
-use Rattle.std.proofs.Common.{◌≡◌, ◌≢◌, ◌≤◌, ◌*◌, ◌/◌, ℕ, zero, suc, true, false, List, [], ◌∷◌, ◌++◌, length, refl, ap, sym, ◌∙◌, Option, Some, None, Ok, arith}
-use Rattle.std.specs.Prelude.{◌==◌, slice_get, ◌&&◌, ◌||◌}
+-- A desk whose run is submitted, selected, purged or released: the runs on initiators are as they were.
+use Rattle.std.proofs.Common.{◌≡◌, ◌≢◌, ◌≤◌, ◌*◌, ◌/◌, ℕ, zero, suc, true, false, not, List, [], ◌∷◌, ◌++◌, length, refl, ap, sym, ◌∙◌, Option, Some, None, Ok, arith}
+use Rattle.std.specs.Prelude.{◌==◌, Bool, if◌then◌else◌, slice_get, ◌&&◌, ◌||◌}
 use Rattle.std.specs.List.{AllByRecursion}
-use Rattle.std.specs.Option.{option_map_or, is_none}
+use Rattle.std.specs.Option.{option_map_or, is_none, is_some}
 use Rattle.std.proofs.lemmas.Bool.{false≢true}
 use Rattle.std.proofs.lemmas.Option.{same_Some, slice_get_past}
+use Rattle.ckr_base.specs.declared.code.Code.{Code}
 use Rattle.ckr_base.proofs.Bools.{and-second}
 use Rattle.ckr_base.proofs.Numbers.{number-cases}
 use Rattle.ckr_base.proofs.Options.{some-not-none}
 use Rattle.ckr_base.proofs.Sequences.{each-implies}
-use Rattle.ckr_events.specs.declared.event.Event.TheVariants.{Purged as PurgedEvent, Selected as SelectedEvent, Submitted as SubmittedEvent}
+use Rattle.ckr_events.specs.declared.event.Event.TheVariants.{Purged as PurgedEvent, Released as ReleasedEvent, Selected as SelectedEvent, Submitted as SubmittedEvent}
 use Rattle.ckr_jcl.specs.declared.deck.Job.{Job}
 use Rattle.ckr_jcl_decks.specs.Deck.{stored_deck}
 use Rattle.ckr_meaning.specs.LibrarySet.{AreWithinSpace}
@@ -20,23 +21,24 @@ use Rattle.ckr_points_decks.proofs.KeptCards.{kept_long}
 use Rattle.ckr_points_decks.specs.Cards.{kept_of_stored}
 use Rattle.ckr_points_decks.specs.Form.{is_run}
 use Rattle.ckr_points.specs.declared.run.RunState.{RunState}
-use Rattle.ckr_points.specs.declared.run.RunState.TheVariants.{On, Queued, Purged}
+use Rattle.ckr_points.specs.declared.run.RunState.TheVariants.{Held as HeldRun, On, Queued, Purged, Released as ReleasedRun}
 use Rattle.ckr_points.specs.Tables.{after_submitted, queued_run}
 use Rattle.ckr_points.specs.Events.{IsNext}
-use Rattle.ckr_points.specs.Follows.{is_running, state_number}
+use Rattle.ckr_points.specs.Follows.{is_running, is_within, own_step, state_number}
 use Rattle.ckr_points.specs.Office.{Leg, Office, leg_of, office_after}
 use Rattle.ckr_points.specs.Restart.{place_of, step_in}
 use Rattle.ckr_points.specs.Rows.{RunRow, run_of, with_run}
 use Rattle.ckr_points.specs.Soundness.{may_come}
 use Rattle.ckr_points_invariant.proofs.Select.Invariant.{chosen, led_there}
 use Rattle.ckr_points_invariant.proofs.WaitingRuns.{by-selected}
-use Rattle.ckr_points_invariant.proofs.Holders.Rows.{run-other, run-same}
+use Rattle.ckr_points_invariant.proofs.Holders.Rows.{queued-is, run-other, run-same}
 use Rattle.ckr_points_invariant.proofs.PlainRuns.SoundEvents.{AreKept, next-kept}
 use Rattle.ckr_points_invariant.proofs.Select.Holders.{all_legs}
-use Rattle.ckr_desk_turn.specs.Desk.{DeskModel, DeskStep, behind, start_of, submitted as submitted_desk, purged as purged_desk}
-use Rattle.ckr_desk_turn.specs.Invariant.{IsAdmitted, IsDesk, IsFailed, IsGoing, is_on_one, is_plain_row, is_plain_state}
-use Rattle.ckr_desk_turn.proofs.NextEvents.BetweenSteps.{purged_comes, submitted_comes}
-use Rattle.ckr_desk_turn.proofs.OtherRuns.{Changes, accounted-then, admitted-then, failed-still, going-still, plain-then, row-admitted, row-plain}
+use Rattle.ckr_desk_turn.specs.declared.failed_run.FailedRun.{FailedRun}
+use Rattle.ckr_desk_turn.specs.Desk.{DeskModel, DeskStep, behind, start_of, submitted as submitted_desk, purged as purged_desk, released as released_desk}
+use Rattle.ckr_desk_turn.specs.Invariant.{IsAdmitted, IsDesk, IsFailed, IsGoing, has_its_step, is_off, is_on_one, is_plain_row, is_plain_state}
+use Rattle.ckr_desk_turn.proofs.NextEvents.BetweenSteps.{purged_comes, released_comes, submitted_comes}
+use Rattle.ckr_desk_turn.proofs.OtherRuns.{Changes, accounted-then, admitted-then, failed-still, going-still, plain-then, row-admitted, row-plain, row-stepped, stepped-then}
 use Rattle.ckr_desk_turn.proofs.Readiness.{kept-on}
 
 -- ---- the runs on initiators
@@ -56,8 +58,8 @@ module _ (desk : DeskModel) (is : IsDesk desk) (after : Office) (stay : (run : �
   going-stays : (on : DeskStep) → IsGoing desk.office on → IsGoing after on
   going-stays on going = going-still desk.office after on going (stay on.run going.row going.row_at going.on).row (start-stays on.run going.row going.row_at going.on)
 
-  failed-stays : (number : ℕ) → IsFailed desk.office number → IsFailed after number
-  failed-stays number failed = failed-still desk.office after number failed (stay number failed.row failed.within.row_at failed.within.on).row (start-stays number failed.row failed.within.row_at failed.within.on)
+  failed-stays : (one : FailedRun) → IsFailed desk.office one → IsFailed after one
+  failed-stays one failed = failed-still desk.office after one failed (stay one.run failed.row failed.within.row_at failed.within.on).row (start-stays one.run failed.row failed.within.row_at failed.within.on)
 
 -- ---- one run that isn't on an initiator changes
 
@@ -71,6 +73,7 @@ pub record Enters (desk : DeskModel) (after : Office) (job : ℕ) (next : RunRow
   pub plain : is_plain_row next ≡ true
   pub admitted : IsAdmitted next
   pub rests : is_running next ≡ false
+  pub stepped : has_its_step next ≡ true
   pub spaced : AreWithinSpace after.library
   pub spaced_legs : AllByRecursion (λ (leg : Leg). AreWithinSpace leg.start) after.legs
 
@@ -82,6 +85,7 @@ entered desk is after job next enters = record {
   failed = each-implies (IsFailed desk.office) (IsFailed after) desk.failed (failed-stays desk is after stay) is.failed;
   plain = plain-then desk later is job next changes enters.plain;
   admitted = admitted-then desk later is job next changes enters.admitted;
+  stepped = stepped-then desk later is job next changes enters.stepped;
   accounted = accounted-then desk later is job next changes enters.rests (λ number apart. refl) (λ number apart. refl);
   spaced = enters.spaced;
   spaced_legs = enters.spaced_legs;
@@ -100,6 +104,15 @@ entered desk is after job next enters = record {
 
     changes : Changes desk.office later.office job next
     changes = record { mine = enters.mine; others = enters.others; legs = refl }
+
+-- whether a run of a state has the code that it has
+abbrev pub code_while : RunState → Option Code → Bool
+code_while state code = if is_off state then is_some code else is_none code
+
+-- a queued run that comes to an initiator
+pub queued-on : (row : RunRow) → row.state ≡ Queued → is_plain_row row ≡ true → (is_none row.code && is_run row.deck) ≡ true
+queued-on row queued plain =
+    and-second (is_none row.initiator || is_on_one Queued) _ (ap (λ s. is_plain_state s && ((is_none row.initiator || is_on_one s) && (code_while s row.code && is_run row.deck))) (sym queued) ∙ plain)
 
 queued-off : (state : RunState) → (state_number state == 1) ≡ true → state ≡ On → ⊥
 queued-off state queued on = false≢true (ap (λ (s : RunState). state_number s == 1) (sym on) ∙ queued)
@@ -123,6 +136,7 @@ purged-keeps desk is job row at queued =
       plain = off_plain plain;
       admitted = record { cards = was.cards; accepted = was.accepted; lodged = refl };
       rests = refl;
+      stepped = refl;
       spaced = is.spaced;
       spaced_legs = is.spaced_legs;
     })
@@ -131,7 +145,41 @@ purged-keeps desk is job row at queued =
     of_tables number = ap (λ (o : Option RunRow). run_of (option_map_or (λ row. with_run (record row { state = Purged }) desk.office.tables) o desk.office.tables) number) at
 
     off_plain : is_plain_row row ≡ true → is_plain_row (record row { state = Purged }) ≡ true
-    off_plain plain = sym (ap (λ s. is_plain_state s && ((is_none row.initiator || is_on_one s) && (is_none row.code && is_run row.deck))) queued) ∙ plain
+    off_plain plain = sym (ap (λ s. is_plain_state s && ((is_none row.initiator || is_on_one s) && (code_while s row.code && is_run row.deck))) queued) ∙ plain
+
+-- ---- released
+
+pub released-keeps : (desk : DeskModel) → IsDesk desk → (job : ℕ) (row : RunRow) → run_of desk.office.tables job ≡ Some row → row.state ≡ HeldRun → IsDesk (released_desk job desk)
+released-keeps desk is job row at held =
+    let its : row.number ≡ job = is.kept.events.numbered job row at in
+    let next : RunRow = record row { state = ReleasedRun } in
+    let was : IsAdmitted row = row-admitted desk is job row at in
+    entered desk is (office_after (ReleasedEvent job, None) desk.office) job next
+    (record {
+      mine = of_tables job ∙ run-same desk.office.tables next row job at its;
+      others = λ other apart. of_tables other ∙ run-other desk.office.tables next other (λ e. apart (e ∙ its));
+      legs = λ other apart. refl;
+      waits = λ one there on. held-off one.state (ap (λ (r : RunRow). state_number r.state == 3) (same_Some one row (sym there ∙ at)) ∙ ap (λ s. state_number s == 3) held) on;
+      kept = kept-on desk is (ReleasedEvent job) refl (record { may = released_comes desk job row at held; carried = refl });
+      plain = off_plain (row-plain desk is job row at);
+      admitted = record { cards = was.cards; accepted = was.accepted; lodged = refl };
+      rests = refl;
+      stepped = off_stepped (row-stepped desk is job row at);
+      spaced = is.spaced;
+      spaced_legs = is.spaced_legs;
+    })
+  where
+    of_tables : (number : ℕ) → run_of (option_map_or (λ row. with_run (record row { state = ReleasedRun }) desk.office.tables) (run_of desk.office.tables job) desk.office.tables) number ≡ run_of (with_run (record row { state = ReleasedRun }) desk.office.tables) number
+    of_tables number = ap (λ (o : Option RunRow). run_of (option_map_or (λ row. with_run (record row { state = ReleasedRun }) desk.office.tables) o desk.office.tables) number) at
+
+    held-off : (state : RunState) → (state_number state == 3) ≡ true → state ≡ On → ⊥
+    held-off state held on = false≢true (ap (λ (s : RunState). state_number s == 3) (sym on) ∙ held)
+
+    off_plain : is_plain_row row ≡ true → is_plain_row (record row { state = ReleasedRun }) ≡ true
+    off_plain plain = sym (ap (λ s. is_plain_state s && ((is_none row.initiator || is_on_one s) && (code_while s row.code && is_run row.deck))) held) ∙ plain
+
+    off_stepped : has_its_step row ≡ true → has_its_step (record row { state = ReleasedRun }) ≡ true
+    off_stepped stepped = sym (ap (λ s. not ((state_number s == 2) && is_within (place_of row) || is_off s) || is_some (own_step row)) held) ∙ stepped
 
 -- ---- submitted
 
@@ -157,6 +205,7 @@ submitted-keeps desk is cards first kept deck accepted runs =
       plain = runs;
       admitted = record { cards = cards; accepted = accepted; lodged = refl };
       rests = refl;
+      stepped = refl;
       spaced = is.spaced;
       spaced_legs = is.spaced_legs;
     })
@@ -202,9 +251,10 @@ selected-keeps desk is job initiator may =
       legs = λ other apart. led_there desk.layout desk.office row initiator is.kept.events row_at queued plain free other apart;
       waits = λ one there on. queued-off one.state (ap (λ (r : RunRow). state_number r.state == 1) (same_Some one row (sym there ∙ row_at)) ∙ queued) on;
       kept = kept;
-      plain = and-second (is_none row.initiator || is_on_one row.state) (is_none row.code && is_run row.deck) (and-second (is_plain_state row.state) _ (row-plain desk is row.number row row_at));
+      plain = queued-on row (queued-is row.state queued) (row-plain desk is row.number row row_at);
       admitted = record { cards = was.cards; accepted = was.accepted; lodged = refl };
       rests = refl;
+      stepped = refl;
       spaced = is.spaced;
       spaced_legs = all_legs (λ (leg : Leg). AreWithinSpace leg.start) _ desk.office.legs is.spaced is.spaced_legs;
     }))

@@ -6,7 +6,7 @@ use Rattle.std.specs.List.{list_all}
 use Rattle.ckr_base.specs.Grammar.{is_check_id, is_name_byte}
 use Rattle.ckr_base.specs.declared.code.Code.{Code}
 use Rattle.ckr_base.specs.declared.code.Code.TheVariants.{System, User}
-use Rattle.ckr_events.specs.declared.event.Event.TheVariants.{Checkpointed as CheckpointedEvent, Started as StartedEvent, Rewritten as RewrittenEvent, StepEnded as StepEndedEvent, Ended as EndedEvent}
+use Rattle.ckr_events.specs.declared.event.Event.TheVariants.{Checkpointed as CheckpointedEvent, Started as StartedEvent, Rewritten as RewrittenEvent, StepEnded as StepEndedEvent, Held as HeldEvent, Ended as EndedEvent}
 use Rattle.ckr_events.specs.declared.event.Ending.TheVariants.{Coded}
 use Rattle.ckr_base.proofs.Bools.{and-first, and-second}
 use Rattle.ckr_base.proofs.Numbers.{nat_le-true}
@@ -43,6 +43,21 @@ coded_spelled job writes (System number) rule lengths j above below is w fits = 
 }
 coded_spelled job writes (User number) rule lengths j above below is w fits = record {
   event = (j, (is, ((omega (arith, below), grind (arith, nat_tests, above, below)), (w, fits))));
+  counted = tt;
+  small = tt;
+  short = omega (arith, lengths_long lengths.items, few lengths.items fits);
+}
+
+pub held_spelled : (job writes : ℕ) (code : Code) (lengths : ArrayVec ℕ) → job < 2 ^ 32 → IsCode code → writes < 2 ^ 32 → length_list.fits lengths.items
+    → IsSpelled (HeldEvent job code writes lengths)
+held_spelled job writes (System number) lengths j is w fits = record {
+  event = (j, (is, (w, fits)));
+  counted = tt;
+  small = tt;
+  short = omega (arith, lengths_long lengths.items, few lengths.items fits);
+}
+held_spelled job writes (User number) lengths j is w fits = record {
+  event = (j, (is, (w, fits)));
   counted = tt;
   small = tt;
   short = omega (arith, lengths_long lengths.items, few lengths.items fits);

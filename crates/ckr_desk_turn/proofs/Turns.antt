@@ -3,3 +3,5 @@ pub mod Units
 pub mod Initiator
 pub mod Series
 pub mod Due
+pub mod Operator
+pub mod Outcomes

@@ -174,11 +174,12 @@ checkpoint_turn tables row start progress =
 
 -- ---- where a checkpoint may be taken
 
--- a running step of an office whose events are kept, which isn't closed, and whose next entry fits
+-- a running step of an office whose events are kept, whose run waits with no code, which isn't closed, and whose next entry fits
 pub record MayCheckpoint (layout : Layout) (office : Office) (step : DeskStep) : Type 0 where
   pub kept : IsKept layout office
   pub spaced : AllByRecursion (λ (leg : Leg). AreWithinSpace leg.start) office.legs
   pub going : IsGoing office step
+  pub uncoded : step.code ≡ None
   pub unclosed : step.progress.closed ≡ false
   pub fits : checkpoint_fits office.tables.sets going.row going.start step.progress ≡ true
 

@@ -1,9 +1,10 @@
--- A code: the restart of the run, or the rule by which it isn't restarted, and its end.
-use Rattle.std.specs.Prelude.{ℕ, true, false, List, [], None, Some}
+-- A code: the rule by which the run isn't restarted, and its end, or what the operator is asked.
+use Rattle.std.specs.Prelude.{ℕ, Bool, false, List, [], Option, None, Some}
 use Rattle.std.specs.Option.{option_map_or}
 use Rattle.ckr_base.specs.declared.code.Code.{Code}
-use Rattle.ckr_events.specs.declared.event.Event.TheVariants.{Ended as EndedEvent, Restarted as RestartedEvent}
+use Rattle.ckr_events.specs.declared.event.Event.TheVariants.{Ended as EndedEvent}
 use Rattle.ckr_events.specs.declared.event.Ending.TheVariants.{Coded as CodedEnding}
+use Rattle.ckr_library.specs.NameMaps.{Name}
 use Rattle.ckr_points.specs.RuleCases.{auto_case}
 use Rattle.ckr_points.specs.Restart.{place_of, step_in}
 use Rattle.ckr_points.specs.Rows.{KeptEntry, RunRow, TablesModel, step_of_run}
@@ -14,10 +15,11 @@ use Rattle.ckr_rules.specs.declared.cases.Rule.TheVariants.{A6}
 use Rattle.ckr_rules.specs.declared.cases.Verdict.{Verdict}
 use Rattle.ckr_rules.specs.declared.cases.Verdict.TheVariants.{Step, Checkpoint, Denied}
 use Rattle.ckr_volumes.specs.declared.layout.Layout.{Layout}
+use Rattle.ckr_desk_turn.specs.declared.inquiry.Inquiry.{Inquiry}
 use Rattle.ckr_desk_turn.specs.declared.plan.Plan.{Plan}
-use Rattle.ckr_desk_turn.specs.declared.plan.Plan.TheVariants.{Tell}
+use Rattle.ckr_desk_turn.specs.declared.plan.Plan.TheVariants.{Ask, Tell}
 use Rattle.ckr_desk_turn.specs.declared.reply.How.TheVariants.{Abended}
-use Rattle.ckr_desk_turn.specs.declared.reply.Reply.TheVariants.{JobEnded, Restarted}
+use Rattle.ckr_desk_turn.specs.declared.reply.Reply.TheVariants.{JobEnded}
 use Rattle.ckr_desk_turn.specs.Jobs.{TurnJobs, TurnStep, effect_entry, running_in, step_name_of}
 
 -- how far a run with a code has come: the writes of its running step and the lengths with them, else the committed ones
@@ -43,30 +45,42 @@ ended_by row code rule reached =
     Tell (JobEnded row.number (Abended code rule))
     (EndedEvent row.number (CodedEnding code (rule_number rule) reached.writes (record { items = reached.lengths })))
 
--- a run is restarted on an initiator, at the start of its step
-abbrev pub restarted_by : RunRow → ℕ → Code → Plan
-restarted_by row initiator code = Tell (Restarted row.number (step_name_of row) None 0) (RestartedEvent row.number initiator code false)
+-- what the operator is asked of a run that has a code: it is on the initiator, or comes to it; it would go on at this checkpoint, or without one at the
+-- start of its step
+abbrev pub inquiry_of : RunRow → ℕ → Bool → Code → CodePlaceModel → Option Name → ℕ → Inquiry
+inquiry_of row initiator lodged code reached id taken = record {
+  job = row.number;
+  step = step_name_of row;
+  initiator = initiator;
+  lodged = lodged;
+  code = code;
+  id = id;
+  taken = taken;
+  writes = reached.writes;
+  lengths = record { items = reached.lengths };
+}
 
--- it is restarted at its checkpoint in effect, of which this is the entry
-abbrev pub restarted_at : RunRow → ℕ → Code → KeptEntry → Plan
-restarted_at row initiator code entry =
-    Tell (Restarted row.number (step_name_of row) (Some entry.kept.id) entry.point.taken) (RestartedEvent row.number initiator code true)
+abbrev pub asked_at_start : RunRow → ℕ → Bool → Code → CodePlaceModel → Plan
+asked_at_start row initiator lodged code reached = Ask (inquiry_of row initiator lodged code reached None 0)
+
+abbrev pub asked_at_entry : RunRow → ℕ → Bool → Code → CodePlaceModel → KeptEntry → Plan
+asked_at_entry row initiator lodged code reached entry = Ask (inquiry_of row initiator lodged code reached (Some entry.kept.id) entry.point.taken)
 
 -- what the rules say of a run after a code, where the operator doesn't refuse its restart
 abbrev pub verdict_for : Layout → RunRow → Code → Verdict
 verdict_for layout row code = automatic (auto_case row (step_in (place_of row)) layout.eligible.items code false)
 
--- what becomes of the run by that; a desk always has the entry of the checkpoint at which the rules restart a run, and the end in its place
--- is for totality alone
-abbrev pub judged_plan : TablesModel → RunRow → ℕ → Code → CodePlaceModel → Verdict → Plan
-judged_plan tables row initiator code reached (Denied rule) = ended_by row code rule reached
-judged_plan tables row initiator code reached Step = restarted_by row initiator code
-judged_plan tables row initiator code reached Checkpoint =
-    option_map_or (restarted_at row initiator code) (effect_entry tables row) (ended_by row code A6 reached)
+-- What becomes of the run by that: it ends by the rule that denies a restart, or the operator is asked. A desk always has the entry of the checkpoint at
+-- which the rules restart a run, and the end in its place is for totality alone.
+abbrev pub judged_plan : TablesModel → RunRow → ℕ → Bool → Code → CodePlaceModel → Verdict → Plan
+judged_plan tables row initiator lodged code reached (Denied rule) = ended_by row code rule reached
+judged_plan tables row initiator lodged code reached Step = asked_at_start row initiator lodged code reached
+judged_plan tables row initiator lodged code reached Checkpoint =
+    option_map_or (asked_at_entry row initiator lodged code reached) (effect_entry tables row) (ended_by row code A6 reached)
 
--- a turn in which a run has a code, on its initiator
-abbrev pub code_plan : Layout → TablesModel → RunRow → ℕ → Code → CodePlaceModel → Plan
-code_plan layout tables row initiator code reached = judged_plan tables row initiator code reached (verdict_for layout row code)
+-- a turn of an initiator in which a run has a code
+abbrev pub code_plan : Layout → TablesModel → RunRow → ℕ → Bool → Code → CodePlaceModel → Plan
+code_plan layout tables row initiator lodged code reached = judged_plan tables row initiator lodged code reached (verdict_for layout row code)
 
 -- the initiator that a run is on
 abbrev pub initiator_of : RunRow → ℕ

@@ -1,7 +1,8 @@
 -- A desk whose events are kept, and whose running steps stand where their jobs come to.
-use Rattle.std.specs.Prelude.{◌≡◌, ◌+◌, ◌≤◌, ◌==◌, ◌||◌, ◌&&◌, ℕ, Bool, true, false, not, List, length, Some, Ok}
+use Rattle.std.specs.Prelude.{◌≡◌, ◌+◌, ◌≤◌, ◌==◌, ◌||◌, ◌&&◌, ℕ, Bool, true, false, not, if◌then◌else◌, List, length, Option, None, Some, Ok}
 use Rattle.std.specs.List.{list_any, list_all, AllByRecursion}
 use Rattle.std.specs.Option.{is_none, is_some}
+use Rattle.ckr_base.specs.declared.code.Code.{Code}
 use Rattle.ckr_base.specs.declared.programs.Finish.TheVariants.{Returned}
 use Rattle.ckr_jcl_decks.specs.Deck.{stored_deck}
 use Rattle.ckr_meaning.specs.declared.place.Place.TheVariants.{Within}
@@ -9,7 +10,7 @@ use Rattle.ckr_meaning.specs.LibrarySet.{AreWithinSpace}
 use Rattle.ckr_meaning.specs.Program.{records_taken, unit_done, upto}
 use Rattle.ckr_meaning.specs.StepRun.{StepStart, case_at, work_at}
 use Rattle.ckr_points.specs.declared.run.RunState.{RunState}
-use Rattle.ckr_points.specs.declared.run.RunState.TheVariants.{Queued, On, Held, Released, Ended, Denied, Purged}
+use Rattle.ckr_points.specs.declared.run.RunState.TheVariants.{Queued, On, Held, Released, Denied}
 use Rattle.ckr_points.specs.Follows.{is_running, own_step}
 use Rattle.ckr_points.specs.Payload.{rewrites_nothing}
 use Rattle.ckr_points.specs.Office.{Leg, Office}
@@ -18,6 +19,7 @@ use Rattle.ckr_points_invariant.specs.Invariant.{IsKept}
 use Rattle.ckr_points_invariant.specs.Points.{ArePointed}
 use Rattle.ckr_points_invariant.specs.Readiness.{AreReady}
 use Rattle.ckr_points_decks.specs.Form.{is_run}
+use Rattle.ckr_desk_turn.specs.declared.failed_run.FailedRun.{FailedRun}
 use Rattle.ckr_desk_turn.specs.declared.reply.Turn.{Turn}
 use Rattle.ckr_desk_turn.specs.Desk.{DeskModel, DeskStep, TurnDone, start_of}
 use Rattle.ckr_desk_turn.specs.Units.{StepProgress}
@@ -38,6 +40,11 @@ abbrev pub HasCome : StepStart → StepProgress → Bool → Type 0
 HasCome start progress false = IsOpen start progress
 HasCome start progress true = IsClosed start progress
 
+-- so far has a step come whose run doesn't wait with a code; one whose run does has stopped within or behind its next unit
+abbrev pub HasComeSo : Option Code → StepStart → StepProgress → Type 0
+HasComeSo None start progress = HasCome start progress progress.closed
+HasComeSo (Some code) start progress = Unit {0}
+
 -- a running step of a run on an initiator, behind the writes that are committed
 pub record IsGoing (office : Office) (step : DeskStep) : Type 0 where
   pub row : RunRow
@@ -51,15 +58,15 @@ pub record IsGoing (office : Office) (step : DeskStep) : Type 0 where
   pub fit : step.progress.writes ≤ length (work_at start).writes
   pub behind : committed ≤ step.progress.writes
   pub plain : rewrites_nothing start committed step.progress.writes ≡ true
-  pub come : HasCome start step.progress step.progress.closed
+  pub come : HasComeSo step.code start step.progress
 
 -- a run that was within a step when the system failed
-pub record IsFailed (office : Office) (run : ℕ) : Type 0 where
+pub record IsFailed (office : Office) (one : FailedRun) : Type 0 where
   pub row : RunRow
   pub number : ℕ
   pub committed : ℕ
   pub start : StepStart
-  pub within : IsWithinStep office run row number committed start
+  pub within : IsWithinStep office one.run row number committed start
 
 -- whether a run may be on an initiator
 abbrev pub is_on_one : RunState → Bool
@@ -67,18 +74,24 @@ is_on_one Queued = false
 is_on_one On = true
 is_on_one _ = false
 
--- a run that was never held, of a form that the desk runs
+-- a run that was never denied
 abbrev pub is_plain_state : RunState → Bool
-is_plain_state Queued = true
-is_plain_state On = true
-is_plain_state Held = false
-is_plain_state Released = false
-is_plain_state Ended = true
 is_plain_state Denied = false
-is_plain_state Purged = true
+is_plain_state _ = true
 
+-- whether a run is off its initiator within a step: it is held, or was released
+abbrev pub is_off : RunState → Bool
+is_off Held = true
+is_off Released = true
+is_off _ = false
+
+-- a run has a code exactly while it is off its initiator
+abbrev pub has_code_while_off : RunRow → Bool
+has_code_while_off row = if is_off row.state then is_some row.code else is_none row.code
+
+-- a run of a form that the desk runs, on an initiator or with a code as its state says
 abbrev pub is_plain_row : RunRow → Bool
-is_plain_row row = is_plain_state row.state && ((is_none row.initiator || is_on_one row.state) && (is_none row.code && is_run row.deck))
+is_plain_row row = is_plain_state row.state && ((is_none row.initiator || is_on_one row.state) && (has_code_while_off row && is_run row.deck))
 
 -- the cards of an accepted deck were read, and a run that is on an initiator has one
 pub record IsAdmitted (row : RunRow) : Type 0 where
@@ -89,7 +102,11 @@ pub record IsAdmitted (row : RunRow) : Type 0 where
 -- a run on an initiator within a step is running, or was when the system failed
 abbrev pub is_accounted : DeskModel → RunRow → Bool
 is_accounted desk row =
-    not (is_running row) || (list_any (λ (step : DeskStep). step.run == row.number) desk.running || list_any (λ number. number == row.number) desk.failed)
+    not (is_running row) || (list_any (λ (step : DeskStep). step.run == row.number) desk.running || list_any (λ (one : FailedRun). one.run == row.number) desk.failed)
+
+-- a run on an initiator within a step has that step, and so has one that is off its initiator
+abbrev pub has_its_step : RunRow → Bool
+has_its_step row = not (is_running row || is_off row.state) || is_some (own_step row)
 
 -- the desk is as its events have brought it about
 pub record IsDesk (desk : DeskModel) : Type 0 where
@@ -98,15 +115,12 @@ pub record IsDesk (desk : DeskModel) : Type 0 where
   pub failed : AllByRecursion (IsFailed desk.office) desk.failed
   pub plain : list_all is_plain_row desk.office.tables.runs ≡ true
   pub admitted : AllByRecursion IsAdmitted desk.office.tables.runs
+  pub stepped : list_all has_its_step desk.office.tables.runs ≡ true
   pub accounted : list_all (is_accounted desk) desk.office.tables.runs ≡ true
   pub spaced : AreWithinSpace desk.office.library
   pub spaced_legs : AllByRecursion (λ (leg : Leg). AreWithinSpace leg.start) desk.office.legs
   pub pointed : ArePointed desk.office
   pub ready : AreReady desk.office
-
--- a run on an initiator within a step has that step
-abbrev pub has_its_step : RunRow → Bool
-has_its_step row = not (is_running row) || is_some (own_step row)
 
 -- what the events of a desk have brought about beside kept tables, whichever steps are running
 pub record HasRuns (office : Office) : Type 0 where

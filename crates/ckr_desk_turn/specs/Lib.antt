@@ -4,6 +4,7 @@ pub mod Allocation
 pub mod Select
 pub mod Codes
 pub mod Desk
+pub mod Inquiries
 pub mod Jobs
 pub mod Plans
 pub mod Queue

@@ -3,7 +3,6 @@ use Rattle.std.specs.Prelude.{ℕ, pred, Bool, true, false, if◌then◌else◌,
 use Rattle.std.specs.Option.{option_map_or}
 use Rattle.ckr_points_library.specs.declared.cause.Cause.{Cause}
 use Rattle.ckr_base.specs.declared.code.Code.{Code}
-use Rattle.ckr_base.specs.declared.code.Code.TheVariants.{System}
 use Rattle.ckr_base.specs.declared.programs.NextDue.{NextDue}
 use Rattle.ckr_base.specs.declared.programs.NextDue.TheVariants.{Unit as OneUnit, Checkpoint, Cancel, Finished}
 use Rattle.ckr_events.specs.declared.event.Event.TheVariants.{Selected as SelectedEvent, Started as StartedEvent, Cancelled as CancelledEvent, StepEnded as StepEndedEvent, Ended as EndedEvent}
@@ -25,7 +24,8 @@ use Rattle.ckr_desk_turn.specs.declared.reply.Turn.{Turn}
 use Rattle.ckr_desk_turn.specs.Allocation.{allocation_of, cause_numbers}
 use Rattle.ckr_desk_turn.specs.Select.{next_run, run_on_initiator}
 use Rattle.ckr_desk_turn.specs.Codes.{code_plan, initiator_of, reached_by}
-use Rattle.ckr_desk_turn.specs.Jobs.{TurnJobs, TurnStep, is_failed, running_in, step_name_of}
+use Rattle.ckr_desk_turn.specs.Jobs.{TurnJobs, TurnStep, is_failed, running_in, step_name_of, waiting_code}
+pub use Rattle.ckr_desk_turn.specs.Jobs.{system_failure}
 
 -- ---- between steps
 
@@ -87,10 +87,6 @@ placed_plan layout jobs row (Within number writes) = option_map_or (running_plan
 
 -- ---- an initiator that has a run
 
--- the code of a run that was running when the system failed
-abbrev pub system_failure : Code
-system_failure = System 755
-
 abbrev pub is_within : Place → Bool
 is_within (Before number) = false
 is_within (Opened number) = false
@@ -101,16 +97,25 @@ abbrev pub fail_plan : Layout → TurnJobs → RunRow → Option Code → Plan
 fail_plan layout jobs row None = placed_plan layout jobs row (place_of row)
 fail_plan layout jobs row (Some code) =
     elim (is_within (place_of row)) [
-      | true ↦ code_plan layout jobs.tables row (initiator_of row) code (reached_by jobs row)
+      | true ↦ code_plan layout jobs.tables row (initiator_of row) true code (reached_by jobs row)
       | false ↦ Rest NothingToFail
     ]
 
--- a system failure comes first
+-- a run that waits with a code is asked for again, and isn't running: no code can be given
+abbrev pub waiting_plan : Layout → TurnJobs → RunRow → Code → Option Code → Plan
+waiting_plan layout jobs row code None = code_plan layout jobs.tables row (initiator_of row) true code (reached_by jobs row)
+waiting_plan layout jobs row code (Some given) = Rest NothingToFail
+
+abbrev pub unmarked_plan : Layout → TurnJobs → RunRow → Option Code → Option Code → Plan
+unmarked_plan layout jobs row fail None = fail_plan layout jobs row fail
+unmarked_plan layout jobs row fail (Some code) = waiting_plan layout jobs row code fail
+
+-- a system failure comes first, then the code with which the run waits
 abbrev pub run_plan : Layout → TurnJobs → Option Code → RunRow → Plan
 run_plan layout jobs fail row =
     elim (is_failed jobs row.number) [
-      | true ↦ code_plan layout jobs.tables row (initiator_of row) system_failure (reached_by jobs row)
-      | false ↦ fail_plan layout jobs row fail
+      | true ↦ code_plan layout jobs.tables row (initiator_of row) true system_failure (reached_by jobs row)
+      | false ↦ unmarked_plan layout jobs row fail (waiting_code jobs row.number)
     ]
 
 -- ---- an initiator that has none
@@ -120,7 +125,7 @@ abbrev pub chosen_plan : Layout → TurnJobs → ℕ → RunRow → Plan
 chosen_plan layout jobs initiator row =
     elim row.code [
       | None ↦ Tell (Selected row.number) (SelectedEvent row.number initiator 0 0 None)
-      | Some code ↦ code_plan layout jobs.tables row initiator code (reached_by jobs row)
+      | Some code ↦ code_plan layout jobs.tables row initiator false code (reached_by jobs row)
     ]
 
 abbrev pub free_plan : Layout → TurnJobs → ℕ → Option Code → Plan

@@ -2,7 +2,7 @@
 use Rattle.std.specs.Prelude.{◌≡◌, ◌==◌, ℕ, true, List, Option, None, Some}
 use Rattle.std.specs.List.{AllByRecursion}
 use Rattle.ckr_events.specs.declared.event.Event.{Event}
-use Rattle.ckr_events.specs.declared.event.Event.TheVariants.{Cancelled, Checkpointed, Ended, Purged, Restarted, Rewritten, Selected, Started, StepEnded, Submitted}
+use Rattle.ckr_events.specs.declared.event.Event.TheVariants.{Cancelled, Checkpointed, Ended, Held, Purged, Released, Restarted, Rewritten, Selected, Started, StepEnded, Submitted}
 use Rattle.ckr_jcl.specs.declared.deck.Job.{Job}
 use Rattle.ckr_points.specs.Restart.{Decked}
 use Rattle.ckr_points_decks.specs.Cards.{kept_deck}
@@ -22,6 +22,8 @@ IsRunEvent (Checkpointed job id taken writes lengths place bytes) deck = Unit {0
 IsRunEvent (Cancelled job) deck = Unit {0}
 IsRunEvent (StepEnded job step rc writes lengths) deck = Unit {0}
 IsRunEvent (Restarted job initiator code checkpoint) deck = Unit {0}
+IsRunEvent (Held job code writes lengths) deck = Unit {0}
+IsRunEvent (Released job) deck = Unit {0}
 IsRunEvent (Ended job ending) deck = Unit {0}
 IsRunEvent (Purged job) deck = Unit {0}
 IsRunEvent _ deck = ⊥

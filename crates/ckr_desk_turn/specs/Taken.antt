@@ -1,5 +1,5 @@
 -- The turn by which a checkpoint of a running step is taken, with the desk behind it.
-use Rattle.std.specs.Prelude.{ℕ, Option, None, Some}
+use Rattle.std.specs.Prelude.{ℕ, false, Option, None, Some}
 use Rattle.std.specs.Option.{option_map_or}
 use Rattle.ckr_events.specs.declared.event.Event.{Event}
 use Rattle.ckr_points.specs.Rows.{RunRow, run_of}
@@ -18,6 +18,7 @@ served_by row served desk = record {
   reply = served.reply;
   event = served.event;
   desk = with_progress row.number served.progress (behind_entry served.event desk);
+  asked = false;
 }
 
 -- the checkpoint that is due in the running step of a run: it is written, doesn't fit or is suppressed

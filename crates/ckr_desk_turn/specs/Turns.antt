@@ -1,31 +1,45 @@
 -- A turn of the desk, and turns one after the other.
 use Rattle.std.specs.Prelude.{List, [], ◌∷◌}
+use Rattle.ckr_console.specs.declared.question.Answer.{Answer}
 use Rattle.ckr_desk_turn.specs.declared.plan.Plan.{Plan}
-use Rattle.ckr_desk_turn.specs.declared.plan.Plan.TheVariants.{Rest, Tell, Work, Pass, Take}
+use Rattle.ckr_desk_turn.specs.declared.plan.Plan.TheVariants.{Rest, Tell, Work, Pass, Take, Ask, Wait}
 use Rattle.ckr_desk_turn.specs.declared.reply.Reply.{Reply}
 use Rattle.ckr_desk_turn.specs.declared.reply.Turn.{Turn}
-use Rattle.ckr_desk_turn.specs.Desk.{DeskModel, TurnDone, done_by, jobs_of, work_of}
+use Rattle.ckr_desk_turn.specs.Desk.{DeskModel, TurnDone, answered, done_by, jobs_of, work_of}
+use Rattle.ckr_desk_turn.specs.Invariant.{IsTurnOf}
 use Rattle.ckr_desk_turn.specs.Plans.{plan_of}
 use Rattle.ckr_desk_turn.specs.Taken.{taken_of}
+use Rattle.ckr_volumes.specs.declared.layout.Layout.{Layout}
 
--- a unit and a checkpoint come to what the running step decides
-abbrev pub carried_out : Plan → DeskModel → TurnDone
-carried_out (Rest reply) desk = done_by (Rest reply) desk
-carried_out (Tell reply event) desk = done_by (Tell reply event) desk
-carried_out (Work job) desk = work_of job desk
-carried_out (Pass job reply) desk = done_by (Pass job reply) desk
-carried_out (Take job) desk = taken_of job desk
+-- a unit and a checkpoint come to what the running step decides, and a question to what the operator does
+abbrev pub carried_out : Answer → Plan → DeskModel → TurnDone
+carried_out answer (Rest reply) desk = done_by (Rest reply) desk
+carried_out answer (Tell reply event) desk = done_by (Tell reply event) desk
+carried_out answer (Work job) desk = work_of answer job desk
+carried_out answer (Pass job reply) desk = done_by (Pass job reply) desk
+carried_out answer (Take job) desk = taken_of job desk
+carried_out answer (Ask inquiry) desk = answered answer (Ask inquiry) desk
+carried_out answer (Wait job code) desk = done_by (Wait job code) desk
 
--- a turn
-unfoldable pub turn_of : DeskModel → Turn → TurnDone
-turn_of desk turn = carried_out (plan_of desk.layout (jobs_of desk) turn) desk
+-- a turn, where the operator gives this answer if he is asked
+unfoldable pub turn_of : DeskModel → Turn → Answer → TurnDone
+turn_of desk turn answer = carried_out answer (plan_of desk.layout (jobs_of desk) turn) desk
+
+-- a turn with the answer that the operator gives if he is asked
+pub record AnsweredTurn : Type 0 where
+  pub turn : Turn
+  pub answer : Answer
+
+-- a turn of an initiator that the layout has, whatever the operator answers
+abbrev pub IsAnsweredTurnOf : Layout → AnsweredTurn → Type 0
+IsAnsweredTurnOf layout one = IsTurnOf layout one.turn
 
 -- the replies of turns, one after the other
-abbrev pub replies_of : List Turn → DeskModel → List Reply
+abbrev pub replies_of : List AnsweredTurn → DeskModel → List Reply
 replies_of [] desk = []
-replies_of (turn ∷ turns) desk = let done = turn_of desk turn in done.reply ∷ replies_of turns done.desk
+replies_of (one ∷ rest) desk = let done = turn_of desk one.turn one.answer in done.reply ∷ replies_of rest done.desk
 
 -- the desk behind turns
-abbrev pub desk_after : List Turn → DeskModel → DeskModel
+abbrev pub desk_after : List AnsweredTurn → DeskModel → DeskModel
 desk_after [] desk = desk
-desk_after (turn ∷ turns) desk = desk_after turns (turn_of desk turn).desk
+desk_after (one ∷ rest) desk = desk_after rest (turn_of desk one.turn one.answer).desk

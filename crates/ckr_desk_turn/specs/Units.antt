@@ -84,4 +84,4 @@ unit_plan layout jobs row step (went None) = Rest (Worked row.number (step_name_
 unit_plan layout jobs row step (went (Some at)) =
     Tell (Worked row.number (step_name_of row) step.taken)
     (RewrittenEvent row.number step.taken step.writes (record { items = step.lengths }) at.0 (fitted (updated_lrecl jobs row) at.1))
-unit_plan layout jobs row step (abended code) = code_plan layout jobs.tables row (initiator_of row) code (running_reached step)
+unit_plan layout jobs row step (abended code) = code_plan layout jobs.tables row (initiator_of row) true code (running_reached step)

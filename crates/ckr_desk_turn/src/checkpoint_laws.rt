@@ -3,6 +3,7 @@ ghost use Rattle.std.specs.Prelude.{◌≡◌, ℕ, suc, true, false, ◌&&◌, 
 ghost use Rattle.std.specs.List.{AllByRecursion};
 ghost use Rattle.std.specs.Option.{option_map};
 ghost use Rattle.arrayvec.specs.ArrayVec.{ArrayVec};
+ghost use Rattle.ckr_console.specs.declared.question.Answer.{Answer as OperatorAnswer};
 ghost use Rattle.ckr_base.specs.declared.programs.NextDue.TheVariants.{Checkpoint as CheckpointDue, Cancel as CancelDue};
 ghost use Rattle.ckr_entry.specs.declared.point.State.{State};
 ghost use Rattle.ckr_entry.specs.Entry.{IsEntry, spelling};
@@ -30,7 +31,7 @@ ghost use Rattle.ckr_desk_turn.specs.Due.{next_due};
 ghost use Rattle.ckr_desk_turn.specs.EntryForms.{IsEntryForm};
 ghost use Rattle.ckr_desk_turn.specs.EntryStates.{at_checkpoint, checkpoint_state};
 ghost use Rattle.ckr_desk_turn.specs.Invariant.{HasRuns, IsDesk, IsGoing, Keeps};
-ghost use Rattle.ckr_desk_turn.specs.Jobs.{is_failed, step_name_of};
+ghost use Rattle.ckr_desk_turn.specs.Jobs.{is_failed, step_name_of, waiting_code};
 ghost use Rattle.ckr_desk_turn.specs.NextEvents.{EventComes, IsWithinStep};
 ghost use Rattle.ckr_desk_turn.specs.Plans.{run_plan, suppressed_plan};
 ghost use Rattle.ckr_desk_turn.specs.Taken.{taken_of};
@@ -55,21 +56,21 @@ pub fn cancels_are_due_behind_checkpoints()
     ensures once { (start : StepStart) (progress : StepProgress) → next_due start (cancel_done progress) ≡ CancelDue → ⊥ }
 {}
 
-/// The turn of a run in whose step a checkpoint is due is the one by which it is taken, whatever its RD. Where RD suppresses it, the turn
-/// that is planned comes to the same: CHKPT 00 SUPPRESSED, no event, and the checkpoint is done. The replies name the step as its job
-/// starts it.
+/// The turn of a run in whose step a checkpoint is due, and which waits with no code, is the one by which it is taken, whatever its RD. Where
+/// RD suppresses it, the turn that is planned comes to the same: CHKPT 00 SUPPRESSED, no event, and the checkpoint is done. The replies name
+/// the step as its job starts it.
 pub fn checkpoints_that_are_due_are_taken()
-    ensures turn { (desk : DeskModel) (row : RunRow) (number committed : ℕ) (start : StepStart) (progress : StepProgress) → IsDesk desk → IsWithinStep desk.office row.number row number committed start → is_failed (jobs_of desk) row.number ≡ false
-        → progress_of desk row.number ≡ Some progress → next_due start progress ≡ CheckpointDue → carried_out (run_plan desk.layout (jobs_of desk) None row) desk ≡ taken_of row.number desk }
-    ensures planned { (desk : DeskModel) (on : DeskStep) (going : IsGoing desk.office on) → IsDesk desk → progress_of desk on.run ≡ Some on.progress → suppresses (rd_in_effect going.row going.start.number) ≡ true
-        → carried_out (suppressed_plan going.row) desk ≡ taken_of on.run desk }
+    ensures turn { (desk : DeskModel) (row : RunRow) (number committed : ℕ) (start : StepStart) (progress : StepProgress) (answer : OperatorAnswer) → IsDesk desk → IsWithinStep desk.office row.number row number committed start → is_failed (jobs_of desk) row.number ≡ false
+        → waiting_code (jobs_of desk) row.number ≡ None → progress_of desk row.number ≡ Some progress → next_due start progress ≡ CheckpointDue → carried_out answer (run_plan desk.layout (jobs_of desk) None row) desk ≡ taken_of row.number desk }
+    ensures planned { (desk : DeskModel) (on : DeskStep) (going : IsGoing desk.office on) (answer : OperatorAnswer) → IsDesk desk → progress_of desk on.run ≡ Some on.progress → suppresses (rd_in_effect going.row going.start.number) ≡ true
+        → carried_out answer (suppressed_plan going.row) desk ≡ taken_of on.run desk }
     ensures named { (desk : DeskModel) (on : DeskStep) (going : IsGoing desk.office on) → IsDesk desk → step_name_of going.row ≡ going.start.owned.step.name }
 {}
 
 /// The event of a checkpoint that fits may come and carries what its job gives, and so does that of a cancel. So a turn that serves a
 /// checkpoint of a step that isn't closed tells such an event, or none.
 pub fn events_of_checkpoints_may_come()
-    ensures turn { (desk : DeskModel) (run : ℕ) (progress : StepProgress) (going : IsGoing desk.office (record { run = run; progress = progress })) → IsKept desk.layout desk.office
+    ensures turn { (desk : DeskModel) (run : ℕ) (progress : StepProgress) (going : IsGoing desk.office (record { run = run; progress = progress; code = None })) → IsKept desk.layout desk.office
         → AllByRecursion (λ (leg : Leg). AreWithinSpace leg.start) desk.office.legs → progress.closed ≡ false → EventComes desk (checkpoint_turn desk.office.tables going.row going.start progress).event }
     ensures checkpointed { (layout : LayoutOfDisk) (office : Office) (step : DeskStep) (may : MayCheckpoint layout office step) → IsNext layout office (written_event layout office step may, None) }
     ensures cancelled { (layout : LayoutOfDisk) (office : Office) (row : RunRow) (number committed : ℕ) (start : StepStart) → IsWithinStep office row.number row number committed start → IsNext layout office (CancelledEvent row.number, None) }

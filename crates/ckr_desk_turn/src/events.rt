@@ -165,6 +165,30 @@ pub fn coded_event(
     }
 }
 
+/// A job is held with a code. The code's number is at most 4095.
+#[tactic(auto, using(crate::proofs::Spelling::held_spelled))]
+pub fn held_event(job: u32, code: Code, writes: u32, lengths: ArrayVec<u32, 16>) -> Event
+    requires code { IsCode code }
+    requires lengths { length_list.fits lengths.items }
+    ensures event { result ≡ Event.Held job code writes lengths }
+    ensures spelled { IsSpelled result }
+{
+    Event::Held {
+        job,
+        code,
+        writes,
+        lengths,
+    }
+}
+
+/// A held job is released.
+pub fn released_event(job: u32) -> Event
+    ensures event { result ≡ Event.Released job }
+    ensures spelled { IsSpelled result }
+{
+    Event::Released { job }
+}
+
 /// The number of a cause, and its two numbers; one that a cause doesn't have is 0.
 fn cause_numbers(cause: Cause) -> (u8, u32, u32)
     ensures { (result.0, result.1, result.2) ≡ cause_numbers cause }

@@ -5,6 +5,8 @@ mod checkpoint_laws;
 mod entry_form_laws;
 mod event_laws;
 mod events;
+mod failed_run;
+mod inquiry;
 mod opening_law;
 mod plan;
 mod queue_law;
@@ -26,24 +28,27 @@ pub use entry_form_laws::{
 pub use event_laws::{events_between_steps_may_come, events_of_calls_may_come};
 pub use events::{
     allocation_event, cancelled_event, checkpointed_event, coded_event, completed_event,
-    purged_event, restarted_event, rewritten_event, selected_event, started_event,
-    step_ended_event,
+    held_event, purged_event, released_event, restarted_event, rewritten_event, selected_event,
+    started_event, step_ended_event,
 };
+pub use failed_run::FailedRun;
+pub use inquiry::Inquiry;
 pub use opening_law::{opened_desks_are_desks, sound_events_open_to_a_desk};
 pub use plan::Plan;
 pub use queue_law::the_queue_selects_the_next_run;
 pub use reply::{Chkpt, How, Reply, Submitted, Turn};
 pub use restart_laws::{
     codes_come_to_what_the_rules_say, events_of_restarts_may_come, held_runs_stop,
-    refused_restarts_keep_the_desk, restarted_runs_go_on, restarted_runs_stand_at_their_point,
-    restarts_keep_the_desk,
+    restarted_runs_go_on, restarted_runs_stand_at_their_point, restarts_keep_the_desk,
+    turns_rest_on_the_operators_answer,
 };
 pub use step_laws::{
     next_units_keep_the_desk, turns_within_a_step_keep_the_desk, units_keep_the_desk,
 };
 pub use turn_laws::{
     desks_behind_calls, desks_behind_steps_that_start, desks_behind_turns,
-    desks_behind_turns_between_steps, turns_keep_the_desk,
+    desks_behind_turns_between_steps, restarted_jobs_leave_what_they_leave_once,
+    turns_keep_the_desk,
 };
 pub use unit_laws::{
     codes_of_units_are_those_of_the_work, last_units_keep_the_desk, rewrites_keep_the_desk,

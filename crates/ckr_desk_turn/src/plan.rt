@@ -1,6 +1,7 @@
 //! What a turn comes to.
 
-use crate::Reply;
+use crate::{Inquiry, Reply};
+use ckr_base::Code;
 use ckr_events::Event;
 
 /// What a turn comes to, as far as the tables and the running steps tell.
@@ -16,4 +17,8 @@ pub enum Plan {
     Pass { job: u32, reply: Reply },
     /// The checkpoint that is due in the running step of this job is taken; the step and its data sets decide what it comes to.
     Take { job: u32 },
+    /// The operator is asked, and his answer decides.
+    Ask(Inquiry),
+    /// The operator hasn't answered: the run of this number waits with this code on its initiator.
+    Wait { job: u32, code: Code },
 }

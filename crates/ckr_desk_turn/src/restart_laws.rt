@@ -1,15 +1,18 @@
 //! Which turns restart a run, what automatic restarts do to the desk, and the holds of runs that wait for them. A law is the contract of a function that does nothing.
-ghost use Rattle.std.specs.Prelude.{◌≡◌, ℕ, Bool, true, false, None, Some};
+ghost use Rattle.std.specs.Prelude.{◌≡◌, ◌≤◌, ℕ, Bool, true, false, None, Some};
 ghost use Rattle.std.specs.Option.{is_some};
 ghost use Rattle.arrayvec.specs.ArrayVec.{ArrayVec};
 ghost use Rattle.ckr_base.specs.declared.code.Code.{Code};
+ghost use Rattle.ckr_console.specs.declared.question.Answer.{Answer as OperatorAnswer};
+ghost use Rattle.ckr_console.specs.declared.question.Answer.TheVariants.{Hold, No, Silent, Yes};
 ghost use Rattle.ckr_base.specs.declared.programs.NextDue.TheVariants.{Checkpoint as CheckpointDue};
-ghost use Rattle.ckr_events.specs.declared.event.Event.TheVariants.{Held as HeldEvent, Restarted as RestartedEvent};
+ghost use Rattle.ckr_events.specs.declared.event.Event.TheVariants.{Ended as EndedEvent, Held as HeldEvent, Restarted as RestartedEvent};
+ghost use Rattle.ckr_events.specs.declared.event.Ending.TheVariants.{Coded as CodedEnding};
 ghost use Rattle.ckr_meaning.specs.EffectiveJob.{OwnedStep};
 ghost use Rattle.ckr_meaning.specs.StepRun.{StepStart};
 ghost use Rattle.ckr_meaning.specs.declared.place.Place.TheVariants.{Opened, Within};
 ghost use Rattle.ckr_points.specs.Events.{IsNext};
-ghost use Rattle.ckr_points.specs.Follows.{own_step};
+ghost use Rattle.ckr_points.specs.Follows.{is_free, own_step};
 ghost use Rattle.ckr_points.specs.Marks.{point_at};
 ghost use Rattle.ckr_points.specs.Office.{Leg, Office, leg_of, office_after};
 ghost use Rattle.ckr_points.specs.Rows.{EntryPoint, KeptEntry, RunRow, StartPoint, run_of};
@@ -17,49 +20,70 @@ ghost use Rattle.ckr_points_invariant.specs.Invariant.{IsKept};
 ghost use Rattle.ckr_points_invariant.specs.Points.{ArePointed};
 ghost use Rattle.ckr_points_invariant.specs.Readiness.{AreReady};
 ghost use Rattle.ckr_points_invariant.specs.Restorability.{StandsAt};
+ghost use Rattle.ckr_rules.specs.RuleTables.{rule_number};
 ghost use Rattle.ckr_rules.specs.declared.cases.Rule.{Rule as RuleOfTable};
+ghost use Rattle.ckr_rules.specs.declared.cases.Rule.TheVariants.{A6};
 ghost use Rattle.ckr_rules.specs.declared.cases.Verdict.TheVariants.{Checkpoint as AtCheckpoint, Denied as DeniedBy, Step as AtStep};
 ghost use Rattle.ckr_volumes.specs.declared.layout.Layout.{Layout as LayoutOfDisk};
+ghost use Rattle.ckr_desk_turn.specs.declared.reply.Reply.TheVariants.{AwaitingReply};
 ghost use Rattle.ckr_desk_turn.specs.declared.reply.Turn.{Turn};
-ghost use Rattle.ckr_desk_turn.specs.Codes.{ended_by, initiator_of, reached_by, restarted_at, restarted_by, verdict_for};
-ghost use Rattle.ckr_desk_turn.specs.Desk.{DeskModel, at_entry, behind, done_by, jobs_of, progress_of, unit_done};
+ghost use Rattle.ckr_desk_turn.specs.Codes.{asked_at_entry, asked_at_start, ended_by, initiator_of, reached_by, running_reached, verdict_for};
+ghost use Rattle.ckr_desk_turn.specs.Desk.{DeskModel, answered, at_entry, behind, done_by, jobs_of, progress_of, seen, unit_done, with_progress};
 ghost use Rattle.ckr_desk_turn.specs.Due.{next_due};
 ghost use Rattle.ckr_desk_turn.specs.Invariant.{IsDesk, IsGoing};
 ghost use Rattle.ckr_desk_turn.specs.Jobs.{effect_entry, is_failed};
 ghost use Rattle.ckr_desk_turn.specs.Plans.{run_plan, start_plan};
-ghost use Rattle.ckr_desk_turn.specs.Restarts.{GoesOnBy, HasCode, IsJudged, refusal_of, restart_of};
+ghost use Rattle.ckr_desk_turn.specs.Restarts.{GoesOnBy, HasCode, IsJudged, IsJudgedOff, restart_of};
 ghost use Rattle.ckr_desk_turn.specs.Turns.{turn_of};
 ghost use Rattle.ckr_desk_turn.specs.Units.{StepProgress, abended};
 
-/// The turn of a run that has a code within a step, that of the system failure or one that is given, comes to what the rules say: the run is
-/// restarted on its initiator, at the start of its step or at its checkpoint in effect, of which there is the entry, or it ends by the rule
-/// that denies it. A run is restarted so, too, where the next unit of its step comes to such a code, however far the step had come.
+/// The turn of a run that has a code within a step, that of the system failure, the one with which it waits or one that is given, comes to what
+/// the rules say: the run ends by the rule that denies its restart, or the operator is asked whether it may be restarted on its initiator, at
+/// the start of its step or at its checkpoint in effect, of which there is the entry. So it is, too, where the next unit of its step comes to
+/// such a code, however far the step had come.
 pub fn codes_come_to_what_the_rules_say()
-    ensures restarted { (desk : DeskModel) (turn : Turn) (row : RunRow) (code : Code) → HasCode desk turn row code → verdict_for desk.layout row code ≡ AtStep → turn_of desk turn ≡ done_by (restarted_by row turn.initiator code) desk }
-    ensures denied { (desk : DeskModel) (turn : Turn) (row : RunRow) (code : Code) (rule : RuleOfTable) → HasCode desk turn row code → verdict_for desk.layout row code ≡ DeniedBy rule → turn_of desk turn ≡ done_by (ended_by row code rule (reached_by (jobs_of desk) row)) desk }
-    ensures restarted_at { (desk : DeskModel) (turn : Turn) (row : RunRow) (code : Code) (entry : KeptEntry) → HasCode desk turn row code → verdict_for desk.layout row code ≡ AtCheckpoint → effect_entry desk.office.tables row ≡ Some entry → turn_of desk turn ≡ done_by (restarted_at row turn.initiator code entry) desk }
-    ensures unit { (desk : DeskModel) (row : RunRow) (progress : StepProgress) (code : Code) → verdict_for desk.layout row code ≡ AtStep → unit_done row (record { unit = abended code; progress = progress }) desk ≡ done_by (restarted_by row (initiator_of row) code) desk }
-    ensures unit_at { (desk : DeskModel) (row : RunRow) (progress : StepProgress) (code : Code) (entry : KeptEntry) → verdict_for desk.layout row code ≡ AtCheckpoint → effect_entry desk.office.tables row ≡ Some entry → unit_done row (record { unit = abended code; progress = progress }) desk ≡ done_by (restarted_at row (initiator_of row) code entry) desk }
+    ensures asked { (desk : DeskModel) (turn : Turn) (row : RunRow) (code : Code) (answer : OperatorAnswer) → HasCode desk turn row code → verdict_for desk.layout row code ≡ AtStep
+        → turn_of desk turn answer ≡ answered answer (asked_at_start row turn.initiator true code (reached_by (jobs_of desk) row)) desk }
+    ensures asked_at { (desk : DeskModel) (turn : Turn) (row : RunRow) (code : Code) (entry : KeptEntry) (answer : OperatorAnswer) → HasCode desk turn row code → verdict_for desk.layout row code ≡ AtCheckpoint → effect_entry desk.office.tables row ≡ Some entry
+        → turn_of desk turn answer ≡ answered answer (asked_at_entry row turn.initiator true code (reached_by (jobs_of desk) row) entry) desk }
+    ensures denied { (desk : DeskModel) (turn : Turn) (row : RunRow) (code : Code) (rule : RuleOfTable) (answer : OperatorAnswer) → HasCode desk turn row code → verdict_for desk.layout row code ≡ DeniedBy rule
+        → turn_of desk turn answer ≡ done_by (ended_by row code rule (reached_by (jobs_of desk) row)) desk }
+    ensures unit { (desk : DeskModel) (row : RunRow) (progress : StepProgress) (code : Code) (answer : OperatorAnswer) → verdict_for desk.layout row code ≡ AtStep
+        → let moved = with_progress row.number progress desk in unit_done answer row (record { unit = abended code; progress = progress }) desk ≡ answered answer (asked_at_start row (initiator_of row) true code (running_reached (seen moved.office row.number progress))) moved }
+    ensures unit_at { (desk : DeskModel) (row : RunRow) (progress : StepProgress) (code : Code) (entry : KeptEntry) (answer : OperatorAnswer) → verdict_for desk.layout row code ≡ AtCheckpoint → effect_entry desk.office.tables row ≡ Some entry
+        → let moved = with_progress row.number progress desk in unit_done answer row (record { unit = abended code; progress = progress }) desk ≡ answered answer (asked_at_entry row (initiator_of row) true code (running_reached (seen moved.office row.number progress)) entry) moved }
+{}
+
+/// What a turn comes to rests on the operator's answer where he was asked: a run is restarted only where he said yes, is held only where he said
+/// hold, ends by the sixth rule only where he said no, and waits only where he was silent. Where he wasn't asked, nothing rests on him.
+pub fn turns_rest_on_the_operators_answer()
+    ensures restarted { (desk : DeskModel) (turn : Turn) (answer : OperatorAnswer) (job initiator : ℕ) (code : Code) (checkpoint : Bool) → (turn_of desk turn answer).event ≡ Some (RestartedEvent job initiator code checkpoint)
+        → ((turn_of desk turn answer).asked ≡ true) × (answer ≡ Yes) }
+    ensures held { (desk : DeskModel) (turn : Turn) (answer : OperatorAnswer) (job writes : ℕ) (code : Code) (lengths : ArrayVec ℕ) → (turn_of desk turn answer).event ≡ Some (HeldEvent job code writes lengths)
+        → ((turn_of desk turn answer).asked ≡ true) × (answer ≡ Hold) }
+    ensures refused { (desk : DeskModel) (turn : Turn) (answer : OperatorAnswer) (job writes : ℕ) (code : Code) (lengths : ArrayVec ℕ) → IsDesk desk → 1 ≤ turn.initiator → turn.initiator ≤ desk.layout.initiators
+        → (turn_of desk turn answer).event ≡ Some (EndedEvent job (CodedEnding code (rule_number A6) writes lengths)) → ((turn_of desk turn answer).asked ≡ true) × (answer ≡ No) }
+    ensures waits { (desk : DeskModel) (turn : Turn) (answer : OperatorAnswer) → (turn_of desk turn answer).reply ≡ AwaitingReply → ((turn_of desk turn answer).asked ≡ true) × (answer ≡ Silent) }
+    ensures unasked { (desk : DeskModel) (turn : Turn) (answer other : OperatorAnswer) → (turn_of desk turn answer).asked ≡ false → turn_of desk turn other ≡ turn_of desk turn answer }
 {}
 
 /// Where the rules restart a run with a code, the event of its restart may come and carries what the job gives: at the start of its step, or
-/// at its checkpoint in effect. The run is on an initiator within its step: its step is running, or it is marked since the system failed.
-/// This is so over any events that are kept and ready for restarts, whatever the form of the decks.
+/// at its checkpoint in effect. The run is on an initiator within its step: its step is running, or it is marked since the system failed. Or it
+/// was released, and goes on on an initiator that has no run. This is so over any events that are kept and ready for restarts, whatever the
+/// form of the decks.
 pub fn events_of_restarts_may_come()
     ensures step { (layout : LayoutOfDisk) (office : Office) (row : RunRow) (initiator : ℕ) (code : Code) → IsKept layout office → ArePointed office → AreReady office → IsJudged layout office row initiator code AtStep → IsNext layout office (restart_of row initiator code false, None) }
     ensures checkpoint { (layout : LayoutOfDisk) (office : Office) (row : RunRow) (initiator : ℕ) (code : Code) → IsKept layout office → ArePointed office → AreReady office → IsJudged layout office row initiator code AtCheckpoint → IsNext layout office (restart_of row initiator code true, None) }
+    ensures step_off { (layout : LayoutOfDisk) (office : Office) (row : RunRow) (initiator : ℕ) (code : Code) → IsKept layout office → ArePointed office → AreReady office → IsJudgedOff layout office row code AtStep → is_free layout office.tables initiator ≡ true
+        → IsNext layout office (restart_of row initiator code false, None) }
+    ensures checkpoint_off { (layout : LayoutOfDisk) (office : Office) (row : RunRow) (initiator : ℕ) (code : Code) → IsKept layout office → ArePointed office → AreReady office → IsJudgedOff layout office row code AtCheckpoint → is_free layout office.tables initiator ≡ true
+        → IsNext layout office (restart_of row initiator code true, None) }
 {}
 
 /// A desk that restarts a run so, at the start of its step or at its checkpoint in effect, is as its events have brought it about.
 pub fn restarts_keep_the_desk()
     ensures step { (desk : DeskModel) (row : RunRow) (initiator : ℕ) (code : Code) → IsDesk desk → IsJudged desk.layout desk.office row initiator code AtStep → GoesOnBy desk (restart_of row initiator code false) }
     ensures checkpoint { (desk : DeskModel) (row : RunRow) (initiator : ℕ) (code : Code) → IsDesk desk → IsJudged desk.layout desk.office row initiator code AtCheckpoint → GoesOnBy desk (restart_of row initiator code true) }
-{}
-
-/// So is a desk where the operator refuses such a restart: the run ends with what it has reached, by the sixth rule, and its event may come.
-pub fn refused_restarts_keep_the_desk()
-    ensures step { (desk : DeskModel) (row : RunRow) (initiator : ℕ) (code : Code) → IsDesk desk → IsJudged desk.layout desk.office row initiator code AtStep → GoesOnBy desk (refusal_of desk row code) }
-    ensures checkpoint { (desk : DeskModel) (row : RunRow) (initiator : ℕ) (code : Code) → IsDesk desk → IsJudged desk.layout desk.office row initiator code AtCheckpoint → GoesOnBy desk (refusal_of desk row code) }
 {}
 
 /// Behind its restart a run stands at the point. The tables have of the names in its reach, and of its passed list, what its job has

@@ -5,7 +5,7 @@ use Rattle.std.specs.Option.{option_map_or}
 use Rattle.arrayvec.specs.ArrayVec.{ArrayVec}
 use Rattle.ckr_base.proofs.Numbers.{equal-true}
 use Rattle.ckr_events.specs.declared.event.Event.{Event}
-use Rattle.ckr_events.specs.declared.event.Event.TheVariants.{Cancelled, Checkpointed, Ended, Purged, Restarted, Rewritten, Selected, Started, StepEnded, Submitted}
+use Rattle.ckr_events.specs.declared.event.Event.TheVariants.{Cancelled, Checkpointed, Ended, Held, Purged, Released, Restarted, Rewritten, Selected, Started, StepEnded, Submitted}
 use Rattle.ckr_events.specs.declared.event.Ending.{Ending}
 use Rattle.ckr_events.specs.declared.event.Ending.TheVariants.{Allocation, Coded, Completed}
 use Rattle.ckr_events.specs.declared.event.Made.{Made}
@@ -17,13 +17,13 @@ use Rattle.ckr_meaning.specs.EffectiveJob.{Effective, OwnedStep, placed_in, plai
 use Rattle.ckr_meaning.specs.declared.place.Place.{Place}
 use Rattle.ckr_meaning.specs.declared.place.Place.TheVariants.{Before, Opened, Within}
 use Rattle.ckr_points_library.specs.Commit.{output_names}
-use Rattle.ckr_points.specs.declared.run.RunState.TheVariants.{Purged as PurgedRun}
+use Rattle.ckr_points.specs.declared.run.RunState.TheVariants.{Purged as PurgedRun, Released as ReleasedRun}
 use Rattle.ckr_points.specs.Events.{IsNext}
 use Rattle.ckr_points.specs.Office.{Leg, Office, office_after}
 use Rattle.ckr_points.specs.Marks.{point_at, removed_all, with_point}
 use Rattle.ckr_points.specs.Restart.{Back, after_abnormal, after_ended, after_passed_ended, after_put_back, after_restarted, back_to_entry, back_to_start, by_step, effect_restarted, kept_at, place_of, point_restarted, row_on, step_in}
 use Rattle.ckr_points.specs.Rows.{EffectPoint, KeptEntry, RunRow, TablesModel, run_of, standing_of, step_of_run, table_ways, with_run}
-use Rattle.ckr_points.specs.Tables.{after_cancelled, after_checkpointed, after_commit, after_dispositions, after_rewritten, after_selected, after_step_ended, earlier_made, is_checkpoints, is_updates, name_with_role, own_made, row_rewritten, run_disposals, table_rewritten}
+use Rattle.ckr_points.specs.Tables.{after_cancelled, after_checkpointed, after_commit, after_dispositions, after_held, after_rewritten, after_selected, after_step_ended, earlier_made, is_checkpoints, is_updates, name_with_role, own_made, row_rewritten, run_disposals, table_rewritten}
 use Rattle.ckr_points_decks.specs.DeckLimits.{HasCheckParts}
 use Rattle.ckr_points_invariant.specs.Invariant.{IsHolder, IsKept}
 use Rattle.ckr_points_invariant.proofs.PutBack.Sets.{removed_all-holds}
@@ -151,6 +151,9 @@ module _ (layout : Layout) (now : Office) (kept : IsKept layout now) (has : HasR
       by-step now.tables job (λ row owned step. after_step_ended row owned step rc writes lengths.items now.tables) each (λ row owned step. step_ended-has row owned step rc writes lengths.items)
   have-next (Restarted job initiator code checkpoint) deck is next =
       by-step now.tables job (λ row owned step. after_restarted row owned step initiator checkpoint now.tables) each (λ row owned step. restarted-has row owned step initiator checkpoint)
+  have-next (Held job code writes lengths) deck is next =
+      by-step now.tables job (λ row owned step. after_held row owned step code writes lengths.items now.tables) each (λ row owned step. committed-have (output_names row.job.root owned) lengths.items now.tables.sets each)
+  have-next (Released job) deck is next = by now.tables (λ (row : RunRow). with_run (record row { state = ReleasedRun }) now.tables) (run_of now.tables job) each (λ row. each)
   have-next (Ended job ending) deck is next = by now.tables (λ (row : RunRow). after_ended row ending now.tables) (run_of now.tables job) each (λ row. ended-has now.tables row ending each)
   have-next (Purged job) deck is next = by now.tables (λ (row : RunRow). with_run (record row { state = PurgedRun }) now.tables) (run_of now.tables job) each (λ row. each)
   have-next _ deck is next = absurd is

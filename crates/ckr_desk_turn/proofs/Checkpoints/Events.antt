@@ -8,7 +8,7 @@ use Rattle.std.proofs.lemmas.Option.{same_Some}
 use Rattle.ckr_base.proofs.Bools.{and-first, and-second}
 use Rattle.ckr_base.proofs.Numbers.{equal-itself, nat_le-from, nat_le-true}
 use Rattle.ckr_base.proofs.Options.{is_none-true, option-cases, some-not-none}
-use Rattle.ckr_base.proofs.Sequences.{any-filter, find-any, find-holds, find-passes}
+use Rattle.ckr_base.proofs.Sequences.{any-filter, find-any, find-passes}
 use Rattle.ckr_events.specs.declared.event.Event.TheVariants.{Cancelled as CancelledEvent}
 use Rattle.ckr_jcl.specs.declared.deck.Dd.{Dd}
 use Rattle.ckr_jcl.specs.declared.deck.Role.{Role}
@@ -19,11 +19,10 @@ use Rattle.ckr_library.specs.Catalog.{records_of}
 use Rattle.ckr_library.specs.NameMaps.{Name, Named, entry_at, same_name, with_changed}
 use Rattle.ckr_library.proofs.Named.{name-itself, name-same}
 use Rattle.ckr_meaning.specs.Allotments.{is_output}
-use Rattle.ckr_meaning.specs.EffectiveJob.{Effective, OwnedStep, is_among, name_of, step_at}
+use Rattle.ckr_meaning.specs.EffectiveJob.{Effective, OwnedStep, is_among, name_of}
 use Rattle.ckr_meaning.specs.LibrarySet.{AreWithinSpace, LibrarySet}
 use Rattle.ckr_meaning.specs.declared.place.Place.{Place}
 use Rattle.ckr_meaning.specs.declared.place.Place.TheVariants.{Before, Within}
-use Rattle.ckr_meaning.specs.JobRun.{start_at}
 use Rattle.ckr_meaning.specs.Program.{records_taken, upto}
 use Rattle.ckr_meaning.specs.StepRun.{StepStart, case_at, within_at, work_at}
 use Rattle.ckr_volumes.specs.declared.layout.Layout.{Layout}
@@ -32,8 +31,8 @@ use Rattle.ckr_points.specs.declared.run.RunState.{RunState}
 use Rattle.ckr_points.specs.declared.run.RunState.TheVariants.{On}
 use Rattle.ckr_points.specs.Events.{IsNext}
 use Rattle.ckr_points.specs.Follows.{are_lengths, is_checkpoint, is_length_of, is_in_state, is_running, is_within, lengths_follow, of_step, state_number}
-use Rattle.ckr_points.specs.Office.{Leg, Office, is_holder, leg_of, office_after}
-use Rattle.ckr_points.specs.Payload.{carries_lengths, carries_taken, commits, have_lengths, of_start, rewrites_nothing, start_in_office, writes_in}
+use Rattle.ckr_points.specs.Office.{Leg, Office, office_after}
+use Rattle.ckr_points.specs.Payload.{carries_lengths, carries_taken, commits, have_lengths, of_start, rewrites_nothing, writes_in}
 use Rattle.ckr_points.specs.Restart.{kept_at, place_of, step_in}
 use Rattle.ckr_points.specs.Rows.{EffectPoint, EntryPoint, KeptEntry, RunRow, TableSet, TablesModel, run_of, step_of_run}
 use Rattle.ckr_points.specs.Tables.{after_cancelled, after_checkpointed, committed, entry_point, fresh_effect, is_checkpoints, kept_entry, name_with_role, with_kept_entry}
@@ -45,17 +44,15 @@ use Rattle.ckr_points_invariant.proofs.Points.Lists.{pointed-next}
 use Rattle.ckr_points_invariant.proofs.RowChanges.{checkpointed}
 use Rattle.ckr_points_invariant.proofs.Library.Entries.{among-filter_map, is_name}
 use Rattle.ckr_points_invariant.proofs.Steps.Commits.{IsRunning, alike_within, formed_step, in_reach, its_start, place_so, under_way}
-use Rattle.ckr_points_invariant.proofs.Steps.Events.{led-by}
-use Rattle.ckr_points_invariant.proofs.Steps.Walks.{start_at-of}
 use Rattle.ckr_desk_turn.specs.Checkpoints.{HasRow, MayCheckpoint, check_set, checkpoint_event, checkpoint_fits, entry_bytes, entry_end, written_entry, entry_place, entry_with, written_event, fits_in, is_check_set, is_in_range, lengths_with, next_entry, next_id, office_behind}
-use Rattle.ckr_desk_turn.specs.Desk.{DeskStep, start_of}
-use Rattle.ckr_desk_turn.specs.Invariant.{HasCome, IsOpen}
+use Rattle.ckr_desk_turn.specs.Desk.{DeskStep}
+use Rattle.ckr_desk_turn.specs.Invariant.{HasCome, HasComeSo, IsOpen}
 use Rattle.ckr_desk_turn.specs.NextEvents.{IsWithinStep}
 use Rattle.ckr_desk_turn.specs.Units.{StepProgress}
 use Rattle.ckr_desk_turn.proofs.Checkpoints.Content.{KeepsCheckpoints, within-keeps}
 use Rattle.ckr_desk_turn.proofs.Checkpoints.Kept.{kept-then}
 use Rattle.ckr_desk_turn.proofs.Checkpoints.Lengths.{HasRoom, length-of-check, lengths-follow-with, lengths-had-with}
-use Rattle.ckr_desk_turn.proofs.NextEvents.WithinStep.{start_at-none}
+use Rattle.ckr_desk_turn.proofs.NextEvents.Holders.{by-holder, by-spaced, of-run as holder-run, of-start as holder-start, on-holder}
 use Rattle.ckr_desk_turn.proofs.StepEnd.{by-changed}
 use Rattle.ckr_desk_turn.proofs.Units.Outputs.{IsOutput, each_output}
 
@@ -246,13 +243,11 @@ module _ (layout : Layout) (office : Office) (run : ℕ) (row : RunRow) (number 
 
   -- a test of the run
   pub of-run : (test : RunRow → Bool) → test row ≡ true → option_map_or test (run_of office.tables run) false ≡ true
-  of-run test passes = ap (λ (o : Option RunRow). option_map_or test o false) within.row_at ∙ passes
+  of-run = holder-run layout office run row number committed start (on-holder office run row number committed start within)
 
   -- a test of its step
   of-start : (test : RunRow → StepStart → Bool) → test row start ≡ true → of_start office run test ≡ true
-  of-start test passes =
-      ap (λ (o : Option RunRow). option_map_or (λ row. option_map_or (test row) (start_in_office office row) false) o false) within.row_at
-      ∙ ap (λ (o : Option StepStart). option_map_or (test row) o false) within.start_at ∙ passes
+  of-start = holder-start layout office run row number committed start (on-holder office run row number committed start within)
 
   -- the event of a cancel may come
   pub cancel-comes : IsNext layout office (CancelledEvent run, None)
@@ -260,26 +255,12 @@ module _ (layout : Layout) (office : Office) (run : ℕ) (row : RunRow) (number 
 
   -- its leg, and its step there
   pub by-step : {A : Type 0} → IsKept layout office → ((leg : Leg) (owned : OwnedStep) → IsRunning office run row leg owned number committed → start ≡ its_start leg owned number → A) → A
-  by-step kept use_it =
-      led-by layout office run row kept.events within.row_at (ap is_holder within.on)
-      (λ leg holder.
-      let starts : start_of office row ≡ start_at leg.job leg.start number =
-      ap (λ (o : Option Leg). option_map_or (λ leg. start_at leg.job leg.start (step_in (place_of row))) o None) (ap (leg_of office) (kept.events.numbered run row within.row_at) ∙ holder.leg_at)
-      ∙ ap (λ (place : Place). start_at leg.job leg.start (step_in place)) within.place in
-      option-cases (step_at leg.job number)
-      (λ none. absurd (some-not-none start (sym within.start_at ∙ starts ∙ start_at-none leg number none)))
-      (λ owned found.
-      use_it leg owned
-      (record { holder = holder; stands = within.place; found = ap (λ job. step_at job number) (sym (kept.events.places run row leg holder).job) ∙ found })
-      (same_Some _ _ (sym within.start_at ∙ starts ∙ start_at-of leg.job leg.start number owned found))))
+  by-step = by-holder layout office run row number committed start (on-holder office run row number committed start within)
 
   module _ (kept : IsKept layout office) (all_spaced : AllByRecursion (λ (leg : Leg). AreWithinSpace leg.start) office.legs) where
     -- and its space
     pub by-leg : {A : Type 0} → ((leg : Leg) (owned : OwnedStep) → IsRunning office run row leg owned number committed → start ≡ its_start leg owned number → AreWithinSpace leg.start → A) → A
-    by-leg use_it =
-        by-step kept
-        (λ leg owned running same.
-        use_it leg owned running same (find-holds (λ (leg : Leg). AreWithinSpace leg.start) (λ leg. leg.number == run) office.legs leg all_spaced running.holder.leg_at))
+    by-leg = by-spaced layout office run row number committed start (on-holder office run row number committed start within) kept all_spaced
 
     module _ (step : StepProgress) (behind : committed ≤ step.writes) (known : Premises office.tables.sets row committed step start) where
       told : IsTold office row step start
@@ -329,7 +310,7 @@ module _ (layout : Layout) (office : Office) (step : DeskStep) (may : MayCheckpo
   known_so = record {
     fit = may.going.fit;
     plain = may.going.plain;
-    come = subst (HasCome may.going.start step.progress) may.unclosed may.going.come;
+    come = subst (HasCome may.going.start step.progress) may.unclosed (subst (λ code. HasComeSo code may.going.start step.progress) may.uncoded may.going.come);
     fits = may.fits;
   }
 

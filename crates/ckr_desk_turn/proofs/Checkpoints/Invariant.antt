@@ -17,6 +17,7 @@ use Rattle.ckr_points_invariant.proofs.PlainRuns.SoundEvents.{AreKept}
 use Rattle.ckr_rules.specs.RuleTables.{suppresses}
 use Rattle.ckr_desk_turn.specs.declared.reply.Chkpt.{Chkpt}
 use Rattle.ckr_desk_turn.specs.Checkpoints.{MayCheckpoint, checkpoint_fits, checkpoint_try, checkpoint_unless, checkpointed_by, office_behind, written_event}
+use Rattle.ckr_desk_turn.specs.declared.failed_run.FailedRun.{FailedRun}
 use Rattle.ckr_desk_turn.specs.Desk.{DeskModel, DeskStep, behind as desk_behind, checkpoint_done, progress_of, with_progress, without_run}
 use Rattle.ckr_desk_turn.specs.Invariant.{IsAdmitted, IsDesk, IsFailed, IsGoing, Keeps, is_accounted}
 use Rattle.ckr_desk_turn.specs.NextEvents.{IsWithinStep}
@@ -24,11 +25,12 @@ use Rattle.ckr_desk_turn.specs.Taken.{served_by, taken_of}
 use Rattle.ckr_desk_turn.specs.Units.{StepProgress}
 use Rattle.ckr_desk_turn.proofs.Checkpoints.Events.{behind-by, committed_now, kept_now, may-come, next_row, row-now}
 use Rattle.ckr_desk_turn.proofs.Checkpoints.Plans.{takes}
-use Rattle.ckr_desk_turn.proofs.OtherRuns.{Changes, admitted-then, each_row, failed-there, going-rest, plain-then, row-admitted, row-plain}
+use Rattle.ckr_desk_turn.proofs.NextEvents.WithinStep.{runs}
+use Rattle.ckr_desk_turn.proofs.OtherRuns.{Changes, admitted-then, each_row, failed-there, going-rest, plain-then, row-admitted, row-plain, row-stepped, same-step, stepped-then}
 use Rattle.ckr_desk_turn.proofs.Readiness.{kept-on}
 use Rattle.ckr_desk_turn.proofs.RunningSteps.{going-within, nothing-between}
 use Rattle.ckr_desk_turn.proofs.Units.AnyUnit.{found-going}
-use Rattle.ckr_desk_turn.proofs.Units.Invariant.{accounted_so, come-served, going-served, moved-kept}
+use Rattle.ckr_desk_turn.proofs.Moves.{accounted_so, come-served, come-uncoded, going-served, moved-kept}
 
 -- the row of a run behind its checkpoint: it has written an entry more, which is in effect, and what its step has written is committed
 abbrev pub entered : RunRow → ℕ → Option EffectPoint → RunRow
@@ -40,9 +42,9 @@ pub record IsEntered (office : Office) (run : ℕ) (row : RunRow) (writes : ℕ)
 
 -- ---- an entry that is written
 
-module _ (desk : DeskModel) (is : IsDesk desk) (on : DeskStep) (going : IsGoing desk.office on) (unclosed : on.progress.closed ≡ false) (fits : checkpoint_fits desk.office.tables.sets going.row going.start on.progress ≡ true) where
+module _ (desk : DeskModel) (is : IsDesk desk) (on : DeskStep) (going : IsGoing desk.office on) (uncoded : on.code ≡ None) (unclosed : on.progress.closed ≡ false) (fits : checkpoint_fits desk.office.tables.sets going.row going.start on.progress ≡ true) where
   abbrev may : MayCheckpoint desk.layout desk.office on
-  may = record { kept = is.kept; spaced = is.spaced_legs; going = going; unclosed = unclosed; fits = fits }
+  may = record { kept = is.kept; spaced = is.spaced_legs; going = going; uncoded = uncoded; unclosed = unclosed; fits = fits }
 
   abbrev now : Office
   now = office_behind desk.layout desk.office on may
@@ -80,7 +82,7 @@ module _ (desk : DeskModel) (is : IsDesk desk) (on : DeskStep) (going : IsGoing 
   }
 
   abbrev stepped : DeskStep
-  stepped = record { run = going.row.number; progress = checkpoint_done on.progress }
+  stepped = record { run = going.row.number; progress = checkpoint_done on.progress; code = None }
 
   -- its step goes on, and what it has written is committed
   pub still_going : IsGoing now stepped
@@ -96,14 +98,14 @@ module _ (desk : DeskModel) (is : IsDesk desk) (on : DeskStep) (going : IsGoing 
     fit = going.fit;
     behind = omega arith;
     plain = nothing-between going.start on.progress.writes;
-    come = come-served going.start on.progress true on.progress.cancelled on.progress.closed going.come;
+    come = come-served going.start on.progress true on.progress.cancelled on.progress.closed (come-uncoded desk.office on uncoded going);
   }
 
-  failed_now : (failed : List ℕ) → AllByRecursion (IsFailed desk.office) failed → AllByRecursion (IsFailed now) failed
+  failed_now : (failed : List FailedRun) → AllByRecursion (IsFailed desk.office) failed → AllByRecursion (IsFailed now) failed
   failed_now [] each = tt
   failed_now (first ∷ rest) each = (
-    number-cases first on.run
-        (λ same. subst (IsFailed now) (sym same) (record { row = next; number = going.number; committed = on.progress.writes; start = going.start; within = next_within }))
+    number-cases first.run on.run
+        (λ same. record { row = next; number = going.number; committed = on.progress.writes; start = going.start; within = subst (λ n. IsWithinStep now n next going.number on.progress.writes going.start) (sym same) next_within })
         (λ apart. failed-there desk.office now on.run next changes first apart each.0),
     failed_now rest each.1,
   )
@@ -128,6 +130,7 @@ module _ (desk : DeskModel) (is : IsDesk desk) (on : DeskStep) (going : IsGoing 
     admitted =
         admitted-then desk later is on.run next changes
         (let was : IsAdmitted going.row = row-admitted desk is on.run going.row going.row_at in record { cards = was.cards; accepted = was.accepted; lodged = was.lodged });
+    stepped = stepped-then desk later is on.run next changes (same-step going.row next (row-stepped desk is on.run going.row going.row_at) (runs desk is on.run going.row going.number going.committed going.start here) refl);
     accounted =
         each_row desk later is on.run next changes (is_accounted desk) (is_accounted later) next_accounted is.accounted
         (λ other apart was. accounted_so desk is going.row.number (checkpoint_done on.progress) other was);
@@ -142,19 +145,19 @@ module _ (desk : DeskModel) (is : IsDesk desk) (on : DeskStep) (going : IsGoing 
 
 -- ---- any checkpoint
 
-module _ (desk : DeskModel) (is : IsDesk desk) (on : DeskStep) (going : IsGoing desk.office on) where
+module _ (desk : DeskModel) (is : IsDesk desk) (on : DeskStep) (going : IsGoing desk.office on) (uncoded : on.code ≡ None) where
   -- where no entry is written
   unwritten-keeps : (code : Chkpt) (id : Option Name) → Keeps desk (served_by going.row (checkpointed_by code id None going.row going.start on.progress) desk)
   unwritten-keeps code id = record {
     comes = tt;
     kept =
         moved-kept desk is going.row.number (checkpoint_done on.progress)
-        (subst (λ n. IsGoing desk.office (record { run = n; progress = checkpoint_done on.progress })) (sym (is.kept.events.numbered on.run going.row going.row_at)) (going-served desk.office on true on.progress.cancelled going));
+        (subst (λ n. IsGoing desk.office (record { run = n; progress = checkpoint_done on.progress; code = None })) (sym (is.kept.events.numbered on.run going.row going.row_at)) (going-served desk.office on true on.progress.cancelled uncoded going));
   }
 
   module _ (unclosed : on.progress.closed ≡ false) where
     try-keeps : (fits : Bool) → checkpoint_fits desk.office.tables.sets going.row going.start on.progress ≡ fits → Keeps desk (served_by going.row (checkpoint_try fits desk.office.tables going.row going.start on.progress) desk)
-    try-keeps true fits = written-keeps desk is on going unclosed fits
+    try-keeps true fits = written-keeps desk is on going uncoded unclosed fits
     try-keeps false fits = unwritten-keeps _ _
 
     unless-keeps : (suppressed : Bool) → Keeps desk (served_by going.row (checkpoint_unless suppressed desk.office.tables going.row going.start on.progress) desk)
@@ -164,7 +167,7 @@ module _ (desk : DeskModel) (is : IsDesk desk) (on : DeskStep) (going : IsGoing 
 -- it keeps the desk
 pub taken-keeps : (desk : DeskModel) (run : ℕ) (progress : StepProgress) → IsDesk desk → progress_of desk run ≡ Some progress → progress.closed ≡ false → Keeps desk (taken_of run desk)
 taken-keeps desk run progress is known unclosed =
-    let on : DeskStep = record { run = run; progress = progress } in
+    let on : DeskStep = record { run = run; progress = progress; code = None } in
     let going : IsGoing desk.office on = found-going desk.office run progress desk.running is.going known in
     subst (Keeps desk) (sym (takes desk on going is known))
-    (unless-keeps desk is on going unclosed (suppresses (rd_in_effect going.row going.start.number)))
+    (unless-keeps desk is on going refl unclosed (suppresses (rd_in_effect going.row going.start.number)))

@@ -6,7 +6,7 @@ use Rattle.std.proofs.lemmas.Option.{same_Some}
 use Rattle.ckr_base.specs.declared.programs.NextDue.TheVariants.{Checkpoint}
 use Rattle.ckr_base.proofs.Bools.{bool-cases}
 use Rattle.ckr_base.proofs.Numbers.{equal-itself}
-use Rattle.ckr_base.proofs.Options.{option-cases, some-not-none}
+use Rattle.ckr_console.specs.declared.question.Answer.{Answer}
 use Rattle.ckr_events.specs.declared.event.Event.TheVariants.{Cancelled as CancelledEvent}
 use Rattle.ckr_library.specs.NameMaps.{Name}
 use Rattle.ckr_meaning.specs.EffectiveJob.{Effective, OwnedStep, plain_job, step_at}
@@ -19,10 +19,10 @@ use Rattle.ckr_desk_turn.specs.declared.plan.Plan.TheVariants.{Rest, Take}
 use Rattle.ckr_desk_turn.specs.declared.reply.Chkpt.TheVariants.{Suppressed}
 use Rattle.ckr_desk_turn.specs.declared.reply.Reply.TheVariants.{Checkpointed as CheckpointedReply, Idle}
 use Rattle.ckr_desk_turn.specs.Checkpoints.{ServedTurn, checkpoint_turn, checkpoint_unless}
-use Rattle.ckr_desk_turn.specs.Desk.{DeskModel, DeskStep, TurnDone, behind, cancel_done, checkpoint_done, done_by, jobs_of, progress_of, seen_from, start_of, with_change, with_progress, without_run}
+use Rattle.ckr_desk_turn.specs.Desk.{DeskModel, DeskStep, TurnDone, behind, cancel_done, checkpoint_done, done_by, jobs_of, progress_of, progress_unless, seen_from, start_of, with_change, with_progress, without_run}
 use Rattle.ckr_desk_turn.specs.Due.{next_due}
 use Rattle.ckr_desk_turn.specs.Invariant.{IsDesk, IsGoing}
-use Rattle.ckr_desk_turn.specs.Jobs.{is_failed, step_name_of}
+use Rattle.ckr_desk_turn.specs.Jobs.{is_failed, step_name_of, waiting_code}
 use Rattle.ckr_desk_turn.specs.NextEvents.{IsWithinStep}
 use Rattle.ckr_desk_turn.specs.Plans.{checkpoint_plan, due_plan, run_plan, suppressed_plan}
 use Rattle.ckr_desk_turn.specs.Taken.{behind_entry, served_by, taken_of}
@@ -32,33 +32,27 @@ use Rattle.ckr_desk_turn.proofs.Checkpoints.Due.{checkpoint-behind}
 use Rattle.ckr_desk_turn.proofs.NextEvents.BetweenSteps.{no_restart, plain_parts}
 use Rattle.ckr_desk_turn.proofs.NextEvents.WithinStep.{by-step}
 use Rattle.ckr_desk_turn.proofs.OtherRuns.{row-plain}
-use Rattle.ckr_desk_turn.proofs.RunningSteps.{going-within}
+use Rattle.ckr_desk_turn.proofs.RunningSteps.{going-within, plain_step, progress-found}
 use Rattle.ckr_desk_turn.proofs.Turns.Due.{plan-due}
 use Rattle.ckr_desk_turn.proofs.Units.AnyUnit.{found-going}
-use Rattle.ckr_desk_turn.proofs.Units.Invariant.{with_change-found}
+use Rattle.ckr_desk_turn.proofs.Moves.{with_change-found}
 
 -- ---- the running steps behind it
 
-changed-steps : (running : List DeskStep) (run : ℕ) (change : StepProgress → StepProgress) (progress : StepProgress) → option_map_or (λ (step : DeskStep). Some step.progress) (find (λ (step : DeskStep). step.run == run) running) None ≡ Some progress
-    → with_change run change running ≡ record { run = run; progress = change progress } ∷ without_run run running
+changed-steps : (running : List DeskStep) (run : ℕ) (change : StepProgress → StepProgress) (progress : StepProgress) → option_map_or (λ (step : DeskStep). progress_unless step.code step.progress) (find (λ (step : DeskStep). step.run == run) running) None ≡ Some progress
+    → with_change run change running ≡ record { run = run; progress = change progress; code = None } ∷ without_run run running
 changed-steps running run change progress known =
-    option-cases (find (λ (step : DeskStep). step.run == run) running)
-    (λ none. absurd (some-not-none progress (sym known ∙ ap (λ (o : Option DeskStep). option_map_or (λ (step : DeskStep). Some step.progress) o None) none)))
-    (λ on at.
-    with_change-found run change running on at
-    ∙ ap (λ p. let changed : DeskStep = record { run = run; progress = change p } in changed ∷ without_run run running)
-    (same_Some on.progress progress (sym (ap (λ (o : Option DeskStep). option_map_or (λ (step : DeskStep). Some step.progress) o None) at) ∙ known)))
+    with_change-found run change running (plain_step run progress) (progress-found running run progress known)
 
 -- the step of a run that stands before the others is the one that is found
-progress-first : (run : ℕ) (progress : StepProgress) (others : List DeskStep) → option_map_or (λ (step : DeskStep). Some step.progress) (find (λ (step : DeskStep). step.run == run) (record { run = run; progress = progress } ∷ others)) None ≡ Some progress
+progress-first : (run : ℕ) (progress : StepProgress) (others : List DeskStep) → option_map_or (λ (step : DeskStep). progress_unless step.code step.progress) (find (λ (step : DeskStep). step.run == run) (plain_step run progress ∷ others)) None ≡ Some progress
 progress-first run progress others =
-    let first : DeskStep = record { run = run; progress = progress } in
-    ap (λ b. option_map_or (λ (step : DeskStep). Some step.progress) (cond b (Some first) (find (λ (step : DeskStep). step.run == run) others)) None) (equal-itself run)
+    ap (λ b. option_map_or (λ (step : DeskStep). progress_unless step.code step.progress) (cond b (Some (plain_step run progress)) (find (λ (step : DeskStep). step.run == run) others)) None) (equal-itself run)
 
 -- behind a cancel it is done
 pub cancelled-behind : (desk : DeskModel) (run : ℕ) (progress : StepProgress) → progress_of desk run ≡ Some progress → progress_of (behind (CancelledEvent run) None desk) run ≡ Some (cancel_done progress)
 cancelled-behind desk run progress known =
-    ap (λ running. option_map_or (λ (step : DeskStep). Some step.progress) (find (λ (step : DeskStep). step.run == run) running) None) (changed-steps desk.running run cancel_done progress known)
+    ap (λ running. option_map_or (λ (step : DeskStep). progress_unless step.code step.progress) (find (λ (step : DeskStep). step.run == run) running) None) (changed-steps desk.running run cancel_done progress known)
     ∙ progress-first run (cancel_done progress) (without_run run desk.running)
 
 -- ---- a step of a desk
@@ -97,8 +91,8 @@ module _ (desk : DeskModel) (on : DeskStep) (going : IsGoing desk.office on) (is
       ∙ ap (λ (o : Option StepProgress). option_map_or (λ progress. served_by going.row (checkpoint_turn desk.office.tables going.row going.start progress) desk) o (done_by (Rest Idle) desk)) known
 
   -- the turn that is planned for one that is suppressed
-  pub plan-taken : progress_of desk on.run ≡ Some on.progress → suppresses (rd_in_effect going.row going.start.number) ≡ true → carried_out (suppressed_plan going.row) desk ≡ taken_of on.run desk
-  plan-taken known suppressed =
+  pub plan-taken : (answer : Answer) → progress_of desk on.run ≡ Some on.progress → suppresses (rd_in_effect going.row going.start.number) ≡ true → carried_out answer (suppressed_plan going.row) desk ≡ taken_of on.run desk
+  plan-taken answer known suppressed =
       let here : progress_of desk going.row.number ≡ Some on.progress = ap (progress_of desk) numbered ∙ known in
       ap (λ name. passed_by name (with_change going.row.number checkpoint_done desk.running)) names-step
       ∙ ap (passed_by going.start.owned.step.name) (changed-steps desk.running going.row.number checkpoint_done on.progress here)
@@ -106,17 +100,17 @@ module _ (desk : DeskModel) (on : DeskStep) (going : IsGoing desk.office on) (is
       ∙ sym (takes known)
     where
       passed_by : Name → List DeskStep → TurnDone
-      passed_by name running = record { reply = CheckpointedReply going.row.number name Suppressed None; event = None; desk = record desk { running = running } }
+      passed_by name running = record { reply = CheckpointedReply going.row.number name Suppressed None; event = None; desk = record desk { running = running }; asked = false }
 
   -- the plan of one that is due, whether RD suppresses it or not
-  pub due-taken : progress_of desk on.run ≡ Some on.progress → carried_out (checkpoint_plan going.row going.number) desk ≡ taken_of on.run desk
-  due-taken known =
+  pub due-taken : (answer : Answer) → progress_of desk on.run ≡ Some on.progress → carried_out answer (checkpoint_plan going.row going.number) desk ≡ taken_of on.run desk
+  due-taken answer known =
       bool-cases (suppresses (rd_in_effect going.row going.number))
-      (λ suppressed. ap planned_by suppressed ∙ plan-taken known (ap (λ n. suppresses (rd_in_effect going.row n)) numbers-step ∙ suppressed))
+      (λ suppressed. ap planned_by suppressed ∙ plan-taken answer known (ap (λ n. suppresses (rd_in_effect going.row n)) numbers-step ∙ suppressed))
       (λ isnt. ap planned_by isnt ∙ ap (λ run. taken_of run desk) numbered)
     where
       planned_by : Bool → TurnDone
-      planned_by suppressed = carried_out (if suppressed then suppressed_plan going.row else Take going.row.number) desk
+      planned_by suppressed = carried_out answer (if suppressed then suppressed_plan going.row else Take going.row.number) desk
 
   -- behind a checkpoint that is taken it is done
   pub done-behind : progress_of desk on.run ≡ Some on.progress → progress_of (taken_of on.run desk).desk on.run ≡ Some (checkpoint_done on.progress)
@@ -128,16 +122,16 @@ module _ (desk : DeskModel) (on : DeskStep) (going : IsGoing desk.office on) (is
       ∙ ap (λ (p : StepProgress). Some p) (checkpoint-behind going.start desk.office.tables going.row on.progress)
 
 -- the turn of a run in whose step a checkpoint is due
-pub turn-taken : (desk : DeskModel) (row : RunRow) (number committed : ℕ) (start : StepStart) (progress : StepProgress) → IsDesk desk → IsWithinStep desk.office row.number row number committed start → is_failed (jobs_of desk) row.number ≡ false → progress_of desk row.number ≡ Some progress → next_due start progress ≡ Checkpoint
-    → carried_out (run_plan desk.layout (jobs_of desk) None row) desk ≡ taken_of row.number desk
-turn-taken desk row number committed start progress is within isnt known comes =
-    let on : DeskStep = record { run = row.number; progress = progress } in
+pub turn-taken : (desk : DeskModel) (row : RunRow) (number committed : ℕ) (start : StepStart) (progress : StepProgress) (answer : Answer) → IsDesk desk → IsWithinStep desk.office row.number row number committed start → is_failed (jobs_of desk) row.number ≡ false → waiting_code (jobs_of desk) row.number ≡ None → progress_of desk row.number ≡ Some progress → next_due start progress ≡ Checkpoint
+    → carried_out answer (run_plan desk.layout (jobs_of desk) None row) desk ≡ taken_of row.number desk
+turn-taken desk row number committed start progress answer is within isnt none known comes =
+    let on : DeskStep = plain_step row.number progress in
     let going : IsGoing desk.office on = found-going desk.office row.number progress desk.running is.going known in
     let mine : going.row ≡ row = same_Some _ _ (sym going.row_at ∙ within.row_at) in
     let begun : going.start ≡ start = same_Some _ _ (sym going.start_at ∙ ap (start_of desk.office) mine ∙ within.start_at) in
     let there : going.number ≡ number = ap step_in (sym (going-within desk.office on going).place ∙ ap place_of mine ∙ within.place) in
-    ap (λ plan. carried_out plan desk)
-    (plan-due desk row number committed start progress within isnt known
+    ap (λ plan. carried_out answer plan desk)
+    (plan-due desk row number committed start progress within isnt none known
     ∙ ap (due_plan row number (seen_from desk.office row.number progress start)) comes
     ∙ ap (checkpoint_plan row) (sym there) ∙ ap (λ (r : RunRow). checkpoint_plan r going.number) (sym mine))
-    ∙ due-taken desk on going is known
+    ∙ due-taken desk on going is answer known

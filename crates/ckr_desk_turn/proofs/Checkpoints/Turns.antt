@@ -1,5 +1,5 @@
 -- A turn that serves a checkpoint or a cancel tells an event that may come, or none.
-use Rattle.std.proofs.Common.{◌≡◌, ℕ, Bool, true, false, refl}
+use Rattle.std.proofs.Common.{◌≡◌, ℕ, Bool, true, false, refl, None}
 use Rattle.std.specs.List.{AllByRecursion}
 use Rattle.ckr_meaning.specs.LibrarySet.{AreWithinSpace}
 use Rattle.ckr_points.specs.Office.{Leg}
@@ -13,10 +13,10 @@ use Rattle.ckr_desk_turn.specs.NextEvents.{EventComes}
 use Rattle.ckr_desk_turn.specs.Units.{StepProgress}
 use Rattle.ckr_desk_turn.proofs.Checkpoints.Events.{may-come}
 
-module _ (desk : DeskModel) (run : ℕ) (progress : StepProgress) (going : IsGoing desk.office (record { run = run; progress = progress })) (kept : IsKept desk.layout desk.office)
+module _ (desk : DeskModel) (run : ℕ) (progress : StepProgress) (going : IsGoing desk.office (record { run = run; progress = progress; code = None })) (kept : IsKept desk.layout desk.office)
     (spaced : AllByRecursion (λ (leg : Leg). AreWithinSpace leg.start) desk.office.legs) (unclosed : progress.closed ≡ false) where
   try-comes : (fits : Bool) → checkpoint_fits desk.office.tables.sets going.row going.start progress ≡ fits → EventComes desk (checkpoint_try fits desk.office.tables going.row going.start progress).event
-  try-comes true fits = may-come desk.layout desk.office (record { run = run; progress = progress }) (record { kept = kept; spaced = spaced; going = going; unclosed = unclosed; fits = fits })
+  try-comes true fits = may-come desk.layout desk.office (record { run = run; progress = progress; code = None }) (record { kept = kept; spaced = spaced; going = going; uncoded = refl; unclosed = unclosed; fits = fits })
   try-comes false fits = tt
 
   unless-comes : (suppressed : Bool) → EventComes desk (checkpoint_unless suppressed desk.office.tables going.row going.start progress).event

@@ -3,6 +3,8 @@ use Rattle.std.specs.Prelude.{ℕ, Bool, true, ◌&&◌, List, [], ◌∷◌, ma
 use Rattle.std.specs.Option.{option_map_or}
 use Rattle.ckr_base.specs.declared.code.Code.{Code}
 use Rattle.ckr_base.specs.declared.code.Code.TheVariants.{System}
+use Rattle.ckr_console.specs.declared.question.Answer.{Answer}
+use Rattle.ckr_console.specs.declared.question.Answer.TheVariants.{Yes}
 use Rattle.ckr_jcl.specs.declared.deck.Job.{Job}
 use Rattle.ckr_library.specs.declared.sets.Part.{Part}
 use Rattle.ckr_library.specs.NameMaps.{Name}
@@ -12,9 +14,8 @@ use Rattle.ckr_points.specs.Office.{no_office}
 use Rattle.ckr_points.specs.Rows.{TableSet}
 use Rattle.ckr_points.specs.Soundness.{may_come}
 use Rattle.ckr_desk_turn.specs.declared.reply.Reply.{Reply}
-use Rattle.ckr_desk_turn.specs.declared.reply.Turn.{Turn}
-use Rattle.ckr_desk_turn.specs.Desk.{DeskModel, opened, submitted}
-use Rattle.ckr_desk_turn.specs.Turns.{desk_after, replies_of, turn_of}
+use Rattle.ckr_desk_turn.specs.Desk.{DeskModel, TurnDone, opened, submitted}
+use Rattle.ckr_desk_turn.specs.Turns.{AnsweredTurn, desk_after, replies_of, turn_of}
 
 abbrev pub layout : Layout
 layout = record {
@@ -36,14 +37,21 @@ abbrev pub with_deck : Option Job → DeskModel → DeskModel
 with_deck None state = state
 with_deck (Some deck) state = submitted [] deck state
 
-abbrev pub turn_by : ℕ → Turn
-turn_by initiator = record { initiator = initiator; fail = None }
+-- a turn in which the operator says yes if he is asked, or something else
+abbrev pub turn_by : ℕ → AnsweredTurn
+turn_by initiator = record { turn = record { initiator = initiator; fail = None }; answer = Yes }
 
-abbrev pub turns_by : ℕ → ℕ → List Turn
+abbrev pub turns_by : ℕ → ℕ → List AnsweredTurn
 turns_by initiator count = replicate count (turn_by initiator)
 
-abbrev pub failing : Code → Turn
-failing code = record { initiator = 1; fail = Some code }
+abbrev pub failing : Code → AnsweredTurn
+failing code = record { turn = record { initiator = 1; fail = Some code }; answer = Yes }
+
+abbrev pub with_answer : Answer → AnsweredTurn → AnsweredTurn
+with_answer answer one = record one { answer = answer }
+
+abbrev pub done_of : DeskModel → AnsweredTurn → TurnDone
+done_of state one = turn_of state one.turn one.answer
 
 -- the replies to so many turns of the first initiator
 abbrev pub replies : ℕ → DeskModel → List Reply
@@ -96,9 +104,9 @@ line name volume cataloged lrecl length space stamp = record {
 }
 
 -- whether each event of the turns may come, and carries what the jobs give
-abbrev pub all_come : List Turn → DeskModel → Bool
+abbrev pub all_come : List AnsweredTurn → DeskModel → Bool
 all_come [] state = true
-all_come (turn ∷ turns) state =
-    let done = turn_of state turn in
+all_come (one ∷ turns) state =
+    let done = done_of state one in
     option_map_or (λ event. may_come state.layout state.office (event, None) && carries state.layout state.office event None) done.event true
     && all_come turns done.desk

@@ -25,12 +25,11 @@ use Rattle.ckr_desk_turn.specs.declared.reply.Reply.TheVariants.{Idle, Selected,
 use Rattle.ckr_desk_turn.specs.Codes.{verdict_for}
 use Rattle.ckr_desk_turn.specs.Desk.{DeskModel, behind as behind_event}
 use Rattle.ckr_desk_turn.specs.EntryStates.{checkpoint_state}
-use Rattle.ckr_desk_turn.specs.Turns.{desk_after, replies_of, turn_of}
-use Rattle.ckr_desk_turn.specs.declared.reply.Turn.{Turn}
+use Rattle.ckr_desk_turn.specs.Turns.{AnsweredTurn, desk_after, replies_of}
 use Rattle.ckr_desk_turn.specs.Units.{StepProgress}
 use Rattle.ckr_desk_turn.proofs.Definitions.{turns_open}
 use Rattle.ckr_desk_turn.proofs.Examples.Decks.{cards_from, counting, deck, six_cards, sixty, spilling, under}
-use Rattle.ckr_desk_turn.proofs.Examples.Desks.{Listed, all_come as turns_come, behind, failing, fresh, line, listing, reopened, replies, turn_by, turns_by, with_deck}
+use Rattle.ckr_desk_turn.proofs.Examples.Desks.{Listed, all_come as turns_come, behind, done_of, failing, fresh, line, listing, reopened, replies, turn_by, turns_by, with_deck}
 use Rattle.ckr_desk_turn.proofs.Examples.Tables.{ended, in_one, selected, started, step_ended, submitted}
 
 -- ---- the desk behind events
@@ -39,7 +38,7 @@ abbrev behind_all : List Decked → DeskModel → DeskModel
 behind_all [] desk = desk
 behind_all (event ∷ events) desk = behind_all events (behind_event event.0 event.1 desk)
 
-abbrev comes : Decked → DeskModel → Bool
+abbrev pub comes : Decked → DeskModel → Bool
 comes event desk = may_come desk.layout desk.office event && carries desk.layout desk.office event.0 event.1
 
 abbrev all_come : List Decked → DeskModel → Bool
@@ -61,19 +60,19 @@ abbrev restarted : ℕ → Code → Bool → DeskModel → DeskModel
 restarted job code checkpoint desk = behind_all (restart job code checkpoint ∷ []) desk
 
 -- an abend with S001, and the system failure
-abbrev abended : Code
+abbrev pub abended : Code
 abended = System 1
 
-abbrev failed : Code
+abbrev pub failed : Code
 failed = System 755
 
-abbrev on_s1 : ℕ → Reply
+abbrev pub on_s1 : ℕ → Reply
 on_s1 taken = Worked 1 (codes "S1") taken
 
 -- ---- RD=RNC: at the start of the step
 
 -- its checkpoints are suppressed
-abbrev suppressing : DeskModel
+abbrev pub suppressing : DeskModel
 suppressing = with_deck (deck (counting (codes "RNC") (codes "CHK=2"))) fresh
 
 abbrev suppressed : Reply
@@ -120,14 +119,14 @@ again_listed = refl
 
 -- ---- the turns that restart it
 
-abbrev on_start : Reply
+abbrev pub on_start : Reply
 on_start = Started 1 (codes "S1")
 
-abbrev restarted_on_s1 : Reply
+abbrev pub restarted_on_s1 : Reply
 restarted_on_s1 = RestartedReply 1 (codes "S1") None 0
 
 -- the code is given: its turn tells the restart, and the step starts again by the next one
-given_event : (turn_of (behind 6 suppressing) (failing abended)).event ≡ Some (Restarted 1 1 abended false)
+given_event : (done_of (behind 6 suppressing) (failing abended)).event ≡ Some (Restarted 1 1 abended false)
 unfolding decks_open jobs_open turns_open
 given_event = refl
 
@@ -170,7 +169,7 @@ spilling_listed = refl
 abbrev cancelling : DeskModel
 cancelling = with_deck (deck (counting (codes "R") (codes "CHK=2,CANCEL=3"))) fresh
 
-abbrev written : List ℕ → Reply
+abbrev pub written : List ℕ → Reply
 written id = CheckpointedReply 1 (codes "S1") Done (Some id)
 
 cancelling_replies : replies 7 cancelling
@@ -208,13 +207,13 @@ alone_ends = refl
 
 -- ---- no RD: the turns that restart a run at the second of three checkpoints
 
-abbrev checking : DeskModel
+abbrev pub checking : DeskModel
 checking = with_deck (deck (six_cards (codes "CHK=2") (codes "(80,10)"))) fresh
 
-abbrev back_at : Name → ℕ → Reply
+abbrev pub back_at : Name → ℕ → Reply
 back_at id taken = RestartedReply 1 (codes "S1") (Some id) taken
 
-abbrev to_end : List Reply
+abbrev pub to_end : List Reply
 to_end = on_s1 5 ∷ on_s1 6 ∷ written (codes "C0000003") ∷ on_s1 6 ∷ StepEnded 1 (codes "S1") 0 ∷ JobEnded 1 Completed ∷ []
 
 checking_replies : replies 14 checking
@@ -223,11 +222,11 @@ unfolding decks_open jobs_open turns_open checkpoint_state
 checking_replies = refl
 
 -- behind the fifth record a code is given: the run goes back behind the fourth, and on to its end
-back_event : (turn_of (behind 9 checking) (failing abended)).event ≡ Some (Restarted 1 1 abended true)
+back_event : (done_of (behind 9 checking) (failing abended)).event ≡ Some (Restarted 1 1 abended true)
 unfolding decks_open jobs_open turns_open checkpoint_state
 back_event = refl
 
-abbrev given_to_end : List Turn
+abbrev pub given_to_end : List AnsweredTurn
 given_to_end = failing abended ∷ turns_by 1 6
 
 back_replies : replies_of given_to_end (behind 9 checking) ≡ back_at (codes "C0000002") 4 ∷ to_end
@@ -248,7 +247,7 @@ unfolding decks_open jobs_open turns_open checkpoint_state
 reopened_comes = refl
 
 -- the listing is that with no failure, and the records are all there
-abbrev all_copied : List Listed
+abbrev pub all_copied : List Listed
 all_copied = line (codes "CHK.A") 0 true 256 3 4 (1, 1, 0) ∷ line (codes "OUT.A") 0 true 80 6 10 (1, 1, 0) ∷ []
 
 checking_listed : listing (behind 14 checking) ≡ all_copied
@@ -268,7 +267,7 @@ unfolding decks_open jobs_open turns_open checkpoint_state
 back_records = refl
 
 -- the fourth restart at one checkpoint is denied
-abbrev given_once : List Turn
+abbrev given_once : List AnsweredTurn
 given_once = failing abended ∷ turn_by 1 ∷ []
 
 abbrev back_once : List Reply
@@ -286,7 +285,7 @@ unfolding decks_open jobs_open turns_open checkpoint_state
 counted_anew = refl
 
 -- a unit's own code comes again behind each restart
-abbrev filling : DeskModel
+abbrev pub filling : DeskModel
 filling = with_deck (deck (six_cards (codes "CHK=2") (codes "(80,3)"))) fresh
 
 abbrev filled_once : List Reply
@@ -341,7 +340,7 @@ at_forty = record { taken = 40; writes = 40; checkpointed = true; cancelled = fa
 abbrev from_second : DeskModel
 from_second = restarted 2 abended true (at_second (codes "R"))
 
-second_running : from_second.running ≡ record { run = 2; progress = at_forty } ∷ []
+second_running : from_second.running ≡ record { run = 2; progress = at_forty; code = None } ∷ []
 unfolding decks_open jobs_open turns_open
 second_running = refl
 
@@ -371,7 +370,7 @@ unfolding decks_open jobs_open turns_open checkpoint_state
 second_left = refl
 
 -- so it is where the system fails: the run is marked, and isn't any more behind its restart
-marked : (reopened (at_second (codes "R"))).failed ≡ 2 ∷ []
+marked : (reopened (at_second (codes "R"))).failed ≡ record { run = 2; asked = false } ∷ []
 unfolding decks_open jobs_open turns_open
 marked = refl
 
@@ -379,7 +378,7 @@ unmarked : (restarted 2 failed true (reopened (at_second (codes "R")))).failed �
 unfolding decks_open jobs_open turns_open
 unmarked = refl
 
-unmarked_running : (restarted 2 failed true (reopened (at_second (codes "R")))).running ≡ record { run = 2; progress = at_forty } ∷ []
+unmarked_running : (restarted 2 failed true (reopened (at_second (codes "R")))).running ≡ record { run = 2; progress = at_forty; code = None } ∷ []
 unfolding decks_open jobs_open turns_open
 unmarked_running = refl
 

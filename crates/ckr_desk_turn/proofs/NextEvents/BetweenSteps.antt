@@ -9,7 +9,7 @@ use Rattle.ckr_base.proofs.Bools.{bool-cases}
 use Rattle.ckr_base.proofs.Numbers.{equal-itself}
 use Rattle.ckr_base.proofs.Options.{is_none-true, some-not-none}
 use Rattle.ckr_base.proofs.Sequences.{find-all, find-passes}
-use Rattle.ckr_events.specs.declared.event.Event.TheVariants.{Submitted as SubmittedEvent, Selected as SelectedEvent, Ended as EndedEvent, Purged as PurgedEvent}
+use Rattle.ckr_events.specs.declared.event.Event.TheVariants.{Submitted as SubmittedEvent, Selected as SelectedEvent, Ended as EndedEvent, Purged as PurgedEvent, Released as ReleasedEvent}
 use Rattle.ckr_events.specs.declared.event.Ending.TheVariants.{Completed, Allocation}
 use Rattle.ckr_jcl.specs.declared.deck.Job.{Job}
 use Rattle.ckr_meaning.specs.EffectiveJob.{OwnedStep}
@@ -25,7 +25,7 @@ use Rattle.ckr_points_invariant.specs.Invariant.{IsKept}
 use Rattle.ckr_points_decks.specs.Form.{is_run}
 use Rattle.ckr_desk_turn.specs.Select.{is_on, may_select, next_run, run_on_initiator}
 use Rattle.ckr_desk_turn.specs.Desk.{DeskModel}
-use Rattle.ckr_desk_turn.specs.Invariant.{IsDesk, is_on_one, is_plain_row, is_plain_state}
+use Rattle.ckr_desk_turn.specs.Invariant.{IsDesk, has_code_while_off, is_on_one, is_plain_row, is_plain_state}
 
 -- ---- runs that are found
 
@@ -69,66 +69,75 @@ free_initiator i (first ∷ rows) none =
       | false ↦ λ off rest. and_from _ _ (not_on i first off) (free_initiator i rows rest)
     ] refl none
 
--- a run that comes next was never held: it waits, and its uses don't hold against those of a selected one
-next_waits : (tables : TablesModel) (row : RunRow) → may_select tables row.state row ≡ true → is_plain_state row.state ≡ true → (row.state ≡ Queued) × (may_hold tables row ≡ true)
-next_waits tables row may plain = elim row.state as (λ s. may_select tables s row ≡ true → is_plain_state s ≡ true → (s ≡ Queued) × (may_hold tables row ≡ true)) [
-  | Queued ↦ λ m p. (refl, m)
-  | On ↦ λ m p. absurd (false≢true m)
-  | Held ↦ λ m p. absurd (false≢true m)
-  | Released ↦ λ m p. absurd (false≢true p)
-  | Ended ↦ λ m p. absurd (false≢true m)
-  | Denied ↦ λ m p. absurd (false≢true m)
-  | Purged ↦ λ m p. absurd (false≢true m)
-] may plain
-
--- what a plain run's test says, part by part
-pub record Plain (row : RunRow) : Type 0 where
-  pub state : is_plain_state row.state ≡ true
-  pub initiator : (is_none row.initiator || is_on_one row.state) ≡ true
-  pub code : is_none row.code ≡ true
-  pub runs : is_run row.deck ≡ true
-
-pub plain_parts : (row : RunRow) → is_plain_row row ≡ true → Plain row
-plain_parts row plain =
-    let one = and_parts (is_plain_state row.state) _ plain in
-    let two = and_parts (is_none row.initiator || is_on_one row.state) _ one.1 in
-    let three = and_parts (is_none row.code) (is_run row.deck) two.1 in
-    record { state = one.0; initiator = two.0; code = three.0; runs = three.1 }
-
-pub no_restart : (deck : Job) → is_run deck ≡ true → deck.restart ≡ None
-no_restart deck runs = is_none-true deck.restart (and_parts (is_none deck.restart) _ runs).0
-
--- a run that comes next to an initiator that no run is on
-pub selected-follows : (layout : Layout) (tables : TablesModel) (i : ℕ) (row : RunRow) → run_of tables row.number ≡ Some row → is_plain_state row.state ≡ true → is_run row.deck ≡ true → 1 ≤ i → i ≤ layout.initiators → run_on_initiator tables i ≡ None → next_run tables ≡ Some row
-    → follows layout tables (SelectedEvent row.number i 0 0 None) None ≡ true
-selected-follows layout tables i row at plain runs above below free next =
-    ap (λ o. option_map_or (selected_follows layout tables i 0 0 None) o false) at
-    ∙ and_from _ _ (and_from _ _ (and_from _ _ queued is_there) waits.1) alone
+pub free-there : (layout : Layout) (tables : TablesModel) (i : ℕ) → 1 ≤ i → i ≤ layout.initiators → run_on_initiator tables i ≡ None → is_free layout tables i ≡ true
+free-there layout tables i above below free = and_from _ _ (and_from _ _ within below_most) (free_initiator i tables.runs free)
   where
-    waits : (row.state ≡ Queued) × (may_hold tables row ≡ true)
-    waits = next_waits tables row (find-passes (λ other. may_select tables other.state other) tables.runs row next) plain
-
-    queued : is_in_state Queued row ≡ true
-    queued = ap (λ s. state_number s == state_number Queued) waits.0
-
     within : nat_le 1 i ≡ true
     within = grind (arith, nat_tests, above)
 
     below_most : nat_le i layout.initiators ≡ true
     below_most = grind (arith, nat_tests, below)
 
+-- a queued run that comes next: its uses don't hold against those of a selected one
+next_waits : (tables : TablesModel) (row : RunRow) → may_select tables row.state row ≡ true → row.state ≡ Queued → may_hold tables row ≡ true
+next_waits tables row may queued = ap (λ s. may_select tables s row) (sym queued) ∙ may
+
+-- a run that comes next is queued, or was released
+pub next_cases : {A : Type 0} (tables : TablesModel) (row : RunRow) → next_run tables ≡ Some row → (row.state ≡ Queued → A) → (row.state ≡ Released → A) → A
+next_cases {A = A} tables row next queued released =
+    by row.state refl (find-passes (λ other. may_select tables other.state other) tables.runs row next)
+  where
+    by : (state : RunState) → row.state ≡ state → may_select tables state row ≡ true → A
+    by Queued its may = queued its
+    by On its may = absurd (false≢true may)
+    by Held its may = absurd (false≢true may)
+    by Released its may = released its
+    by Ended its may = absurd (false≢true may)
+    by Denied its may = absurd (false≢true may)
+    by Purged its may = absurd (false≢true may)
+
+-- what a plain run's test says, part by part
+pub record Plain (row : RunRow) : Type 0 where
+  pub state : is_plain_state row.state ≡ true
+  pub initiator : (is_none row.initiator || is_on_one row.state) ≡ true
+  pub code : has_code_while_off row ≡ true
+  pub runs : is_run row.deck ≡ true
+
+pub plain_parts : (row : RunRow) → is_plain_row row ≡ true → Plain row
+plain_parts row plain =
+    let one = and_parts (is_plain_state row.state) _ plain in
+    let two = and_parts (is_none row.initiator || is_on_one row.state) _ one.1 in
+    let three = and_parts (has_code_while_off row) (is_run row.deck) two.1 in
+    record { state = one.0; initiator = two.0; code = three.0; runs = three.1 }
+
+pub no_restart : (deck : Job) → is_run deck ≡ true → deck.restart ≡ None
+no_restart deck runs = is_none-true deck.restart (and_parts (is_none deck.restart) _ runs).0
+
+-- a run that comes next to an initiator that no run is on
+pub selected-follows : (layout : Layout) (tables : TablesModel) (i : ℕ) (row : RunRow) → run_of tables row.number ≡ Some row → row.state ≡ Queued → is_run row.deck ≡ true → 1 ≤ i → i ≤ layout.initiators → run_on_initiator tables i ≡ None → next_run tables ≡ Some row
+    → follows layout tables (SelectedEvent row.number i 0 0 None) None ≡ true
+selected-follows layout tables i row at waits runs above below free next =
+    ap (λ o. option_map_or (selected_follows layout tables i 0 0 None) o false) at
+    ∙ and_from _ _ (and_from _ _ (and_from _ _ queued is_there) held) alone
+  where
+    held : may_hold tables row ≡ true
+    held = next_waits tables row (find-passes (λ other. may_select tables other.state other) tables.runs row next) waits
+
+    queued : is_in_state Queued row ≡ true
+    queued = ap (λ s. state_number s == state_number Queued) waits
+
     is_there : is_free layout tables i ≡ true
-    is_there = and_from _ _ (and_from _ _ within below_most) (free_initiator i tables.runs free)
+    is_there = free-there layout tables i above below free
 
     alone : option_map_or (λ restart. may_restart tables row restart 0 0 None) row.deck.restart true ≡ true
     alone = ap (λ r. option_map_or (λ restart. may_restart tables row restart 0 0 None) r true) (no_restart row.deck runs)
 
-pub selected_comes : (desk : DeskModel) (i : ℕ) (row : RunRow) → IsDesk desk → 1 ≤ i → i ≤ desk.layout.initiators → run_on_initiator desk.office.tables i ≡ None → next_run desk.office.tables ≡ Some row
+pub selected_comes : (desk : DeskModel) (i : ℕ) (row : RunRow) → IsDesk desk → 1 ≤ i → i ≤ desk.layout.initiators → run_on_initiator desk.office.tables i ≡ None → next_run desk.office.tables ≡ Some row → row.state ≡ Queued
     → may_come desk.layout desk.office (SelectedEvent row.number i 0 0 None, None) ≡ true
-selected_comes desk i row is above below free next =
+selected_comes desk i row is above below free next waits =
     let selects : RunRow → Bool = λ other. may_select desk.office.tables other.state other in
     let plain : Plain row = plain_parts row (plain_found desk selects row is next) in
-    and_from _ _ (selected-follows desk.layout desk.office.tables i row (row_of_found desk.layout desk.office selects row is.kept next) plain.state plain.runs above below free next) refl
+    and_from _ _ (selected-follows desk.layout desk.office.tables i row (row_of_found desk.layout desk.office selects row is.kept next) waits plain.runs above below free next) refl
 
 -- ---- a run that is on an initiator
 
@@ -197,6 +206,10 @@ refused_comes desk i row owned dd cause first second is found there above below 
 pub purged_comes : (desk : DeskModel) (job : ℕ) (row : RunRow) → run_of desk.office.tables job ≡ Some row → row.state ≡ Queued → may_come desk.layout desk.office (PurgedEvent job, None) ≡ true
 purged_comes desk job row at queued =
     and_from _ _ (ap (λ o. option_map_or (is_in_state Queued) o false) at ∙ ap (λ s. state_number s == state_number Queued) queued) refl
+
+pub released_comes : (desk : DeskModel) (job : ℕ) (row : RunRow) → run_of desk.office.tables job ≡ Some row → row.state ≡ Held → may_come desk.layout desk.office (ReleasedEvent job, None) ≡ true
+released_comes desk job row at held =
+    and_from _ _ (ap (λ o. option_map_or (is_in_state Held) o false) at ∙ ap (λ s. state_number s == state_number Held) held) refl
 
 -- a deck of at least one card, with the next number
 pub submitted_comes : (desk : DeskModel) (first : ℕ) (cards : List ℕ) (deck : Job) → may_come desk.layout desk.office (SubmittedEvent (suc (length desk.office.tables.runs)) (first ∷ cards), Some deck) ≡ true

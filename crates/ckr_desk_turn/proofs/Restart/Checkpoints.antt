@@ -1,7 +1,8 @@
 -- A run that is restarted at its checkpoint: its row, where it stands, and its running step behind the entry.
-use Rattle.std.proofs.Common.{◌≡◌, ◌≤◌, ℕ, true, length, refl, ap, sym, ◌∙◌, subst, Option, Some, None, arith}
+use Rattle.std.proofs.Common.{◌≡◌, ◌≤◌, ℕ, true, not, ◌||◌, length, refl, ap, sym, ◌∙◌, subst, Option, Some, None, arith}
 use Rattle.std.specs.Prelude.{◌==◌, nat_le}
-use Rattle.std.specs.Option.{is_none, is_some, option_map_or}
+use Rattle.std.specs.Option.{is_some, option_map_or}
+use Rattle.std.proofs.lemmas.Bool.{or_right}
 use Rattle.ckr_base.specs.declared.code.Code.{Code}
 use Rattle.ckr_base.proofs.Bools.{and-first, and-second}
 use Rattle.ckr_base.proofs.Numbers.{equal-true, nat_le-true}
@@ -13,8 +14,8 @@ use Rattle.ckr_meaning.specs.Program.{records_taken, upto}
 use Rattle.ckr_meaning.specs.StepRun.{StepStart, case_at, work_at}
 use Rattle.ckr_meaning.specs.declared.place.Place.TheVariants.{Within}
 use Rattle.ckr_points.specs.Events.{IsNext}
-use Rattle.ckr_points.specs.Follows.{is_within, own_step}
-use Rattle.ckr_points.specs.Office.{Leg, Office, is_holder, leg_of, office_after}
+use Rattle.ckr_points.specs.Follows.{is_running, is_within, own_step}
+use Rattle.ckr_points.specs.Office.{Leg, Office, leg_of, office_after}
 use Rattle.ckr_points.specs.Payload.{carries_taken, writes_in}
 use Rattle.ckr_points.specs.Restart.{kept_at, place_of, step_in}
 use Rattle.ckr_points.specs.Rows.{EffectPoint, EntryPoint, KeptEntry, RunRow, TableSet}
@@ -31,13 +32,12 @@ use Rattle.ckr_points_invariant.proofs.Steps.Commits.{IsRunning, its_start, unde
 use Rattle.ckr_rules.specs.declared.cases.Verdict.TheVariants.{Checkpoint}
 use Rattle.ckr_volumes.specs.declared.layout.Layout.{Layout}
 use Rattle.ckr_desk_turn.specs.Desk.{at_entry}
-use Rattle.ckr_desk_turn.specs.Invariant.{IsAdmitted, IsGoing, IsOpen, is_plain_row}
+use Rattle.ckr_desk_turn.specs.Invariant.{IsAdmitted, IsGoing, IsOpen, has_its_step, is_off, is_plain_row}
 use Rattle.ckr_desk_turn.specs.Jobs.{effect_entry}
-use Rattle.ckr_desk_turn.specs.Restarts.{IsJudged, restart_of}
-use Rattle.ckr_desk_turn.proofs.OtherRuns.{Changes}
-use Rattle.ckr_desk_turn.proofs.Restart.Events.{by-run, here, judged-so, restart-comes}
+use Rattle.ckr_desk_turn.specs.Restarts.{restart_of}
+use Rattle.ckr_desk_turn.proofs.OtherRuns.{Changes, plain-deck}
+use Rattle.ckr_desk_turn.proofs.Restart.Events.{MayRestart, by-run, here, judged-so, restart-comes}
 use Rattle.ckr_desk_turn.proofs.RunningSteps.{nothing-between}
-use Rattle.ckr_desk_turn.proofs.Runs.Events.{run-deck}
 
 -- behind the records taken and the writes that an entry tells
 open-so : (start : StepStart) (point : EntryPoint) → carries_taken point.taken point.writes start ≡ true → IsOpen start (at_entry 0 point).progress
@@ -52,11 +52,12 @@ pub record IsBack (office after : Office) (row : RunRow) : Type 0 where
   pub changes : Changes office after row.number next
   pub plain : is_plain_row row ≡ true → is_plain_row next ≡ true
   pub admitted : IsAdmitted row → IsAdmitted next
+  pub stepped : has_its_step next ≡ true
   pub entry : KeptEntry
   pub there : effect_entry office.tables row ≡ Some entry
   pub going : IsGoing after (at_entry row.number entry.point)
 
-module _ (layout : Layout) (office : Office) (are : AreKept layout office) (row : RunRow) (initiator : ℕ) (code : Code) (its : IsJudged layout office row initiator code Checkpoint) where
+module _ (layout : Layout) (office : Office) (are : AreKept layout office) (row : RunRow) (initiator : ℕ) (code : Code) (its : MayRestart layout office row initiator code Checkpoint) where
   abbrev after : Office
   after = office_after (restart_of row initiator code true, None) office
 
@@ -68,24 +69,24 @@ module _ (layout : Layout) (office : Office) (are : AreKept layout office) (row 
 
   -- ---- its entry
 
-  module _ (leg : Leg) (owned : OwnedStep) (running : IsRunning office row.number row leg owned its.number its.committed) (found : own_step row ≡ Some owned) (same : its.start ≡ its_start leg owned its.number) (effect : EffectPoint) (got : row.in_effect ≡ Some effect) where
+  module _ (leg : Leg) (owned : OwnedStep) (running : IsRunning office row.number row leg owned its.on.number its.on.committed) (found : own_step row ≡ Some owned) (same : its.on.start ≡ its_start leg owned its.on.number) (effect : EffectPoint) (got : row.in_effect ≡ Some effect) where
     check : IsCheck office.tables.sets row leg effect
-    check = (are.ready.runs row.number row leg running.holder).check effect (ap is_within its.within.place) got
+    check = (are.ready.runs row.number row leg running.holder).check effect (ap is_within its.on.held.place) got
 
     there : kept_at office.tables.sets effect.set effect.kept.id ≡ Some check.entry
     there = kept-entry office.tables.sets effect.set effect.kept.id check.entry check.keeps
 
-    starts : start_at leg.job leg.start (step_now row) ≡ Some its.start
-    starts = sym (ap (λ (o : Option Leg). option_map_or (λ leg. start_at leg.job leg.start (step_in (place_of row))) o None) running.holder.leg_at) ∙ its.within.start_at
+    starts : start_at leg.job leg.start (step_now row) ≡ Some its.on.start
+    starts = sym (ap (λ (o : Option Leg). option_map_or (λ leg. start_at leg.job leg.start (step_in (place_of row))) o None) running.holder.leg_at) ∙ its.on.held.start_at
 
     restorable : IsRestorable office.tables.sets row leg check.entry.point.writes check.entry.point.marks check.entry.point.passed
     restorable = check.since (check-unwritten row (step_now row) layout.eligible.items code effect got (judged-so layout office are row initiator code Checkpoint its true refl))
 
     -- its writes had space
-    fit-so : check.entry.point.writes ≤ length (work_at its.start).writes
+    fit-so : check.entry.point.writes ≤ length (work_at its.on.start).writes
     fit-so =
-        let below : check.entry.point.writes ≤ its.committed = subst (λ n. check.entry.point.writes ≤ n) (ap writes_in its.within.place) restorable.behind in
-        let done : its.committed ≤ length (work_at its.start).writes = subst (λ s. its.committed ≤ length (work_at s).writes) (sym same) (under_way layout office row.number row leg owned its.number its.committed are.kept.events running).done in
+        let below : check.entry.point.writes ≤ its.on.committed = subst (λ n. check.entry.point.writes ≤ n) (ap writes_in its.on.held.place) restorable.behind in
+        let done : its.on.committed ≤ length (work_at its.on.start).writes = subst (λ s. its.on.committed ≤ length (work_at s).writes) (sym same) (under_way layout office row.number row leg owned its.on.number its.on.committed are.kept.events running).done in
         omega (arith, below, done)
 
     now : RestartsNow layout office row.number initiator code None are.kept.events are.pointed row leg true
@@ -100,28 +101,29 @@ module _ (layout : Layout) (office : Office) (are : AreKept layout office) (row 
     run-back : IsBack office after row
     run-back =
         let holder = holder-entry layout office row.number initiator code None are.kept.events are.pointed can row leg now owned found effect got check.entry there in
-        let opened : IsOpen its.start (at_entry 0 check.entry.point).progress = open-so its.start check.entry.point (check.taken its.start starts) in
-        at-step layout office row.number initiator code None are.kept.events are.pointed true (λ (later : Office). IsBack office later row) row its.within.row_at (Some owned) found
+        let opened : IsOpen its.on.start (at_entry 0 check.entry.point).progress = open-so its.on.start check.entry.point (check.taken its.on.start starts) in
+        at-step layout office row.number initiator code None are.kept.events are.pointed true (λ (later : Office). IsBack office later row) row its.on.held.row_at (Some owned) found
         (to-entry layout office row.number initiator code None are.kept.events are.pointed can row leg now owned found effect got check.entry there (λ (later : Office). IsBack office later row)
         (record {
           next = next;
           changes = record { mine = holder.row_at; others = λ other apart. run-other (record office.tables { sets = sets }) next other apart; legs = refl };
-          plain = λ plain. and-second (is_none row.code) _ (run-deck row plain);
+          plain = plain-deck row;
           admitted = λ was. record { cards = was.cards; accepted = was.accepted; lodged = refl };
+          stepped = or_right (not (is_running next || is_off next.state)) (is_some (own_step next)) (ap is_some found);
           entry = check.entry;
           there = ap (λ (o : Option EffectPoint). option_map_or (λ effect. kept_at office.tables.sets effect.set effect.kept.id) o None) got ∙ there;
           going = record {
             row = next;
             row_at = holder.row_at;
             on = refl;
-            number = its.number;
+            number = its.on.number;
             committed = check.entry.point.writes;
-            place = ap (λ place. Some (Within (step_in place) check.entry.point.writes)) its.within.place;
-            start = its.start;
-            start_at = its.within.start_at;
+            place = ap (λ place. Some (Within (step_in place) check.entry.point.writes)) its.on.held.place;
+            start = its.on.start;
+            start_at = its.on.held.start_at;
             fit = fit-so;
             behind = omega arith;
-            plain = nothing-between its.start check.entry.point.writes;
+            plain = nothing-between its.on.start check.entry.point.writes;
             come = record { taken = opened.taken; writes = opened.writes };
           };
         }))
@@ -140,14 +142,14 @@ module _ (layout : Layout) (office : Office) (are : AreKept layout office) (row 
   -- ---- what the restart leaves
 
   module _ (entry : KeptEntry) (found : effect_entry office.tables row ≡ Some entry) where
-    pub check-stands : (leg : Leg) → leg_of office row.number ≡ Some leg → StandsAt after row.number leg (Within its.number entry.point.writes) entry.point.count
+    pub check-stands : (leg : Leg) → leg_of office row.number ≡ Some leg → StandsAt after row.number leg (Within its.on.number entry.point.writes) entry.point.count
     check-stands leg led =
         by-run layout office are row initiator code Checkpoint its
         (λ other owned running own same.
         by-effect (λ effect got.
         subst (λ step. StandsAt after row.number leg (Within step entry.point.writes) entry.point.count) (here layout office are row initiator code Checkpoint its)
         (entry-stands layout office row.number initiator code None row leg owned effect entry are.kept are.pointed can comes.may comes.carried
-        (record { row_at = its.within.row_at; holds = ap is_holder its.within.on; leg_at = led }) own got
+        (record { row_at = its.on.held.row_at; holds = its.on.held.holds; leg_at = led }) own got
         (sym (ap (λ (o : Option EffectPoint). option_map_or (λ (effect : EffectPoint). kept_at office.tables.sets effect.set effect.kept.id) o None) got) ∙ found))))
 
     -- its step goes on from the entry

@@ -1,4 +1,4 @@
--- A desk behind a restart, or behind the end of a run whose restart the operator refuses, is as its events have brought it about.
+-- A desk behind a restart, or behind the end or the hold of a run that has a code, is as its events have brought it about.
 use Rattle.std.proofs.Common.{◌≡◌, ◌≢◌, ℕ, Bool, true, false, not, ◌||◌, ◌∷◌, refl, ap, sym, ◌∙◌, subst, None}
 use Rattle.std.specs.Prelude.{◌==◌}
 use Rattle.std.specs.List.{list_any}
@@ -6,7 +6,7 @@ use Rattle.std.proofs.lemmas.Bool.{or_left, or_right}
 use Rattle.ckr_base.specs.declared.code.Code.{Code}
 use Rattle.ckr_base.proofs.Numbers.{equal-itself}
 use Rattle.ckr_events.specs.declared.event.Event.{Event}
-use Rattle.ckr_events.specs.declared.event.Event.TheVariants.{Ended as EndedEvent}
+use Rattle.ckr_events.specs.declared.event.Event.TheVariants.{Ended as EndedEvent, Held as HeldEvent}
 use Rattle.ckr_events.specs.declared.event.Ending.TheVariants.{Coded as CodedEnding}
 use Rattle.ckr_meaning.specs.StepRun.{StepStart}
 use Rattle.ckr_points.specs.Follows.{is_running}
@@ -15,8 +15,6 @@ use Rattle.ckr_points.specs.Rows.{RunRow}
 use Rattle.ckr_points_invariant.proofs.PlainRuns.SoundEvents.{AreKept}
 use Rattle.ckr_rules.specs.RuleTables.{rule_number}
 use Rattle.ckr_rules.specs.declared.cases.Rule.{Rule}
-use Rattle.ckr_rules.specs.declared.cases.Rule.TheVariants.{A6}
-use Rattle.ckr_rules.specs.declared.cases.Verdict.{Verdict}
 use Rattle.ckr_rules.specs.declared.cases.Verdict.TheVariants.{Checkpoint, Step}
 use Rattle.ckr_desk_turn.specs.declared.plan.Plan.TheVariants.{Tell}
 use Rattle.ckr_desk_turn.specs.declared.reply.Reply.{Reply}
@@ -24,26 +22,21 @@ use Rattle.ckr_desk_turn.specs.Codes.{initiator_of, reached_by, verdict_for}
 use Rattle.ckr_desk_turn.specs.Desk.{DeskModel, DeskStep, at_entry, behind, done_by, jobs_of, without_run}
 use Rattle.ckr_desk_turn.specs.Invariant.{IsDesk, Keeps, is_accounted}
 use Rattle.ckr_desk_turn.specs.NextEvents.{IsWithinStep}
-use Rattle.ckr_desk_turn.specs.Restarts.{GoesOnBy, IsJudged, refusal_of, restart_of}
+use Rattle.ckr_desk_turn.specs.Restarts.{GoesOnBy, restart_of}
 use Rattle.ckr_desk_turn.proofs.Codes.{may_end, initiator-its}
-use Rattle.ckr_desk_turn.proofs.OtherRuns.{accounted-then, admitted-then, each_row, failed-rest, failed-same, going-rest, plain-then, row-admitted, row-plain, running-same}
+use Rattle.ckr_desk_turn.proofs.OtherRuns.{accounted-then, admitted-then, each_row, failed-rest, failed-same, going-rest, plain-then, row-admitted, row-plain, running-same, stepped-then}
 use Rattle.ckr_desk_turn.proofs.Restart.Checkpoints.{IsBack, back}
-use Rattle.ckr_desk_turn.proofs.Restart.Events.{restart-comes, restart-keeps}
+use Rattle.ckr_desk_turn.proofs.Restart.Events.{MayGoOn, MayRestart, on-goes, restart-comes, restart-keeps}
+use Rattle.ckr_desk_turn.proofs.NextEvents.Holders.{HoldsStep, may_go}
 use Rattle.ckr_desk_turn.proofs.Restart.Points.{running-again}
 use Rattle.ckr_desk_turn.proofs.Restart.Steps.{IsAtStart, start-row}
-use Rattle.ckr_desk_turn.proofs.RunningSteps.{reached-comes}
-use Rattle.ckr_desk_turn.proofs.StepEnd.{code-kept}
+use Rattle.ckr_desk_turn.proofs.RunningSteps.{reached-comes, reached-holds}
+use Rattle.ckr_desk_turn.proofs.StepEnd.{code-kept, held-kept}
 
--- what the rules say of a run within a step, on its initiator
-pub judged-so : (desk : DeskModel) → IsDesk desk → (row : RunRow) (number committed : ℕ) (start : StepStart) → IsWithinStep desk.office row.number row number committed start → (code : Code) (verdict : Verdict) → verdict_for desk.layout row code ≡ verdict → IsJudged desk.layout desk.office row (initiator_of row) code verdict
-judged-so desk is row number committed start within code verdict judged = record {
-  number = number;
-  committed = committed;
-  start = start;
-  within = within;
-  lodged = initiator-its row within.on (row-admitted desk is row.number row within.row_at);
-  judged = judged;
-}
+-- a run within a step, which may be restarted on its initiator
+pub may-so : (desk : DeskModel) → IsDesk desk → (row : RunRow) (number committed : ℕ) (start : StepStart) → IsWithinStep desk.office row.number row number committed start → MayGoOn desk.layout desk.office row (initiator_of row)
+may-so desk is row number committed start within =
+    on-goes desk.layout desk.office row (initiator_of row) number committed start within (initiator-its row within.on (row-admitted desk is row.number row within.row_at))
 
 -- a desk that goes on by the event of a plan
 pub told-keeps : (desk : DeskModel) (reply : Reply) (event : Event) → GoesOnBy desk event → Keeps desk (done_by (Tell reply event) desk)
@@ -55,7 +48,7 @@ module _ (desk : DeskModel) (is : IsDesk desk) (row : RunRow) (initiator : ℕ) 
 
   -- ---- at the start of its step
 
-  module _ (its : IsJudged desk.layout desk.office row initiator code Step) where
+  module _ (its : MayRestart desk.layout desk.office row initiator code Step) where
     abbrev start_after : Office
     start_after = office_after (restart_of row initiator code false, None) desk.office
 
@@ -70,8 +63,9 @@ module _ (desk : DeskModel) (is : IsDesk desk) (row : RunRow) (initiator : ℕ) 
           kept = on.kept;
           going = going-rest desk.office start_after row.number then.next then.changes desk.running is.going;
           failed = failed-rest desk.office start_after row.number then.next then.changes desk.failed is.failed;
-          plain = plain-then desk start_later is row.number then.next then.changes (then.plain (row-plain desk is row.number row its.within.row_at));
-          admitted = admitted-then desk start_later is row.number then.next then.changes (then.admitted (row-admitted desk is row.number row its.within.row_at));
+          plain = plain-then desk start_later is row.number then.next then.changes (then.plain (row-plain desk is row.number row its.on.held.row_at));
+          admitted = admitted-then desk start_later is row.number then.next then.changes (then.admitted (row-admitted desk is row.number row its.on.held.row_at));
+          stepped = stepped-then desk start_later is row.number then.next then.changes then.stepped;
           accounted = accounted-then desk start_later is row.number then.next then.changes then.rests (running-same row.number desk.running) (failed-same row.number desk.failed);
           spaced = is.spaced;
           spaced_legs = is.spaced_legs;
@@ -84,7 +78,7 @@ module _ (desk : DeskModel) (is : IsDesk desk) (row : RunRow) (initiator : ℕ) 
 
   -- ---- at its checkpoint in effect
 
-  module _ (its : IsJudged desk.layout desk.office row initiator code Checkpoint) where
+  module _ (its : MayRestart desk.layout desk.office row initiator code Checkpoint) where
     abbrev after : Office
     after = office_after (restart_of row initiator code true, None) desk.office
 
@@ -110,8 +104,9 @@ module _ (desk : DeskModel) (is : IsDesk desk) (row : RunRow) (initiator : ℕ) 
           kept = on.kept;
           going = (then.going, going-rest desk.office after row.number then.next then.changes desk.running is.going);
           failed = failed-rest desk.office after row.number then.next then.changes desk.failed is.failed;
-          plain = plain-then desk later is row.number then.next then.changes (then.plain (row-plain desk is row.number row its.within.row_at));
-          admitted = admitted-then desk later is row.number then.next then.changes (then.admitted (row-admitted desk is row.number row its.within.row_at));
+          plain = plain-then desk later is row.number then.next then.changes (then.plain (row-plain desk is row.number row its.on.held.row_at));
+          admitted = admitted-then desk later is row.number then.next then.changes (then.admitted (row-admitted desk is row.number row its.on.held.row_at));
+          stepped = stepped-then desk later is row.number then.next then.changes then.stepped;
           accounted = each_row desk later is row.number then.next then.changes (is_accounted desk) (is_accounted later)
               (or_right (not (is_running then.next)) _
               (or_left (list_any (λ (step : DeskStep). step.run == then.next.number) later.running) _
@@ -127,21 +122,25 @@ module _ (desk : DeskModel) (is : IsDesk desk) (row : RunRow) (initiator : ℕ) 
       comes = restart-comes desk.layout desk.office are row initiator code Checkpoint its true refl;
       kept =
           subst (λ running. IsDesk (record (behind (restart_of row initiator code true) None desk) { running = running }))
-          (sym (running-again desk.office.tables row then.entry desk.running its.within.row_at then.there)) later-kept;
+          (sym (running-again desk.office.tables row then.entry desk.running its.on.held.row_at then.there)) later-kept;
     }
 
-  -- ---- where it ends
+-- ---- where it ends or is held
 
-  module _ (number committed : ℕ) (start : StepStart) (within : IsWithinStep desk.office row.number row number committed start) where
-    -- by the rule that denies its restart, or by that of the operator
-    pub end-goes_on : (rule : Rule) → may_end rule (verdict_for desk.layout row code) ≡ true → GoesOnBy desk (EndedEvent row.number (CodedEnding code (rule_number rule) (reached_by (jobs_of desk) row).writes (record { items = (reached_by (jobs_of desk) row).lengths })))
-    end-goes_on rule first =
-        let comes = reached-comes desk is row.number row number committed start within code rule first in
-        record {
-          comes = comes;
-          kept = code-kept desk is row.number row number committed start within (row-plain desk is row.number row within.row_at) code (rule_number rule) (reached_by (jobs_of desk) row).writes (record { items = (reached_by (jobs_of desk) row).lengths }) comes;
-        }
+module _ (desk : DeskModel) (is : IsDesk desk) (row : RunRow) (code : Code) (number committed : ℕ) (start : StepStart) (held : HoldsStep desk.office row.number row number committed start) (goes : may_go row ≡ true) where
+  -- by the rule that denies its restart, or by that of the operator
+  pub end-goes_on : (rule : Rule) → may_end rule (verdict_for desk.layout row code) ≡ true → GoesOnBy desk (EndedEvent row.number (CodedEnding code (rule_number rule) (reached_by (jobs_of desk) row).writes (record { items = (reached_by (jobs_of desk) row).lengths })))
+  end-goes_on rule first =
+      let comes = reached-comes desk is row number committed start held goes code rule first in
+      record {
+        comes = comes;
+        kept = code-kept desk is row.number row number committed start held code (rule_number rule) (reached_by (jobs_of desk) row).writes (record { items = (reached_by (jobs_of desk) row).lengths }) comes;
+      }
 
-  -- where the operator refuses it
-  pub refusal-goes_on : (verdict : Verdict) → IsJudged desk.layout desk.office row initiator code verdict → GoesOnBy desk (refusal_of desk row code)
-  refusal-goes_on verdict its = end-goes_on its.number its.committed its.start its.within A6 refl
+  pub hold-goes_on : GoesOnBy desk (HeldEvent row.number code (reached_by (jobs_of desk) row).writes (record { items = (reached_by (jobs_of desk) row).lengths }))
+  hold-goes_on =
+      let comes = reached-holds desk is row number committed start held goes code in
+      record {
+        comes = comes;
+        kept = held-kept desk is row.number row number committed start held code (reached_by (jobs_of desk) row).writes (record { items = (reached_by (jobs_of desk) row).lengths }) comes;
+      }

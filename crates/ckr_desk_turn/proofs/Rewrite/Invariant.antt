@@ -24,16 +24,17 @@ use Rattle.ckr_points.specs.Restart.{place_of, step_in}
 use Rattle.ckr_points.specs.Rows.{RunRow, TableSet, run_of, step_of_run}
 use Rattle.ckr_points_invariant.proofs.Holders.Rows.{run-other, run-same}
 use Rattle.ckr_points_invariant.proofs.PlainRuns.SoundEvents.{AreKept}
+use Rattle.ckr_desk_turn.specs.declared.failed_run.FailedRun.{FailedRun}
 use Rattle.ckr_desk_turn.specs.Desk.{DeskModel, DeskStep, behind as desk_behind, with_progress, without_run}
 use Rattle.ckr_desk_turn.specs.Units.{StepProgress, arrived}
 use Rattle.ckr_desk_turn.specs.NextEvents.{Comes, IsWithinStep}
 use Rattle.ckr_desk_turn.specs.Invariant.{IsAdmitted, IsDesk, IsFailed, IsGoing, is_accounted}
 use Rattle.ckr_desk_turn.proofs.StepEnd.{by-changed}
-use Rattle.ckr_desk_turn.proofs.OtherRuns.{Changes, admitted-then, each_row, failed-there, going-rest, plain-then, row-admitted, row-plain}
+use Rattle.ckr_desk_turn.proofs.OtherRuns.{Changes, admitted-then, each_row, failed-there, going-rest, plain-then, row-admitted, row-plain, row-stepped, same-step, stepped-then}
 use Rattle.ckr_desk_turn.proofs.Readiness.{kept-on}
 use Rattle.ckr_desk_turn.proofs.RunningSteps.{nothing-between}
 use Rattle.ckr_desk_turn.proofs.Rewrite.Event.{Rewrites, carry_so, follow_so, its_table, lrecl_so, rewrite_carried, rewrite_follows}
-use Rattle.ckr_desk_turn.proofs.Units.Invariant.{accounted_so}
+use Rattle.ckr_desk_turn.proofs.Moves.{accounted_so}
 use Rattle.ckr_desk_turn.proofs.NextEvents.WithinStep.{by-step, of-run, of-start, runs}
 
 -- what the rewrite behind some writes of a step tells
@@ -133,7 +134,7 @@ module _ (desk : DeskModel) (is : IsDesk desk) (run : ℕ) (row : RunRow) (numbe
     start_at = within.start_at;
   }
 
-  still_going : IsGoing now (record { run = row.number; progress = further })
+  still_going : IsGoing now (record { run = row.number; progress = further; code = None })
   still_going = record {
     row = next;
     row_at = ap (run_of now.tables) its_number ∙ changes.mine;
@@ -149,11 +150,11 @@ module _ (desk : DeskModel) (is : IsDesk desk) (run : ℕ) (row : RunRow) (numbe
     come = record { taken = rewrites.below; writes = rewrites.counts };
   }
 
-  failed_now : (failed : List ℕ) → AllByRecursion (IsFailed desk.office) failed → AllByRecursion (IsFailed now) failed
+  failed_now : (failed : List FailedRun) → AllByRecursion (IsFailed desk.office) failed → AllByRecursion (IsFailed now) failed
   failed_now [] each = tt
   failed_now (first ∷ rest) each = (
-    number-cases first run
-        (λ same. subst (IsFailed now) (sym same) (record { row = next; number = number; committed = suc before; start = start; within = next_within }))
+    number-cases first.run run
+        (λ same. record { row = next; number = number; committed = suc before; start = start; within = subst (λ n. IsWithinStep now n next number (suc before) start) (sym same) next_within })
         (λ apart. failed-there desk.office now run next changes first apart each.0),
     failed_now rest each.1,
   )
@@ -176,6 +177,7 @@ module _ (desk : DeskModel) (is : IsDesk desk) (run : ℕ) (row : RunRow) (numbe
     failed = failed_now desk.failed is.failed;
     plain = plain-then desk later is run next changes (row-plain desk is run row within.row_at);
     admitted = admitted-then desk later is run next changes (let was : IsAdmitted row = row-admitted desk is run row within.row_at in record { cards = was.cards; accepted = was.accepted; lodged = was.lodged });
+    stepped = stepped-then desk later is run next changes (same-step row next (row-stepped desk is run row within.row_at) (runs desk is run row number from start within) refl);
     accounted =
         each_row desk later is run next changes (is_accounted desk) (is_accounted later) next_accounted is.accounted
         (λ other apart was. accounted_so desk is row.number further other was);

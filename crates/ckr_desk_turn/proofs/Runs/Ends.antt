@@ -30,8 +30,8 @@ use Rattle.ckr_points_invariant.specs.Invariant.{IsAgreed}
 use Rattle.ckr_points_invariant.proofs.Steps.Events.{led-by, on-holds, running-holds, step-by}
 use Rattle.ckr_points_invariant.proofs.WaitingRuns.{follows-of, tested-run}
 use Rattle.ckr_volumes.specs.declared.layout.Layout.{Layout}
-use Rattle.ckr_desk_turn.proofs.OtherRuns.{taken_over-within}
-use Rattle.ckr_desk_turn.proofs.Runs.Events.{has-step, run-deck}
+use Rattle.ckr_desk_turn.proofs.OtherRuns.{plain-deck, taken_over-within}
+use Rattle.ckr_desk_turn.proofs.Runs.Events.{has-step}
 use Rattle.ckr_desk_turn.proofs.Runs.Rows.{HasRow, HasRows, Renewed, Stands, has-row, runs-renewed, stands-more, stands-one}
 use Rattle.ckr_desk_turn.proofs.Units.Outputs.{distinct-job}
 
@@ -41,7 +41,7 @@ ended row = record row { state = EndedRun; initiator = None; code = None; passed
 
 has-ended : (row : RunRow) → HasRow row → HasRow (ended row)
 has-ended row was = record {
-  plain = and-second _ _ (run-deck row was.plain);
+  plain = plain-deck row was.plain;
   admitted = record { cards = was.admitted.cards; accepted = was.admitted.accepted; lodged = refl };
   stepped = refl;
 }

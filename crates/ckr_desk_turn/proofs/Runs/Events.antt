@@ -2,12 +2,13 @@
 use Rattle.std.proofs.Common.{◌≡◌, ◌≢◌, ℕ, zero, suc, Bool, true, false, cond, not, ◌&&◌, ◌||◌, List, [], ◌∷◌, ◌++◌, length, refl, ap, sym, ◌∙◌, subst, Option, Some, None, Result, Ok, Err}
 use Rattle.std.specs.Prelude.{◌==◌, nat_le}
 use Rattle.std.specs.Option.{is_none, is_some, option_map_or}
-use Rattle.std.proofs.lemmas.Bool.{or_left, or_right}
+use Rattle.std.proofs.lemmas.Bool.{false≢true, or_right}
 use Rattle.std.proofs.lemmas.Option.{same_Some}
 use Rattle.arrayvec.specs.ArrayVec.{ArrayVec}
+use Rattle.ckr_base.specs.declared.code.Code.{Code}
 use Rattle.ckr_base.proofs.Bools.{and-first, and-second}
 use Rattle.ckr_base.proofs.Numbers.{equal-true}
-use Rattle.ckr_events.specs.declared.event.Event.TheVariants.{Cancelled as CancelledEvent, Checkpointed as CheckpointedEvent, Purged as PurgedEvent, Rewritten as RewrittenEvent, Selected as SelectedEvent, Started as StartedEvent, StepEnded as StepEndedEvent, Submitted as SubmittedEvent}
+use Rattle.ckr_events.specs.declared.event.Event.TheVariants.{Cancelled as CancelledEvent, Checkpointed as CheckpointedEvent, Held as HeldEvent, Purged as PurgedEvent, Released as ReleasedEvent, Rewritten as RewrittenEvent, Selected as SelectedEvent, Started as StartedEvent, StepEnded as StepEndedEvent, Submitted as SubmittedEvent}
 use Rattle.ckr_events.specs.declared.event.Made.{Made}
 use Rattle.ckr_jcl.specs.declared.deck.Job.{Job}
 use Rattle.ckr_jcl_decks.specs.Parts.Fault.{Fault}
@@ -22,15 +23,15 @@ use Rattle.ckr_points_library.specs.Commit.{output_names}
 use Rattle.ckr_points_decks.specs.Cards.{job_in, kept_deck, stored_of_kept}
 use Rattle.ckr_points_decks.specs.Form.{is_run}
 use Rattle.ckr_points.specs.declared.run.RunState.{RunState}
-use Rattle.ckr_points.specs.declared.run.RunState.TheVariants.{On, Queued, Purged}
-use Rattle.ckr_points.specs.Follows.{is_checkpoint, is_empty, is_in_state, is_rewrite, is_running, is_within, lengths_follow, of_step, own_step}
+use Rattle.ckr_points.specs.declared.run.RunState.TheVariants.{Held as HeldRun, On, Queued, Purged, Released as ReleasedRun}
+use Rattle.ckr_points.specs.Follows.{is_checkpoint, is_empty, is_in_state, is_rewrite, is_running, is_within, lengths_follow, of_step, own_step, state_number}
 use Rattle.ckr_points.specs.Marks.{with_point}
 use Rattle.ckr_points.specs.Office.{Leg, Office, office_after}
 use Rattle.ckr_points.specs.Payload.{carries}
 use Rattle.ckr_points.specs.Restart.{place_of, step_in}
 use Rattle.ckr_points.specs.Rows.{RunRow, TableSet, TablesModel, run_of, standing_of, table_ways, with_run}
 use Rattle.ckr_points.specs.Soundness.{may_come}
-use Rattle.ckr_points.specs.Tables.{after_cancelled, after_checkpointed, after_commit, after_dispositions, after_rewritten, after_step_ended, after_submitted, committed, fresh_effect, is_checkpoints, is_updates, made_tables, name_with_role, queued_run, row_rewritten, start_point, table_rewritten}
+use Rattle.ckr_points.specs.Tables.{after_cancelled, after_checkpointed, after_commit, after_dispositions, after_held, after_rewritten, after_step_ended, after_submitted, committed, fresh_effect, is_checkpoints, is_updates, made_tables, name_with_role, queued_run, row_rewritten, start_point, table_rewritten}
 use Rattle.ckr_points_invariant.specs.Invariant.{IsAgreed}
 use Rattle.ckr_points_invariant.proofs.Holders.Rows.{queued-is, run-other, run-same}
 use Rattle.ckr_points_invariant.proofs.Select.Holders.{all_legs}
@@ -39,10 +40,11 @@ use Rattle.ckr_points_invariant.proofs.Start.Event.{by-start}
 use Rattle.ckr_points_invariant.proofs.Steps.Events.{step-by}
 use Rattle.ckr_points_invariant.proofs.WaitingRuns.{by-selected, follows-of, tested-run}
 use Rattle.ckr_volumes.specs.declared.layout.Layout.{Layout}
-use Rattle.ckr_desk_turn.specs.Invariant.{IsAdmitted, is_on_one, is_plain_row, is_plain_state}
+use Rattle.ckr_desk_turn.specs.Invariant.{IsAdmitted, has_its_step, is_off, is_on_one, is_plain_row, is_plain_state}
 use Rattle.ckr_desk_turn.specs.RunEvents.{IsRunDeck}
+use Rattle.ckr_desk_turn.proofs.OtherRuns.{between-steps, plain-deck}
 use Rattle.ckr_desk_turn.proofs.Runs.Rows.{HasRow, HasRows, Stands, has-row, runs-renewed, stands-more, stands-one}
-use Rattle.ckr_desk_turn.proofs.Select.{front_row, last_row}
+use Rattle.ckr_desk_turn.proofs.Select.{code_while, front_row, last_row, queued-on}
 use Rattle.ckr_desk_turn.proofs.StepEnd.{by-changed}
 
 -- the deck of kept cards is that of their columns
@@ -55,16 +57,20 @@ kept-stored cards deck kept = by (nat_le 80 (length cards)) (stored_deck (stored
     by true (Ok job) e = ap Ok (same_Some job deck e)
     by true (Err fault) e = cc
 
--- the form of a run's deck
-pub run-deck : (row : RunRow) → is_plain_row row ≡ true → (is_none row.code && is_run row.deck) ≡ true
-run-deck row plain = and-second (is_none row.initiator || is_on_one row.state) (is_none row.code && is_run row.deck) (and-second (is_plain_state row.state) _ plain)
+on-is : (state : RunState) → (state_number state == 2) ≡ true → state ≡ On
+on-is On e = refl
+on-is _ e = absurd (false≢true e)
+
+held-is : (state : RunState) → (state_number state == 3) ≡ true → state ≡ HeldRun
+held-is HeldRun e = refl
+held-is _ e = absurd (false≢true e)
 
 -- a row within a step that it has
 pub has-step : (row : RunRow) (owned : OwnedStep) → own_step row ≡ Some owned → is_plain_row row ≡ true → IsAdmitted row → HasRow row
 has-step row owned found plain admitted = record {
   plain = plain;
   admitted = admitted;
-  stepped = or_right (not (is_running row)) (is_some (own_step row)) (ap is_some found);
+  stepped = or_right (not (is_running row || is_off row.state)) (is_some (own_step row)) (ap is_some found);
 }
 
 module _ (layout : Layout) (office : Office) (kept : IsAgreed layout office) (has : HasRows office) where
@@ -98,7 +104,7 @@ module _ (layout : Layout) (office : Office) (kept : IsAgreed layout office) (ha
       (record {
         next = next;
         stands = record { mine = run-same office.tables next row row.number row_at refl; others = λ other apart. run-other office.tables next other apart };
-        has = record { plain = run-deck row was.plain; admitted = record { cards = was.admitted.cards; accepted = was.admitted.accepted; lodged = refl }; stepped = refl };
+        has = record { plain = queued-on row (queued-is row.state queued) was.plain; admitted = record { cards = was.admitted.cards; accepted = was.admitted.accepted; lodged = refl }; stepped = refl };
       })
       has.spaced (all_legs (λ (leg : Leg). AreWithinSpace leg.start) _ office.legs has.spaced has.spaced_legs))
 
@@ -117,7 +123,7 @@ module _ (layout : Layout) (office : Office) (kept : IsAgreed layout office) (ha
       has.spaced has.spaced_legs))
     where
       off : (row : RunRow) → is_in_state Queued row ≡ true → is_plain_row row ≡ true → is_plain_row (record row { state = Purged }) ≡ true
-      off row queued plain = sym (ap (λ (s : RunState). is_plain_state s && ((is_none row.initiator || is_on_one s) && (is_none row.code && is_run row.deck))) (queued-is row.state queued)) ∙ plain
+      off row queued plain = sym (ap (λ (s : RunState). is_plain_state s && ((is_none row.initiator || is_on_one s) && (code_while s row.code && is_run row.deck))) (queued-is row.state queued)) ∙ plain
 
   pub cancelled-runs : (job : ℕ) (deck : Option Job) → may_come layout office (CancelledEvent job, deck) ≡ true → HasRows (office_after (CancelledEvent job, deck) office)
   cancelled-runs job deck may =
@@ -217,7 +223,48 @@ module _ (layout : Layout) (office : Office) (kept : IsAgreed layout office) (ha
         has = record {
           plain = was.plain;
           admitted = record { cards = was.admitted.cards; accepted = was.admitted.accepted; lodged = was.admitted.lodged };
-          stepped = or_left (not (is_running next)) (is_some (own_step next)) (ap (λ b. not (b && false)) on);
+          stepped = between-steps next (on-is row.state on) refl;
         };
       })
       has.spaced has.spaced_legs)))
+
+  -- the run is held, or a held one is released
+  pub held-runs : (job writes : ℕ) (code : Code) (lengths : ArrayVec ℕ) (deck : Option Job) → may_come layout office (HeldEvent job code writes lengths, deck) ≡ true → HasRows (office_after (HeldEvent job code writes lengths, deck) office)
+  held-runs job writes code lengths deck may =
+      tested-run office.tables job (λ row. (is_running row || is_in_state ReleasedRun row) && lengths_follow office.tables row lengths.items) (follows-of layout office (HeldEvent job code writes lengths) deck may)
+      (λ row at passes.
+      step-by office.tables row lengths.items (and-second (is_running row || is_in_state ReleasedRun row) (lengths_follow office.tables row lengths.items) passes)
+      (λ owned found are.
+      let step : ℕ = step_in (place_of row) in
+      let next : RunRow = record row { state = HeldRun; initiator = None; code = Some code; place = Some (Within step writes) } in
+      let sets : Named TableSet = committed (output_names row.job.root owned) lengths.items office.tables.sets in
+      let was : HasRow row = has-row office has job row at in
+      by-changed (λ tables. HasRows (record office { tables = tables })) office.tables job row owned (λ row owned step. after_held row owned step code writes lengths.items office.tables) at found
+      (runs-renewed office (record office { tables = with_run next (record office.tables { sets = sets }) }) job has
+      (record {
+        next = next;
+        stands = stands-one office.tables sets job row next at (kept.numbered job row at);
+        has = has-step next owned found (plain-deck row was.plain) (record { cards = was.admitted.cards; accepted = was.admitted.accepted; lodged = refl });
+      })
+      has.spaced has.spaced_legs)))
+
+  pub released-runs : (job : ℕ) (deck : Option Job) → may_come layout office (ReleasedEvent job, deck) ≡ true → HasRows (office_after (ReleasedEvent job, deck) office)
+  released-runs job deck may =
+      tested-run office.tables job (is_in_state HeldRun) (follows-of layout office (ReleasedEvent job) deck may)
+      (λ row at held.
+      let next : RunRow = record row { state = ReleasedRun } in
+      let was : HasRow row = has-row office has job row at in
+      subst (λ (o : Option RunRow). HasRows (record office { tables = option_map_or (λ row. with_run (record row { state = ReleasedRun }) office.tables) o office.tables })) (sym at)
+      (runs-renewed office (record office { tables = with_run next office.tables }) job has
+      (record {
+        next = next;
+        stands = stands-one office.tables office.tables.sets job row next at (kept.numbered job row at);
+        has = record { plain = off row (held-is row.state held) was.plain; admitted = record { cards = was.admitted.cards; accepted = was.admitted.accepted; lodged = refl }; stepped = off_step row (held-is row.state held) was.stepped };
+      })
+      has.spaced has.spaced_legs))
+    where
+      off : (row : RunRow) → row.state ≡ HeldRun → is_plain_row row ≡ true → is_plain_row (record row { state = ReleasedRun }) ≡ true
+      off row held plain = sym (ap (λ (s : RunState). is_plain_state s && ((is_none row.initiator || is_on_one s) && (code_while s row.code && is_run row.deck))) held) ∙ plain
+
+      off_step : (row : RunRow) → row.state ≡ HeldRun → has_its_step row ≡ true → has_its_step (record row { state = ReleasedRun }) ≡ true
+      off_step row held stepped = sym (ap (λ (s : RunState). not ((state_number s == 2) && is_within (place_of row) || is_off s) || is_some (own_step row)) held) ∙ stepped

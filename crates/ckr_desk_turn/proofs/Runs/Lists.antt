@@ -1,7 +1,7 @@
 -- Sound events of what the desk runs leave what a desk of its runs has.
 use Rattle.std.proofs.Common.{◌≡◌, zero, suc, false, List, [], ◌∷◌, refl, Option}
 use Rattle.ckr_events.specs.declared.event.Event.{Event}
-use Rattle.ckr_events.specs.declared.event.Event.TheVariants.{Cancelled, Checkpointed, Ended, Purged, Restarted, Rewritten, Selected, Started, StepEnded, Submitted}
+use Rattle.ckr_events.specs.declared.event.Event.TheVariants.{Cancelled, Checkpointed, Ended, Held, Purged, Released, Restarted, Rewritten, Selected, Started, StepEnded, Submitted}
 use Rattle.ckr_events.specs.declared.event.Ending.TheVariants.{Allocation, Coded, Completed}
 use Rattle.ckr_jcl.specs.declared.deck.Job.{Job}
 use Rattle.ckr_volumes.specs.declared.layout.Layout.{Layout}
@@ -19,7 +19,7 @@ use Rattle.ckr_desk_turn.specs.RunEvents.{AreRunEvents, IsRunEvent}
 use Rattle.ckr_desk_turn.proofs.CheckSets.Events.{have-next, none-before}
 use Rattle.ckr_desk_turn.proofs.Opening.{opened-is}
 use Rattle.ckr_desk_turn.proofs.Runs.Ends.{coded-runs, completed-runs, refused-runs}
-use Rattle.ckr_desk_turn.proofs.Runs.Events.{cancelled-runs, checkpointed-runs, purged-runs, rewritten-runs, selected-runs, started-runs, step_ended-runs, submitted-runs}
+use Rattle.ckr_desk_turn.proofs.Runs.Events.{cancelled-runs, checkpointed-runs, held-runs, purged-runs, released-runs, rewritten-runs, selected-runs, started-runs, step_ended-runs, submitted-runs}
 use Rattle.ckr_desk_turn.proofs.Runs.Restarts.{restarted-runs}
 use Rattle.ckr_desk_turn.proofs.Runs.Rows.{HasRows, runs-of}
 
@@ -40,6 +40,8 @@ module _ (layout : Layout) (now : Office) (are : AreKept layout now) (has : HasR
   runs-next (Cancelled job) deck is next = cancelled-runs layout now are.kept.events has job deck next.may
   runs-next (StepEnded job step rc writes lengths) deck is next = step_ended-runs layout now are.kept.events has job step rc writes lengths deck next.may
   runs-next (Restarted job initiator code checkpoint) deck is next = restarted-runs layout now are has checkpoint job initiator code deck next
+  runs-next (Held job code writes lengths) deck is next = held-runs layout now are.kept.events has job writes code lengths deck next.may
+  runs-next (Released job) deck is next = released-runs layout now are.kept.events has job deck next.may
   runs-next (Ended job Completed) deck is next = completed-runs layout now are.kept.events has job deck next.may
   runs-next (Ended job (Coded code rule writes lengths)) deck is next = coded-runs layout now are.kept.events has job rule writes code lengths deck next.may
   runs-next (Ended job (Allocation dd cause first second)) deck is next = refused-runs layout now are.kept.events has job dd cause first second deck next.may

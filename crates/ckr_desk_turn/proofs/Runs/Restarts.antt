@@ -1,8 +1,6 @@
 -- The rows behind an automatic restart.
 use Rattle.std.proofs.Common.{◌≡◌, ℕ, Bool, true, false, refl, ◌∙◌, Option, Some}
-use Rattle.std.specs.Option.{is_none}
 use Rattle.ckr_base.specs.declared.code.Code.{Code}
-use Rattle.ckr_base.proofs.Bools.{and-second}
 use Rattle.ckr_events.specs.declared.event.Event.TheVariants.{Restarted}
 use Rattle.ckr_jcl.specs.declared.deck.Job.{Job}
 use Rattle.ckr_library.specs.NameMaps.{Named}
@@ -13,7 +11,8 @@ use Rattle.ckr_points_invariant.proofs.PlainRuns.Office.{entries-restorable, ste
 use Rattle.ckr_points_invariant.proofs.PlainRuns.SoundEvents.{AreKept}
 use Rattle.ckr_points_invariant.proofs.Restart.Event.{by-run, entry-by, row_back, row_then, sets_then, sets_then_back, start-by}
 use Rattle.ckr_volumes.specs.declared.layout.Layout.{Layout}
-use Rattle.ckr_desk_turn.proofs.Runs.Events.{has-step, run-deck}
+use Rattle.ckr_desk_turn.proofs.OtherRuns.{plain-deck}
+use Rattle.ckr_desk_turn.proofs.Runs.Events.{has-step}
 use Rattle.ckr_desk_turn.proofs.Runs.Rows.{HasRow, HasRows, has-row, runs-renewed, stands-one}
 
 module _ (layout : Layout) (now : Office) (are : AreKept layout now) (has : HasRows now) where
@@ -36,7 +35,7 @@ module _ (layout : Layout) (now : Office) (are : AreKept layout now) (has : HasR
       (row_then layout now job initiator code deck are.kept.events are.pointed can row leg its owned found point got)
       (sets_then layout now job initiator code deck are.kept.events are.pointed can row leg its owned found point got) its.holder.row_at refl
       (record {
-        plain = and-second (is_none row.code) _ (run-deck row was.plain);
+        plain = plain-deck row was.plain;
         admitted = record { cards = was.admitted.cards; accepted = was.admitted.accepted; lodged = refl };
         stepped = refl;
       })))
@@ -50,4 +49,4 @@ module _ (layout : Layout) (now : Office) (are : AreKept layout now) (has : HasR
       let next : RunRow = row_back layout now job initiator code deck are.kept.events are.pointed can row leg its owned found effect got entry there in
       renewed-one job row next
       (sets_then_back layout now job initiator code deck are.kept.events are.pointed can row leg its owned found effect got entry there) its.holder.row_at refl
-      (has-step next owned found (and-second (is_none row.code) _ (run-deck row was.plain)) (record { cards = was.admitted.cards; accepted = was.admitted.accepted; lodged = refl }))))
+      (has-step next owned found (plain-deck row was.plain) (record { cards = was.admitted.cards; accepted = was.admitted.accepted; lodged = refl }))))

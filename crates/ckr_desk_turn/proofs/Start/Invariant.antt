@@ -2,7 +2,7 @@
 use Rattle.std.proofs.Common.{◌≡◌, ◌≢◌, ◌+◌, ℕ, Bool, true, false, not, ◌&&◌, ◌||◌, List, [], ◌++◌, length, refl, ap, sym, ◌∙◌, Option, Some, None, Result, Ok, Err, arith, length-append}
 use Rattle.std.specs.Prelude.{◌==◌}
 use Rattle.std.specs.List.{list_any}
-use Rattle.std.specs.Option.{option_map_or}
+use Rattle.std.specs.Option.{is_some, option_map_or}
 use Rattle.std.specs.Result.{IsOkAnd}
 use Rattle.std.proofs.lemmas.Bool.{and_from, false≢true, or_left, or_right}
 use Rattle.std.proofs.lemmas.Option.{same_Some}
@@ -42,13 +42,14 @@ use Rattle.ckr_points_invariant.proofs.Steps.Walks.{start_at-of}
 use Rattle.ckr_points_invariant.specs.Invariant.{IsHolder}
 use Rattle.ckr_desk_turn.specs.Allocation.{allocation_of, holdings, items_in}
 use Rattle.ckr_desk_turn.specs.Plans.{is_within as is_planned}
+use Rattle.ckr_desk_turn.specs.declared.failed_run.FailedRun.{FailedRun}
 use Rattle.ckr_desk_turn.specs.Desk.{DeskModel, at_first, behind}
 use Rattle.ckr_desk_turn.specs.NextEvents.{Comes}
-use Rattle.ckr_desk_turn.specs.Invariant.{IsAdmitted, IsDesk, IsFailed, IsGoing, is_accounted}
+use Rattle.ckr_desk_turn.specs.Invariant.{IsAdmitted, IsDesk, IsFailed, IsGoing, is_accounted, is_off}
 use Rattle.ckr_desk_turn.proofs.NextEvents.BetweenSteps.{no_restart, plain_parts}
 use Rattle.ckr_desk_turn.proofs.Start.Decks.{asks, fits-allocation, never-bypassed, rises}
 use Rattle.ckr_desk_turn.proofs.Start.Items.{items-follow}
-use Rattle.ckr_desk_turn.proofs.OtherRuns.{Changes, admitted-then, each_row, failed-all, going-rest, plain-then, row-admitted, row-plain, running-same, some-holds}
+use Rattle.ckr_desk_turn.proofs.OtherRuns.{Changes, admitted-then, each_row, failed-all, going-rest, plain-then, row-admitted, row-plain, running-same, some-holds, stepped-then}
 use Rattle.ckr_desk_turn.proofs.Readiness.{kept-on}
 use Rattle.ckr_desk_turn.proofs.RunningSteps.{nothing-between}
 
@@ -77,13 +78,13 @@ done-so (Ok done) items got = tt
 done-so (Err refusal) items got = cc
 
 -- a run that isn't within a step isn't marked
-pub not-failed : (desk : DeskModel) → IsDesk desk → (row : RunRow) → run_of desk.office.tables row.number ≡ Some row → is_within (place_of row) ≡ false → list_any (λ number. number == row.number) desk.failed ≡ false
+pub not-failed : (desk : DeskModel) → IsDesk desk → (row : RunRow) → run_of desk.office.tables row.number ≡ Some row → is_within (place_of row) ≡ false → list_any (λ (one : FailedRun). one.run == row.number) desk.failed ≡ false
 not-failed desk is row at out =
-    bool-cases (list_any (λ number. number == row.number) desk.failed)
+    bool-cases (list_any (λ (one : FailedRun). one.run == row.number) desk.failed)
     (λ failed.
-    some-holds (IsFailed desk.office) (λ number. number == row.number) desk.failed is.failed failed
-    (λ run its same.
-    let mine : its.row ≡ row = same_Some its.row row (sym its.within.row_at ∙ ap (run_of desk.office.tables) (equal-true run row.number same) ∙ at) in
+    some-holds (IsFailed desk.office) (λ (one : FailedRun). one.run == row.number) desk.failed is.failed failed
+    (λ one its same.
+    let mine : its.row ≡ row = same_Some its.row row (sym its.within.row_at ∙ ap (run_of desk.office.tables) (equal-true one.run row.number same) ∙ at) in
     absurd (false≢true (sym out ∙ ap (λ (r : RunRow). is_within (place_of r)) (sym mine) ∙ ap is_within its.within.place))))
     (λ isnt. isnt)
 
@@ -221,6 +222,7 @@ module _ (desk : DeskModel) (is : IsDesk desk) (row : RunRow) (at : run_of desk.
         failed = failed-all desk.office later.office row.number next changes desk.failed (not-failed desk is row at out) is.failed;
         plain = plain-then desk later is row.number next changes (row-plain desk is row.number row at);
         admitted = admitted-then desk later is row.number next changes (record { cards = mine.cards; accepted = mine.accepted; lodged = mine.lodged });
+        stepped = stepped-then desk later is row.number next changes (or_right (not (is_running next || is_off next.state)) (is_some (own_step next)) (ap is_some there));
         accounted = each_row desk later is row.number next changes (is_accounted desk) (is_accounted later)
             (or_right (not (is_running next)) _ (or_left _ _ (or_left (row.number == row.number) _ (equal-itself row.number)))) is.accounted accounted-so;
         spaced = is.spaced;

@@ -2,19 +2,21 @@
 use Rattle.std.proofs.Common.{◌≡◌, ℕ, List, [], ◌∷◌, refl, sym, ◌∙◌, subst, Option, Some, None}
 use Rattle.std.specs.List.{AllByRecursion}
 use Rattle.std.specs.Option.{option_map_or}
+use Rattle.ckr_console.specs.declared.question.Answer.{Answer}
 use Rattle.ckr_events.specs.declared.event.Event.{Event}
 use Rattle.ckr_meaning.specs.StepRun.{StepStart}
 use Rattle.ckr_points.specs.Rows.{RunRow, run_of}
 use Rattle.ckr_points_invariant.specs.Invariant.{IsKept}
 use Rattle.ckr_desk_turn.specs.declared.plan.Plan.{Plan}
-use Rattle.ckr_desk_turn.specs.declared.plan.Plan.TheVariants.{Rest, Tell, Work, Pass, Take}
+use Rattle.ckr_desk_turn.specs.declared.plan.Plan.TheVariants.{Rest, Tell, Work, Pass, Take, Ask, Wait}
 use Rattle.ckr_desk_turn.specs.declared.reply.Reply.TheVariants.{Idle}
 use Rattle.ckr_desk_turn.specs.declared.reply.Turn.{Turn}
 use Rattle.ckr_desk_turn.specs.Checkpoints.{checkpoint_turn}
 use Rattle.ckr_desk_turn.specs.Desk.{DeskModel, done_by, jobs_of, progress_of, start_of, unit_done, with_progress, work_of}
+use Rattle.ckr_desk_turn.specs.Inquiries.{decided}
 use Rattle.ckr_desk_turn.specs.Plans.{plan_of}
 use Rattle.ckr_desk_turn.specs.Taken.{behind_entry, served_by, taken_of}
-use Rattle.ckr_desk_turn.specs.Turns.{carried_out, desk_after, turn_of}
+use Rattle.ckr_desk_turn.specs.Turns.{AnsweredTurn, IsAnsweredTurnOf, carried_out, desk_after, turn_of}
 use Rattle.ckr_desk_turn.specs.Units.{StepProgress, UnitEnd, unit_end}
 use Rattle.ckr_desk_turn.specs.Invariant.{IsDesk, IsTurnOf, Keeps}
 use Rattle.ckr_desk_turn.proofs.Turns.Initiator.{turn-keeps}
@@ -27,22 +29,24 @@ done-layout (Tell reply event) desk = refl
 done-layout (Work job) desk = refl
 done-layout (Pass job reply) desk = refl
 done-layout (Take job) desk = refl
+done-layout (Ask inquiry) desk = refl
+done-layout (Wait job code) desk = refl
 
-unit-layout : (row : RunRow) (end : UnitEnd) (desk : DeskModel) → (unit_done row end desk).desk.layout ≡ desk.layout
-unit-layout row end desk = done-layout _ (with_progress row.number end.progress desk)
+unit-layout : (answer : Answer) (row : RunRow) (end : UnitEnd) (desk : DeskModel) → (unit_done answer row end desk).desk.layout ≡ desk.layout
+unit-layout answer row end desk = done-layout _ (with_progress row.number end.progress desk)
 
-work-layout : (run : ℕ) (desk : DeskModel) → (work_of run desk).desk.layout ≡ desk.layout
-work-layout run desk = by-row (run_of desk.office.tables run)
+work-layout : (answer : Answer) (run : ℕ) (desk : DeskModel) → (work_of answer run desk).desk.layout ≡ desk.layout
+work-layout answer run desk = by-row (run_of desk.office.tables run)
   where
-    by-progress : (row : RunRow) (start : StepStart) (progress : Option StepProgress) → (option_map_or (λ progress. unit_done row (unit_end start progress) desk) progress (done_by (Rest Idle) desk)).desk.layout ≡ desk.layout
+    by-progress : (row : RunRow) (start : StepStart) (progress : Option StepProgress) → (option_map_or (λ progress. unit_done answer row (unit_end start progress) desk) progress (done_by (Rest Idle) desk)).desk.layout ≡ desk.layout
     by-progress row start None = refl
-    by-progress row start (Some progress) = unit-layout row (unit_end start progress) desk
+    by-progress row start (Some progress) = unit-layout answer row (unit_end start progress) desk
 
-    by-start : (row : RunRow) (start : Option StepStart) → (option_map_or (λ start. option_map_or (λ progress. unit_done row (unit_end start progress) desk) (progress_of desk run) (done_by (Rest Idle) desk)) start (done_by (Rest Idle) desk)).desk.layout ≡ desk.layout
+    by-start : (row : RunRow) (start : Option StepStart) → (option_map_or (λ start. option_map_or (λ progress. unit_done answer row (unit_end start progress) desk) (progress_of desk run) (done_by (Rest Idle) desk)) start (done_by (Rest Idle) desk)).desk.layout ≡ desk.layout
     by-start row None = refl
     by-start row (Some start) = by-progress row start (progress_of desk run)
 
-    by-row : (row : Option RunRow) → (option_map_or (λ row. option_map_or (λ start. option_map_or (λ progress. unit_done row (unit_end start progress) desk) (progress_of desk run) (done_by (Rest Idle) desk)) (start_of desk.office row) (done_by (Rest Idle) desk)) row (done_by (Rest Idle) desk)).desk.layout ≡ desk.layout
+    by-row : (row : Option RunRow) → (option_map_or (λ row. option_map_or (λ start. option_map_or (λ progress. unit_done answer row (unit_end start progress) desk) (progress_of desk run) (done_by (Rest Idle) desk)) (start_of desk.office row) (done_by (Rest Idle) desk)) row (done_by (Rest Idle) desk)).desk.layout ≡ desk.layout
     by-row None = refl
     by-row (Some row) = by-start row (start_of desk.office row)
 
@@ -65,35 +69,37 @@ taken-layout run desk = by-row (run_of desk.office.tables run)
     by-row None = refl
     by-row (Some row) = by-start row (start_of desk.office row)
 
-plan-layout : (plan : Plan) (desk : DeskModel) → (carried_out plan desk).desk.layout ≡ desk.layout
-plan-layout (Rest reply) desk = refl
-plan-layout (Tell reply event) desk = refl
-plan-layout (Work job) desk = work-layout job desk
-plan-layout (Pass job reply) desk = refl
-plan-layout (Take job) desk = taken-layout job desk
+plan-layout : (answer : Answer) (plan : Plan) (desk : DeskModel) → (carried_out answer plan desk).desk.layout ≡ desk.layout
+plan-layout answer (Rest reply) desk = refl
+plan-layout answer (Tell reply event) desk = refl
+plan-layout answer (Work job) desk = work-layout answer job desk
+plan-layout answer (Pass job reply) desk = refl
+plan-layout answer (Take job) desk = taken-layout job desk
+plan-layout answer (Ask inquiry) desk = done-layout (decided answer inquiry) desk
+plan-layout answer (Wait job code) desk = refl
 
-turn-layout : (desk : DeskModel) (turn : Turn) → (turn_of desk turn).desk.layout ≡ desk.layout
+pub turn-layout : (desk : DeskModel) (turn : Turn) (answer : Answer) → (turn_of desk turn answer).desk.layout ≡ desk.layout
 unfolding turn_of
-turn-layout desk turn = plan-layout (plan_of desk.layout (jobs_of desk) turn) desk
+turn-layout desk turn answer = plan-layout answer (plan_of desk.layout (jobs_of desk) turn) desk
 
-pub after-layout : (turns : List Turn) (desk : DeskModel) → (desk_after turns desk).layout ≡ desk.layout
+pub after-layout : (turns : List AnsweredTurn) (desk : DeskModel) → (desk_after turns desk).layout ≡ desk.layout
 after-layout [] desk = refl
-after-layout (turn ∷ turns) desk = after-layout turns (turn_of desk turn).desk ∙ turn-layout desk turn
+after-layout (one ∷ rest) desk = after-layout rest (turn_of desk one.turn one.answer).desk ∙ turn-layout desk one.turn one.answer
 
 -- ---- turns, one after the other
 
-pub turns-keep : (turns : List Turn) (desk : DeskModel) → IsDesk desk → AllByRecursion (IsTurnOf desk.layout) turns → IsDesk (desk_after turns desk)
+pub turns-keep : (turns : List AnsweredTurn) (desk : DeskModel) → IsDesk desk → AllByRecursion (IsAnsweredTurnOf desk.layout) turns → IsDesk (desk_after turns desk)
 turns-keep [] desk is each = is
-turns-keep (turn ∷ turns) desk is each =
-    turns-keep turns (turn_of desk turn).desk (turn-keeps desk turn is each.0.above each.0.below).kept
-    (subst (λ layout. AllByRecursion (IsTurnOf layout) turns) (sym (turn-layout desk turn)) each.1)
+turns-keep (one ∷ rest) desk is each =
+    turns-keep rest (turn_of desk one.turn one.answer).desk (turn-keeps desk one.turn one.answer is each.0.above each.0.below).kept
+    (subst (λ layout. AllByRecursion (IsAnsweredTurnOf layout) rest) (sym (turn-layout desk one.turn one.answer)) each.1)
 
 -- the events behind them are kept, in the layout that the desk began with
-pub turns-kept : (turns : List Turn) (desk : DeskModel) → IsDesk desk → AllByRecursion (IsTurnOf desk.layout) turns → IsKept desk.layout (desk_after turns desk).office
+pub turns-kept : (turns : List AnsweredTurn) (desk : DeskModel) → IsDesk desk → AllByRecursion (IsAnsweredTurnOf desk.layout) turns → IsKept desk.layout (desk_after turns desk).office
 turns-kept turns desk is each = subst (λ layout. IsKept layout (desk_after turns desk).office) (after-layout turns desk) (turns-keep turns desk is each).kept
 
 -- so does the next turn
-pub next-keeps : (turns : List Turn) (turn : Turn) (desk : DeskModel) → IsDesk desk → AllByRecursion (IsTurnOf desk.layout) turns → IsTurnOf desk.layout turn → Keeps (desk_after turns desk) (turn_of (desk_after turns desk) turn)
-next-keeps turns turn desk is each next =
+pub next-keeps : (turns : List AnsweredTurn) (turn : Turn) (answer : Answer) (desk : DeskModel) → IsDesk desk → AllByRecursion (IsAnsweredTurnOf desk.layout) turns → IsTurnOf desk.layout turn → Keeps (desk_after turns desk) (turn_of (desk_after turns desk) turn answer)
+next-keeps turns turn answer desk is each next =
     let there : IsTurnOf (desk_after turns desk).layout turn = subst (λ layout. IsTurnOf layout turn) (sym (after-layout turns desk)) next in
-    turn-keeps (desk_after turns desk) turn (turns-keep turns desk is each) there.above there.below
+    turn-keeps (desk_after turns desk) turn answer (turns-keep turns desk is each) there.above there.below

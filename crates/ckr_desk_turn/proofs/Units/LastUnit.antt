@@ -71,7 +71,7 @@ all-done start progress finish opened fit ended =
 
 -- a unit that fits and ends its program with a return code: the step is closed
 pub goes-closed : (office : Office) (on : DeskStep) (going : IsGoing office on) (rc : ℕ) → IsOpen going.start on.progress → next_writes going.start on.progress ≤ length (work_at going.start).writes → (unit_done (case_at going.start) on.progress.taken).finish ≡ Some (Returned rc)
-    → IsGoing office (record { run = on.run; progress = record on.progress { writes = next_writes going.start on.progress; closed = true } })
+    → IsGoing office (record { run = on.run; progress = record on.progress { writes = next_writes going.start on.progress; closed = true }; code = None })
 goes-closed office on going rc opened fit returned =
     let items : List Write = (unit_done (case_at going.start) on.progress.taken).writes.items in
     let done : IsDone going.start on.progress (Returned rc) = all-done going.start on.progress (Returned rc) opened fit returned in

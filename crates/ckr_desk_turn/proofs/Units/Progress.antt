@@ -88,7 +88,7 @@ pub goes-behind : (office : Office) (on : DeskStep) (going : IsGoing office on) 
     → (work (case_at going.start)).writes ≡ upto (case_at going.start) on.progress.taken ++ ((unit_done (case_at going.start) on.progress.taken).writes.items ++ more)
     → next_writes going.start on.progress ≤ length (work_at going.start).writes → list_all adds (unit_done (case_at going.start) on.progress.taken).writes.items ≡ true
     → HasCome going.start (record base { writes = next_writes going.start on.progress }) base.closed
-    → IsGoing office (record { run = on.run; progress = record base { writes = next_writes going.start on.progress } })
+    → IsGoing office (record { run = on.run; progress = record base { writes = next_writes going.start on.progress }; code = None })
 goes-behind office on going base more opened whole fit none come =
     let items : List Write = (unit_done (case_at going.start) on.progress.taken).writes.items in
     let front : List Write = upto (case_at going.start) on.progress.taken in
@@ -117,7 +117,7 @@ goes-behind office on going base more opened whole fit none come =
 pub goes-further : (office : Office) (on : DeskStep) (going : IsGoing office on) → IsOpen going.start on.progress → on.progress.taken < records_taken (case_at going.start)
     → on.progress.writes + length (unit_done (case_at going.start) on.progress.taken).writes.items ≤ length (work_at going.start).writes
     → first_rewrite (unit_done (case_at going.start) on.progress.taken).writes.items ≡ None
-    → IsGoing office (record { run = on.run; progress = arrived (suc on.progress.taken) (on.progress.writes + length (unit_done (case_at going.start) on.progress.taken).writes.items) })
+    → IsGoing office (record { run = on.run; progress = arrived (suc on.progress.taken) (on.progress.writes + length (unit_done (case_at going.start) on.progress.taken).writes.items); code = None })
 goes-further office on going opened below fit none =
     let next : TakesOne (case_at going.start) on.progress.taken = takes_one (case_at going.start) on.progress.taken below in
     let count : on.progress.writes ≡ length (upto (case_at going.start) on.progress.taken) = opened.writes in

@@ -1,4 +1,4 @@
-use Rattle.ckr_desk_turn.proofs.Select.{purged-keeps, stored-keeps, submitted-keeps}
+use Rattle.ckr_desk_turn.proofs.Select.{purged-keeps, released-keeps, stored-keeps, submitted-keeps}
 use Rattle.ckr_points_decks.proofs.JobForm.{job_formed}
 use Rattle.std.proofs.Common.{suc, length}
 use Rattle.ckr_desk_turn.proofs.turn_laws.desks_behind_calls.Goals as goal
@@ -9,4 +9,5 @@ returns c = record {
   submitted = λ desk cards first kept deck is accepted runs. submitted-keeps desk is cards first kept deck accepted runs;
   kept_so = λ desk cards deck is some accepted runs. stored-keeps desk is cards deck some accepted runs;
   purged = λ desk job row is at queued. purged-keeps desk is job row at queued;
+  released = λ desk job row is at held. released-keeps desk is job row at held;
 }

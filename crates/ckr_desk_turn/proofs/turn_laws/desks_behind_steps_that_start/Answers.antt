@@ -3,6 +3,6 @@ use Rattle.ckr_desk_turn.proofs.turn_laws.desks_behind_steps_that_start.Goals as
 
 pub returns : goal.returns
 returns c = record {
-  started = λ desk i row owned items is found out there got. started-keeps desk is i row found out owned items there got;
-  between = λ desk i row fail is found out. between-keeps desk is i row found out fail;
+  started = λ desk i row owned items answer is found out there got. started-keeps answer desk is i row found out owned items there got;
+  between = λ desk i row fail answer is found out. between-keeps answer desk is i row found out fail;
 }

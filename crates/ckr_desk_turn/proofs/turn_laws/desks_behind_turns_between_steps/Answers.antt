@@ -3,7 +3,7 @@ use Rattle.ckr_desk_turn.proofs.turn_laws.desks_behind_turns_between_steps.Goals
 
 pub returns : goal.returns
 returns c = record {
-  selected = λ desk i fail is above below free. free_plan-keeps desk is i above below free fail;
-  completed = λ desk i row is found out none. completed-keeps desk is i row found out none;
-  refused = λ desk i row owned refusal is found out there failed. refused-keeps desk is i row found out owned refusal there failed;
+  selected = λ desk i fail answer is above below free. free_plan-keeps answer desk is i above below free fail;
+  completed = λ desk i row answer is found out none. completed-keeps answer desk is i row found out none;
+  refused = λ desk i row owned refusal answer is found out there failed. refused-keeps answer desk is i row found out owned refusal there failed;
 }

@@ -3,6 +3,6 @@ use Rattle.ckr_desk_turn.proofs.unit_laws.last_units_keep_the_desk.Goals as goal
 
 pub returns : goal.returns
 returns c = record {
-  returning = λ desk on going rc is known opened fit returned. work-closed desk is on going known rc opened fit returned;
-  spilling = λ desk on going is known opened full. work-full desk is on going known opened full;
+  returning = λ answer desk on going rc is known opened fit returned. work-closed answer desk is on going known rc opened fit returned;
+  spilling = λ answer desk on going is known opened full. work-full answer desk is on going known opened full;
 }
