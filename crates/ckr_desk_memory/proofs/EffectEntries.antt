@@ -1,6 +1,7 @@
 -- The entry of a run's checkpoint in effect, as a turn tells it.
-use Rattle.std.proofs.Common.{◌≡◌, ℕ, find, refl, ap, sym, ◌∙◌, Option, None, Some}
-use Rattle.std.specs.Option.{option_map, option_map_or}
+use Rattle.std.proofs.Common.{◌≡◌, ℕ, true, false, find, refl, ap, sym, ◌∙◌, Option, None, Some}
+use Rattle.std.specs.Option.{is_some, option_map, option_map_or}
+use Rattle.std.proofs.lemmas.Bool.{false≢true, true≢false}
 use Rattle.std.proofs.lemmas.Option.{same_Some}
 use Rattle.ckr_base.proofs.Options.{some-not-none}
 use Rattle.ckr_base.proofs.Sequences.{find-passes}
@@ -51,15 +52,15 @@ module _ (tables : TablesModel) (run : ℕ) (table : RunTable) where
 
 -- ---- as it is told
 
-pub record IsTold (found : Option KeptEntry) (id : Name) (taken : ℕ) : Type 0 where
+pub record IsTold (found : Option KeptEntry) (at : Option (Name × ℕ)) : Type 0 where
   pub entry : KeptEntry
   pub is : found ≡ Some entry
-  pub told : told_entry entry ≡ (id, taken)
+  pub told : at ≡ Some (told_entry entry)
 
-pub is-told : (found : Option KeptEntry) (id : Name) (taken : ℕ) → Some (id, taken) ≡ option_map told_entry found → IsTold found id taken
-is-told None id taken some = absurd (some-not-none (id, taken) some)
-is-told (Some entry) id taken some = record { entry = entry; is = refl; told = sym (same_Some (id, taken) (told_entry entry) some) }
+pub is-told : (found : Option KeptEntry) (at : Option (Name × ℕ)) → at ≡ option_map told_entry found → is_some at ≡ true → IsTold found at
+is-told None at is some = absurd (false≢true (sym (ap is_some is) ∙ some))
+is-told (Some entry) at is some = record { entry = entry; is = refl; told = is }
 
-pub isnt-told : (found : Option KeptEntry) → None ≡ option_map told_entry found → found ≡ None
-isnt-told None none = refl
-isnt-told (Some entry) none = absurd (some-not-none (told_entry entry) (sym none))
+pub isnt-told : (found : Option KeptEntry) (at : Option (Name × ℕ)) → at ≡ option_map told_entry found → is_some at ≡ false → found ≡ None
+isnt-told None at is none = refl
+isnt-told (Some entry) at is none = absurd (true≢false (sym (ap is_some is) ∙ none))

@@ -1,12 +1,12 @@
 -- The data sets stay laid out behind an event that follows.
-use Rattle.std.proofs.Common.{◌≡◌, ◌==◌, ◌&&◌, ℕ, Bool, true, false, cond, List, refl, ap, sym, ◌∙◌, subst, Option, None, Some}
+use Rattle.std.proofs.Common.{◌≡◌, ◌==◌, ◌&&◌, ◌||◌, ℕ, Bool, true, false, cond, List, refl, ap, sym, ◌∙◌, subst, Option, None, Some}
 use Rattle.std.proofs.lemmas.Bool.{false≢true}
 use Rattle.std.specs.Option.{option_map_or}
 use Rattle.ckr_base.proofs.Bools.{and-first, and-second}
 use Rattle.ckr_base.proofs.Numbers.{equal-true}
 use Rattle.ckr_events.specs.declared.event.Made.{Made}
 use Rattle.ckr_events.specs.declared.event.Event.{Event}
-use Rattle.ckr_events.specs.declared.event.Event.TheVariants.{Submitted, Selected, Started, Rewritten, Checkpointed, Cancelled, StepEnded, Restarted, Ended, Purged}
+use Rattle.ckr_events.specs.declared.event.Event.TheVariants.{Submitted, Selected, Started, Rewritten, Checkpointed, Cancelled, StepEnded, Restarted, Held, Released as ReleasedEvent, Ended, Purged}
 use Rattle.ckr_events.specs.declared.event.Ending.{Ending}
 use Rattle.ckr_events.specs.declared.event.Ending.TheVariants.{Completed, Coded, Allocation}
 use Rattle.ckr_jcl.specs.declared.deck.Job.{Job}
@@ -24,7 +24,7 @@ use Rattle.ckr_meaning.specs.declared.place.Place.TheVariants.{Before, Opened, W
 use Rattle.ckr_volumes.specs.declared.layout.Layout.{Layout}
 use Rattle.ckr_volumes.specs.Layouts.{StandsIn}
 use Rattle.ckr_points_library.specs.Commit.{output_names}
-use Rattle.ckr_points.specs.declared.run.RunState.TheVariants.{On}
+use Rattle.ckr_points.specs.declared.run.RunState.TheVariants.{On, Held as HeldRun, Released}
 use Rattle.ckr_points.specs.Tables.{after_checkpointed, after_commit, after_dispositions, after_rewritten, after_started, after_step_ended, name_with_role, is_checkpoints, is_updates, run_disposals, own_made, earlier_made, table_rewritten}
 use Rattle.ckr_points.specs.Follows.{are_items, are_lengths, are_made_clear, ended_follows, follows, is_checkpoint, is_empty, is_in_state, is_rewrite, is_running, lengths_follow, may_start, of_run, of_step, started_follows}
 use Rattle.ckr_points.specs.Marks.{point_at, removed_all}
@@ -169,6 +169,15 @@ module _ (layout : Layout) (tables : TablesModel) (laid : AreLaidOut layout tabl
       by-step (Laid layout tables laid) tables (step_of_run row (step_in (place_of row))) _ laid
       (λ owned there. step_ended_so layout tables laid row rc writes lengths.items (and-second _ (lengths_follow tables row lengths.items) its) owned there (step_in (place_of row))))
   laid-behind (Restarted job initiator code checkpoint) deck plain follow = by-run (Laid layout tables laid) tables job _ laid (λ row at. restarted_so row initiator checkpoint)
+  laid-behind (Held job code writes lengths) deck plain follow =
+      by-run (Laid layout tables laid) tables job _ laid
+      (λ row at.
+      let its = tested tables job (λ row. (is_running row || is_in_state Released row) && lengths_follow tables row lengths.items) follow row at in
+      by-step (Laid layout tables laid) tables (step_of_run row (step_in (place_of row))) _ laid
+      (λ owned there.
+      committed_so layout tables laid (record row { state = HeldRun; initiator = None; code = Some code }) lengths.items (and-second (is_running row || is_in_state Released row) (lengths_follow tables row lengths.items) its)
+      owned there (step_in (place_of row)) writes))
+  laid-behind (ReleasedEvent job) deck plain follow = by-run (Laid layout tables laid) tables job _ laid (λ row at. laid)
   laid-behind (Ended job ending) deck plain follow =
       by-run (Laid layout tables laid) tables job _ laid (λ row at. ended_so layout tables laid row ending (tested tables job (λ row. ended_follows tables row ending) follow row at))
   laid-behind (Purged job) deck plain follow = by-run (Laid layout tables laid) tables job _ laid (λ row at. laid)

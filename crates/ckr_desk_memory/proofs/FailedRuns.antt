@@ -8,34 +8,39 @@ use Rattle.ckr_base.proofs.Sequences.{get-from}
 use Rattle.ckr_points.specs.Rows.{RunRow, TablesModel, run_of}
 use Rattle.ckr_points.specs.declared.run.Run.{Run}
 use Rattle.ckr_points_tables.specs.View.{line_of}
+use Rattle.ckr_desk_turn.specs.declared.failed_run.FailedRun.{FailedRun}
 use Rattle.ckr_desk_turn.specs.Desk.{is_running}
 use Rattle.ckr_desk_turn.specs.Queue.{AreNumbered}
 use Rattle.ckr_desk_turn.proofs.Queue.Events.{run_number}
 
-abbrev pub numbers_of : List RunRow → List ℕ
-numbers_of rows = map (λ (row : RunRow). row.number) (filter is_running rows)
+-- a run that was running, for which the operator wasn't asked yet
+abbrev pub mark_of : RunRow → FailedRun
+mark_of row = record { run = row.number; asked = false }
+
+abbrev pub marks_of : List RunRow → List FailedRun
+marks_of rows = map mark_of (filter is_running rows)
 
 -- one run more
 one-more : (rows : List RunRow) (place : ℕ) (row : RunRow) → slice_get rows place ≡ Some row
-    → numbers_of (take (suc place) rows) ≡ cond (is_running row) (numbers_of (take place rows) ++ row.number ∷ []) (numbers_of (take place rows))
+    → marks_of (take (suc place) rows) ≡ cond (is_running row) (marks_of (take place rows) ++ mark_of row ∷ []) (marks_of (take place rows))
 one-more [] place row at = absurd (some-not-none row (sym at))
 one-more (first ∷ rows) zero row at = by (is_running first) refl
   where
     same : first ≡ row
     same = same_Some _ _ at
 
-    by : (b : Bool) → is_running first ≡ b → map (λ (row : RunRow). row.number) (cond b (first ∷ []) []) ≡ cond (is_running row) (row.number ∷ []) []
-    by true is = ap (λ (r : RunRow). r.number ∷ []) same ∙ sym (ap (λ b. cond b (row.number ∷ []) []) (ap is_running (sym same) ∙ is))
-    by false is = sym (ap (λ b. cond b (row.number ∷ []) []) (ap is_running (sym same) ∙ is))
+    by : (b : Bool) → is_running first ≡ b → map mark_of (cond b (first ∷ []) []) ≡ cond (is_running row) (mark_of row ∷ []) []
+    by true is = ap (λ (r : RunRow). mark_of r ∷ []) same ∙ sym (ap (λ b. cond b (mark_of row ∷ []) []) (ap is_running (sym same) ∙ is))
+    by false is = sym (ap (λ b. cond b (mark_of row ∷ []) []) (ap is_running (sym same) ∙ is))
 one-more (first ∷ rows) (suc place) row at = by (is_running first) (filter is_running (take (suc place) rows)) (filter is_running (take place rows)) (one-more rows place row at)
   where
-    behind : (answer : Bool) (numbers : List ℕ) → first.number ∷ cond answer (numbers ++ row.number ∷ []) numbers ≡ cond answer ((first.number ∷ numbers) ++ row.number ∷ []) (first.number ∷ numbers)
-    behind true numbers = refl
-    behind false numbers = refl
+    behind : (answer : Bool) (marks : List FailedRun) → mark_of first ∷ cond answer (marks ++ mark_of row ∷ []) marks ≡ cond answer ((mark_of first ∷ marks) ++ mark_of row ∷ []) (mark_of first ∷ marks)
+    behind true marks = refl
+    behind false marks = refl
 
-    by : (b : Bool) (more some : List RunRow) → map (λ (row : RunRow). row.number) more ≡ cond (is_running row) (map (λ (row : RunRow). row.number) some ++ row.number ∷ []) (map (λ (row : RunRow). row.number) some)
-        → map (λ (row : RunRow). row.number) (cond b (first ∷ more) more) ≡ cond (is_running row) (map (λ (row : RunRow). row.number) (cond b (first ∷ some) some) ++ row.number ∷ []) (map (λ (row : RunRow). row.number) (cond b (first ∷ some) some))
-    by true more some same = ap (λ (ns : List ℕ). first.number ∷ ns) same ∙ behind (is_running row) (map (λ (row : RunRow). row.number) some)
+    by : (b : Bool) (more some : List RunRow) → map mark_of more ≡ cond (is_running row) (map mark_of some ++ mark_of row ∷ []) (map mark_of some)
+        → map mark_of (cond b (first ∷ more) more) ≡ cond (is_running row) (map mark_of (cond b (first ∷ some) some) ++ mark_of row ∷ []) (map mark_of (cond b (first ∷ some) some))
+    by true more some same = ap (λ (ms : List FailedRun). mark_of first ∷ ms) same ∙ behind (is_running row) (map mark_of some)
     by false more some same = same
 
 -- the run at a place, by its number
@@ -44,25 +49,28 @@ number_at tables place row numbered at = subst (λ n. run_of tables n ≡ Some r
 
 -- ---- a line more
 
+abbrev pub mark_at : Run → FailedRun
+mark_at line = record { run = line.number; asked = false }
+
 module _ (tables : TablesModel) (items : List Run) (place : ℕ) (line : Run) (answer : Bool) (numbered : AreNumbered 1 tables.runs) (lines : items ≡ map line_of tables.runs) (inside : place < length items) (is : line ≡ slice_index_or items place line)
     (tells : (row : RunRow) → run_of tables row.number ≡ Some row → line ≡ line_of row → answer ≡ is_running row) where
-  with_row : (after before : List ℕ) → before ≡ numbers_of (take place tables.runs) → after ≡ cond answer (before ++ line.number ∷ []) before → after ≡ numbers_of (take (place + 1) tables.runs)
+  with_row : (after before : List FailedRun) → before ≡ marks_of (take place tables.runs) → after ≡ cond answer (before ++ mark_at line ∷ []) before → after ≡ marks_of (take (place + 1) tables.runs)
   with_row after before was becomes =
       by (slice_get tables.runs place) refl
       (sym (slice_get-map line_of tables.runs place) ∙ ap (λ (ls : List Run). slice_get ls place) (sym lines) ∙ get-from items place line inside is)
     where
-      by : (found : Option RunRow) → slice_get tables.runs place ≡ found → option_map line_of found ≡ Some line → after ≡ numbers_of (take (place + 1) tables.runs)
+      by : (found : Option RunRow) → slice_get tables.runs place ≡ found → option_map line_of found ≡ Some line → after ≡ marks_of (take (place + 1) tables.runs)
       by None at seen = absurd (some-not-none line (sym seen))
       by (Some row) at seen =
           let its : line ≡ line_of row = sym (same_Some _ _ seen) in
-          becomes ∙ ap (λ b. cond b (before ++ line.number ∷ []) before) (tells row (number_at tables place row numbered at) its)
-          ∙ ap (λ (n : ℕ). cond (is_running row) (before ++ n ∷ []) before) (ap (λ (l : Run). l.number) its)
-          ∙ ap (λ (ns : List ℕ). cond (is_running row) (ns ++ row.number ∷ []) ns) was
+          becomes ∙ ap (λ b. cond b (before ++ mark_at line ∷ []) before) (tells row (number_at tables place row numbered at) its)
+          ∙ ap (λ (m : FailedRun). cond (is_running row) (before ++ m ∷ []) before) (ap mark_at its)
+          ∙ ap (λ (ms : List FailedRun). cond (is_running row) (ms ++ mark_of row ∷ []) ms) was
           ∙ sym (one-more tables.runs place row at)
-          ∙ sym (ap (λ n. numbers_of (take n tables.runs)) (plus-one place))
+          ∙ sym (ap (λ n. marks_of (take n tables.runs)) (plus-one place))
 
-  pub one-put : (after before : List ℕ) → answer ≡ true → before ≡ numbers_of (take place tables.runs) → after ≡ before ++ line.number ∷ [] → after ≡ numbers_of (take (place + 1) tables.runs)
-  one-put after before holds was becomes = with_row after before was (becomes ∙ sym (ap (λ b. cond b (before ++ line.number ∷ []) before) holds))
+  pub one-put : (after before : List FailedRun) → answer ≡ true → before ≡ marks_of (take place tables.runs) → after ≡ before ++ mark_at line ∷ [] → after ≡ marks_of (take (place + 1) tables.runs)
+  one-put after before holds was becomes = with_row after before was (becomes ∙ sym (ap (λ b. cond b (before ++ mark_at line ∷ []) before) holds))
 
-  pub one-left : (after before : List ℕ) → answer ≡ false → before ≡ numbers_of (take place tables.runs) → after ≡ before → after ≡ numbers_of (take (place + 1) tables.runs)
-  one-left after before fails was becomes = with_row after before was (becomes ∙ sym (ap (λ b. cond b (before ++ line.number ∷ []) before) fails))
+  pub one-left : (after before : List FailedRun) → answer ≡ false → before ≡ marks_of (take place tables.runs) → after ≡ before → after ≡ marks_of (take (place + 1) tables.runs)
+  one-left after before fails was becomes = with_row after before was (becomes ∙ sym (ap (λ b. cond b (before ++ mark_at line ∷ []) before) fails))

@@ -2,7 +2,7 @@
 use Rattle.std.proofs.Common.{◌≡◌, true, refl}
 use Rattle.std.proofs.lemmas.Bool.{false≢true}
 use Rattle.ckr_events.specs.declared.event.Event.{Event}
-use Rattle.ckr_events.specs.declared.event.Event.TheVariants.{Submitted, Selected, Started, Rewritten, Checkpointed, Cancelled, StepEnded, Restarted, Ended, Purged}
+use Rattle.ckr_events.specs.declared.event.Event.TheVariants.{Submitted, Selected, Started, Rewritten, Checkpointed, Cancelled, StepEnded, Restarted, Held, Released, Ended, Purged}
 use Rattle.ckr_points_tables.specs.Invariant.{is_plain_event}
 use Rattle.ckr_desk_memory.specs.ForwardEvents.{is_forward_event}
 
@@ -16,6 +16,8 @@ forward-plain (Checkpointed job id taken writes lengths place bytes) forward = r
 forward-plain (Cancelled job) forward = refl
 forward-plain (StepEnded job step rc writes lengths) forward = refl
 forward-plain (Restarted job initiator code checkpoint) forward = refl
+forward-plain (Held job code writes lengths) forward = refl
+forward-plain (Released job) forward = refl
 forward-plain (Ended job ending) forward = refl
 forward-plain (Purged job) forward = refl
 forward-plain _ forward = absurd (false≢true forward)

@@ -21,7 +21,7 @@ use Rattle.ckr_points_decks.proofs.DeckLimits.{steps_within}
 use Rattle.ckr_points_tables.specs.declared.run_table.RunTable.{RunTable}
 use Rattle.ckr_points_tables.specs.View.{RunTableView, facts_in, facts_of, row_with, seen_by}
 use Rattle.ckr_desk_turn.specs.Codes.{CodePlaceModel, kept_reached, reached_by, running_reached}
-use Rattle.ckr_desk_turn.specs.Jobs.{TurnStep, running_in}
+use Rattle.ckr_desk_turn.specs.Jobs.{TurnStep, as_stopped, running_in}
 use Rattle.ckr_desk_turn.specs.Queue.{AreNumbered}
 use Rattle.ckr_desk_turn.proofs.Queue.Events.{run_number}
 use Rattle.ckr_points_tables.specs.Checkpoint.{checkpoint_name}
@@ -29,6 +29,8 @@ use Rattle.ckr_desk_memory.specs.EventChanges.{check_name, check_name_in}
 use Rattle.ckr_desk_memory.specs.Invariant.{IsAcceptedRow}
 use Rattle.ckr_desk_memory.specs.Plans.{row_for, IsKnown}
 use Rattle.ckr_desk_memory.specs.View.{JobsView, RunningStepView, jobs_of, lengths_in, lengths_of_row, length_in, running_of}
+use Rattle.ckr_base.specs.declared.code.Code.{Code}
+use Rattle.ckr_steps.specs.Units.{due_of, taken_of}
 use Rattle.ckr_desk_memory.proofs.Starts.Steps.{row-among}
 
 -- ---- lists
@@ -181,11 +183,38 @@ kept-lengths tables row = by (step_of_run row (step_in (place_of row)))
     by None = refl
     by (Some owned) = kept-names tables (output_names row.job.root owned)
 
+-- the running step as a turn sees it, where its run waits with no code
+abbrev pub working_of : TablesModel → RunningStepView → TurnStep
+working_of tables on = record {
+  run = on.run;
+  taken = taken_of on.step.state;
+  writes = on.step.writes;
+  due = due_of on.step.parm on.step.state;
+  lengths = option_map_or (lengths_of_row on.sets.sets) (run_of tables on.run) [];
+  code = None;
+}
+
+pub working-is : (tables : TablesModel) (on : RunningStepView) → on.code ≡ None → running_of tables on ≡ working_of tables on
+working-is tables on uncoded = ap (λ (code : Option Code). as_stopped code (working_of tables on)) uncoded
+
+-- a step that has stopped with a code is of its run, and its writes and its lengths stay
+pub stopped-run : (code : Option Code) (step : TurnStep) → (as_stopped code step).run ≡ step.run
+stopped-run None step = refl
+stopped-run (Some code) step = refl
+
+pub stopped-reached : (code : Option Code) (step : TurnStep) → running_reached (as_stopped code step) ≡ running_reached step
+stopped-reached None step = refl
+stopped-reached (Some code) step = refl
+
+pub stopped-code : (code : Option Code) (step : TurnStep) → step.code ≡ None → (as_stopped code step).code ≡ code
+stopped-code None step none = none
+stopped-code (Some code) step none = refl
+
 -- the running step as a turn sees it
 pub running-found : (jobs : JobsView) (run : ℕ) (found : Option RunningStepView) → found ≡ find (λ (on : RunningStepView). on.run == run) jobs.running → running_in (jobs_of jobs) run ≡ option_map (running_of jobs.tables.desk) found
 unfolding jobs_of
 running-found jobs run found is =
-    find-map (running_of jobs.tables.desk) (λ (on : RunningStepView). on.run == run) (λ (step : TurnStep). step.run == run) (λ on. refl) jobs.running
+    find-map (running_of jobs.tables.desk) (λ (on : RunningStepView). on.run == run) (λ (step : TurnStep). step.run == run) (λ on. ap (λ n. n == run) (stopped-run on.code (working_of jobs.tables.desk on))) jobs.running
     ∙ ap (option_map (running_of jobs.tables.desk)) (sym is)
 
 module _ (jobs : JobsView) (run : ℕ) (table : RunTable) (known : IsKnown jobs.tables.desk run table) where
@@ -194,6 +223,7 @@ module _ (jobs : JobsView) (run : ℕ) (table : RunTable) (known : IsKnown jobs.
   reached-running on is found reached writes lengths =
       ap (λ (n : ℕ). let one : CodePlaceModel = record { writes = n; lengths = reached.lengths } in one) writes
       ∙ ap (λ (ls : List ℕ). let one : CodePlaceModel = record { writes = on.step.writes; lengths = ls } in one) (lengths ∙ sym (lengths-known jobs.tables.desk run table known on is))
+      ∙ sym (stopped-reached on.code (working_of jobs.tables.desk on))
       ∙ ap (λ (step : Option TurnStep). option_map_or running_reached step (kept_reached (jobs_of jobs) (row_for run table))) (sym (running-found jobs run (Some on) found))
 
   pub reached-kept : (sets : Named Holding) → sets ≡ seen_by holding_of jobs.tables.desk.sets → None ≡ find (λ (step : RunningStepView). step.run == run) jobs.running → (reached : CodePlaceModel)

@@ -11,6 +11,7 @@ pub mod RunningSteps
 pub mod Units
 pub mod Rewrites
 pub mod OwnEvents
+pub mod Inquiries
 pub mod Rooms
 pub mod OwnSteps
 pub mod PlanCases

@@ -1,6 +1,6 @@
 -- What holds of the jobs in memory holds behind an event that follows.
 use Rattle.std.proofs.Common.{◌≡◌, ◌+◌, ◌≤◌, ◌==◌, ◌&&◌, ◌||◌, ℕ, zero, suc, Bool, true, false, not, cond, List, [], ◌∷◌, ◌++◌, map, filter, length, refl, ap, sym, ◌∙◌, slice_set, subst, Option, None, Some, Ok, arith, length-append}
-use Rattle.std.proofs.lemmas.Bool.{false≢true, or_right}
+use Rattle.std.proofs.lemmas.Bool.{and_from, false≢true, or_right}
 use Rattle.std.specs.Prelude.{if◌then◌else◌, nat_eq}
 use Rattle.std.specs.List.{AllByRecursion}
 use Rattle.std.specs.Option.{is_none, is_some, option_eq, option_map}
@@ -9,7 +9,8 @@ use Rattle.ckr_base.proofs.Options.{is_some-from}
 use Rattle.ckr_base.proofs.Numbers.{equal-true, nat_le-true}
 use Rattle.ckr_base.proofs.Sequences.{each-append}
 use Rattle.ckr_events.specs.declared.event.Event.{Event}
-use Rattle.ckr_events.specs.declared.event.Event.TheVariants.{Submitted, Selected, Started, Rewritten, Checkpointed, Cancelled, StepEnded, Restarted, Ended, Purged}
+use Rattle.ckr_events.specs.declared.event.Event.TheVariants.{Submitted, Selected, Started, Rewritten, Checkpointed, Cancelled, StepEnded, Restarted, Held, Released, Ended, Purged}
+use Rattle.ckr_base.specs.declared.code.Code.{Code}
 use Rattle.ckr_events.specs.declared.event.Ending.{Ending}
 use Rattle.ckr_events.specs.declared.event.Ending.TheVariants.{Completed, Coded, Allocation}
 use Rattle.ckr_jcl.specs.declared.deck.Job.{Job}
@@ -19,28 +20,31 @@ use Rattle.ckr_meaning.specs.declared.place.Place.{Place}
 use Rattle.ckr_meaning.specs.declared.place.Place.TheVariants.{Before, Opened, Within}
 use Rattle.ckr_volumes.specs.declared.layout.Layout.{Layout}
 use Rattle.ckr_points.specs.Marks.{point_at}
-use Rattle.ckr_points.specs.Tables.{after_commit, effect_rewritten, point_rewritten, queued_run, start_point}
+use Rattle.ckr_points.specs.Office.{is_holder}
+use Rattle.ckr_points.specs.Tables.{after_commit, after_held, effect_rewritten, point_rewritten, queued_run, start_point}
 use Rattle.ckr_points.specs.declared.run.RunState.{RunState}
-use Rattle.ckr_points.specs.declared.run.RunState.TheVariants.{Queued, On, Released, Purged as PurgedRun}
-use Rattle.ckr_points.specs.Follows.{ended_follows, follows, is_checkpoint, is_empty, is_free, is_in_state, is_rewrite, is_running, is_within, lengths_follow, may_hold, may_restart_again, may_start, of_run, of_step, selected_follows, started_follows, state_number}
+use Rattle.ckr_points.specs.declared.run.RunState.TheVariants.{Queued, On, Held as HeldRun, Released as ReleasedRun, Purged as PurgedRun}
+use Rattle.ckr_points.specs.Follows.{ended_follows, follows, is_checkpoint, is_empty, is_free, is_in_state, is_rewrite, is_running, is_within, lengths_follow, may_hold, may_restart_again, may_start, of_run, of_step, selected_follows, started_follows}
 use Rattle.ckr_points.specs.Restart.{after_abnormal, after_coded, after_ended, after_event, after_restarted, by_step, kept_at, place_of, step_in}
 use Rattle.ckr_points.specs.Rows.{RunRow, StartPoint, TablesModel, run_of, standing_of, step_of_run, table_ways, with_row}
 use Rattle.ckr_queue.specs.declared.entry.QueueEntry.{QueueEntry}
 use Rattle.ckr_points_decks.specs.Form.{is_run}
 use Rattle.ckr_points_invariant.proofs.Holders.Rows.{queued-is}
+use Rattle.ckr_points_invariant.proofs.Steps.Events.{on-holds}
 use Rattle.ckr_points_invariant.proofs.Marks.Points.{point_at-new}
 use Rattle.ckr_points_tables.specs.Invariant.{MayFollow, MaySubmit, is_submission}
 use Rattle.ckr_desk_memory.specs.ForwardEvents.{is_forward_event}
-use Rattle.ckr_desk_turn.specs.Invariant.{is_on_one, is_plain_state}
-use Rattle.ckr_desk_turn.specs.Queue.{AreNumbered, queue_behind}
-use Rattle.ckr_desk_memory.specs.Invariant.{IsAcceptedRow, IsAnyAccepted, IsPlacedRow}
-use Rattle.ckr_desk_memory.specs.Parts.{AreQueued, AreUnheld, step_seen}
+use Rattle.ckr_desk_turn.specs.Invariant.{is_off, is_on_one}
+use Rattle.ckr_desk_turn.specs.Queue.{AreNumbered}
+use Rattle.ckr_desk_turn.specs.Spelling.{IsCode}
+use Rattle.ckr_desk_memory.specs.Invariant.{IsAcceptedRow, IsAnyAccepted, IsPlacedRow, is_in_step}
+use Rattle.ckr_desk_memory.specs.Parts.{AreQueued, step_seen}
 use Rattle.ckr_desk_memory.specs.declared.jobs.RunningStep.{RunningStep}
 use Rattle.ckr_desk_memory.specs.View.{RunningStepView}
-use Rattle.ckr_desk_memory.specs.EventChanges.{MayQueue, without_run}
+use Rattle.ckr_desk_memory.specs.EventChanges.{MayQueue, queue_after, without_run}
 use Rattle.ckr_desk_memory.proofs.Starts.Steps.{row-among}
 use Rattle.ckr_desk_memory.proofs.Extents.{tested, tested-step}
-use Rattle.ckr_desk_memory.proofs.Queue.{may-queue, queue-behind, released-is, unheld-behind}
+use Rattle.ckr_desk_memory.proofs.Queue.{held-is, may-queue, on-is, queue-behind, released-is}
 use Rattle.ckr_desk_memory.proofs.Runs.{Kind, by-run, by-step, kind_of, long-stay, numbered-more, numbered-stay, rest_in, runs-stay}
 
 -- an event submits a deck, or does something else
@@ -85,13 +89,12 @@ few-behind layout tables event deck plain e submits numbered few =
 
 -- the queue stays that of the tables
 pub queued-behind : (desk after : TablesModel) (queue now : List QueueEntry) (event : Event) (deck : Option Job) → is_forward_event event ≡ true → MayFollow desk event deck → MaySubmit event deck → AreQueued desk queue
-    → after ≡ after_event event deck desk → now ≡ queue_behind event deck queue → AreQueued after now
+    → after ≡ after_event event deck desk → now ≡ queue_after after event deck queue → AreQueued after now
 queued-behind desk after queue now event deck plain follow submits are is queue_is =
-    subst (λ t. AreQueued t now) (sym is) (subst (λ q. AreQueued (after_event event deck desk) q) (sym queue_is) (record {
+    subst (λ t. AreQueued t now) (sym is) (subst (λ q. AreQueued (after_event event deck desk) q) (sym (queue_is ∙ ap (λ t. queue_after t event deck queue) is)) (record {
       numbered = numbered-behind follow.0 desk event deck plain follow.1 are.numbered;
       few = few-behind follow.0 desk event deck plain follow.1 submits are.numbered are.few;
-      unheld = unheld-behind event deck queue plain are.unheld;
-      same = ap (queue_behind event deck) are.same ∙ sym (queue-behind follow.0 desk event deck are.numbered (subst AreUnheld are.same are.unheld) plain follow.1);
+      same = ap (queue_after (after_event event deck desk) event deck) are.same ∙ sym (queue-behind follow.0 desk event deck are.numbered plain follow.1);
     }))
 
 -- what the tables follow as they are seen
@@ -100,7 +103,7 @@ follow-inside desk seen event deck same follow = (follow.0, ap (λ t. follows fo
 
 pub may-go : (desk seen : TablesModel) (queue : List QueueEntry) (event : Event) (deck : Option Job) → desk ≡ seen → AreQueued desk queue → is_forward_event event ≡ true → MayFollow seen event deck → MayQueue event queue
 may-go desk seen queue event deck same are plain follow =
-    subst (MayQueue event) (sym are.same) (may-queue follow.0 desk event deck are.numbered (subst AreUnheld are.same are.unheld) plain (ap (λ t. follows follow.0 t event deck) same ∙ follow.1))
+    subst (MayQueue event) (sym are.same) (may-queue follow.0 desk event deck are.numbered plain (ap (λ t. follows follow.0 t event deck) same ∙ follow.1))
 
 -- ---- the decks of the runs
 
@@ -176,14 +179,33 @@ not-within step (Before number) may = refl
 not-within step (Opened number) may = refl
 not-within step (Within number writes) may = absurd (false≢true may)
 
+-- a run that is running, or was released, is within its step, and holds its names
+pub released-within : (row : RunRow) → is_in_state ReleasedRun row ≡ true → IsPlacedRow row → is_within (place_of row) ≡ true
+released-within row released is = sym (ap (λ (state : RunState). not (is_off state) || is_within (place_of row)) (released-is row.state released)) ∙ is.off
+
+pub running-in_step : (row : RunRow) → is_running row ≡ true → is_in_step row ≡ true
+running-in_step row runs = and_from (is_holder row.state) (is_within (place_of row)) (on-holds row.state (and-first (is_in_state On row) (is_within (place_of row)) runs)) (and-second (is_in_state On row) (is_within (place_of row)) runs)
+
+pub released-in_step : (row : RunRow) → is_in_state ReleasedRun row ≡ true → IsPlacedRow row → is_in_step row ≡ true
+released-in_step row released is = and_from (is_holder row.state) (is_within (place_of row)) (ap is_holder (released-is row.state released)) (released-within row released is)
+
+pub hand-in_step : (row : RunRow) → (is_running row || is_in_state ReleasedRun row) ≡ true → IsPlacedRow row → is_in_step row ≡ true
+hand-in_step row hand is = or-cases (is_running row) (is_in_state ReleasedRun row) hand (running-in_step row) (λ released. released-in_step row released is)
+
+pub in_step-holds : (row : RunRow) → is_in_step row ≡ true → is_holder row.state ≡ true
+in_step-holds row inside = and-first (is_holder row.state) (is_within (place_of row)) inside
+
+pub in_step-within : (row : RunRow) → is_in_step row ≡ true → is_within (place_of row) ≡ true
+in_step-within row inside = and-second (is_holder row.state) (is_within (place_of row)) inside
+
 running_within : (row : RunRow) → is_running row ≡ true → is_within (place_of row) ≡ true
 running_within row runs = and-second (is_in_state On row) (is_within (place_of row)) runs
 
 placed_abnormal : (row : RunRow) (place : Place) (tables : TablesModel) → IsPlacedRow row → ArePlaced tables → ArePlaced (after_abnormal row place tables)
-placed_abnormal row (Before step) tables is placed = placed_put tables.runs row.number _ (record { place = is.place; state = refl; begun = is.begun; idle = refl; lodged = refl; seated = refl; code = refl }) placed
-placed_abnormal row (Opened step) tables is placed = placed_put tables.runs row.number _ (record { place = is.place; state = refl; begun = is.begun; idle = refl; lodged = refl; seated = refl; code = refl }) placed
+placed_abnormal row (Before step) tables is placed = placed_put tables.runs row.number _ (record { place = is.place; state = refl; begun = is.begun; idle = refl; lodged = refl; seated = refl; code = refl; coded = tt; off = refl }) placed
+placed_abnormal row (Opened step) tables is placed = placed_put tables.runs row.number _ (record { place = is.place; state = refl; begun = is.begun; idle = refl; lodged = refl; seated = refl; code = refl; coded = tt; off = refl }) placed
 placed_abnormal row (Within step writes) tables is placed =
-    by-step ArePlaced tables (step_of_run row step) _ placed (λ owned there. placed_put tables.runs row.number _ (record { place = is.place; state = refl; begun = is.begun; idle = refl; lodged = refl; seated = refl; code = refl }) placed)
+    by-step ArePlaced tables (step_of_run row step) _ placed (λ owned there. placed_put tables.runs row.number _ (record { place = is.place; state = refl; begun = is.begun; idle = refl; lodged = refl; seated = refl; code = refl; coded = tt; off = refl }) placed)
 
 -- a row that goes on within its step
 placed_within : (row : RunRow) (owned : OwnedStep) (writes : ℕ) → step_of_run row (step_in (place_of row)) ≡ Some owned → is_within (place_of row) ≡ true → IsPlacedRow row → IsPlacedRow (record row { place = Some (Within (step_in (place_of row)) writes) })
@@ -191,10 +213,12 @@ placed_within row owned writes there within is = record {
   place = is_some-from (step_of_run row (step_in (place_of row))) owned there;
   state = is.state;
   begun = begun-within row within is;
-  idle = ap (λ b. is_in_state On row && b || is_none row.in_effect) (sym within) ∙ is.idle;
+  idle = ap (λ b. is_holder row.state && b || is_none row.in_effect) (sym within) ∙ is.idle;
   lodged = is.lodged;
   seated = is.seated;
   code = is.code;
+  coded = is.coded;
+  off = or_right (not (is_off row.state)) true refl;
 }
 
 placed_commit : (row : RunRow) (owned : OwnedStep) (writes : ℕ) (lengths : List ℕ) (tables : TablesModel) → step_of_run row (step_in (place_of row)) ≡ Some owned → is_within (place_of row) ≡ true → IsPlacedRow row → ArePlaced tables
@@ -208,24 +232,58 @@ placed_coded row writes lengths tables within is placed =
     placed_abnormal (record row { place = Some (Within (step_in (place_of row)) writes) }) (Within (step_in (place_of row)) writes) (after_commit row owned (step_in (place_of row)) writes lengths tables)
     (placed_within row owned writes there within is) (placed_commit row owned writes lengths tables there within is placed))
 
--- a run that ends by a code is within its step: none was held
-coded_within : (row : RunRow) (tables : TablesModel) (lengths : List ℕ) → IsPlacedRow row → ((is_running row || is_in_state Released row) && lengths_follow tables row lengths) ≡ true → is_within (place_of row) ≡ true
-coded_within row tables lengths is follow =
-    or-cases (is_running row) (is_in_state Released row) (and-first (is_running row || is_in_state Released row) _ follow) (running_within row)
-    (λ released. absurd (false≢true (sym (ap is_plain_state (released-is row.state released)) ∙ is.state)))
+-- a run that ends by a code is within its step
+coded_within : (row : RunRow) (tables : TablesModel) (lengths : List ℕ) → IsPlacedRow row → ((is_running row || is_in_state ReleasedRun row) && lengths_follow tables row lengths) ≡ true → is_within (place_of row) ≡ true
+coded_within row tables lengths is follow = in_step-within row (hand-in_step row (and-first (is_running row || is_in_state ReleasedRun row) _ follow) is)
+
+-- one that is held is within it too, and has its code
+placed_held : (row : RunRow) (owned : OwnedStep) (code : Code) (writes : ℕ) (lengths : List ℕ) (tables : TablesModel) → IsCode code → step_of_run row (step_in (place_of row)) ≡ Some owned → is_within (place_of row) ≡ true → IsPlacedRow row → ArePlaced tables
+    → ArePlaced (after_held row owned (step_in (place_of row)) code writes lengths tables)
+placed_held row owned code writes lengths tables spelled there within is placed =
+    placed_put tables.runs row.number _ (record {
+      place = is_some-from (step_of_run row (step_in (place_of row))) owned there;
+      state = refl;
+      begun = begun-within row within is;
+      idle = refl;
+      lodged = refl;
+      seated = refl;
+      code = refl;
+      coded = spelled;
+      off = refl;
+    }) placed
+
+-- a released run is as it was held
+placed_released : (row : RunRow) → is_in_state HeldRun row ≡ true → IsPlacedRow row → IsPlacedRow (record row { state = ReleasedRun })
+placed_released row held is =
+    let state = held-is row.state held in
+    record {
+      place = is.place;
+      state = refl;
+      begun = is.begun;
+      idle = sym (ap (λ (state : RunState). is_holder state && is_within (place_of row) || is_none row.in_effect) state) ∙ is.idle;
+      lodged = sym (ap (λ (state : RunState). is_none row.initiator || is_on_one state) state) ∙ is.lodged;
+      seated = refl;
+      code = sym (ap (λ (state : RunState). if is_off state then is_some row.code else is_none row.code) state) ∙ is.code;
+      coded = is.coded;
+      off = sym (ap (λ (state : RunState). not (is_off state) || is_within (place_of row)) state) ∙ is.off;
+    }
 
 placed_ended : (row : RunRow) (ending : Ending) (tables : TablesModel) → ended_follows tables row ending ≡ true → IsPlacedRow row → ArePlaced tables → ArePlaced (after_ended row ending tables)
-placed_ended row Completed tables follow is placed = placed_put tables.runs row.number _ (record { place = is.place; state = refl; begun = is.begun; idle = refl; lodged = refl; seated = refl; code = refl }) placed
+placed_ended row Completed tables follow is placed = placed_put tables.runs row.number _ (record { place = is.place; state = refl; begun = is.begun; idle = refl; lodged = refl; seated = refl; code = refl; coded = tt; off = refl }) placed
 placed_ended row (Coded code rule writes lengths) tables follow is placed = placed_coded row writes lengths.items tables (coded_within row tables lengths.items is follow) is placed
 placed_ended row (Allocation dd cause first second) tables follow is placed = placed_abnormal row (place_of row) tables is placed
 
 -- no checkpoint is in effect of a run that waits, and of one that isn't within a step
 idle_queued : (row : RunRow) → is_in_state Queued row ≡ true → IsPlacedRow row → is_none row.in_effect ≡ true
 idle_queued row waits is =
-    sym (ap (λ (state : RunState). state_number state == 2 && is_within (place_of row) || is_none row.in_effect) (queued-is row.state waits)) ∙ is.idle
+    sym (ap (λ (state : RunState). is_holder state && is_within (place_of row) || is_none row.in_effect) (queued-is row.state waits)) ∙ is.idle
+
+-- a run that waits has no code
+code_queued : (row : RunRow) → is_in_state Queued row ≡ true → IsPlacedRow row → is_none row.code ≡ true
+code_queued row waits is = sym (ap (λ (state : RunState). if is_off state then is_some row.code else is_none row.code) (queued-is row.state waits)) ∙ is.code
 
 pub idle-between : (row : RunRow) → is_within (place_of row) ≡ false → IsPlacedRow row → is_none row.in_effect ≡ true
-idle-between row between is = by (is_in_state On row) (is_none row.in_effect) (sym (ap (λ b. is_in_state On row && b || is_none row.in_effect) between) ∙ is.idle)
+idle-between row between is = by (is_holder row.state) (is_none row.in_effect) (sym (ap (λ b. is_holder row.state && b || is_none row.in_effect) between) ∙ is.idle)
   where
     by : (a n : Bool) → (a && false || n) ≡ true → n ≡ true
     by true n e = e
@@ -240,11 +298,11 @@ placed_selected layout tables job initiator earlier step id deck is follow place
     let its = row-among IsPlacedRow tables job row placed at in
     let asked = tested tables job (selected_follows layout tables initiator earlier step id) follow row at in
     let waits = and-first (is_in_state Queued row) _ (and-first (is_in_state Queued row && is_free layout tables initiator) _ (and-first (is_in_state Queued row && is_free layout tables initiator && may_hold tables row) _ asked)) in
-    placed_put tables.runs row.number _ (record { place = tt; state = refl; begun = refl; idle = idle_queued row waits its; lodged = refl; seated = refl; code = its.code }) placed))
+    placed_put tables.runs row.number _ (record { place = tt; state = refl; begun = refl; idle = idle_queued row waits its; lodged = refl; seated = refl; code = code_queued row waits its; coded = its.coded; off = refl }) placed))
 
 placed_submitted : (tables : TablesModel) (job : ℕ) (cards : List ℕ) (deck : Option Job) → ArePlaced tables → ArePlaced (after_event (Submitted job cards) deck tables)
 placed_submitted tables job cards None placed = placed
-placed_submitted tables job cards (Some deck) placed = each-append IsPlacedRow tables.runs (queued_run job deck ∷ []) placed (record { place = tt; state = refl; begun = refl; idle = refl; lodged = refl; seated = refl; code = refl }, tt)
+placed_submitted tables job cards (Some deck) placed = each-append IsPlacedRow tables.runs (queued_run job deck ∷ []) placed (record { place = tt; state = refl; begun = refl; idle = refl; lodged = refl; seated = refl; code = refl; coded = tt; off = refl }, tt)
 
 -- a run that waits is on no initiator, also where it is purged
 off_purged : (row : RunRow) → is_in_state Queued row ≡ true → IsPlacedRow row → IsPlacedRow (record row { state = PurgedRun })
@@ -255,21 +313,23 @@ off_purged row waits is = record {
   idle = idle_queued row waits is;
   lodged = sym (ap (λ (state : RunState). is_none row.initiator || is_on_one state) (queued-is row.state waits)) ∙ is.lodged;
   seated = refl;
-  code = is.code;
+  code = code_queued row waits is;
+  coded = is.coded;
+  off = refl;
 }
 
--- a run that is restarted was running: none was held
-pub restarts-running : (layout : Layout) (tables : TablesModel) (initiator : ℕ) (checkpoint : Bool) (row : RunRow) → IsPlacedRow row
-    → ((is_running row && option_eq nat_eq row.initiator (Some initiator) || is_in_state Released row && is_free layout tables initiator) && may_restart_again checkpoint row) ≡ true → is_running row ≡ true
-restarts-running layout tables initiator checkpoint row is follow =
-    or-cases (is_running row && option_eq nat_eq row.initiator (Some initiator)) (is_in_state Released row && is_free layout tables initiator)
-    (and-first (is_running row && option_eq nat_eq row.initiator (Some initiator) || is_in_state Released row && is_free layout tables initiator) (may_restart_again checkpoint row) follow)
-    (and-first (is_running row) _)
-    (λ released. absurd (false≢true (sym (ap is_plain_state (released-is row.state (and-first (is_in_state Released row) _ released))) ∙ is.state)))
+-- a run that is restarted was running or released, within its step
+pub restarts-in_step : (layout : Layout) (tables : TablesModel) (initiator : ℕ) (checkpoint : Bool) (row : RunRow) → IsPlacedRow row
+    → ((is_running row && option_eq nat_eq row.initiator (Some initiator) || is_in_state ReleasedRun row && is_free layout tables initiator) && may_restart_again checkpoint row) ≡ true → is_in_step row ≡ true
+restarts-in_step layout tables initiator checkpoint row is follow =
+    or-cases (is_running row && option_eq nat_eq row.initiator (Some initiator)) (is_in_state ReleasedRun row && is_free layout tables initiator)
+    (and-first (is_running row && option_eq nat_eq row.initiator (Some initiator) || is_in_state ReleasedRun row && is_free layout tables initiator) (may_restart_again checkpoint row) follow)
+    (λ running. running-in_step row (and-first (is_running row) _ running))
+    (λ released. released-in_step row (and-first (is_in_state ReleasedRun row) _ released) is)
 
 -- a run that goes back to the start of its step is on its initiator, and isn't within the step; one that goes back to its checkpoint is within it
-placed_restarted : (row : RunRow) (initiator : ℕ) (checkpoint : Bool) (tables : TablesModel) → is_running row ≡ true → IsPlacedRow row → ArePlaced tables → ArePlaced (by_step (λ owned step. after_restarted row owned step initiator checkpoint tables) row tables)
-placed_restarted row initiator true tables runs is placed =
+placed_restarted : (row : RunRow) (initiator : ℕ) (checkpoint : Bool) (tables : TablesModel) → is_in_step row ≡ true → IsPlacedRow row → ArePlaced tables → ArePlaced (by_step (λ owned step. after_restarted row owned step initiator checkpoint tables) row tables)
+placed_restarted row initiator true tables inside is placed =
     by-step ArePlaced tables (step_of_run row (step_in (place_of row))) _ placed
     (λ owned there.
     by-step ArePlaced tables row.in_effect _ placed
@@ -279,30 +339,31 @@ placed_restarted row initiator true tables runs is placed =
     placed_put tables.runs row.number _ (record {
       place = is_some-from (step_of_run row (step_in (place_of row))) owned there;
       state = refl;
-      begun = begun-within row (running_within row runs) is;
+      begun = begun-within row (in_step-within row inside) is;
       idle = refl;
       lodged = refl;
       seated = refl;
       code = refl;
+      coded = tt;
+      off = refl;
     }) placed)))
-placed_restarted row initiator false tables runs is placed =
+placed_restarted row initiator false tables inside is placed =
     by-step ArePlaced tables (step_of_run row (step_in (place_of row))) _ placed
     (λ owned there.
     by-step ArePlaced tables (point_at row.points (step_in (place_of row))) _ placed
-    (λ point began. placed_put tables.runs row.number _ (record { place = tt; state = refl; begun = refl; idle = refl; lodged = refl; seated = refl; code = refl }) placed))
+    (λ point began. placed_put tables.runs row.number _ (record { place = tt; state = refl; begun = refl; idle = refl; lodged = refl; seated = refl; code = refl; coded = tt; off = refl }) placed))
 
-step_ended_within : (tables : TablesModel) (job step : ℕ) (lengths : List ℕ) → of_run tables job (λ row. is_running row && step_in (place_of row) == step && lengths_follow tables row lengths) ≡ true → (row : RunRow) → run_of tables job ≡ Some row → is_within (place_of row) ≡ true
-step_ended_within tables job step lengths follow row at =
-    running_within row
-    (and-first (is_running row) _
-    (and-first (is_running row && step_in (place_of row) == step) (lengths_follow tables row lengths) (tested tables job (λ row. is_running row && step_in (place_of row) == step && lengths_follow tables row lengths) follow row at)))
+step_ended_runs : (tables : TablesModel) (job step : ℕ) (lengths : List ℕ) → of_run tables job (λ row. is_running row && step_in (place_of row) == step && lengths_follow tables row lengths) ≡ true → (row : RunRow) → run_of tables job ≡ Some row → is_running row ≡ true
+step_ended_runs tables job step lengths follow row at =
+    and-first (is_running row) _
+    (and-first (is_running row && step_in (place_of row) == step) (lengths_follow tables row lengths) (tested tables job (λ row. is_running row && step_in (place_of row) == step && lengths_follow tables row lengths) follow row at))
 
--- A forward event that follows leaves a run within no step that it hasn't or that has no point, holds no run, and gives no code; a run is on an
--- initiator exactly where it has one.
-pub placed-behind : (layout : Layout) (tables : TablesModel) (event : Event) (deck : Option Job) → is_forward_event event ≡ true → follows layout tables event deck ≡ true → AllByRecursion IsPlacedRow tables.runs → AllByRecursion IsPlacedRow (after_event event deck tables).runs
-placed-behind layout tables (Submitted job cards) deck plain follow placed = placed_submitted tables job cards deck placed
-placed-behind layout tables (Selected job initiator earlier step id) deck plain follow placed = placed_selected layout tables job initiator earlier step id deck (equal-true earlier 0 plain) follow placed
-placed-behind layout tables (Started job step items) deck plain follow placed =
+-- A forward event that follows leaves a run within no step that it hasn't or that has no point, and denies none; a run is on an initiator exactly where
+-- it has one, and has a code exactly while it is off its initiator within a step.
+pub placed-behind : (layout : Layout) (tables : TablesModel) (event : Event) (deck : Option Job) → is_forward_event event ≡ true → IsAnyAccepted event deck → follows layout tables event deck ≡ true → AllByRecursion IsPlacedRow tables.runs → AllByRecursion IsPlacedRow (after_event event deck tables).runs
+placed-behind layout tables (Submitted job cards) deck plain accepted follow placed = placed_submitted tables job cards deck placed
+placed-behind layout tables (Selected job initiator earlier step id) deck plain accepted follow placed = placed_selected layout tables job initiator earlier step id deck (equal-true earlier 0 plain) follow placed
+placed-behind layout tables (Started job step items) deck plain accepted follow placed =
     by-run ArePlaced tables job _ placed
     (λ row at.
     let is = row-among IsPlacedRow tables job row placed at in
@@ -311,13 +372,15 @@ placed-behind layout tables (Started job step items) deck plain follow placed =
     placed_put tables.runs row.number _ (record {
       place = is_some-from (step_of_run row step) owned there;
       state = is.state;
-      idle = or_right (is_in_state On row && true) (is_none row.in_effect) (idle-between row (not-within step (place_of row) (and-first (may_start step (place_of row)) _ (and-first (may_start step (place_of row) && is_empty (flaws_in (placed_in table_ways (standing_of row tables) row.job.root owned))) _ (tested-step (step_of_run row step) _ (and-second (is_in_state On row) _ (tested tables job (started_follows layout tables step items.items) follow row at)) owned there)))) is);
+      idle = or_right (is_holder row.state && true) (is_none row.in_effect) (idle-between row (not-within step (place_of row) (and-first (may_start step (place_of row)) _ (and-first (may_start step (place_of row) && is_empty (flaws_in (placed_in table_ways (standing_of row tables) row.job.root owned))) _ (tested-step (step_of_run row step) _ (and-second (is_in_state On row) _ (tested tables job (started_follows layout tables step items.items) follow row at)) owned there)))) is);
       begun = ap is_some (point_at-new (start_point row step (opened_all table_ways (stamp_of owned step) (placed_in table_ways (standing_of row tables) row.job.root owned) tables.sets)) row.points);
       lodged = is.lodged;
       seated = is.seated;
       code = is.code;
+      coded = is.coded;
+      off = or_right (not (is_off row.state)) true refl;
     }) placed))
-placed-behind layout tables (Rewritten job taken writes lengths place image) deck plain follow placed =
+placed-behind layout tables (Rewritten job taken writes lengths place image) deck plain accepted follow placed =
     by-run ArePlaced tables job _ placed
     (λ row at.
     let is = row-among IsPlacedRow tables job row placed at in
@@ -328,13 +391,15 @@ placed-behind layout tables (Rewritten job taken writes lengths place image) dec
     placed_put tables.runs row.number _ (record {
       place = is_some-from (step_of_run row (step_in (place_of row))) owned there;
       state = is.state;
-      idle = ap (λ b. b && true || is_none (option_map effect_rewritten row.in_effect)) (and-first (is_in_state On row) _ runs);
+      idle = ap (λ b. b && true || is_none (option_map effect_rewritten row.in_effect)) (on-holds row.state (and-first (is_in_state On row) _ runs));
       begun = rewritten_point (step_in (place_of row)) (step_in (place_of row)) row.points ∙ begun-within row within is;
       lodged = is.lodged;
       seated = is.seated;
       code = is.code;
+      coded = is.coded;
+      off = or_right (not (is_off row.state)) true refl;
     }) placed))
-placed-behind layout tables (Checkpointed job id taken writes lengths place bytes) deck plain follow placed =
+placed-behind layout tables (Checkpointed job id taken writes lengths place bytes) deck plain accepted follow placed =
     by-run ArePlaced tables job _ placed
     (λ row at.
     let is = row-among IsPlacedRow tables job row placed at in
@@ -346,39 +411,63 @@ placed-behind layout tables (Checkpointed job id taken writes lengths place byte
       place = is_some-from (step_of_run row (step_in (place_of row))) owned there;
       state = is.state;
       begun = begun-within row within is;
-      idle = ap (λ b. b && true || false) (and-first (is_in_state On row) _ runs);
+      idle = ap (λ b. b && true || false) (on-holds row.state (and-first (is_in_state On row) _ runs));
       lodged = is.lodged;
       seated = is.seated;
       code = is.code;
+      coded = is.coded;
+      off = or_right (not (is_off row.state)) true refl;
     }) placed))
-placed-behind layout tables (Cancelled job) deck plain follow placed =
+placed-behind layout tables (Cancelled job) deck plain accepted follow placed =
     by-run ArePlaced tables job _ placed
     (λ row at.
     let is = row-among IsPlacedRow tables job row placed at in
-    placed_put tables.runs row.number _ (record { place = is.place; state = is.state; begun = is.begun; idle = or_right (is_running row) true refl; lodged = is.lodged; seated = is.seated; code = is.code }) placed)
-placed-behind layout tables (StepEnded job step rc writes lengths) deck plain follow placed =
+    placed_put tables.runs row.number _ (record { place = is.place; state = is.state; begun = is.begun; idle = or_right (is_in_step row) true refl; lodged = is.lodged; seated = is.seated; code = is.code; coded = is.coded; off = is.off }) placed)
+placed-behind layout tables (StepEnded job step rc writes lengths) deck plain accepted follow placed =
     by-run ArePlaced tables job _ placed
     (λ row at.
     let is = row-among IsPlacedRow tables job row placed at in
     by-step ArePlaced tables (step_of_run row (step_in (place_of row))) _ placed
     (λ owned there.
-    placed_put (after_commit row owned (step_in (place_of row)) writes lengths.items tables).runs row.number _ (record { place = tt; state = is.state; begun = refl; idle = or_right (is_in_state On row && false) true refl; lodged = is.lodged; seated = is.seated; code = is.code })
-    (placed_commit row owned writes lengths.items tables there (step_ended_within tables job step lengths.items follow row at) is placed)))
-placed-behind layout tables (Restarted job initiator code checkpoint) deck plain follow placed =
+    let runs = step_ended_runs tables job step lengths.items follow row at in
+    placed_put (after_commit row owned (step_in (place_of row)) writes lengths.items tables).runs row.number _ (record {
+      place = tt;
+      state = is.state;
+      begun = refl;
+      idle = or_right (is_holder row.state && false) true refl;
+      lodged = is.lodged;
+      seated = is.seated;
+      code = is.code;
+      coded = is.coded;
+      off = ap (λ (state : RunState). not (is_off state) || false) (on-is row.state (and-first (is_in_state On row) (is_within (place_of row)) runs));
+    })
+    (placed_commit row owned writes lengths.items tables there (running_within row runs) is placed)))
+placed-behind layout tables (Restarted job initiator code checkpoint) deck plain accepted follow placed =
     by-run ArePlaced tables job _ placed
     (λ row at.
     let is = row-among IsPlacedRow tables job row placed at in
     placed_restarted row initiator checkpoint tables
-    (restarts-running layout tables initiator checkpoint row is
-    (tested tables job (λ row. (is_running row && option_eq nat_eq row.initiator (Some initiator) || is_in_state Released row && is_free layout tables initiator) && may_restart_again checkpoint row) follow row at))
+    (restarts-in_step layout tables initiator checkpoint row is
+    (tested tables job (λ row. (is_running row && option_eq nat_eq row.initiator (Some initiator) || is_in_state ReleasedRun row && is_free layout tables initiator) && may_restart_again checkpoint row) follow row at))
     is placed)
-placed-behind layout tables (Ended job ending) deck plain follow placed =
+placed-behind layout tables (Held job code writes lengths) deck plain accepted follow placed =
+    by-run ArePlaced tables job _ placed
+    (λ row at.
+    let is = row-among IsPlacedRow tables job row placed at in
+    by-step ArePlaced tables (step_of_run row (step_in (place_of row))) _ placed
+    (λ owned there.
+    placed_held row owned code writes lengths.items tables accepted there
+    (coded_within row tables lengths.items is (tested tables job (λ row. (is_running row || is_in_state ReleasedRun row) && lengths_follow tables row lengths.items) follow row at)) is placed))
+placed-behind layout tables (Released job) deck plain accepted follow placed =
+    by-run ArePlaced tables job _ placed
+    (λ row at. placed_put tables.runs row.number _ (placed_released row (tested tables job (is_in_state HeldRun) follow row at) (row-among IsPlacedRow tables job row placed at)) placed)
+placed-behind layout tables (Ended job ending) deck plain accepted follow placed =
     by-run ArePlaced tables job _ placed
     (λ row at. placed_ended row ending tables (tested tables job (λ row. ended_follows tables row ending) follow row at) (row-among IsPlacedRow tables job row placed at) placed)
-placed-behind layout tables (Purged job) deck plain follow placed =
+placed-behind layout tables (Purged job) deck plain accepted follow placed =
     by-run ArePlaced tables job _ placed
     (λ row at. placed_put tables.runs row.number _ (off_purged row (tested tables job (is_in_state Queued) follow row at) (row-among IsPlacedRow tables job row placed at)) placed)
-placed-behind layout tables _ deck plain follow placed = absurd (false≢true plain)
+placed-behind layout tables _ deck plain accepted follow placed = absurd (false≢true plain)
 
 -- ---- the running steps
 

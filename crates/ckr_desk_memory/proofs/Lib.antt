@@ -20,10 +20,13 @@ pub mod CheckpointParts
 pub mod Extents
 pub mod Queue
 pub mod Replays
+pub mod RunLines
 pub mod Rooms
 pub mod Runs
 pub mod SetCopies
 pub mod Starts
+pub mod Stops
 pub mod TurnEvents
+pub mod WaitingRuns
 pub mod RunningSteps
 pub mod Holders

@@ -1,7 +1,8 @@
 -- A turn's plan, case by case.
+use Rattle.std.specs.Prelude.{if◌then◌else◌}
 use Rattle.std.proofs.Common.{IfErr, ◌≡◌, ◌==◌, ◌≤◌, ◌<◌, ℕ, zero, suc, Bool, true, false, cond, nat_eq, refl, ap, sym, ◌∙◌, subst, IsSome, List, [], ◌∷◌, find, length, pred, slice_get, Option, None, Some, Result, Ok, Err, arith}
 use Rattle.std.specs.List.{AllByRecursion}
-use Rattle.std.specs.Option.{is_some, option_eq, option_map, option_map_or}
+use Rattle.std.specs.Option.{is_none, is_some, option_eq, option_map, option_map_or}
 use Rattle.std.proofs.lemmas.Bool.{false≢true}
 use Rattle.std.proofs.lemmas.Bool.Decides.{nat_tests}
 use Rattle.std.proofs.lemmas.Option.{same_Some}
@@ -12,11 +13,12 @@ use Rattle.ckr_points_library.specs.Allocation.{Allocation}
 use Rattle.ckr_base.specs.declared.code.Code.{Code}
 use Rattle.ckr_base.specs.declared.programs.NextDue.{NextDue}
 use Rattle.ckr_base.specs.declared.programs.NextDue.TheVariants.{Finished}
+use Rattle.ckr_base.proofs.Bools.{if-then}
 use Rattle.ckr_base.proofs.Numbers.{equal-true}
 use Rattle.ckr_base.proofs.Options.{is_some-true, some-not-none}
 use Rattle.ckr_base.proofs.Sequences.{find-passes}
 use Rattle.ckr_events.specs.declared.event.Event.{Event}
-use Rattle.ckr_events.specs.declared.event.Event.TheVariants.{Started as StartedEvent, Ended as EndedEvent}
+use Rattle.ckr_events.specs.declared.event.Event.TheVariants.{Selected as SelectedEvent, Started as StartedEvent, Ended as EndedEvent}
 use Rattle.ckr_events.specs.declared.event.Ending.TheVariants.{Completed as CompletedEnding, Allocation as AllocationEnding}
 use Rattle.ckr_events.specs.declared.event.Made.{Made}
 use Rattle.ckr_jcl.specs.declared.deck.Dd.{Dd}
@@ -24,7 +26,7 @@ use Rattle.ckr_library.specs.NameMaps.{Name}
 use Rattle.ckr_meaning.specs.EffectiveJob.{Effective, OwnedStep, stamp_of, step_at}
 use Rattle.ckr_meaning.specs.declared.place.Place.{Place}
 use Rattle.ckr_meaning.specs.declared.place.Place.TheVariants.{Before, Opened, Within}
-use Rattle.ckr_points.specs.Follows.{own_step}
+use Rattle.ckr_points.specs.Follows.{is_within as is_within_step, own_step}
 use Rattle.ckr_points.specs.Restart.{place_of, step_in}
 use Rattle.ckr_points.specs.Rows.{RunRow, TablesModel, holding_of, run_of, standing_of, step_of_run, table_ways}
 use Rattle.ckr_queue.specs.declared.entry.QueueEntry.{QueueEntry}
@@ -39,112 +41,133 @@ use Rattle.ckr_points_tables.specs.View.{run_on, seen_by}
 use Rattle.ckr_desk_turn.specs.declared.plan.Plan.{Plan}
 use Rattle.ckr_desk_turn.specs.declared.plan.Plan.TheVariants.{Rest, Tell}
 use Rattle.ckr_desk_turn.specs.declared.reply.How.TheVariants.{Completed, Allocation as AllocationHow}
-use Rattle.ckr_desk_turn.specs.declared.reply.Reply.TheVariants.{Idle, NothingToFail, Started, JobEnded}
+use Rattle.ckr_desk_turn.specs.declared.reply.Reply.TheVariants.{Idle, NothingToFail, Selected as SelectedReply, Started, JobEnded}
 use Rattle.ckr_desk_turn.specs.Allocation.{allocation_of, cause_numbers, items_in}
 use Rattle.ckr_desk_turn.specs.Select.{is_on, next_run, run_on_initiator}
 use Rattle.ckr_desk_turn.specs.Codes.{code_plan, initiator_of, reached_by}
-use Rattle.ckr_desk_turn.specs.Jobs.{TurnJobs, TurnStep, is_failed, running_in}
-use Rattle.ckr_desk_turn.specs.Plans.{allocation_ended, between_plan, chosen_plan, due_plan, fail_plan, finished_plan, free_plan, is_within, placed_plan, run_plan, running_plan, system_failure}
+use Rattle.ckr_desk_turn.specs.Invariant.{is_off}
+use Rattle.ckr_desk_turn.specs.Jobs.{TurnJobs, TurnStep, is_failed, running_in, waiting_code}
+use Rattle.ckr_desk_turn.specs.Plans.{allocation_ended, between_plan, chosen_plan, due_plan, fail_plan, finished_plan, free_plan, is_within, placed_plan, run_plan, running_plan, system_failure, unmarked_plan, waiting_plan}
 use Rattle.ckr_desk_turn.specs.Queue.{AreNumbered, queue_of, selection_for}
 use Rattle.ckr_desk_turn.proofs.Queue.Select.{selection_is_next}
 use Rattle.ckr_desk_turn.proofs.RunEnd.{refused-inside}
 use Rattle.ckr_volumes.specs.declared.layout.Layout.{Layout}
 use Rattle.ckr_desk_memory.specs.Invariant.{IsAcceptedRow, IsAnyPlaceOf, IsPlacedRow}
 use Rattle.ckr_desk_memory.specs.Plans.{next_step, row_for, IsKnown, NeedsRoom}
-use Rattle.ckr_desk_memory.specs.View.{JobsView, RunningStepView, jobs_of, lengths_of_row, running_of}
+use Rattle.ckr_desk_memory.specs.View.{JobsView, RunningStepView, jobs_of, lengths_of_row}
 use Rattle.ckr_desk_memory.proofs.Starts.Steps.{row-among, step-among}
-use Rattle.ckr_desk_memory.proofs.FoundRuns.{first-step, found-run, known-by, known-is, known-row, lengths-known, running-found}
+use Rattle.ckr_desk_memory.proofs.FoundRuns.{first-step, found-run, known-by, known-is, known-row, lengths-known, running-found, working-is, working_of}
+
+-- the number of a run that is known
+pub number-known : (tables : TablesModel) (job : ℕ) (table : RunTable) (known : IsKnown tables job table) (row : RunRow) → run_of tables job ≡ Some row → row.number ≡ job
+number-known tables job table known row at = ap (λ (r : RunRow). r.number) (sym (known-row tables job table known row at)) ∙ known.numbered
 
 -- a run's mark, by its number
 pub marked-at : (jobs : JobsView) (job : ℕ) (table : RunTable) (known : IsKnown jobs.tables.desk job table) (row : RunRow) → run_of jobs.tables.desk job ≡ Some row → is_failed (jobs_of jobs) job ≡ is_failed (jobs_of jobs) row.number
-marked-at jobs job table known row at =
-    ap (is_failed (jobs_of jobs)) (sym (ap (λ (r : RunRow). r.number) (sym (known-row jobs.tables.desk job table known row at)) ∙ known.numbered))
+marked-at jobs job table known row at = ap (is_failed (jobs_of jobs)) (sym (number-known jobs.tables.desk job table known row at))
+
+-- the code with which it waits
+pub waiting-at : (jobs : JobsView) (job : ℕ) (table : RunTable) (known : IsKnown jobs.tables.desk job table) (row : RunRow) → run_of jobs.tables.desk job ≡ Some row → waiting_code (jobs_of jobs) job ≡ waiting_code (jobs_of jobs) row.number
+waiting-at jobs job table known row at = ap (waiting_code (jobs_of jobs)) (sym (number-known jobs.tables.desk job table known row at))
 
 -- ---- which step is next
 
-pub next-is : (marked : Bool) (fail : Option Code) (place other : Place) → marked ≡ false → is_some fail ≡ false → place ≡ other → next_step marked fail place ≡ next_step false None other
-next-is true fail place other marked none same = absurd (false≢true (sym marked))
-next-is false (Some code) place other marked none same = absurd (false≢true (sym none))
-next-is false None place other marked none same = ap (next_step false None) same
+pub next-is : (marked : Bool) (waits fail : Option Code) (place other : Place) → marked ≡ false → is_some waits ≡ false → is_some fail ≡ false → place ≡ other → next_step marked waits fail place ≡ next_step false None None other
+next-is true waits fail place other marked idle none same = absurd (false≢true (sym marked))
+next-is false (Some code) fail place other marked idle none same = absurd (false≢true (sym idle))
+next-is false None (Some code) place other marked idle none same = absurd (false≢true (sym none))
+next-is false None None place other marked idle none same = ap (next_step false None None) same
 
-pub next-failed : (marked : Bool) (fail : Option Code) (place : Place) → marked ≡ true → None ≡ next_step marked fail place
-next-failed true fail place marked = refl
-next-failed false fail place marked = absurd (false≢true marked)
+pub next-failed : (marked : Bool) (waits fail : Option Code) (place : Place) → marked ≡ true → None ≡ next_step marked waits fail place
+next-failed true waits fail place marked = refl
+next-failed false waits fail place marked = absurd (false≢true marked)
 
-pub next-coded : (marked : Bool) (fail : Option Code) (place : Place) → is_some fail ≡ true → None ≡ next_step marked fail place
-next-coded true fail place some = refl
-next-coded false (Some code) place some = refl
-next-coded false None place some = absurd (false≢true some)
+pub next-waiting : (marked : Bool) (waits fail : Option Code) (place : Place) → is_some waits ≡ true → None ≡ next_step marked waits fail place
+next-waiting true waits fail place some = refl
+next-waiting false (Some code) fail place some = refl
+next-waiting false None fail place some = absurd (false≢true some)
+
+pub next-coded : (marked : Bool) (waits fail : Option Code) (place : Place) → is_some fail ≡ true → None ≡ next_step marked waits fail place
+next-coded true waits fail place some = refl
+next-coded false (Some code) fail place some = refl
+next-coded false None (Some code) place some = refl
+next-coded false None None place some = absurd (false≢true some)
 
 module _ (layout : Layout) (jobs : TurnJobs) (row : RunRow) where
-  abbrev if_failed : Option Code → Bool → Plan
-  if_failed fail failed =
+  abbrev if_failed : Option Code → Option Code → Bool → Plan
+  if_failed fail waits failed =
       elim failed [
-        | true ↦ code_plan layout jobs.tables row (initiator_of row) system_failure (reached_by jobs row)
-        | false ↦ fail_plan layout jobs row fail
+        | true ↦ code_plan layout jobs.tables row (initiator_of row) true system_failure (reached_by jobs row)
+        | false ↦ unmarked_plan layout jobs row fail waits
       ]
 
-  pub run-failed : (fail : Option Code) → is_failed jobs row.number ≡ true → run_plan layout jobs fail row ≡ code_plan layout jobs.tables row (initiator_of row) system_failure (reached_by jobs row)
-  run-failed fail failed = ap (if_failed fail) failed
+  pub run-failed : (fail : Option Code) → is_failed jobs row.number ≡ true → run_plan layout jobs fail row ≡ code_plan layout jobs.tables row (initiator_of row) true system_failure (reached_by jobs row)
+  run-failed fail failed = ap (if_failed fail (waiting_code jobs row.number)) failed
 
-  pub run-other : (fail : Option Code) → is_failed jobs row.number ≡ false → run_plan layout jobs fail row ≡ fail_plan layout jobs row fail
-  run-other fail failed = ap (if_failed fail) failed
+  run-unmarked : (fail waits : Option Code) → is_failed jobs row.number ≡ false → waiting_code jobs row.number ≡ waits → run_plan layout jobs fail row ≡ unmarked_plan layout jobs row fail waits
+  run-unmarked fail waits failed is = ap (if_failed fail (waiting_code jobs row.number)) failed ∙ ap (unmarked_plan layout jobs row fail) is
+
+  -- a run that waits with a code, and one that doesn't
+  pub run-waiting : (fail : Option Code) (code : Code) → is_failed jobs row.number ≡ false → waiting_code jobs row.number ≡ Some code → run_plan layout jobs fail row ≡ waiting_plan layout jobs row code fail
+  run-waiting fail code failed waits = run-unmarked fail (Some code) failed waits
+
+  pub run-other : (fail : Option Code) → is_failed jobs row.number ≡ false → waiting_code jobs row.number ≡ None → run_plan layout jobs fail row ≡ fail_plan layout jobs row fail
+  run-other fail failed waits = run-unmarked fail None failed waits
 
   abbrev if_within : Code → Bool → Plan
   if_within code within =
       elim within [
-        | true ↦ code_plan layout jobs.tables row (initiator_of row) code (reached_by jobs row)
+        | true ↦ code_plan layout jobs.tables row (initiator_of row) true code (reached_by jobs row)
         | false ↦ Rest NothingToFail
       ]
 
-  pub fail-within : (code : Code) → is_within (place_of row) ≡ true → fail_plan layout jobs row (Some code) ≡ code_plan layout jobs.tables row (initiator_of row) code (reached_by jobs row)
+  pub fail-within : (code : Code) → is_within (place_of row) ≡ true → fail_plan layout jobs row (Some code) ≡ code_plan layout jobs.tables row (initiator_of row) true code (reached_by jobs row)
   fail-within code within = ap (if_within code) within
 
   pub fail-between : (code : Code) → is_within (place_of row) ≡ false → fail_plan layout jobs row (Some code) ≡ Rest NothingToFail
   fail-between code within = ap (if_within code) within
 
-  pub placed-within : (place : Place) → next_step false None place ≡ None → placed_plan layout jobs row place ≡ option_map_or (running_plan row (step_in place)) (running_in jobs row.number) (Rest Idle)
+  pub placed-within : (place : Place) → next_step false None None place ≡ None → placed_plan layout jobs row place ≡ option_map_or (running_plan row (step_in place)) (running_in jobs row.number) (Rest Idle)
   placed-within (Before number) none = absurd (some-not-none number none)
   placed-within (Opened number) none = absurd (some-not-none number none)
   placed-within (Within number writes) none = refl
 
-  placed-between : (place : Place) (number : ℕ) → next_step false None place ≡ Some number → placed_plan layout jobs row place ≡ between_plan layout jobs row number
+  placed-between : (place : Place) (number : ℕ) → next_step false None None place ≡ Some number → placed_plan layout jobs row place ≡ between_plan layout jobs row number
   placed-between (Before other) number next = ap (between_plan layout jobs row) (same_Some _ _ next)
   placed-between (Opened other) number next = ap (between_plan layout jobs row) (same_Some _ _ next)
   placed-between (Within other writes) number next = absurd (some-not-none number (sym next))
 
   -- a run that is to start a step
-  pub run-between : (fail : Option Code) (number : ℕ) → next_step (is_failed jobs row.number) fail (place_of row) ≡ Some number → run_plan layout jobs fail row ≡ between_plan layout jobs row number
-  run-between fail number next =
-      elim (is_failed jobs row.number) as (λ b. next_step b fail (place_of row) ≡ Some number → if_failed fail b ≡ between_plan layout jobs row number) [
-        | true ↦ λ is. absurd (some-not-none number (sym is))
-        | false ↦ λ is. by fail is
-      ] next
+  pub run-between : (fail : Option Code) (number : ℕ) → next_step (is_failed jobs row.number) (waiting_code jobs row.number) fail (place_of row) ≡ Some number → run_plan layout jobs fail row ≡ between_plan layout jobs row number
+  run-between fail number next = by (is_failed jobs row.number) (waiting_code jobs row.number) fail next
     where
-      by : (fail : Option Code) → next_step false fail (place_of row) ≡ Some number → fail_plan layout jobs row fail ≡ between_plan layout jobs row number
-      by None is = placed-between (place_of row) number is
-      by (Some code) is = absurd (some-not-none number (sym is))
+      by : (failed : Bool) (waits fail : Option Code) → next_step failed waits fail (place_of row) ≡ Some number → if_failed fail waits failed ≡ between_plan layout jobs row number
+      by true waits fail is = absurd (some-not-none number (sym is))
+      by false (Some code) fail is = absurd (some-not-none number (sym is))
+      by false None (Some code) is = absurd (some-not-none number (sym is))
+      by false None None is = placed-between (place_of row) number is
 
--- what becomes of a run with a code, by what the tables keep of it
-pub code-known : (layout : Layout) (jobs : JobsView) (job : ℕ) (table : RunTable) → IsKnown jobs.tables.desk job table → (initiator : ℕ) (code : Code) (row : RunRow) → run_of jobs.tables.desk job ≡ Some row → initiator_of row ≡ initiator
-    → code_plan layout jobs.tables.desk row (initiator_of row) code (reached_by (jobs_of jobs) row) ≡ code_plan layout jobs.tables.desk (row_for job table) initiator code (reached_by (jobs_of jobs) (row_for job table))
-code-known layout jobs job table known initiator code row at on =
-    ap (λ i. code_plan layout jobs.tables.desk row i code (reached_by (jobs_of jobs) row)) on
-    ∙ known-by jobs.tables.desk job table known (λ r. code_plan layout jobs.tables.desk r initiator code (reached_by (jobs_of jobs) r)) refl row at
+-- what becomes of a run on its initiator with a code, by what the tables keep of it
+pub code-known : (layout : Layout) (jobs : JobsView) (job : ℕ) (table : RunTable) → IsKnown jobs.tables.desk job table → (initiator : ℕ) (lodged : Bool) (code : Code) (row : RunRow) → run_of jobs.tables.desk job ≡ Some row → initiator_of row ≡ initiator → lodged ≡ true
+    → code_plan layout jobs.tables.desk (row_for job table) initiator lodged code (reached_by (jobs_of jobs) (row_for job table)) ≡ code_plan layout jobs.tables.desk row (initiator_of row) true code (reached_by (jobs_of jobs) row)
+code-known layout jobs job table known initiator lodged code row at on seated =
+    sym (known-by jobs.tables.desk job table known (λ r. code_plan layout jobs.tables.desk r initiator lodged code (reached_by (jobs_of jobs) r)) refl row at)
+    ∙ ap (λ i. code_plan layout jobs.tables.desk row i lodged code (reached_by (jobs_of jobs) row)) (sym on)
+    ∙ ap (λ b. code_plan layout jobs.tables.desk row (initiator_of row) b code (reached_by (jobs_of jobs) row)) seated
 
 -- ---- within a step
 
 -- a run within a step has that step
-pub within-there : (row : RunRow) → IsPlacedRow row → next_step false None (place_of row) ≡ None → IsSome (own_step row)
+pub within-there : (row : RunRow) → IsPlacedRow row → next_step false None None (place_of row) ≡ None → IsSome (own_step row)
 within-there row placed none = by row.place placed.place none
   where
-    by : (place : Option Place) → IsAnyPlaceOf row.job place → next_step false None (option_map_or (λ one. one) place (Before 1)) ≡ None → IsSome (step_of_run row (step_in (option_map_or (λ one. one) place (Before 1))))
+    by : (place : Option Place) → IsAnyPlaceOf row.job place → next_step false None None (option_map_or (λ one. one) place (Before 1)) ≡ None → IsSome (step_of_run row (step_in (option_map_or (λ one. one) place (Before 1))))
     by None is none = absurd (some-not-none 1 none)
     by (Some (Before number)) is none = absurd (some-not-none number none)
     by (Some (Opened number)) is none = absurd (some-not-none number none)
     by (Some (Within number writes)) is none = is
 
-pub known-there : (tables : TablesModel) (run : ℕ) (table : RunTable) (known : IsKnown tables run table) → AllByRecursion IsPlacedRow tables.runs → next_step false None (place_of known.row) ≡ None → IsSome (own_step (row_for run table))
+pub known-there : (tables : TablesModel) (run : ℕ) (table : RunTable) (known : IsKnown tables run table) → AllByRecursion IsPlacedRow tables.runs → next_step false None None (place_of known.row) ≡ None → IsSome (own_step (row_for run table))
 known-there tables run table known placed none =
     subst IsSome (known-is tables run table known own_step refl) (within-there known.row (row-among IsPlacedRow tables run known.row placed known.found) none)
 
@@ -159,16 +182,19 @@ module _ (jobs : JobsView) (run : ℕ) (table : RunTable) (known : IsKnown jobs.
   pub within-none : None ≡ find (λ (on : RunningStepView). on.run == run) jobs.running → Rest Idle ≡ within_plan (running_in (jobs_of jobs) run)
   within-none found = ap within_plan (sym (running-found jobs run None found))
 
-  -- what is due of its running step
-  pub within-due : (on : RunningStepView) (due : NextDue) → Some on ≡ find (λ (step : RunningStepView). step.run == run) jobs.running → due ≡ due_of on.step.parm on.step.state
-      → due_plan (row_for run table) number (running_of jobs.tables.desk on) due ≡ within_plan (running_in (jobs_of jobs) run)
-  within-due on due found is = ap (due_plan (row_for run table) number (running_of jobs.tables.desk on)) is ∙ ap within_plan (sym (running-found jobs run (Some on) found))
+  -- what is due of its running step, where it waits with no code
+  pub within-due : (on : RunningStepView) (due : NextDue) → Some on ≡ find (λ (step : RunningStepView). step.run == run) jobs.running → on.code ≡ None → due ≡ due_of on.step.parm on.step.state
+      → due_plan (row_for run table) number (working_of jobs.tables.desk on) due ≡ within_plan (running_in (jobs_of jobs) run)
+  within-due on due found uncoded is =
+      ap (due_plan (row_for run table) number (working_of jobs.tables.desk on)) is
+      ∙ ap (running_plan (row_for run table) number) (sym (working-is jobs.tables.desk on uncoded))
+      ∙ ap within_plan (sym (running-found jobs run (Some on) found))
 
-  pub within-ends : (on : RunningStepView) → on.run ≡ run → Some on ≡ find (λ (step : RunningStepView). step.run == run) jobs.running → (rc : ℕ) → Finished rc ≡ due_of on.step.parm on.step.state
-      → finished_plan (row_for run table) number (record (running_of jobs.tables.desk on) { lengths = lengths_of_row on.sets.sets (row_for run table) }) rc ≡ within_plan (running_in (jobs_of jobs) run)
-  within-ends on is found rc due =
-      ap (λ (ls : List ℕ). finished_plan (row_for run table) number (record (running_of jobs.tables.desk on) { lengths = ls }) rc) (sym (lengths-known jobs.tables.desk run table known on is))
-      ∙ within-due on (Finished rc) found due
+  pub within-ends : (on : RunningStepView) → on.run ≡ run → Some on ≡ find (λ (step : RunningStepView). step.run == run) jobs.running → on.code ≡ None → (rc : ℕ) → Finished rc ≡ due_of on.step.parm on.step.state
+      → finished_plan (row_for run table) number (record (working_of jobs.tables.desk on) { lengths = lengths_of_row on.sets.sets (row_for run table) }) rc ≡ within_plan (running_in (jobs_of jobs) run)
+  within-ends on is found uncoded rc due =
+      ap (λ (ls : List ℕ). finished_plan (row_for run table) number (record (working_of jobs.tables.desk on) { lengths = ls }) rc) (sym (lengths-known jobs.tables.desk run table known on is))
+      ∙ within-due on (Finished rc) found uncoded due
 
 -- ---- between steps
 
@@ -290,6 +316,49 @@ module _ (layout : Layout) (jobs : TurnJobs) (initiator : ℕ) where
   pub free-chosen : (fail : Option Code) → is_some fail ≡ false → (row : RunRow) → next_run jobs.tables ≡ Some row → free_plan layout jobs initiator fail ≡ chosen_plan layout jobs initiator row
   free-chosen (Some code) none row next = absurd (false≢true (sym none))
   free-chosen None none row next = ap (λ found. option_map_or (chosen_plan layout jobs initiator) found (Rest Idle)) next
+
+-- the code of a run, by what the tables keep of it
+pub code-kept : (tables : TablesModel) (job : ℕ) (table : RunTable) (known : IsKnown tables job table) (row : RunRow) → run_of tables job ≡ Some row → row.code ≡ table.code
+code-kept tables job table known row at = known-by tables job table known (λ (r : RunRow). r.code) refl row at
+
+module _ (layout : Layout) (jobs : JobsView) (initiator job : ℕ) (table : RunTable) (known : IsKnown jobs.tables.desk job table) (row : RunRow) (at : run_of jobs.tables.desk job ≡ Some row) where
+  abbrev if_coded : Option Code → Plan
+  if_coded code =
+      elim code [
+        | None ↦ Tell (SelectedReply row.number) (SelectedEvent row.number initiator 0 0 None)
+        | Some code ↦ code_plan layout jobs.tables.desk row initiator false code (reached_by (jobs_of jobs) row)
+      ]
+
+  -- it is selected where it has none, and goes on with it else
+  pub chosen-queued : None ≡ table.code → Tell (SelectedReply job) (SelectedEvent job initiator 0 0 None) ≡ chosen_plan layout (jobs_of jobs) initiator row
+  unfolding jobs_of
+  chosen-queued none =
+      ap (λ n. Tell (SelectedReply n) (SelectedEvent n initiator 0 0 None)) (sym (number-known jobs.tables.desk job table known row at))
+      ∙ ap if_coded (none ∙ sym (code-kept jobs.tables.desk job table known row at))
+
+  pub chosen-coded : (code : Code) → Some code ≡ table.code → code_plan layout jobs.tables.desk (row_for job table) initiator false code (reached_by (jobs_of jobs) (row_for job table)) ≡ chosen_plan layout (jobs_of jobs) initiator row
+  unfolding jobs_of
+  chosen-coded code some =
+      sym (known-by jobs.tables.desk job table known (λ r. code_plan layout jobs.tables.desk r initiator false code (reached_by (jobs_of jobs) r)) refl row at)
+      ∙ ap if_coded (some ∙ sym (code-kept jobs.tables.desk job table known row at))
+
+-- a run with a code is within a step that it has
+pub coded-there : (row : RunRow) → IsPlacedRow row → is_some row.code ≡ true → IsSome (own_step row)
+coded-there row placed some =
+    within-there row placed (between (place_of row) (if-then (is_off row.state) (is_within_step (place_of row)) placed.off (off (is_off row.state) placed.code)))
+  where
+    off : (b : Bool) → (if b then is_some row.code else is_none row.code) ≡ true → b ≡ true
+    off true is = refl
+    off false is = absurd (none (row.code) some is)
+      where
+        none : (code : Option Code) → is_some code ≡ true → is_none code ≡ true → ⊥
+        none None some is = false≢true some
+        none (Some code) some is = false≢true is
+
+    between : (place : Place) → is_within_step place ≡ true → next_step false None None place ≡ None
+    between (Before number) is = absurd (false≢true is)
+    between (Opened number) is = absurd (false≢true is)
+    between (Within number writes) is = refl
 
 -- ---- the run on an initiator
 

@@ -1,47 +1,45 @@
 -- The queue of the tables' runs goes on by an event that follows.
 use Rattle.std.proofs.Common.{◌≡◌, ◌+◌, ◌==◌, ◌≤◌, ◌&&◌, ◌||◌, nat_le, ℕ, zero, suc, Bool, true, false, cond, IsTrue, List, [], ◌∷◌, find, length, refl, ap, sym, ◌∙◌, subst, Option, None, Some, arith, slice_get}
 use Rattle.std.proofs.lemmas.Option.{same_Some}
-use Rattle.std.proofs.lemmas.Bool.{and_from, false≢true}
+use Rattle.std.proofs.lemmas.Bool.{false≢true}
 use Rattle.std.proofs.lemmas.Bool.Decides.{nat_tests}
 use Rattle.std.specs.Prelude.{nat_eq, if◌then◌else◌}
 use Rattle.std.specs.List.{filter_map}
 use Rattle.std.specs.Option.{is_some, option_eq, option_map, option_map_or}
 use Rattle.ckr_base.proofs.Bools.{and-first, and-second, or-cases}
 use Rattle.ckr_base.proofs.Numbers.{equal-true}
-use Rattle.ckr_base.proofs.Sequences.{find-all}
+use Rattle.ckr_library.specs.NameMaps.{Named}
 use Rattle.ckr_events.specs.declared.event.Event.{Event}
-use Rattle.ckr_events.specs.declared.event.Event.TheVariants.{Submitted, Selected, Started, Rewritten, Checkpointed, Cancelled, StepEnded, Restarted, Denied as DeniedEvent, Held as HeldEvent, Released as ReleasedEvent, Ended, Purged}
+use Rattle.ckr_events.specs.declared.event.Event.TheVariants.{Submitted, Selected, Started, Rewritten, Checkpointed, Cancelled, StepEnded, Restarted, Held as HeldEvent, Released as ReleasedEvent, Ended, Purged}
 use Rattle.arrayvec.specs.ArrayVec.{ArrayVec}
 use Rattle.ckr_base.specs.declared.code.Code.{Code}
 use Rattle.ckr_events.specs.declared.event.Ending.{Ending}
 use Rattle.ckr_events.specs.declared.event.Ending.TheVariants.{Completed, Coded, Allocation}
 use Rattle.ckr_jcl.specs.declared.deck.Job.{Job}
-use Rattle.ckr_meaning.specs.EffectiveJob.{OwnedStep}
+use Rattle.ckr_meaning.specs.EffectiveJob.{OwnedStep, names_of}
 use Rattle.ckr_meaning.specs.declared.place.Place.TheVariants.{Within}
 use Rattle.ckr_volumes.specs.declared.layout.Layout.{Layout}
 use Rattle.ckr_points_library.specs.Commit.{output_names}
 use Rattle.ckr_points.specs.declared.run.RunState.{RunState}
 use Rattle.ckr_points.specs.declared.run.RunState.TheVariants as Runs
-use Rattle.ckr_points.specs.Follows.{are_lengths, ended_follows, follows, is_free, is_in_state, is_running, may_hold, may_restart_again, own_step, selected_follows, state_number}
-use Rattle.ckr_points.specs.Marks.{point_at}
+use Rattle.ckr_points.specs.Follows.{are_lengths, ended_follows, follows, is_free, is_in_state, is_running, lengths_follow, may_hold, may_restart_again, of_run, own_step, selected_follows, state_number}
+use Rattle.ckr_points.specs.Marks.{point_at, put_back, removed_all}
 use Rattle.ckr_points.specs.Restart.{after_event, after_restarted, by_step, kept_at, place_of, step_in}
-use Rattle.ckr_points.specs.Rows.{RunRow, TablesModel, run_of, step_of_run, with_row}
-use Rattle.ckr_points.specs.Tables.{fresh_effect, is_checkpoints, name_with_role}
-use Rattle.ckr_uses.specs.Uses.{uses_of}
+use Rattle.ckr_points.specs.Rows.{RunRow, TableSet, TablesModel, run_of, step_of_run, with_row, with_run}
+use Rattle.ckr_points.specs.Tables.{after_held, fresh_effect, is_checkpoints, name_with_role, own_made}
 use Rattle.ckr_queue.specs.declared.entry.QueueEntry.{QueueEntry}
 use Rattle.ckr_queue.specs.declared.entry.QueueState.{QueueState}
 use Rattle.ckr_queue.specs.declared.entry.QueueState.TheVariants as InQueue
-use Rattle.ckr_queue.specs.Queue.{has_names, is_below, is_in, is_of, is_queued, may_take, passes, starts, state_of, queued, with_entry, with_state, without}
-use Rattle.ckr_points_invariant.proofs.Holders.Rows.{queued-is}
+use Rattle.ckr_queue.specs.Queue.{has_names, is_held, is_in, is_of, is_queued, may_take, passes, starts, state_of, with_state}
+use Rattle.ckr_points_invariant.proofs.Holders.Rows.{queued-is, run-same}
 use Rattle.ckr_desk_memory.specs.ForwardEvents.{is_forward_event}
-use Rattle.ckr_desk_turn.specs.Queue.{AreNumbered, entry_of, entry_with, queue_behind, queue_of, queue_state}
+use Rattle.ckr_desk_turn.specs.Queue.{AreNumbered, entry_of, entry_with, queue_of, queue_state}
 use Rattle.ckr_desk_turn.proofs.Queue.Events as behind
-use Rattle.ckr_desk_turn.proofs.Queue.Events.{kept_state, queue_in, run_number}
+use Rattle.ckr_desk_turn.proofs.Queue.Events.{kept_state, new_state, queue_in, run_number}
 use Rattle.ckr_desk_turn.proofs.Queue.Changes.{added, first_in, joined, other_number, own_number}
 use Rattle.ckr_desk_turn.proofs.Queue.Select.{let_in}
 use Rattle.ckr_desk_memory.proofs.Runs.{by-run, by-step}
-use Rattle.ckr_desk_memory.specs.EventChanges.{MayQueue}
-use Rattle.ckr_desk_memory.specs.Parts.{AreUnheld, is_unheld}
+use Rattle.ckr_desk_memory.specs.EventChanges.{MayQueue, queue_after}
 
 -- ---- a run in the queue
 
@@ -90,6 +88,15 @@ on-is Runs.Ended e = absurd (false≢true e)
 on-is Runs.Denied e = absurd (false≢true e)
 on-is Runs.Purged e = absurd (false≢true e)
 
+pub held-is : (state : RunState) → (state_number state == 3) ≡ true → state ≡ Runs.Held
+held-is Runs.Queued e = absurd (false≢true e)
+held-is Runs.On e = absurd (false≢true e)
+held-is Runs.Held e = refl
+held-is Runs.Released e = absurd (false≢true e)
+held-is Runs.Ended e = absurd (false≢true e)
+held-is Runs.Denied e = absurd (false≢true e)
+held-is Runs.Purged e = absurd (false≢true e)
+
 pub released-is : (state : RunState) → (state_number state == 4) ≡ true → state ≡ Runs.Released
 released-is Runs.Queued e = absurd (false≢true e)
 released-is Runs.On e = absurd (false≢true e)
@@ -111,11 +118,23 @@ has_entry_on row e = record { state = InQueue.Selected; is = ap queue_state (on-
 has_entry_released : (row : RunRow) → is_in_state Runs.Released row ≡ true → HasEntry row
 has_entry_released row e = record { state = InQueue.Released; is = ap queue_state (released-is row.state e); names = refl }
 
+-- one that is running, or was released
+at-hand : (row : RunRow) → (is_running row || is_in_state Runs.Released row) ≡ true → HasEntry row
+at-hand row e =
+    or-cases (is_running row) (is_in_state Runs.Released row) e (λ running. has_entry_on row (and-first (is_in_state Runs.On row) _ running)) (has_entry_released row)
+
+-- so is one that is restarted
+restarts-with : (layout : Layout) (tables : TablesModel) (initiator : ℕ) (checkpoint : Bool) (row : RunRow)
+    → ((is_running row && option_eq nat_eq row.initiator (Some initiator) || is_in_state Runs.Released row && is_free layout tables initiator) && may_restart_again checkpoint row) ≡ true → HasEntry row
+restarts-with layout tables initiator checkpoint row e =
+    or-cases (is_running row && option_eq nat_eq row.initiator (Some initiator)) (is_in_state Runs.Released row && is_free layout tables initiator) (and-first _ (may_restart_again checkpoint row) e)
+    (λ running. has_entry_on row (and-first (is_in_state Runs.On row) _ (and-first (is_running row) _ running)))
+    (λ released. has_entry_released row (and-first (is_in_state Runs.Released row) _ released))
+
 ends_with_names : (tables : TablesModel) (row : RunRow) (ending : Ending) → ended_follows tables row ending ≡ true → HasEntry row
 ends_with_names tables row Completed e = has_entry_on row (and-first (is_in_state Runs.On row) _ (and-first _ _ e))
 ends_with_names tables row (Coded code rule writes lengths) e =
-    or-cases (is_running row) (is_in_state Runs.Released row) (and-first (is_running row || is_in_state Runs.Released row) _ e)
-    (λ running. has_entry_on row (and-first (is_in_state Runs.On row) _ running)) (has_entry_released row)
+    at-hand row (and-first (is_running row || is_in_state Runs.Released row) _ e)
 ends_with_names tables row (Allocation dd cause first second) e = has_entry_on row (and-first (is_in_state Runs.On row) _ e)
 
 pub step-there : (found : Option OwnedStep) (test : OwnedStep → Bool) → option_map_or test found false ≡ true → (owned : OwnedStep) × (found ≡ Some owned)
@@ -141,63 +160,9 @@ state-same job state (first ∷ rest) is = by (is_of job first) is (state-same j
     by true is later = ap (λ (s : QueueState). let entry : QueueEntry = record first { state = s } in entry ∷ rest) (sym (same_Some _ _ is))
     by false is later = ap (λ (entries : List QueueEntry). first ∷ entries) (later is)
 
--- so the queue stays by an event that brings none into it, selects none and takes none out
-pub queue-same : (event : Event) (deck : Option Job) (queue : List QueueEntry) → is_forward_event event ≡ true → MayQueue event queue → ((job : ℕ) (cards : List ℕ) → event ≡ Submitted job cards → ⊥)
-    → ((job initiator earlier step : ℕ) (id : Option (List ℕ)) → event ≡ Selected job initiator earlier step id → ⊥) → ((job : ℕ) (ending : Ending) → event ≡ Ended job ending → ⊥) → ((job : ℕ) → event ≡ Purged job → ⊥)
-    → queue ≡ queue_behind event deck queue
-queue-same (Submitted job cards) deck queue plain may submits selects ends purges = absurd (submits job cards refl)
-queue-same (Selected job initiator earlier step id) deck queue plain may submits selects ends purges = absurd (selects job initiator earlier step id refl)
-queue-same (DeniedEvent job rule name) deck queue plain may submits selects ends purges = absurd (false≢true plain)
-queue-same (Restarted job initiator code checkpoint) deck queue plain may submits selects ends purges = sym (state-same job InQueue.Selected queue may)
-queue-same (HeldEvent job code writes lengths) deck queue plain may submits selects ends purges = absurd (false≢true plain)
-queue-same (ReleasedEvent job) deck queue plain may submits selects ends purges = absurd (false≢true plain)
-queue-same (Ended job ending) deck queue plain may submits selects ends purges = absurd (ends job ending refl)
-queue-same (Purged job) deck queue plain may submits selects ends purges = absurd (purges job refl)
-queue-same _ deck queue plain may submits selects ends purges = refl
-
-abbrev Unheld : QueueEntry → Bool
-Unheld entry = is_unheld entry.state
-
-unheld_with : (entry : QueueEntry) (queue : List QueueEntry) → Unheld entry ≡ true → AreUnheld queue → AreUnheld (with_entry entry queue)
-unheld_with entry [] its all = and_from (Unheld entry) true its refl
-unheld_with entry (first ∷ rest) its all = by (is_below entry.number first) (unheld_with entry rest its (and-second (Unheld first) _ all))
-  where
-    by : (b : Bool) → AreUnheld (with_entry entry rest) → AreUnheld (if b then first ∷ with_entry entry rest else entry ∷ first ∷ rest)
-    by true later = and_from (Unheld first) _ (and-first (Unheld first) _ all) later
-    by false later = and_from (Unheld entry) _ its all
-
-unheld_in : (job : ℕ) (state : QueueState) (queue : List QueueEntry) → is_unheld state ≡ true → AreUnheld queue → AreUnheld (with_state job state queue)
-unheld_in job state [] its all = all
-unheld_in job state (first ∷ rest) its all = by (is_of job first) (unheld_in job state rest its (and-second (Unheld first) _ all))
-  where
-    by : (b : Bool) → AreUnheld (with_state job state rest) → AreUnheld (if b then record first { state = state } ∷ rest else first ∷ with_state job state rest)
-    by true later = and_from (is_unheld state) _ its (and-second (Unheld first) _ all)
-    by false later = and_from (Unheld first) _ (and-first (Unheld first) _ all) later
-
-unheld_without : (job : ℕ) (queue : List QueueEntry) → AreUnheld queue → AreUnheld (without job queue)
-unheld_without job [] all = all
-unheld_without job (first ∷ rest) all = by (is_of job first) (unheld_without job rest (and-second (Unheld first) _ all))
-  where
-    by : (b : Bool) → AreUnheld (without job rest) → AreUnheld (if b then rest else first ∷ without job rest)
-    by true later = and-second (Unheld first) _ all
-    by false later = and_from (Unheld first) _ (and-first (Unheld first) _ all) later
-
--- no run is held by a forward event
-pub unheld-behind : (event : Event) (deck : Option Job) (queue : List QueueEntry) → is_forward_event event ≡ true → AreUnheld queue → AreUnheld (queue_behind event deck queue)
-unheld-behind (Submitted job cards) None queue plain all = all
-unheld-behind (Submitted job cards) (Some deck) queue plain all = unheld_with (queued job (uses_of job deck)) queue refl all
-unheld-behind (Selected job initiator earlier step id) deck queue plain all = unheld_in job InQueue.Selected queue refl all
-unheld-behind (DeniedEvent job rule name) deck queue plain all = absurd (false≢true plain)
-unheld-behind (Restarted job initiator code checkpoint) deck queue plain all = unheld_in job InQueue.Selected queue refl all
-unheld-behind (HeldEvent job code writes lengths) deck queue plain all = absurd (false≢true plain)
-unheld-behind (ReleasedEvent job) deck queue plain all = absurd (false≢true plain)
-unheld-behind (Ended job ending) deck queue plain all = unheld_without job queue all
-unheld-behind (Purged job) deck queue plain all = unheld_without job queue all
-unheld-behind _ deck queue plain all = all
-
 -- ---- what an event asks of the queue
 
-module _ (layout : Layout) (tables : TablesModel) (numbered : AreNumbered 1 tables.runs) (unheld : AreUnheld (queue_of tables)) where
+module _ (layout : Layout) (tables : TablesModel) (numbered : AreNumbered 1 tables.runs) where
   taken : (job initiator earlier step : ℕ) (id : Option (List ℕ)) (row : RunRow) → run_of tables job ≡ Some row → selected_follows layout tables initiator earlier step id row ≡ true → IsTrue (may_take job (queue_of tables))
   taken job initiator earlier step id row at e =
       let asked = and-first (is_in_state Runs.Queued row && is_free layout tables initiator && may_hold tables row) _ e in
@@ -210,19 +175,6 @@ module _ (layout : Layout) (tables : TablesModel) (numbered : AreNumbered 1 tabl
   in_state test job row state at is holds =
       ap (λ (found : Option QueueEntry). passes test (option_map (λ (entry : QueueEntry). entry.state) found)) (found-run tables job row state numbered at is) ∙ holds
 
-  -- a run that is restarted is on its initiator, since none was held
-  restarts_on : (job initiator : ℕ) (checkpoint : Bool) (row : RunRow) → run_of tables job ≡ Some row
-      → ((is_running row && option_eq nat_eq row.initiator (Some initiator) || is_in_state Runs.Released row && is_free layout tables initiator) && may_restart_again checkpoint row) ≡ true → row.state ≡ Runs.On
-  restarts_on job initiator checkpoint row at e =
-      or-cases (is_running row && option_eq nat_eq row.initiator (Some initiator)) (is_in_state Runs.Released row && is_free layout tables initiator) (and-first _ (may_restart_again checkpoint row) e)
-      (λ running. on-is row.state (and-first (is_in_state Runs.On row) _ (and-first (is_running row) _ running)))
-      (λ released.
-      let its = released-is row.state (and-first (is_in_state Runs.Released row) _ released) in
-      absurd (false≢true (find-all (λ (entry : QueueEntry). is_unheld entry.state) (is_of job) (queue_of tables) (entry_with row InQueue.Released) unheld (found-run tables job row InQueue.Released numbered at (ap queue_state its)))))
-
-  selected_there : (job : ℕ) (row : RunRow) → run_of tables job ≡ Some row → row.state ≡ Runs.On → state_of job (queue_of tables) ≡ Some InQueue.Selected
-  selected_there job row at on = ap (option_map (λ (entry : QueueEntry). entry.state)) (found-run tables job row InQueue.Selected numbered at (ap queue_state on))
-
   may : (event : Event) (deck : Option Job) → is_forward_event event ≡ true → follows layout tables event deck ≡ true → MayQueue event (queue_of tables)
   may (Submitted job cards) deck plain e = none-behind tables job numbered (equal-true job (suc (length tables.runs)) (and-first _ _ (and-first _ (is_some deck) e)))
   may (Selected job initiator earlier step id) deck plain e =
@@ -230,7 +182,15 @@ module _ (layout : Layout) (tables : TablesModel) (numbered : AreNumbered 1 tabl
       taken job initiator earlier step id there.0 there.1 there.2
   may (Restarted job initiator code checkpoint) deck plain e =
       let there = run-there tables job (λ row. (is_running row && option_eq nat_eq row.initiator (Some initiator) || is_in_state Runs.Released row && is_free layout tables initiator) && may_restart_again checkpoint row) e in
-      selected_there job there.0 there.1 (restarts_on job initiator checkpoint there.0 there.1 there.2)
+      let entry = restarts-with layout tables initiator checkpoint there.0 there.2 in
+      in_state has_names job there.0 entry.state there.1 entry.is entry.names
+  may (HeldEvent job code writes lengths) deck plain e =
+      let there = run-there tables job (λ row. (is_running row || is_in_state Runs.Released row) && lengths_follow tables row lengths.items) e in
+      let entry = at-hand there.0 (and-first (is_running there.0 || is_in_state Runs.Released there.0) _ there.2) in
+      in_state has_names job there.0 entry.state there.1 entry.is entry.names
+  may (ReleasedEvent job) deck plain e =
+      let there = run-there tables job (is_in_state Runs.Held) e in
+      in_state is_held job there.0 InQueue.Held there.1 (ap queue_state (held-is there.0.state there.2)) refl
   may (Ended job ending) deck plain e =
       let there = run-there tables job (λ row. ended_follows tables row ending) e in
       let entry = ends_with_names tables there.0 ending there.2 in
@@ -243,7 +203,7 @@ module _ (layout : Layout) (tables : TablesModel) (numbered : AreNumbered 1 tabl
   -- ---- the queue behind it
 
   abbrev Behind : Event → Option Job → Type 0
-  Behind event deck = queue_of (after_event event deck tables) ≡ queue_behind event deck (queue_of tables)
+  Behind event deck = queue_of (after_event event deck tables) ≡ queue_after (after_event event deck tables) event deck (queue_of tables)
 
   submitted_so : (job : ℕ) (cards : List ℕ) (deck : Option Job) → job ≡ suc (length tables.runs) → Behind (Submitted job cards) deck
   submitted_so job cards None is = refl
@@ -282,28 +242,75 @@ module _ (layout : Layout) (tables : TablesModel) (numbered : AreNumbered 1 tabl
   kept_row job row next at number deck state =
       ap (λ n. queue_in (with_row next n tables.runs)) (number ∙ run_number tables job row numbered at) ∙ kept_state tables job row next at number deck state
 
-  -- so it does by a restart
-  restarted_row : (job initiator : ℕ) (row : RunRow) → run_of tables job ≡ Some row → row.state ≡ Runs.On → (checkpoint : Bool) → queue_of (by_step (λ owned step. after_restarted row owned step initiator checkpoint tables) row tables) ≡ queue_of tables
-  restarted_row job initiator row at on true =
-      by-step (λ (other : TablesModel). queue_of other ≡ queue_of tables) tables (step_of_run row (step_in (place_of row))) _ refl
+  -- a run goes into another state
+  moved_row : (job : ℕ) (row next : RunRow) (before to : QueueState) → run_of tables job ≡ Some row → next.number ≡ row.number → next.deck ≡ row.deck → queue_state row.state ≡ Some before → queue_state next.state ≡ Some to
+      → queue_in (with_row next next.number tables.runs) ≡ with_state job to (queue_of tables)
+  moved_row job row next before to at number deck was is =
+      ap (λ n. queue_in (with_row next n tables.runs)) (number ∙ run_number tables job row numbered at) ∙ new_state tables job row next before to numbered at number deck was is
+
+  -- a run that is restarted is selected where it is on an initiator
+  abbrev Restarts : ℕ → TablesModel → Type 0
+  Restarts job other = queue_of other ≡ (if of_run other job (is_in_state Runs.On) then with_state job InQueue.Selected (queue_of tables) else queue_of tables)
+
+  -- where it stays as it was, the queue does
+  stays_so : (job : ℕ) (row : RunRow) → run_of tables job ≡ Some row → Restarts job tables
+  stays_so job row at = by (of_run tables job (is_in_state Runs.On)) (sym (ap (λ (o : Option RunRow). option_map_or (is_in_state Runs.On) o false) at))
+    where
+      by : (b : Bool) → is_in_state Runs.On row ≡ b → queue_of tables ≡ (if b then with_state job InQueue.Selected (queue_of tables) else queue_of tables)
+      by true on =
+          sym (state-same job InQueue.Selected (queue_of tables)
+          (ap (option_map (λ (entry : QueueEntry). entry.state)) (found-run tables job row InQueue.Selected numbered at (ap queue_state (on-is row.state on)))))
+      by false off = refl
+
+  back_so : (job : ℕ) (row next : RunRow) (before : QueueState) (sets : Named TableSet) → run_of tables job ≡ Some row → next.number ≡ row.number → next.deck ≡ row.deck → queue_state row.state ≡ Some before → next.state ≡ Runs.On
+      → Restarts job (with_run next (record tables { sets = sets }))
+  back_so job row next before sets at number deck was on =
+      let behind : TablesModel = with_run next (record tables { sets = sets }) in
+      let now : of_run behind job (is_in_state Runs.On) ≡ true =
+      ap (λ (o : Option RunRow). option_map_or (is_in_state Runs.On) o false) (run-same (record tables { sets = sets }) next row job at (number ∙ run_number tables job row numbered at))
+      ∙ ap (λ s. state_number s == 2) on in
+      moved_row job row next before InQueue.Selected at number deck was (ap queue_state on)
+      ∙ sym (ap (λ b. if b then with_state job InQueue.Selected (queue_of tables) else queue_of tables) now)
+
+  restarted_row : (job initiator : ℕ) (row : RunRow) (before : QueueState) → run_of tables job ≡ Some row → queue_state row.state ≡ Some before → (checkpoint : Bool) → Restarts job (by_step (λ owned step. after_restarted row owned step initiator checkpoint tables) row tables)
+  restarted_row job initiator row before at was true =
+      by-step (Restarts job) tables (step_of_run row (step_in (place_of row))) _ (stays_so job row at)
       (λ owned there.
-      by-step (λ (other : TablesModel). queue_of other ≡ queue_of tables) tables row.in_effect _ refl
+      by-step (Restarts job) tables row.in_effect _ (stays_so job row at)
       (λ effect now.
-      by-step (λ (other : TablesModel). queue_of other ≡ queue_of tables) tables (kept_at tables.sets effect.set effect.kept.id) _ refl
-      (λ entry kept. kept_row job row _ at refl refl (sym (ap queue_state on)))))
-  restarted_row job initiator row at on false =
-      by-step (λ (other : TablesModel). queue_of other ≡ queue_of tables) tables (step_of_run row (step_in (place_of row))) _ refl
+      by-step (Restarts job) tables (kept_at tables.sets effect.set effect.kept.id) _ (stays_so job row at)
+      (λ entry kept. back_so job row _ before (put_back entry.point.marks (output_names row.job.root owned) (names_of row.job.root owned) tables.sets) at refl refl was refl)))
+  restarted_row job initiator row before at was false =
+      by-step (Restarts job) tables (step_of_run row (step_in (place_of row))) _ (stays_so job row at)
       (λ owned there.
-      by-step (λ (other : TablesModel). queue_of other ≡ queue_of tables) tables (point_at row.points (step_in (place_of row))) _ refl
-      (λ point began. kept_row job row _ at refl refl (sym (ap queue_state on))))
+      by-step (Restarts job) tables (point_at row.points (step_in (place_of row))) _ (stays_so job row at)
+      (λ point began.
+      back_so job row _ before (put_back point.marks (output_names row.job.root owned) (names_of row.job.root owned) (removed_all (own_made row owned (step_in (place_of row))) tables.sets)) at refl refl was refl))
 
   restarted_so : (job initiator : ℕ) (code : Code) (checkpoint : Bool) (deck : Option Job) → follows layout tables (Restarted job initiator code checkpoint) deck ≡ true → Behind (Restarted job initiator code checkpoint) deck
   restarted_so job initiator code checkpoint deck e =
       let there = run-there tables job (λ row. (is_running row && option_eq nat_eq row.initiator (Some initiator) || is_in_state Runs.Released row && is_free layout tables initiator) && may_restart_again checkpoint row) e in
-      let on = restarts_on job initiator checkpoint there.0 there.1 there.2 in
-      ap (λ (o : Option RunRow). queue_of (option_map_or (λ row. by_step (λ owned step. after_restarted row owned step initiator checkpoint tables) row tables) o tables)) there.1
-      ∙ restarted_row job initiator there.0 there.1 on checkpoint
-      ∙ sym (state-same job InQueue.Selected (queue_of tables) (selected_there job there.0 there.1 on))
+      let entry = restarts-with layout tables initiator checkpoint there.0 there.2 in
+      subst (λ (o : Option RunRow). Restarts job (option_map_or (λ row. by_step (λ owned step. after_restarted row owned step initiator checkpoint tables) row tables) o tables)) (sym there.1)
+      (restarted_row job initiator there.0 entry.state there.1 entry.is checkpoint)
+
+  -- one that is held has its lengths, so it has its step
+  held_so : (job : ℕ) (code : Code) (writes : ℕ) (lengths : ArrayVec ℕ) (deck : Option Job) → follows layout tables (HeldEvent job code writes lengths) deck ≡ true → Behind (HeldEvent job code writes lengths) deck
+  held_so job code writes lengths deck e =
+      let there = run-there tables job (λ row. (is_running row || is_in_state Runs.Released row) && lengths_follow tables row lengths.items) e in
+      let row = there.0 in
+      let entry = at-hand row (and-first (is_running row || is_in_state Runs.Released row) _ there.2) in
+      let owned = step-there (step_of_run row (step_in (place_of row))) (λ owned. are_lengths tables.sets (output_names row.job.root owned) lengths.items) (and-second (is_running row || is_in_state Runs.Released row) _ there.2) in
+      let behind : Option RunRow → TablesModel = λ o. option_map_or (λ row. by_step (λ owned step. after_held row owned step code writes lengths.items tables) row tables) o tables in
+      ap (λ (o : Option RunRow). queue_of (behind o)) there.1
+      ∙ ap (λ (o : Option OwnedStep). queue_of (option_map_or (λ owned. after_held row owned (step_in (place_of row)) code writes lengths.items tables) o tables)) owned.1
+      ∙ moved_row job row (record row { state = Runs.Held; initiator = None; code = Some code; place = Some (Within (step_in (place_of row)) writes) }) entry.state InQueue.Held there.1 refl refl entry.is refl
+
+  released_so : (job : ℕ) (deck : Option Job) → follows layout tables (ReleasedEvent job) deck ≡ true → Behind (ReleasedEvent job) deck
+  released_so job deck e =
+      let there = run-there tables job (is_in_state Runs.Held) e in
+      ap (λ (o : Option RunRow). queue_of (option_map_or (λ row. with_run (record row { state = Runs.Released }) tables) o tables)) there.1
+      ∙ moved_row job there.0 (record there.0 { state = Runs.Released }) InQueue.Held InQueue.Released there.1 refl refl (ap queue_state (held-is there.0.state there.2)) refl
 
   ended_so : (job : ℕ) (ending : Ending) (deck : Option Job) (row : RunRow) → run_of tables job ≡ Some row → ended_follows tables row ending ≡ true → Behind (Ended job ending) deck
   ended_so job Completed deck row at e =
@@ -327,6 +334,8 @@ module _ (layout : Layout) (tables : TablesModel) (numbered : AreNumbered 1 tabl
   queue_so (Cancelled job) deck plain e = cancelled_so job deck
   queue_so (StepEnded job step rc writes lengths) deck plain e = behind.step_ended tables job step rc writes lengths deck numbered
   queue_so (Restarted job initiator code checkpoint) deck plain e = restarted_so job initiator code checkpoint deck e
+  queue_so (HeldEvent job code writes lengths) deck plain e = held_so job code writes lengths deck e
+  queue_so (ReleasedEvent job) deck plain e = released_so job deck e
   queue_so (Ended job ending) deck plain e =
       let there = run-there tables job (λ row. ended_follows tables row ending) e in
       ended_so job ending deck there.0 there.1 there.2
@@ -335,9 +344,9 @@ module _ (layout : Layout) (tables : TablesModel) (numbered : AreNumbered 1 tabl
       behind.purged tables job deck there.0 numbered there.1 (queued-is there.0.state there.2)
   queue_so _ deck plain e = absurd (false≢true plain)
 
-pub may-queue : (layout : Layout) (tables : TablesModel) (event : Event) (deck : Option Job) → AreNumbered 1 tables.runs → AreUnheld (queue_of tables) → is_forward_event event ≡ true → follows layout tables event deck ≡ true → MayQueue event (queue_of tables)
-may-queue layout tables event deck numbered unheld plain e = may layout tables numbered unheld event deck plain e
+pub may-queue : (layout : Layout) (tables : TablesModel) (event : Event) (deck : Option Job) → AreNumbered 1 tables.runs → is_forward_event event ≡ true → follows layout tables event deck ≡ true → MayQueue event (queue_of tables)
+may-queue layout tables event deck numbered plain e = may layout tables numbered event deck plain e
 
-pub queue-behind : (layout : Layout) (tables : TablesModel) (event : Event) (deck : Option Job) → AreNumbered 1 tables.runs → AreUnheld (queue_of tables) → is_forward_event event ≡ true → follows layout tables event deck ≡ true
-    → queue_of (after_event event deck tables) ≡ queue_behind event deck (queue_of tables)
-queue-behind layout tables event deck numbered unheld plain e = queue_so layout tables numbered unheld event deck plain e
+pub queue-behind : (layout : Layout) (tables : TablesModel) (event : Event) (deck : Option Job) → AreNumbered 1 tables.runs → is_forward_event event ≡ true → follows layout tables event deck ≡ true
+    → queue_of (after_event event deck tables) ≡ queue_after (after_event event deck tables) event deck (queue_of tables)
+queue-behind layout tables event deck numbered plain e = queue_so layout tables numbered event deck plain e

@@ -5,7 +5,7 @@ use Rattle.std.proofs.lemmas.Option.{same_Some}
 use Rattle.ckr_base.proofs.Bools.{and-first, and-second}
 use Rattle.ckr_base.proofs.Options.{some-not-none}
 use Rattle.ckr_events.specs.declared.event.Event.{Event}
-use Rattle.ckr_events.specs.declared.event.Event.TheVariants.{Submitted}
+use Rattle.ckr_events.specs.declared.event.Event.TheVariants.{Submitted, Held}
 use Rattle.ckr_points_follows.specs.RewriteCounts.{may_count}
 use Rattle.ckr_points_follows.proofs.RewriteCounts.{counted-may}
 use Rattle.ckr_jcl.specs.declared.deck.Job.{Job}
@@ -22,7 +22,7 @@ use Rattle.ckr_points_tables.specs.Invariant.{MayCount, MaySubmit, is_submittabl
 use Rattle.ckr_desk_memory.specs.ForwardEvents.{is_forward_event}
 use Rattle.ckr_desk_turn.specs.Queue.{AreNumbered}
 use Rattle.ckr_desk_memory.specs.Invariant.{AreJobs, IsAcceptedDeck, IsAcceptedRow, IsAnyAccepted, IsPlacedRow, IsRunnable}
-use Rattle.ckr_desk_memory.specs.Replay.{deck_of, goes_on, is_run_as, is_run_by, replayed}
+use Rattle.ckr_desk_memory.specs.Replay.{IsBounded, deck_of, goes_on, is_run_as, is_run_by, replayed}
 use Rattle.ckr_desk_memory.specs.View.{JobsView}
 use Rattle.ckr_desk_memory.proofs.Invariant.{accepted-behind, placed-behind}
 use Rattle.ckr_desk_memory.proofs.Extents.{laid-behind}
@@ -83,9 +83,10 @@ deck_accepted job cards (Some deck) is e = record {
   plain = refl;
 }
 
-any_accepted : (event : Event) → is_run_by event (deck_of event) ≡ true → IsAnyAccepted event (deck_of event)
-any_accepted (Submitted job cards) e = deck_accepted job cards (kept_deck cards) refl e
-any_accepted _ e = tt
+any_accepted : (event : Event) → IsBounded event → is_run_by event (deck_of event) ≡ true → IsAnyAccepted event (deck_of event)
+any_accepted (Submitted job cards) bounded e = deck_accepted job cards (kept_deck cards) refl e
+any_accepted (Held job code writes lengths) bounded e = bounded
+any_accepted _ bounded e = tt
 
 -- ---- what holds of the jobs
 
@@ -97,13 +98,14 @@ jobs-same layout old new tables running are = record {
   running = subst (AllByRecursion (IsRunnable layout)) (sym running) are.running;
 }
 
-pub jobs-replayed : (layout : Layout) (old new : JobsView) (event : Event) → AreNumbered 1 old.tables.desk.runs → goes_on layout old.tables.desk event (deck_of event) ≡ true → new.tables.desk ≡ after_event event (deck_of event) old.tables.desk → new.running ≡ old.running
+pub jobs-replayed : (layout : Layout) (old new : JobsView) (event : Event) → IsBounded event → AreNumbered 1 old.tables.desk.runs → goes_on layout old.tables.desk event (deck_of event) ≡ true → new.tables.desk ≡ after_event event (deck_of event) old.tables.desk → new.running ≡ old.running
     → AreJobs layout old → AreJobs layout new
-jobs-replayed layout old new event numbered goes tables running are =
+jobs-replayed layout old new event bounded numbered goes tables running are =
     let its = goes-on-with layout old.tables.desk event (deck_of event) goes in
+    let accepted = any_accepted event bounded its.run in
     record {
       laid = subst (λ (t : TablesModel). AreLaidOut layout t.sets) (sym tables) (laid-behind layout old.tables.desk are.laid event (deck_of event) its.plain its.follow);
-      rows = subst (λ (t : TablesModel). AllByRecursion IsAcceptedRow t.runs) (sym tables) (accepted-behind old.tables.desk event (deck_of event) numbered its.plain (any_accepted event its.run) are.rows);
-      placed = subst (λ (t : TablesModel). AllByRecursion IsPlacedRow t.runs) (sym tables) (placed-behind layout old.tables.desk event (deck_of event) its.plain its.follow are.placed);
+      rows = subst (λ (t : TablesModel). AllByRecursion IsAcceptedRow t.runs) (sym tables) (accepted-behind old.tables.desk event (deck_of event) numbered its.plain accepted are.rows);
+      placed = subst (λ (t : TablesModel). AllByRecursion IsPlacedRow t.runs) (sym tables) (placed-behind layout old.tables.desk event (deck_of event) its.plain accepted its.follow are.placed);
       running = subst (AllByRecursion (IsRunnable layout)) (sym running) are.running;
     }

@@ -2,4 +2,5 @@ pub mod First
 pub mod Served
 pub mod Entries
 pub mod Again
+pub mod Codes
 pub mod Events

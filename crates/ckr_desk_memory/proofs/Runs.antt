@@ -5,7 +5,7 @@ use Rattle.std.proofs.lemmas.Bool.{false≢true}
 use Rattle.std.specs.Option.{option_map_or}
 use Rattle.ckr_base.proofs.Numbers.{equal-true}
 use Rattle.ckr_events.specs.declared.event.Event.{Event}
-use Rattle.ckr_events.specs.declared.event.Event.TheVariants.{Submitted, Selected, Started, Rewritten, Checkpointed, Cancelled, StepEnded, Restarted, Ended, Purged}
+use Rattle.ckr_events.specs.declared.event.Event.TheVariants.{Submitted, Selected, Started, Rewritten, Checkpointed, Cancelled, StepEnded, Restarted, Held, Released, Ended, Purged}
 use Rattle.ckr_events.specs.declared.event.Ending.{Ending}
 use Rattle.ckr_events.specs.declared.event.Ending.TheVariants.{Completed, Coded, Allocation}
 use Rattle.ckr_jcl.specs.declared.deck.Job.{Job}
@@ -115,6 +115,9 @@ module _ (tables : TablesModel) (numbered : AreNumbered 1 tables.runs) where
   runs-stay (StepEnded job step rc writes lengths) deck plain other =
       by-run Stay tables job _ refl (λ row at. by-step Stay tables (step_of_run row (step_in (place_of row))) _ refl (λ owned there. same_twice tables numbered job row at _ _ refl refl))
   runs-stay (Restarted job initiator code checkpoint) deck plain other = by-run Stay tables job _ refl (λ row at. restarted_same job initiator row at checkpoint)
+  runs-stay (Held job code writes lengths) deck plain other =
+      by-run Stay tables job _ refl (λ row at. by-step Stay tables (step_of_run row (step_in (place_of row))) _ refl (λ owned there. same_row tables numbered job row at _ refl))
+  runs-stay (Released job) deck plain other = by-run Stay tables job _ refl (λ row at. same_row tables numbered job row at _ refl)
   runs-stay (Ended job ending) deck plain other = by-run Stay tables job _ refl (λ row at. ended_same job row at ending)
   runs-stay (Purged job) deck plain other = by-run Stay tables job _ refl (λ row at. same_row tables numbered job row at _ refl)
   runs-stay _ deck plain other = absurd (false≢true plain)

@@ -2,15 +2,15 @@
 use Rattle.std.proofs.Common.{◌≡◌, ◌≤◌, ◌==◌, ℕ, Bool, true, false, List, refl, ap, sym, ◌∙◌, subst, Option, Some, None, Result, Ok, Err}
 use Rattle.std.specs.Prelude.{if◌then◌else◌}
 use Rattle.std.specs.List.{AllByRecursion}
-use Rattle.std.specs.Option.{option_map_or}
-use Rattle.std.proofs.lemmas.Bool.{and_from, true≢false}
+use Rattle.std.specs.Option.{is_none, is_some, option_map_or}
+use Rattle.std.proofs.lemmas.Bool.{and_from, false≢true, true≢false}
 use Rattle.ckr_base.specs.declared.code.Code.{Code}
 use Rattle.ckr_base.specs.declared.programs.NextDue.{NextDue}
 use Rattle.ckr_base.specs.declared.programs.NextDue.TheVariants.{Unit as OneUnit, Checkpoint, Cancel, Finished}
 use Rattle.ckr_base.proofs.Options.{option-cases}
 use Rattle.ckr_base.proofs.Sequences.{find-passes}
 use Rattle.ckr_events.specs.declared.event.Event.{Event}
-use Rattle.ckr_events.specs.declared.event.Event.TheVariants.{Cancelled as CancelledEvent, Checkpointed as CheckpointedEvent, Ended as EndedEvent, Restarted as RestartedEvent, Rewritten as RewrittenEvent, Selected as SelectedEvent, Started as StartedEvent, StepEnded as StepEndedEvent}
+use Rattle.ckr_events.specs.declared.event.Event.TheVariants.{Cancelled as CancelledEvent, Checkpointed as CheckpointedEvent, Ended as EndedEvent, Held as HeldEvent, Restarted as RestartedEvent, Rewritten as RewrittenEvent, Selected as SelectedEvent, Started as StartedEvent, StepEnded as StepEndedEvent}
 use Rattle.ckr_events.specs.declared.event.Ending.TheVariants.{Completed as CompletedEnding}
 use Rattle.ckr_events.specs.declared.event.Made.{Made}
 use Rattle.ckr_meaning.specs.EffectiveJob.{Effective, OwnedStep, stamp_of, step_at}
@@ -19,6 +19,7 @@ use Rattle.ckr_meaning.specs.declared.place.Place.TheVariants.{Before, Opened, W
 use Rattle.ckr_volumes.specs.declared.layout.Layout.{Layout}
 use Rattle.ckr_points_library.specs.declared.cause.Refusal.{Refusal}
 use Rattle.ckr_points_library.specs.Allocation.{Allocation}
+use Rattle.ckr_points.specs.declared.run.RunState.{RunState}
 use Rattle.ckr_points.specs.declared.run.RunState.TheVariants.{On}
 use Rattle.ckr_points.specs.Follows.{follows, is_in_state, is_running, is_within, own_step, state_number}
 use Rattle.ckr_points.specs.Restart.{place_of, step_in}
@@ -27,19 +28,19 @@ use Rattle.ckr_points.specs.RuleCases.{rd_in_effect}
 use Rattle.ckr_points.specs.Soundness.{AreLaidOut}
 use Rattle.ckr_rules.specs.RuleTables.{suppresses}
 use Rattle.ckr_desk_turn.specs.declared.plan.Plan.{Plan}
-use Rattle.ckr_desk_turn.specs.declared.plan.Plan.TheVariants.{Pass, Rest, Take, Tell, Work}
+use Rattle.ckr_desk_turn.specs.declared.plan.Plan.TheVariants.{Ask, Pass, Rest, Take, Tell, Wait, Work}
 use Rattle.ckr_desk_turn.specs.declared.reply.How.TheVariants.{Completed}
 use Rattle.ckr_desk_turn.specs.declared.reply.Reply.TheVariants.{Idle, JobEnded, NothingToFail, Selected, Started}
 use Rattle.ckr_desk_turn.specs.declared.reply.Turn.{Turn}
 use Rattle.ckr_desk_turn.specs.Allocation.{allocation_of, cause_numbers, holdings, items_in}
 use Rattle.ckr_desk_turn.specs.Codes.{CodePlaceModel, code_plan, initiator_of, reached_by}
-use Rattle.ckr_desk_turn.specs.Invariant.{IsTurnOf}
-use Rattle.ckr_desk_turn.specs.Jobs.{TurnJobs, TurnStep, is_failed, running_in}
-use Rattle.ckr_desk_turn.specs.Plans.{allocation_ended, between_plan, chosen_plan, due_plan, fail_plan, free_plan, is_within as is_planned, placed_plan, plan_of, run_plan, running_plan, start_plan, suppressed_plan, system_failure}
+use Rattle.ckr_desk_turn.specs.Invariant.{IsTurnOf, is_off}
+use Rattle.ckr_desk_turn.specs.Jobs.{TurnJobs, TurnStep, is_failed, running_in, waiting_code}
+use Rattle.ckr_desk_turn.specs.Plans.{allocation_ended, between_plan, chosen_plan, due_plan, fail_plan, free_plan, is_within as is_planned, placed_plan, plan_of, run_plan, running_plan, start_plan, suppressed_plan, system_failure, unmarked_plan}
 use Rattle.ckr_desk_turn.specs.Queue.{AreNumbered}
 use Rattle.ckr_desk_turn.specs.Select.{is_on, may_select, next_run, run_on_initiator}
 use Rattle.ckr_desk_turn.proofs.Codes.{by-verdict}
-use Rattle.ckr_desk_turn.proofs.NextEvents.BetweenSteps.{completed-follows, lodged-on, refused-follows, selected-follows}
+use Rattle.ckr_desk_turn.proofs.NextEvents.BetweenSteps.{completed-follows, lodged-on, next_cases, refused-follows, selected-follows}
 use Rattle.ckr_desk_turn.proofs.RunEnd.{refused-inside}
 use Rattle.ckr_desk_turn.proofs.Start.Invariant.{started-follows}
 use Rattle.ckr_desk_memory.specs.Invariant.{AreJobs, IsAcceptedRow, IsPlacedRow}
@@ -49,12 +50,13 @@ use Rattle.ckr_desk_memory.proofs.FoundRuns.{found-run}
 use Rattle.ckr_desk_memory.proofs.Starts.Steps.{row-among}
 
 -- whether an event commits what a running step has written, or puts it back: a rewrite in place, a checkpoint, the end of the step, its restart, or the
--- end of its run by a code
+-- hold of its run or its end by a code
 abbrev pub is_of_step : Event → Bool
 is_of_step (RewrittenEvent job taken writes lengths place image) = true
 is_of_step (CheckpointedEvent job id taken writes lengths place bytes) = true
 is_of_step (StepEndedEvent job step rc writes lengths) = true
 is_of_step (RestartedEvent job initiator code checkpoint) = true
+is_of_step (HeldEvent job code writes lengths) = true
 is_of_step (EndedEvent job ending) = is_coded ending
 is_of_step _ = false
 
@@ -65,6 +67,8 @@ FollowsBetween layout tables (Tell reply event) = is_of_step event ≡ false →
 FollowsBetween layout tables (Work job) = Unit {0}
 FollowsBetween layout tables (Pass job reply) = Unit {0}
 FollowsBetween layout tables (Take job) = Unit {0}
+FollowsBetween layout tables (Ask inquiry) = Unit {0}
+FollowsBetween layout tables (Wait job code) = Unit {0}
 
 refused-all : (all : Result Allocation Refusal) (refusal : Refusal) → items_in all ≡ Err refusal → all ≡ Err refusal
 refused-all (Ok done) refusal e = cc
@@ -78,22 +82,46 @@ module _ (layout : Layout) (seen : TurnJobs) (numbered : AreNumbered 1 seen.tabl
   abbrev Follows : Plan → Type 0
   Follows plan = FollowsBetween layout tables plan
 
-  coded-follows : (row : RunRow) (initiator : ℕ) (code : Code) (reached : CodePlaceModel) → Follows (code_plan layout tables row initiator code reached)
-  coded-follows row initiator code reached =
-      by-verdict Follows layout tables row initiator code reached (λ rule ends not. absurd (true≢false not)) (λ judged not. absurd (true≢false not)) (λ entry judged there not. absurd (true≢false not))
+  coded-follows : (row : RunRow) (initiator : ℕ) (lodged : Bool) (code : Code) (reached : CodePlaceModel) → Follows (code_plan layout tables row initiator lodged code reached)
+  coded-follows row initiator lodged code reached =
+      by-verdict Follows layout tables row initiator lodged code reached (λ rule ends not. absurd (true≢false not)) (λ judged. tt) (λ entry judged there. tt)
 
   -- ---- an initiator that no run is on
 
+  -- a run that comes to it with no code is queued
   chosen-follows : (i : ℕ) (row : RunRow) → 1 ≤ i → i ≤ layout.initiators → run_on_initiator tables i ≡ None → next_run tables ≡ Some row → Follows (chosen_plan layout seen i row)
   chosen-follows i row above below free next =
-      let at : run_of tables row.number ≡ Some row = found-run tables (λ other. may_select tables other.state other) row numbered next in
-      let is : IsPlacedRow row = row-among IsPlacedRow tables row.number row placed at in
-      let accepted : IsAcceptedRow row = row-among IsAcceptedRow tables row.number row rows at in
-      subst (λ (o : Option Code). Follows (elim o [
-        | None ↦ Tell (Selected row.number) (SelectedEvent row.number i 0 0 None)
-        | Some code ↦ code_plan layout tables row i code (reached_by seen row)
-      ])) (sym is.code)
-      (λ not. selected-follows layout tables i row at is.state accepted.is_run above below free next)
+      option-cases row.code
+      (λ none.
+      subst (λ (o : Option Code). Follows (plan o)) (sym none)
+      (λ not.
+      next_cases tables row next
+      (λ queued. selected-follows layout tables i row at queued accepted.is_run above below free next)
+      (λ released.
+      absurd
+      (some-not-none-code
+      (ap (λ (state : RunState). if is_off state then is_some row.code else is_none row.code) (sym released) ∙ is.code)
+      none))))
+      (λ code some. subst (λ (o : Option Code). Follows (plan o)) (sym some) (coded-follows row i false code (reached_by seen row)))
+    where
+      at : run_of tables row.number ≡ Some row
+      at = found-run tables (λ other. may_select tables other.state other) row numbered next
+
+      is : IsPlacedRow row
+      is = row-among IsPlacedRow tables row.number row placed at
+
+      accepted : IsAcceptedRow row
+      accepted = row-among IsAcceptedRow tables row.number row rows at
+
+      plan : Option Code → Plan
+      plan o =
+          elim o [
+            | None ↦ Tell (Selected row.number) (SelectedEvent row.number i 0 0 None)
+            | Some code ↦ code_plan layout tables row i false code (reached_by seen row)
+          ]
+
+      some-not-none-code : is_some row.code ≡ true → row.code ≡ None → ⊥
+      some-not-none-code some none = false≢true (sym (ap is_some none) ∙ some)
 
   free-follows : (i : ℕ) → 1 ≤ i → i ≤ layout.initiators → run_on_initiator tables i ≡ None → (fail : Option Code) → Follows (free_plan layout seen i fail)
   free-follows i above below free (Some code) = tt
@@ -180,13 +208,18 @@ module _ (layout : Layout) (seen : TurnJobs) (numbered : AreNumbered 1 seen.tabl
         plan : Bool → Plan
         plan within =
             elim within [
-              | true ↦ code_plan layout tables row (initiator_of row) code (reached_by seen row)
+              | true ↦ code_plan layout tables row (initiator_of row) true code (reached_by seen row)
               | false ↦ Rest NothingToFail
             ]
 
         by : (within : Bool) → Follows (plan within)
-        by true = coded-follows row (initiator_of row) code (reached_by seen row)
+        by true = coded-follows row (initiator_of row) true code (reached_by seen row)
         by false = tt
+
+    unmarked-follows : (fail waits : Option Code) → Follows (unmarked_plan layout seen row fail waits)
+    unmarked-follows fail None = fail-follows fail
+    unmarked-follows None (Some code) = coded-follows row (initiator_of row) true code (reached_by seen row)
+    unmarked-follows (Some given) (Some code) = tt
 
     run-follows : (fail : Option Code) → Follows (run_plan layout seen fail row)
     run-follows fail = by (is_failed seen row.number)
@@ -194,13 +227,13 @@ module _ (layout : Layout) (seen : TurnJobs) (numbered : AreNumbered 1 seen.tabl
         plan : Bool → Plan
         plan failed =
             elim failed [
-              | true ↦ code_plan layout tables row (initiator_of row) system_failure (reached_by seen row)
-              | false ↦ fail_plan layout seen row fail
+              | true ↦ code_plan layout tables row (initiator_of row) true system_failure (reached_by seen row)
+              | false ↦ unmarked_plan layout seen row fail (waiting_code seen row.number)
             ]
 
         by : (failed : Bool) → Follows (plan failed)
-        by true = coded-follows row (initiator_of row) system_failure (reached_by seen row)
-        by false = fail-follows fail
+        by true = coded-follows row (initiator_of row) true system_failure (reached_by seen row)
+        by false = unmarked-follows fail (waiting_code seen row.number)
 
   plan-seen : (turn : Turn) → 1 ≤ turn.initiator → turn.initiator ≤ layout.initiators → Follows (plan_of layout seen turn)
   unfolding plan_of

@@ -1,22 +1,26 @@
 -- What becomes of the jobs in memory by an event.
 use Rattle.std.specs.Prelude.{◌≡◌, ◌==◌, ℕ, Bool, not, false, if◌then◌else◌, IsTrue, List, [], ◌∷◌, filter, find, map, nat_le, nat_lt, option_and_then, Option, None, Some}
 use Rattle.std.specs.Option.{option_map_or}
+use Rattle.ckr_base.specs.declared.code.Code.{Code}
 use Rattle.ckr_uses.specs.Uses.{uses_of}
 use Rattle.ckr_library.specs.declared.uses.Use.{Use}
 use Rattle.ckr_events.specs.declared.event.Event.{Event}
-use Rattle.ckr_events.specs.declared.event.Event.TheVariants.{Submitted, Selected, Checkpointed, Cancelled, StepEnded, Restarted, Ended, Purged}
+use Rattle.ckr_events.specs.declared.event.Event.TheVariants.{Submitted, Selected, Checkpointed, Cancelled, StepEnded, Restarted, Held, Released, Ended, Purged}
 use Rattle.ckr_jcl.specs.declared.deck.Job.{Job}
 use Rattle.ckr_library.specs.Catalog.{Holding, with_length}
 use Rattle.ckr_library.specs.NameMaps.{Name, Named, entry_at, with_changed}
-use Rattle.ckr_points.specs.Follows.{own_step}
+use Rattle.ckr_points.specs.Follows.{is_in_state, of_run, own_step}
 use Rattle.ckr_points.specs.Rows.{RunRow, TablesModel, run_of}
+use Rattle.ckr_points.specs.declared.run.RunState.TheVariants.{On}
 use Rattle.ckr_points_tables.specs.Checkpoint.{checkpoint_name}
 use Rattle.ckr_queue.specs.declared.entry.QueueEntry.{QueueEntry}
-use Rattle.ckr_queue.specs.declared.entry.QueueState.TheVariants as InQueue
-use Rattle.ckr_queue.specs.Queue.{has_names, is_in, is_queued, may_take, state_of}
+use Rattle.ckr_queue.specs.declared.entry.QueueState.TheVariants.{Selected as SelectedRun}
+use Rattle.ckr_queue.specs.Queue.{has_names, is_held, is_in, is_queued, may_take, state_of, with_state}
 use Rattle.ckr_steps.specs.declared.step_run.StepRun.{StepRun}
 use Rattle.ckr_steps.specs.Units.{entries_of, served_of}
+use Rattle.ckr_desk_turn.specs.declared.failed_run.FailedRun.{FailedRun}
 use Rattle.ckr_desk_turn.specs.Desk.{is_running}
+use Rattle.ckr_desk_turn.specs.Queue.{queue_behind}
 use Rattle.ckr_desk_memory.specs.View.{PointView, RunningStepView}
 
 -- ---- the queue
@@ -25,7 +29,9 @@ use Rattle.ckr_desk_memory.specs.View.{PointView, RunningStepView}
 abbrev pub MayQueue : Event → List QueueEntry → Type 0
 MayQueue (Submitted job cards) queue = state_of job queue ≡ None
 MayQueue (Selected job initiator earlier step id) queue = IsTrue (may_take job queue)
-MayQueue (Restarted job initiator code checkpoint) queue = state_of job queue ≡ Some InQueue.Selected
+MayQueue (Restarted job initiator code checkpoint) queue = IsTrue (is_in has_names job queue)
+MayQueue (Held job code writes lengths) queue = IsTrue (is_in has_names job queue)
+MayQueue (Released job) queue = IsTrue (is_in is_held job queue)
 MayQueue (Ended job ending) queue = IsTrue (is_in has_names job queue)
 MayQueue (Purged job) queue = IsTrue (is_in is_queued job queue)
 MayQueue _ queue = Unit {0}
@@ -38,6 +44,11 @@ AreUsesOf job (Some deck) uses = uses ≡ Some (uses_of job deck)
 abbrev pub HasUses : Event → Option Job → Option (List Use) → Type 0
 HasUses (Submitted job cards) deck uses = AreUsesOf job deck uses
 HasUses _ deck uses = Unit {0}
+
+-- the queue behind an event, by the tables behind it: a run that is restarted is selected where it is on an initiator
+abbrev pub queue_after : TablesModel → Event → Option Job → List QueueEntry → List QueueEntry
+queue_after tables (Restarted job initiator code checkpoint) deck queue = if of_run tables job (is_in_state On) then with_state job SelectedRun queue else queue
+queue_after tables event deck queue = queue_behind event deck queue
 
 -- ---- the running steps
 
@@ -60,6 +71,13 @@ served_step on = record on { step = record on.step { state = served_of on.step.p
 -- so is the first one of a run, and it stands before the others
 abbrev pub served_in : ℕ → List RunningStepView → List RunningStepView
 served_in run running = option_map_or (λ on. served_step on ∷ without_first run running) (find (is_of_run run) running) running
+
+-- the run of a step waits with a code
+abbrev pub coded_on : ℕ → Code → RunningStepView → RunningStepView
+coded_on run code on = if is_of_run run on then record on { code = Some code } else on
+
+abbrev pub with_code : ℕ → Code → List RunningStepView → List RunningStepView
+with_code run code running = map (coded_on run code) running
 
 -- ---- a running step behind the entry of its checkpoint
 
@@ -88,6 +106,7 @@ pub record IsEntered (check : Option Name) (most : ℕ) (old new : RunningStepVi
   pub run : new.run ≡ old.run
   pub step : new.step ≡ entered_run old.step
   pub sets : new.sets.sets ≡ with_entry_end check most old.sets.sets
+  pub code : new.code ≡ old.code
 
 -- so is the first one of a run, if there is one, and it stands before the others
 abbrev pub FirstEnters : Option RunningStepView → ℕ → Option Name → ℕ → List RunningStepView → List RunningStepView → Type 0
@@ -127,5 +146,5 @@ points_behind _ running points = points
 -- ---- opened
 
 -- the runs that were running when the system failed
-abbrev pub failed_in : TablesModel → List ℕ
-failed_in tables = map (λ (row : RunRow). row.number) (filter is_running tables.runs)
+abbrev pub failed_in : TablesModel → List FailedRun
+failed_in tables = map (λ (row : RunRow). record { run = row.number; asked = false }) (filter is_running tables.runs)

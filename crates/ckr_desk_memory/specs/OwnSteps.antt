@@ -3,8 +3,11 @@
 use Rattle.std.specs.Prelude.{◌≡◌, ◌≢◌, ℕ, true, find, List, [], ◌∷◌, None, Some}
 use Rattle.std.specs.List.{AllByRecursion}
 use Rattle.std.specs.Option.{is_some}
+use Rattle.ckr_desk_turn.specs.declared.failed_run.FailedRun.{FailedRun}
+use Rattle.ckr_desk_turn.specs.declared.inquiry.Inquiry.{Inquiry}
 use Rattle.ckr_desk_turn.specs.declared.plan.Plan.{Plan}
-use Rattle.ckr_desk_turn.specs.declared.plan.Plan.TheVariants.{Rest, Tell, Work, Pass, Take}
+use Rattle.ckr_desk_turn.specs.declared.plan.Plan.TheVariants.{Rest, Tell, Work, Pass, Take, Ask, Wait}
+use Rattle.ckr_desk_turn.specs.Inquiries.{hold_event, refusal_event, restart_event}
 use Rattle.ckr_events.specs.Jobs.{job_of}
 use Rattle.ckr_events.specs.declared.event.Event.{Event}
 use Rattle.ckr_events.specs.declared.event.Event.TheVariants.{StepEnded}
@@ -15,6 +18,7 @@ use Rattle.ckr_steps.specs.Units.{program_of}
 use Rattle.ckr_volumes.specs.declared.layout.Layout.{Layout}
 use Rattle.ckr_desk_memory.specs.EventChanges.{is_point_of}
 use Rattle.ckr_desk_memory.specs.Holders.{AreHolders}
+use Rattle.ckr_desk_memory.specs.Invariant.{is_in_step}
 use Rattle.ckr_desk_memory.specs.OwnSets.{CommitsItsOwn, IsRunningOf}
 pub use Rattle.ckr_desk_memory.specs.OwnSets.{IsOfOther}
 use Rattle.ckr_desk_memory.specs.View.{JobsView, PointView, RunningStepView}
@@ -30,10 +34,10 @@ pub record HasPoint (points : List PointView) (run : ℕ) (owned : OwnedStep) : 
   pub found : find (is_point_of run) points ≡ Some point
   pub program : program_of point.state ≡ owned.step.program
 
--- so it is with each run on an initiator, within its step, that has a checkpoint in effect
+-- so it is with each run within its step that holds its names and has a checkpoint in effect
 abbrev pub HavePoints : TablesModel → List PointView → Type 0
 HavePoints tables points =
-    (number : ℕ) (row : RunRow) (owned : OwnedStep) → run_of tables number ≡ Some row → is_running row ≡ true → is_some row.in_effect ≡ true → own_step row ≡ Some owned
+    (number : ℕ) (row : RunRow) (owned : OwnedStep) → run_of tables number ≡ Some row → is_in_step row ≡ true → is_some row.in_effect ≡ true → own_step row ≡ Some owned
     → HasPoint points number owned
 
 pub record HoldTheirOwn (jobs : JobsView) : Type 0 where
@@ -50,17 +54,23 @@ IsLeft tables number = (row : RunRow) × (run_of tables number ≡ Some row) × 
 
 -- so is each of these
 abbrev pub AreLeft : JobsView → Type 0
-AreLeft jobs = AllByRecursion (IsLeft jobs.tables.desk) jobs.failed
+AreLeft jobs = AllByRecursion (λ (one : FailedRun). IsLeft jobs.tables.desk one.run) jobs.failed
 
-abbrev pub IsOther : ℕ → ℕ → Type 0
-IsOther job number = number ≢ job
+abbrev pub IsOther : ℕ → FailedRun → Type 0
+IsOther job one = one.run ≢ job
 
 -- no step of theirs ends by an event
-abbrev pub LeavesLeft : Event → List ℕ → Type 0
+abbrev pub LeavesLeft : Event → List FailedRun → Type 0
 LeavesLeft (StepEnded job step rc writes lengths) failed = AllByRecursion (IsOther job) failed
 LeavesLeft _ failed = Unit {0}
 
 -- ---- what a turn comes to
+
+-- the events of all answers to what the operator is asked follow
+pub record AnswersFollow (layout : Layout) (tables : TablesModel) (inquiry : Inquiry) : Type 0 where
+  pub restart : follows layout tables (restart_event inquiry) None ≡ true
+  pub refusal : follows layout tables (refusal_event inquiry) None ≡ true
+  pub hold : follows layout tables (hold_event inquiry) None ≡ true
 
 -- the event of a plan, if it tells one, follows
 abbrev pub PlanFollows : Layout → TablesModel → Plan → Type 0
@@ -69,6 +79,8 @@ PlanFollows layout tables (Tell reply event) = follows layout tables event None 
 PlanFollows layout tables (Work job) = Unit {0}
 PlanFollows layout tables (Pass job reply) = Unit {0}
 PlanFollows layout tables (Take job) = Unit {0}
+PlanFollows layout tables (Ask inquiry) = AnswersFollow layout tables inquiry
+PlanFollows layout tables (Wait job code) = Unit {0}
 
 -- what it commits is its step's own
 abbrev pub PlanCommits : TablesModel → List RunningStepView → Plan → Type 0
@@ -77,6 +89,8 @@ PlanCommits tables running (Tell reply event) = CommitsItsOwn event tables runni
 PlanCommits tables running (Work job) = Unit {0}
 PlanCommits tables running (Pass job reply) = Unit {0}
 PlanCommits tables running (Take job) = Unit {0}
+PlanCommits tables running (Ask inquiry) = Unit {0}
+PlanCommits tables running (Wait job code) = Unit {0}
 
 -- its event is of this run
 abbrev pub PlanIsOf : ℕ → Plan → Type 0
@@ -85,11 +99,15 @@ PlanIsOf run (Tell reply event) = job_of event ≡ run
 PlanIsOf run (Work job) = Unit {0}
 PlanIsOf run (Pass job reply) = Unit {0}
 PlanIsOf run (Take job) = Unit {0}
+PlanIsOf run (Ask inquiry) = inquiry.job ≡ run
+PlanIsOf run (Wait job code) = job ≡ run
 
 -- it ends no step of a run that was running when the system failed
-abbrev pub PlanLeaves : List ℕ → Plan → Type 0
+abbrev pub PlanLeaves : List FailedRun → Plan → Type 0
 PlanLeaves failed (Rest reply) = Unit {0}
 PlanLeaves failed (Tell reply event) = LeavesLeft event failed
 PlanLeaves failed (Work job) = Unit {0}
 PlanLeaves failed (Pass job reply) = Unit {0}
 PlanLeaves failed (Take job) = Unit {0}
+PlanLeaves failed (Ask inquiry) = Unit {0}
+PlanLeaves failed (Wait job code) = Unit {0}

@@ -1,11 +1,9 @@
--- How the parts of the jobs in memory are seen, and what holds of them: the runs are numbered, none was held, and the queue is that of the tables.
-use Rattle.std.specs.Prelude.{◌≡◌, ◌≤◌, ◌-◌, Bool, true, false, List, length, map, vec_len, vec_capacity}
-use Rattle.std.specs.List.{AllByRecursion, list_all}
+-- How the parts of the jobs in memory are seen, and what holds of them: the runs are numbered, and the queue is that of the tables.
+use Rattle.std.specs.Prelude.{◌≡◌, ◌≤◌, ◌-◌, List, length, map, vec_len, vec_capacity}
+use Rattle.std.specs.List.{AllByRecursion}
 use Rattle.ckr_jcl.specs.declared.deck.Parm.{Parm}
 use Rattle.ckr_programs.specs.Ranges.{IsInRange}
 use Rattle.ckr_queue.specs.declared.entry.QueueEntry.{QueueEntry}
-use Rattle.ckr_queue.specs.declared.entry.QueueState.{QueueState}
-use Rattle.ckr_queue.specs.declared.entry.QueueState.TheVariants.{Queued, Selected, Held, Released}
 use Rattle.ckr_points.specs.Rows.{TablesModel}
 use Rattle.ckr_steps.specs.Units.{IsCounted}
 use Rattle.ckr_desk_turn.specs.Queue.{AreNumbered, queue_of}
@@ -14,7 +12,7 @@ use Rattle.ckr_desk_memory.specs.declared.jobs.RunningStep.{RunningStep}
 use Rattle.ckr_desk_memory.specs.View.{JobsView, PointView, RunningStepView}
 
 abbrev pub step_seen : RunningStep → RunningStepView
-step_seen on = record { run = on.run; step = on.step; sets = on.sets }
+step_seen on = record { run = on.run; step = on.step; sets = on.sets; code = on.code }
 
 abbrev pub jobs_seen : Inside → JobsView
 jobs_seen a = record {
@@ -27,21 +25,10 @@ jobs_seen a = record {
   points_room = vec_capacity a.points - vec_len a.points;
 }
 
--- whether a run in the queue was never held
-abbrev pub is_unheld : QueueState → Bool
-is_unheld Queued = true
-is_unheld Selected = true
-is_unheld Held = false
-is_unheld Released = false
-
-abbrev pub AreUnheld : List QueueEntry → Type 0
-AreUnheld queue = list_all (λ (entry : QueueEntry). is_unheld entry.state) queue ≡ true
-
--- the runs are numbered, with seven digits at most, none was held, and the queue is that of the tables
+-- the runs are numbered, with seven digits at most, and the queue is that of the tables
 pub record AreQueued (desk : TablesModel) (queue : List QueueEntry) : Type 0 where
   pub numbered : AreNumbered 1 desk.runs
   pub few : length desk.runs ≤ 9999999
-  pub unheld : AreUnheld queue
   pub same : queue ≡ queue_of desk
 
 -- the numbers of a point are in their ranges, with any PARM that is in its own

@@ -9,6 +9,8 @@ use Rattle.ckr_points.specs.Rows.{RunRow, TablesModel, run_of, step_of_run}
 use Rattle.ckr_steps.specs.StepUnit.{AreCounted}
 use Rattle.ckr_steps.specs.declared.step_run.StepRun.{StepRun}
 use Rattle.ckr_points_tables.specs.Invariant.{HasRoom}
+use Rattle.ckr_desk_turn.specs.declared.inquiry.Inquiry.{Inquiry}
+use Rattle.ckr_desk_turn.specs.Inquiries.{hold_event, refusal_event, restart_event}
 use Rattle.ckr_desk_memory.specs.declared.jobs.RunningStep.{RunningStep}
 use Rattle.ckr_desk_memory.specs.declared.preparation.Prepared.{Prepared}
 use Rattle.ckr_desk_memory.specs.EventChanges.{HasUses, is_point_of}
@@ -39,6 +41,7 @@ pub record IsEmpty (job : ℕ) (on : RunningStep) : Type 0 where
   pub run : on.run ≡ job
   pub empty : on.sets.sets ≡ []
   pub room : 16 ≤ on.sets.room
+  pub code : on.code ≡ None
 
 -- it stands here, with its numbers in their ranges
 pub record StandsEmpty (job : ℕ) (place : StepRun) (on : RunningStep) : Type 0 where
@@ -83,3 +86,9 @@ pub record IsPrepared (jobs : JobsView) (event : Event) (deck : Option Job) (pre
   pub uses : HasUses event deck prepared.uses
   pub started : HasStarted event jobs prepared.step
   pub points : HasPointRoom event jobs.points_room
+
+-- they go on so by whatever the operator answers to what he is asked
+pub record IsPreparedFor (jobs : JobsView) (inquiry : Inquiry) (prepared : Prepared) : Type 0 where
+  pub restart : IsPrepared jobs (restart_event inquiry) None prepared
+  pub refusal : IsPrepared jobs (refusal_event inquiry) None prepared
+  pub hold : IsPrepared jobs (hold_event inquiry) None prepared

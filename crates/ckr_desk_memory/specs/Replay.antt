@@ -1,7 +1,7 @@
 -- The jobs as the events of a desk are read again, one after the other.
 use Rattle.std.specs.Prelude.{◌≤◌, ◌^◌, ℕ, Bool, true, false, ◌&&◌, if◌then◌else◌, length, Option, None, Some}
 use Rattle.ckr_events.specs.declared.event.Event.{Event}
-use Rattle.ckr_events.specs.declared.event.Event.TheVariants.{Submitted}
+use Rattle.ckr_events.specs.declared.event.Event.TheVariants.{Submitted, Held}
 use Rattle.ckr_points_follows.specs.RewriteCounts.{may_count}
 use Rattle.ckr_jcl.specs.declared.deck.Job.{Job}
 use Rattle.ckr_points.specs.Follows.{follows}
@@ -11,6 +11,7 @@ use Rattle.ckr_points_decks.specs.Cards.{kept_deck}
 use Rattle.ckr_points_decks.specs.Form.{is_run}
 use Rattle.ckr_points_tables.specs.Invariant.{is_submittable}
 use Rattle.ckr_desk_memory.specs.ForwardEvents.{is_forward_event}
+use Rattle.ckr_desk_turn.specs.Spelling.{IsCode}
 use Rattle.ckr_volumes.specs.declared.layout.Layout.{Layout}
 
 -- the deck of the cards that an event keeps
@@ -18,10 +19,11 @@ abbrev pub deck_of : Event → Option Job
 deck_of (Submitted job cards) = kept_deck cards
 deck_of _ = None
 
--- at most 3,355,443 cards of 80 bytes
-abbrev pub HasFewCards : Event → Type 0
-HasFewCards (Submitted job cards) = length cards ≤ 2 ^ 28
-HasFewCards _ = Unit {0}
+-- an event submits at most 3,355,443 cards of 80 bytes, and the code that it holds a run with has a spelling
+abbrev pub IsBounded : Event → Type 0
+IsBounded (Submitted job cards) = length cards ≤ 2 ^ 28
+IsBounded (Held job code writes lengths) = IsCode code
+IsBounded _ = Unit {0}
 
 -- a deck of a form that the desk runs, which may be submitted under its number
 abbrev pub is_run_as : ℕ → Option Job → Bool

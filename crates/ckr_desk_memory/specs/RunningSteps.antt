@@ -1,12 +1,13 @@
 -- The running steps go on by an event.
-use Rattle.std.specs.Prelude.{◌≡◌, ◌≤◌, ◌<◌, ◌+◌, ℕ, Bool, true, false, IfSome, List, find, length, Option, None, Some}
+use Rattle.std.specs.Prelude.{◌≡◌, ◌≤◌, ◌<◌, ◌+◌, ℕ, Bool, true, false, ◌&&◌, IfSome, List, find, length, Option, None, Some}
 use Rattle.std.specs.List.{AllByRecursion}
 use Rattle.ckr_events.specs.declared.event.Event.{Event}
-use Rattle.ckr_events.specs.declared.event.Event.TheVariants.{Started, Checkpointed, Cancelled, StepEnded, Restarted, Ended}
+use Rattle.ckr_events.specs.declared.event.Event.TheVariants.{Started, Checkpointed, Cancelled, StepEnded, Restarted, Held, Ended}
 use Rattle.ckr_library.specs.Catalog.{records_of}
 use Rattle.ckr_meaning.specs.EffectiveJob.{OwnedStep, names_of}
-use Rattle.ckr_points.specs.Follows.{own_step}
+use Rattle.ckr_points.specs.Follows.{is_in_state, own_step}
 use Rattle.ckr_points.specs.Rows.{RunRow, TablesModel, holding_of, run_of, step_of_run}
+use Rattle.ckr_points.specs.declared.run.RunState.TheVariants.{On}
 use Rattle.ckr_points_tables.specs.View.{seen_by}
 use Rattle.ckr_desk_turn.specs.Queue.{AreNumbered}
 use Rattle.ckr_desk_memory.specs.declared.jobs.RunningStep.{RunningStep}
@@ -59,7 +60,11 @@ abbrev pub IsStartedFrom : Event → TablesModel → List PointView → Option R
 IsStartedFrom (Restarted job initiator code true) tables points prepared = HasAgain (find (is_point_of job) points) tables job prepared
 IsStartedFrom _ tables points prepared = Unit {0}
 
--- from a point, where the tables have all that the step names
+-- whether a run may go on from its point: it is on its initiator, and the tables have all that its step names
+abbrev pub may_go_back : TablesModel → ℕ → OwnedStep → RunRow → Bool
+may_go_back tables job owned row = is_in_state On row && has_sets tables.sets (names_of job owned)
+
+-- from a point, where it may
 abbrev pub GoesFrom : Bool → ℕ → OwnedStep → PointView → TablesModel → List RunningStepView → List RunningStepView → Type 0
 GoesFrom true job owned point tables old new = HasNew job owned (resumed job owned.step point) tables.sets old new
 GoesFrom false job owned point tables old new = new ≡ without_run job old
@@ -68,9 +73,9 @@ GoesFrom false job owned point tables old new = new ≡ without_run job old
 abbrev pub StepGoesBack : Option PointView → ℕ → TablesModel → List RunningStepView → List RunningStepView → Type 0
 StepGoesBack None job tables old new = new ≡ without_run job old
 StepGoesBack (Some point) job tables old new =
-    (row : RunRow) (owned : OwnedStep) → run_of tables job ≡ Some row → own_step row ≡ Some owned → GoesFrom (has_sets tables.sets (names_of job owned)) job owned point tables old new
+    (row : RunRow) (owned : OwnedStep) → run_of tables job ≡ Some row → own_step row ≡ Some owned → GoesFrom (may_go_back tables job owned row) job owned point tables old new
 
--- The running steps behind an event, by the tables behind it: a step is running from its start to its end, or to the end or a restart of its run,
+-- The running steps behind an event, by the tables behind it: a step is running from its start to its end, or to the end, a hold or a restart of its run,
 -- and from a restart at its checkpoint on; a checkpoint or a cancel that is due is done, and the data set for checkpoints has the length behind the entry.
 abbrev pub GoesOn : Event → TablesModel → List PointView → List RunningStepView → List RunningStepView → Type 0
 GoesOn (Started job step items) tables points old new = StepStarts job step tables old new
@@ -79,5 +84,6 @@ GoesOn (Cancelled job) tables points old new = new ≡ served_in job old
 GoesOn (StepEnded job step rc writes lengths) tables points old new = new ≡ without_run job old
 GoesOn (Restarted job initiator code true) tables points old new = StepGoesBack (find (is_point_of job) points) job tables old new
 GoesOn (Restarted job initiator code false) tables points old new = new ≡ without_run job old
+GoesOn (Held job code writes lengths) tables points old new = new ≡ without_run job old
 GoesOn (Ended job ending) tables points old new = new ≡ without_run job old
 GoesOn _ tables points old new = new ≡ old

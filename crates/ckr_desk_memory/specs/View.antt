@@ -1,7 +1,8 @@
 -- The jobs of a desk in memory, and what a turn sees of them.
-use Rattle.std.specs.Prelude.{ℕ, List, [], map}
+use Rattle.std.specs.Prelude.{ℕ, List, [], map, None, Option}
 use Rattle.std.specs.Option.{option_map_or}
 use Rattle.ckr_points_library.specs.Commit.{output_names}
+use Rattle.ckr_base.specs.declared.code.Code.{Code}
 use Rattle.ckr_jcl.specs.declared.deck.Step.{Step}
 use Rattle.ckr_library.specs.Catalog.{Catalog, Holding}
 use Rattle.ckr_library.specs.NameMaps.{Name, Named, entry_at}
@@ -12,14 +13,17 @@ use Rattle.ckr_steps.specs.declared.step_run.StepRun.{StepRun}
 use Rattle.ckr_steps.specs.Files.{files_of}
 use Rattle.ckr_steps.specs.Units.{due_of, first_state, taken_of}
 use Rattle.ckr_points_tables.specs.View.{RoomyTables}
-use Rattle.ckr_desk_turn.specs.Jobs.{TurnJobs, TurnStep}
+use Rattle.ckr_desk_turn.specs.declared.failed_run.FailedRun.{FailedRun}
+use Rattle.ckr_desk_turn.specs.Jobs.{TurnJobs, TurnStep, as_stopped}
 use Rattle.ckr_desk_memory.specs.declared.jobs.StepPoint.{StepPoint}
 
--- a running step: its run, its program, and its data sets with the lengths that they have by now
+-- a running step: its run, its program, its data sets with the lengths that they have by now, and the code with which its run waits for the operator's
+-- word, if it does
 pub record RunningStepView : Type 0 where
   pub run : ℕ
   pub step : StepRun
   pub sets : Catalog
+  pub code : Option Code
 
 -- a step of a run that owns it, at its beginning
 abbrev pub begun : ℕ → Step → StepRun
@@ -38,7 +42,7 @@ resumed job step point = record { state = point.state; parm = step.parm; files =
 pub record JobsView : Type 0 where
   pub tables : RoomyTables
   pub running : List RunningStepView
-  pub failed : List ℕ
+  pub failed : List FailedRun
   pub points : List PointView
   pub queue_room : ℕ
   pub running_room : ℕ
@@ -57,13 +61,14 @@ abbrev pub lengths_of_row : Named Holding → RunRow → List ℕ
 lengths_of_row sets row = option_map_or (lengths_in sets row.job.root) (step_of_run row (step_in (place_of row))) []
 
 abbrev pub running_of : TablesModel → RunningStepView → TurnStep
-running_of tables on = record {
+running_of tables on = as_stopped on.code (record {
   run = on.run;
   taken = taken_of on.step.state;
   writes = on.step.writes;
   due = due_of on.step.parm on.step.state;
   lengths = option_map_or (lengths_of_row on.sets.sets) (run_of tables on.run) [];
-}
+  code = None;
+})
 
 -- the jobs as a turn sees them
 unfoldable pub jobs_of : JobsView → TurnJobs

@@ -2,7 +2,7 @@
 ghost use Rattle.std.specs.Prelude.{◌≡◌, ◌∷◌, ◌+◌, ◌-◌, ◌<◌, ◌≤◌, ◌==◌, List, true, false, not, filter, length, map, None, Option, IsTrue, vec_len, vec_capacity};
 ghost use Rattle.std.specs.List.{AllByRecursion};
 ghost use Rattle.ckr_jcl.specs.declared.deck.Job.{Job as JobOfDeck};
-ghost use Rattle.ckr_desk_memory.specs.EventChanges.{check_name_in, point_of, points_behind, with_point, without_point, without_run, HasUses, MayQueue};
+ghost use Rattle.ckr_desk_memory.specs.EventChanges.{check_name_in, point_of, points_behind, queue_after, with_point, without_point, without_run, HasUses, MayQueue};
 ghost use Rattle.ckr_desk_memory.specs.RunningSteps.{GoesOn, IsStartedFrom, MayGoBack, MayLookUp, MayRun, StepGoesBack};
 ghost use Rattle.ckr_desk_memory.specs.Invariant.{AreJobs, IsAnyAccepted, MayGoOn};
 ghost use Rattle.ckr_desk_memory.specs.OwnSets.{CommitsItsOwn};
@@ -20,16 +20,18 @@ ghost use Rattle.ckr_points.specs.Restart.{after_event};
 ghost use Rattle.ckr_queue.specs.Queue.{queued, state_of, with_entry};
 ghost use Rattle.ckr_points_tables.specs.Invariant.{HasRoom, MayCount, MayFollow, MaySubmit};
 ghost use Rattle.ckr_desk_memory.specs.ForwardEvents.{is_forward_event};
-ghost use Rattle.ckr_desk_turn.specs.Desk.{failed_behind};
-ghost use Rattle.ckr_desk_turn.specs.Queue.{queue_behind, AreNumbered};
+ghost use Rattle.ckr_desk_turn.specs.Desk.{failed_behind, without_mark};
+ghost use Rattle.ckr_desk_turn.specs.Queue.{AreNumbered};
 ghost use Rattle.ckr_volumes.specs.declared.layout.Layout.{Layout as LayoutOfDisk};
 
 use crate::found_run::first_on;
+use crate::lines::is_on;
 use crate::run_code::place_of;
 use crate::served::{enter, serve};
 use crate::start::{start_again, start_prepared};
 use crate::{Jobs, Prepared, RunningStep, StepPoint};
 use ckr_base::DsName;
+use ckr_desk_turn::FailedRun;
 use ckr_events::Event;
 use ckr_jcl::Job;
 use ckr_points::step_in;
@@ -49,12 +51,13 @@ fn queue_run(queue: &mut Queue, number: u32, uses: Uses)
     }
 }
 
-/// The queue goes on by a forward event that follows. The uses are those of a deck that is submitted, and there is room for it.
-fn keep_queue(queue: &mut Queue, event: &Event, uses: Option<Uses>)
+/// The queue goes on by a forward event that follows, by the tables behind it: a run that is restarted is selected where it is on an initiator. The
+/// uses are those of a deck that is submitted, and there is room for it.
+fn keep_queue(queue: &mut Queue, event: &Event, uses: Option<Uses>, tables: &Tables)
     requires plain { IsTrue (is_forward_event event.now) }
     requires may { MayQueue event.now queue.old.entries }
     requires room { HasQueueRoom event.now queue.old.room }
-    ensures { (deck : Option JobOfDeck) → HasUses event.now deck uses → queue.new.entries ≡ queue_behind event.now deck queue.old.entries }
+    ensures { (deck : Option JobOfDeck) → HasUses event.now deck uses → queue.new.entries ≡ queue_after tables.now.desk event.now deck queue.old.entries }
 {
     match event {
         Event::Submitted { job, .. } => {
@@ -63,6 +66,15 @@ fn keep_queue(queue: &mut Queue, event: &Event, uses: Option<Uses>)
             }
         }
         Event::Selected { job, .. } => queue.take(*job),
+        Event::Restarted { job, .. } => {
+            if is_on(tables, *job) {
+                queue.resume(*job);
+            }
+        }
+        Event::Held { job, .. } => queue.hold(*job),
+        Event::Released { job } => {
+            queue.release(*job);
+        }
         Event::Ended { job, .. } => queue.end(*job),
         Event::Purged { job } => {
             queue.purge(*job);
@@ -81,10 +93,10 @@ pub(crate) fn leave(running: &mut Vec<RunningStep>, run: u32)
 }
 
 /// A run isn't marked any more.
-fn unmark(failed: &mut Vec<u32>, run: u32)
-    ensures { failed.new.items ≡ filter (λ number. not (number == run)) failed.old.items }
+fn unmark(failed: &mut Vec<FailedRun>, run: u32)
+    ensures { failed.new.items ≡ without_mark run failed.old.items }
 {
-    failed.retain(|number| *number != run);
+    failed.retain(|one| one.run != run);
 }
 
 /// The name of the data set for checkpoints of the step that a run is in.
@@ -159,7 +171,9 @@ fn keep_running(
             end_of(*place, *bytes),
         ),
         Event::Cancelled { job } => serve(running, *job),
-        Event::StepEnded { job, .. } | Event::Ended { job, .. } => leave(running, *job),
+        Event::StepEnded { job, .. } | Event::Held { job, .. } | Event::Ended { job, .. } => {
+            leave(running, *job)
+        }
         _ => {}
     }
 }
@@ -230,7 +244,7 @@ fn keep_points(points: &mut Vec<StepPoint>, event: &Event, running: &[RunningSte
 }
 
 /// The runs that were running when the system failed, behind an event.
-fn keep_failed(failed: &mut Vec<u32>, event: &Event)
+fn keep_failed(failed: &mut Vec<FailedRun>, event: &Event)
     ensures { failed.new.items ≡ failed_behind event.now failed.old.items }
 {
     match event {
@@ -289,6 +303,6 @@ impl Jobs {
         ensures few { length self.old.tables.desk.runs ≤ 9999999 }
     {
         self.tables.apply(event, deck);
-        keep_queue(&mut self.queue, event, uses);
+        keep_queue(&mut self.queue, event, uses, &self.tables);
     }
 }

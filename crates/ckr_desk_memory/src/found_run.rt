@@ -1,5 +1,5 @@
 //! What the jobs in memory have of a run.
-ghost use Rattle.std.specs.Prelude.{◌≡◌, ◌≤◌, ◌==◌, IfSome, IfNone, IsSome, None, Some, find, map, pred, slice_get};
+ghost use Rattle.std.specs.Prelude.{◌≡◌, ◌≤◌, ◌==◌, ◌&&◌, not, IfSome, IfNone, IsSome, None, Some, find, map, pred, slice_get};
 ghost use Rattle.std.specs.List.{list_any, AllByRecursion};
 ghost use Rattle.std.specs.Option.{option_copied, option_map};
 ghost use Rattle.ckr_events.specs.Format.{length_list};
@@ -16,23 +16,32 @@ ghost use Rattle.ckr_meaning.specs.EffectiveJob.{OwnedStep};
 ghost use Rattle.ckr_points.specs.Payload.{writes_in};
 ghost use Rattle.ckr_points.specs.Rows.{run_of, step_of_run, RunRow};
 ghost use Rattle.ckr_desk_turn.specs.Codes.{initiator_of, reached_by};
-ghost use Rattle.ckr_desk_turn.specs.Jobs.{is_failed};
+ghost use Rattle.ckr_desk_turn.specs.Jobs.{is_failed, waiting_code};
+ghost use Rattle.ckr_desk_turn.specs.declared.failed_run.FailedRun.{FailedRun as FailedOne};
 ghost use Rattle.ckr_desk_turn.specs.Queue.{AreNumbered};
 ghost use Rattle.ckr_volumes.specs.declared.layout.Layout.{Layout as LayoutOfDisk};
 
 use crate::run_code::{CodePlace, Extents, lengths_of, place_of};
 use crate::{Jobs, RunningStep};
-use ckr_base::Name8;
+use ckr_base::{Code, Name8};
+use ckr_desk_turn::FailedRun;
 use ckr_jcl::Dd;
 use ckr_meaning::Place;
 use ckr_points::Run;
 use ckr_points_tables::{RunTable, step_at};
 
-/// Whether a run is among these.
-fn is_among(runs: &[u32], run: u32) -> bool
-    ensures { result ≡ list_any (λ number. number == run) runs.now }
+/// Whether a run is among these that were running when the system failed, and the operator wasn't asked for it since.
+fn is_marked_in(failed: &[FailedRun], run: u32) -> bool
+    ensures { result ≡ list_any (λ (one : FailedOne). one.run == run && not one.asked) failed.now }
 {
-    runs.iter().any(|number| *number == run)
+    failed.iter().any(|one| one.run == run && !one.asked)
+}
+
+/// Whether it is, and the operator was.
+fn is_asked_in(failed: &[FailedRun], run: u32) -> bool
+    ensures { result ≡ list_any (λ (one : FailedOne). one.run == run && one.asked) failed.now }
+{
+    failed.iter().any(|one| one.run == run && one.asked)
 }
 
 /// The first running step of a run.
@@ -66,6 +75,9 @@ fn line_at(lines: &[Run], number: u32) -> Option<&Run>
     lines.get(number.saturating_sub(1) as usize)
 }
 
+/// The code of a run that was running when the system failed.
+pub(crate) const SYSTEM_FAILURE: Code = Code::System(0x2F3);
+
 impl Jobs {
     /// What the tables keep of a run. None exactly where there is no such run.
     pub(crate) fn known(&self, job: u32) -> Option<&RunTable>
@@ -87,11 +99,24 @@ impl Jobs {
         }
     }
 
-    /// Whether a run was running when the system failed.
+    /// Whether a run was running when the system failed, and the operator wasn't asked for it since.
     pub(crate) fn is_marked(&self, run: u32) -> bool
         ensures { result ≡ is_failed (jobs_of self.now) run }
     {
-        is_among(self.failed.as_slice(), run)
+        is_marked_in(self.failed.as_slice(), run)
+    }
+
+    /// The code with which a run waits for the operator's word, if it does.
+    pub(crate) fn waiting_code(&self, run: u32) -> Option<Code>
+        ensures { result ≡ waiting_code (jobs_of self.now) run }
+    {
+        if is_asked_in(self.failed.as_slice(), run) {
+            return Some(SYSTEM_FAILURE);
+        }
+        match self.running_in(run) {
+            Some(on) => on.code,
+            None => None,
+        }
     }
 
     /// The running step of a run, if there is one.

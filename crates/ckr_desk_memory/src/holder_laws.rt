@@ -7,7 +7,7 @@ ghost use Rattle.ckr_base.specs.declared.code.Code.{Code};
 ghost use Rattle.ckr_events.specs.Jobs.{job_of};
 ghost use Rattle.ckr_events.specs.declared.event.Ending.TheVariants.{Coded};
 ghost use Rattle.ckr_events.specs.declared.event.Event.{Event};
-ghost use Rattle.ckr_events.specs.declared.event.Event.TheVariants.{Ended};
+ghost use Rattle.ckr_events.specs.declared.event.Event.TheVariants.{Ended, Held};
 ghost use Rattle.ckr_jcl.specs.declared.deck.Job.{Job};
 ghost use Rattle.ckr_points.specs.Follows.{follows};
 ghost use Rattle.ckr_points.specs.Restart.{after_event};
@@ -62,9 +62,9 @@ pub fn running_steps_stay_theirs()
         → AllFit old.sets.sets → HasDone heads old.step new.step old.sets new.sets worked → AllFit new.sets.sets }
 {}
 
-/// An event that a running step brings about follows: its end, the end of its run by a code, a rewrite that a unit of it asks for, each with the
-/// lengths that the step has, and the cancel of its restarts. What it commits is up to these lengths. So does the end by a code of a run that was
-/// within a step, with the lengths that are committed.
+/// An event that a running step brings about follows: its end, the end of its run by a code or the hold of it, a rewrite that a unit of it asks for,
+/// each with the lengths that the step has, and the cancel of its restarts. What it commits is up to these lengths. So does the end by a code of a run
+/// that was within a step, on an initiator or released, and its hold, with the lengths that are committed.
 pub fn own_events_follow()
     ensures follows { (layout : Layout) (tables : TablesModel) (event : Event) (deck : Option Job) (on : RunningStepView)
         → AllByRecursion IsAcceptedRow tables.runs → AreNumbered 1 tables.runs
@@ -83,6 +83,8 @@ pub fn own_events_follow()
     ensures left { (layout : Layout) (tables : TablesModel) (job rule writes : ℕ) (code : Code) (lengths : ArrayVec ℕ) (deck : Option Job)
         → AreHolders tables → AreLaidOut layout tables.sets → IsLeftWithin tables job lengths.items
         → follows layout tables (Ended job (Coded code rule writes lengths)) deck ≡ true }
+    ensures held { (layout : Layout) (tables : TablesModel) (job writes : ℕ) (code : Code) (lengths : ArrayVec ℕ) (deck : Option Job)
+        → AreHolders tables → AreLaidOut layout tables.sets → IsLeftWithin tables job lengths.items → follows layout tables (Held job code writes lengths) deck ≡ true }
 {}
 
 /// Jobs hold their own where their runs stay apart, no step is running and they have the points of the checkpoints in effect, as where the

@@ -5,6 +5,8 @@ ghost use Rattle.ckr_points_tables.specs.View.{line_of, seen_by};
 ghost use Rattle.ckr_desk_memory.specs.OwnSteps.{AreLeft, HoldTheirOwn};
 ghost use Rattle.ckr_desk_memory.specs.Parts.{step_seen};
 
+use ckr_base::Code;
+use ckr_desk_turn::FailedRun;
 use ckr_entry::State;
 use ckr_library::Library;
 use ckr_points::Run;
@@ -22,6 +24,8 @@ pub struct RunningStep {
     pub step: StepRun,
     /// Its data sets, with the lengths that they have by now; the tables keep those that are committed.
     pub sets: Library,
+    /// The code with which its run waits for the operator's word, if it does; the step has stopped then.
+    pub code: Option<Code>,
 }
 
 /// Where the step of a run stands at its checkpoint in effect.
@@ -43,7 +47,7 @@ pub struct Jobs {
     pub(crate) tables: Tables,
     pub(crate) queue: Queue,
     pub(crate) running: Vec<RunningStep>,
-    pub(crate) failed: Vec<u32>,
+    pub(crate) failed: Vec<FailedRun>,
     pub(crate) points: Vec<StepPoint>,
 }
 

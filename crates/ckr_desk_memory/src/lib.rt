@@ -2,6 +2,7 @@
 #![tactic(auto)]
 
 mod checkpoint;
+mod decision;
 mod entry;
 mod entry_laws;
 mod entry_marks;
@@ -9,6 +10,7 @@ mod event;
 mod found_run;
 mod holder_laws;
 mod jobs;
+mod lines;
 mod opening;
 mod plan;
 mod preparation;
@@ -21,8 +23,10 @@ mod start;
 mod unit_due;
 mod unit_reply;
 mod unit_step;
+mod waiting;
 
 pub use checkpoint::Checkpoint;
+pub use decision::decided;
 pub use entry::NextEntry;
 pub use entry_laws::entries_are_those_of_the_job;
 pub use holder_laws::{
@@ -33,5 +37,5 @@ pub use preparation::Prepared;
 pub use set_copy::copy_of_set;
 
 // What the desk asks of the tables beside the jobs.
-pub use ckr_points_follows::{may_count, purged_follows};
+pub use ckr_points_follows::{may_count, purged_follows, released_follows};
 pub use ckr_points_tables::Tables;

@@ -15,6 +15,7 @@ ghost use Rattle.ckr_volumes.specs.declared.layout.Layout.{Layout as LayoutOfDis
 
 use crate::{Jobs, StepPoint};
 use ckr_base::NoMemory;
+use ckr_desk_turn::FailedRun;
 use ckr_meaning::Place;
 use ckr_points::Run;
 use ckr_points_tables::Tables;
@@ -37,15 +38,18 @@ fn is_running(tables: &Tables, line: &Run) -> bool
     line.initiator.is_some() && is_within(tables, line.number)
 }
 
-/// The numbers of the runs that are within a step.
-fn running_runs(alloc: Global, tables: &Tables) -> Result<Vec<u32>, NoMemory>
+/// The runs that are on an initiator within a step. The operator wasn't asked for any of them.
+fn running_runs(alloc: Global, tables: &Tables) -> Result<Vec<FailedRun>, NoMemory>
     requires { AreNumbered 1 tables.now.desk.runs }
     ensures { IfOk result (λ running. running.items ≡ failed_in tables.now.desk) }
 {
     let mut running = Vec::new(alloc);
     for line in tables.runs() {
         if is_running(tables, line) {
-            running.push(line.number)?;
+            running.push(FailedRun {
+                run: line.number,
+                asked: false,
+            })?;
         }
     }
     Ok(running)

@@ -1,5 +1,5 @@
 //! What a turn comes to.
-ghost use Rattle.std.specs.Prelude.{◌≡◌, ◌≤◌, IfErr, IfOk, IsSome, OnOk, None, Some, length};
+ghost use Rattle.std.specs.Prelude.{◌≡◌, ◌≤◌, true, IfErr, IfOk, IsSome, OnOk, None, Some, length};
 ghost use Rattle.std.specs.List.{AllByRecursion};
 ghost use Rattle.std.specs.Option.{option_map_or};
 ghost use Rattle.ckr_events.specs.declared.event.Event.TheVariants.{StepEnded as StepEndedEvent};
@@ -15,12 +15,13 @@ ghost use Rattle.ckr_steps.specs.StepUnit.{AreCounted};
 ghost use Rattle.ckr_points_decks.specs.DeckLimits.{IsWithinLimits};
 ghost use Rattle.ckr_desk_turn.specs.Codes.{code_plan, initiator_of, reached_by};
 ghost use Rattle.ckr_desk_turn.specs.Invariant.{IsTurnOf};
-ghost use Rattle.ckr_desk_turn.specs.Jobs.{is_failed, running_in, step_name_of};
-ghost use Rattle.ckr_desk_turn.specs.Plans.{allocation_ended, between_plan, checkpoint_plan, chosen_plan, fail_plan, free_plan, plan_of, cancelled_plan, run_plan, running_plan, suppressed_plan};
+ghost use Rattle.ckr_desk_turn.specs.Jobs.{is_failed, running_in, step_name_of, waiting_code};
+ghost use Rattle.ckr_desk_turn.specs.Plans.{allocation_ended, between_plan, checkpoint_plan, chosen_plan, fail_plan, free_plan, plan_of, cancelled_plan, run_plan, running_plan, suppressed_plan, waiting_plan};
 ghost use Rattle.ckr_desk_turn.specs.Queue.{AreNumbered};
 ghost use Rattle.ckr_desk_turn.specs.Spelling.{IsCode};
 
-use crate::run_code::{Extents, code_plan, is_suppressed, lengths_of, name_within, place_of};
+use crate::found_run::SYSTEM_FAILURE;
+use crate::run_code::{Extents, Seat, code_plan, is_suppressed, lengths_of, name_within, place_of};
 use crate::{Jobs, RunningStep};
 use ckr_base::{Code, Name8, NextDue, NoMemory};
 use ckr_desk_turn::{
@@ -33,9 +34,6 @@ use ckr_points_library::Refusal;
 use ckr_points_tables::{RunTable, step_at};
 use ckr_queue::Selection;
 use ckr_volumes::Layout;
-
-/// The code of a run that was running when the system failed.
-const SYSTEM_FAILURE: Code = Code::System(0x2F3);
 
 /// A running step has ended with this return code. Its run is within that step.
 fn step_ended(on: &RunningStep, run: u32, table: &RunTable, rc: u16) -> Plan
@@ -108,9 +106,9 @@ fn cancelled(run: u32, table: &RunTable) -> Plan
 }
 
 impl Jobs {
-    /// What a turn of an initiator comes to. Nothing has changed behind it, in either case. A system failure comes first, then a code that is
-    /// given, which is at most 4095 (IBM GC28-6708; the order is this project's profile). The runs that were running when the system failed are
-    /// within their steps.
+    /// What a turn of an initiator comes to. Nothing has changed behind it, in either case. A system failure comes first, then the code with which
+    /// the run waits for the operator's word, then a code that is given, which is at most 4095 (IBM GC28-6708; the order is this project's profile).
+    /// The runs that were running when the system failed are within their steps, and so are those of the running steps.
     ///
     /// `NoMemory`: there may be none to find the place of what a step makes.
     pub fn plan(&mut self, layout: &Layout, turn: Turn) -> Result<Plan, NoMemory>
@@ -119,6 +117,7 @@ impl Jobs {
         requires code { IsAnyCode turn.fail }
         requires jobs { AreJobs layout.now self.old }
         requires left { AreLeft self.old }
+        requires own { HoldTheirOwn self.old }
         ensures plan { IfOk result (λ plan. plan ≡ plan_of layout.now (jobs_of self.old) turn) }
         ensures spelled { IfOk result IsSpelledPlan }
         ensures tables { self.new.tables.desk ≡ self.old.tables.desk }
@@ -127,8 +126,8 @@ impl Jobs {
         ensures points { self.new.points ≡ self.old.points }
         ensures jobs { AreJobs layout.now self.new }
 
-        // What it tells follows, whatever the disk reads, where the jobs hold their own, and what it commits is its step's own.
-        ensures own { HoldTheirOwn self.old → AreLeft self.old → IfOk result (PlanFollows layout.now self.new.tables.desk) }
+        // What it tells follows, whatever the disk reads, and what it commits is its step's own.
+        ensures own { IfOk result (PlanFollows layout.now self.new.tables.desk) }
         ensures commits { IfOk result (PlanCommits self.new.tables.desk self.new.running) }
         ensures left { IfOk result (PlanLeaves self.new.failed) }
 
@@ -147,6 +146,7 @@ impl Jobs {
         requires code { IsAnyCode turn.fail }
         requires jobs { AreJobs layout.now self.old }
         requires left { AreLeft self.old }
+        requires own { HoldTheirOwn self.old }
         ensures numbered { AreNumbered 1 self.old.tables.desk.runs }
         ensures plan { IfOk result (λ plan. plan ≡ plan_of layout.now (jobs_of self.old) turn) }
         ensures spelled { IfOk result IsSpelledPlan }
@@ -174,6 +174,7 @@ impl Jobs {
         requires code { IsAnyCode fail }
         requires jobs { AreJobs layout.now self.old }
         requires left { AreLeft self.old }
+        requires own { HoldTheirOwn self.old }
         ensures plan { (row : RunRow) → run_of self.old.tables.desk job ≡ Some row → initiator_of row ≡ initiator → IfOk result (λ plan. plan ≡ run_plan layout.now (jobs_of self.old) fail row) }
         ensures spelled { IfOk result IsSpelledPlan }
         ensures tables { self.new.tables.desk ≡ self.old.tables.desk }
@@ -188,13 +189,13 @@ impl Jobs {
         }
     }
 
-    /// The step that a run on an initiator is to start: the one that it is before, where it didn't fail and no code is given.
+    /// The step that a run on an initiator is to start: the one that it is before, where it didn't fail, waits with no code, and none is given.
     fn next_step(&self, job: u32, fail: Option<Code>) -> Option<u8>
         requires { AllByRecursion IsAcceptedRow self.now.tables.desk.runs }
-        ensures { (row : RunRow) → run_of self.now.tables.desk job ≡ Some row → result ≡ next_step (is_failed (jobs_of self.now) row.number) fail (place_of_row row) }
+        ensures { (row : RunRow) → run_of self.now.tables.desk job ≡ Some row → result ≡ next_step (is_failed (jobs_of self.now) row.number) (waiting_code (jobs_of self.now) row.number) fail (place_of_row row) }
     {
         let table = self.known(job)?;
-        if self.is_marked(job) {
+        if self.is_marked(job) || self.waiting_code(job).is_some() {
             return None;
         }
         if fail.is_some() {
@@ -211,69 +212,96 @@ impl Jobs {
         requires code { IsAnyCode fail }
         requires jobs { AreJobs layout.now self.now }
         requires left { AreLeft self.now }
-        requires next { (row : RunRow) → run_of self.now.tables.desk job ≡ Some row → next_step (is_failed (jobs_of self.now) row.number) fail (place_of_row row) ≡ None }
+        requires own { HoldTheirOwn self.now }
+        requires next { (row : RunRow) → run_of self.now.tables.desk job ≡ Some row → next_step (is_failed (jobs_of self.now) row.number) (waiting_code (jobs_of self.now) row.number) fail (place_of_row row) ≡ None }
         ensures plan { (row : RunRow) → run_of self.now.tables.desk job ≡ Some row → initiator_of row ≡ initiator → result ≡ run_plan layout.now (jobs_of self.now) fail row }
         ensures spelled { IsSpelledPlan result }
     {
         let Some(table) = self.known(job) else {
             return Plan::Rest(Reply::Idle);
         };
+        let seat = Seat {
+            initiator,
+            lodged: true,
+        };
         if self.is_marked(job) {
-            return self.coded(layout, initiator, job, table, SYSTEM_FAILURE);
+            return self.coded(layout, seat, job, table, SYSTEM_FAILURE);
+        }
+        if let Some(code) = self.waiting_code(job) {
+            return self.awaiting(layout, seat, job, table, code, fail);
         }
         match fail {
-            Some(code) => self.failing(layout, initiator, job, table, code),
+            Some(code) => self.failing(layout, seat, job, table, code),
             None => self.within(job, table),
         }
     }
 
-    /// A code is given for a run: that of its running step, if it is within one.
-    fn failing(
+    /// A run waits with a code for the operator's word: he is asked again. It isn't running, so that no code can be given.
+    fn awaiting(
         &self,
         layout: &Layout,
-        initiator: u8,
+        seat: Seat,
         job: u32,
         table: &RunTable,
         code: Code,
+        fail: Option<Code>,
     ) -> Plan
-        requires code { IsCode code }
-        requires known { IsKnown self.now.tables.desk job table.now }
-        requires jobs { AreJobs layout.now self.now }
-        ensures plan { (row : RunRow) → run_of self.now.tables.desk job ≡ Some row → initiator_of row ≡ initiator → result ≡ fail_plan layout.now (jobs_of self.now) row (Some code) }
-        ensures spelled { IsSpelledPlan result }
-    {
-        match place_of(table) {
-            Place::Within(_, _) => self.coded(layout, initiator, job, table, code),
-            Place::Before(_) | Place::Opened(_) => Plan::Rest(Reply::NothingToFail),
-        }
-    }
-
-    /// A run has a code within its step: it is restarted there, or ends with it.
-    fn coded(&self, layout: &Layout, initiator: u8, job: u32, table: &RunTable, code: Code) -> Plan
         requires code { IsCode code }
         requires known { IsKnown self.now.tables.desk job table.now }
         requires there { IsSome (own_step (row_for job table.now)) }
         requires counted { AllByRecursion HasCounts self.now.running }
-        ensures plan { let row = row_for job table.now in result ≡ code_plan layout.now self.now.tables.desk row initiator code (reached_by (jobs_of self.now) row) }
+        requires lodged { seat.lodged ≡ true }
+        ensures plan { (row : RunRow) → run_of self.now.tables.desk job ≡ Some row → initiator_of row ≡ seat.initiator → result ≡ waiting_plan layout.now (jobs_of self.now) row code fail }
+        ensures spelled { IsSpelledPlan result }
+    {
+        match fail {
+            Some(_) => Plan::Rest(Reply::NothingToFail),
+            None => self.coded(layout, seat, job, table, code),
+        }
+    }
+
+    /// A code is given for a run: that of its running step, if it is within one.
+    fn failing(&self, layout: &Layout, seat: Seat, job: u32, table: &RunTable, code: Code) -> Plan
+        requires code { IsCode code }
+        requires known { IsKnown self.now.tables.desk job table.now }
+        requires jobs { AreJobs layout.now self.now }
+        requires lodged { seat.lodged ≡ true }
+        ensures plan { (row : RunRow) → run_of self.now.tables.desk job ≡ Some row → initiator_of row ≡ seat.initiator → result ≡ fail_plan layout.now (jobs_of self.now) row (Some code) }
+        ensures spelled { IsSpelledPlan result }
+    {
+        match place_of(table) {
+            Place::Within(_, _) => self.coded(layout, seat, job, table, code),
+            Place::Before(_) | Place::Opened(_) => Plan::Rest(Reply::NothingToFail),
+        }
+    }
+
+    /// A run has a code within its step: it ends with it, or the operator is asked whether it may be restarted.
+    fn coded(&self, layout: &Layout, seat: Seat, job: u32, table: &RunTable, code: Code) -> Plan
+        requires code { IsCode code }
+        requires known { IsKnown self.now.tables.desk job table.now }
+        requires there { IsSome (own_step (row_for job table.now)) }
+        requires counted { AllByRecursion HasCounts self.now.running }
+        ensures plan { let row = row_for job table.now in result ≡ code_plan layout.now self.now.tables.desk row seat.initiator seat.lodged code (reached_by (jobs_of self.now) row) }
         ensures spelled { IsSpelledPlan result }
     {
         code_plan(
             layout,
             &self.tables,
             job,
-            initiator,
+            seat,
             table,
             code,
             self.reached(job, table),
         )
     }
 
-    /// A run that is within a step does what is due: the step works on, or a checkpoint is taken or suppressed, or restarts are cancelled, or
+    /// A run that is within a step and waits with no code does what is due: the step works on, or a checkpoint is taken or suppressed, or restarts are cancelled, or
     /// the step ends where its closing unit is done (IBM GC28-6708).
     fn within(&self, job: u32, table: &RunTable) -> Plan
         requires known { IsKnown self.now.tables.desk job table.now }
         requires there { IsSome (own_step (row_for job table.now)) }
         requires counted { AllByRecursion HasCounts self.now.running }
+        requires waits { waiting_code (jobs_of self.now) job ≡ None }
         ensures plan { let row = row_for job table.now in result ≡ option_map_or (running_plan row (step_in_place (place_of_row row))) (running_in (jobs_of self.now) job) (Plan.Rest Reply.Idle) }
         ensures spelled { IsSpelledPlan result }
     {
@@ -370,7 +398,13 @@ impl Jobs {
                 reply: Reply::Selected { job },
                 event: selected_event(job, initiator),
             },
-            Some(code) => self.coded(layout, initiator, job, table, code),
+            Some(code) => {
+                let seat = Seat {
+                    initiator,
+                    lodged: false,
+                };
+                self.coded(layout, seat, job, table, code)
+            }
         }
     }
 }

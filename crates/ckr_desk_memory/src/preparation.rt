@@ -5,7 +5,7 @@ ghost use Rattle.std.specs.Option.{option_copied};
 ghost use Rattle.ckr_desk_memory.specs.EventChanges.{is_point_of, AreUsesOf, HasUses};
 ghost use Rattle.ckr_desk_memory.specs.Invariant.{AreJobs, IsAcceptedRow};
 ghost use Rattle.ckr_desk_memory.specs.Parts.{IsPointCounted};
-ghost use Rattle.ckr_desk_memory.specs.Preparation.{needs_room, HasAgain, HasQueueRoom, HasStarting, HasStep, IsEmpty, IsPrepared, StandsEmpty};
+ghost use Rattle.ckr_desk_memory.specs.Preparation.{needs_room, HasAgain, HasQueueRoom, HasStarting, HasStep, IsEmpty, IsPrepared, IsPreparedFor, StandsEmpty};
 ghost use Rattle.ckr_desk_memory.specs.View.{begun, resumed};
 ghost use Rattle.ckr_steps.specs.StepUnit.{AreCounted};
 ghost use Rattle.ckr_programs.specs.Ranges.{IsInRange};
@@ -15,6 +15,7 @@ ghost use Rattle.ckr_volumes.specs.declared.layout.Layout.{Layout as LayoutOfDis
 use crate::run_code::place_of;
 use crate::{Jobs, RunningStep, StepPoint};
 use ckr_base::NoMemory;
+use ckr_desk_turn::Inquiry;
 use ckr_events::Event;
 use ckr_jcl::{Job, Step};
 use ckr_library::Library;
@@ -53,6 +54,7 @@ fn with_room(alloc: Global, job: u32, step: StepRun) -> Result<RunningStep, NoMe
         run: job,
         step,
         sets,
+        code: None,
     })
 }
 
@@ -174,6 +176,32 @@ impl Jobs {
             }
             _ => Ok(Prepared { uses, step: None }),
         }
+    }
+
+    /// Takes the memory for whatever the operator answers to what he is asked: his answer costs none then, and can't be lost for want of it. What
+    /// the jobs are stays the same in either case.
+    ///
+    /// `NoMemory`: there may be none for an answer.
+    pub fn prepare_answers(&mut self, inquiry: &Inquiry) -> Result<Prepared, NoMemory>
+        requires rows { AllByRecursion IsAcceptedRow self.old.tables.desk.runs }
+        ensures desk { self.new.tables.desk ≡ self.old.tables.desk }
+        ensures running { self.new.running ≡ self.old.running }
+        ensures failed { self.new.failed ≡ self.old.failed }
+        ensures points { self.new.points ≡ self.old.points }
+        ensures jobs { (layout : LayoutOfDisk) → AreJobs layout self.old → AreJobs layout self.new }
+        ensures ok { IfOk result (IsPreparedFor self.new inquiry.now) }
+    {
+        let checkpoint = inquiry.id.is_some();
+        self.tables.room_for_answers(inquiry.job, checkpoint)?;
+        if !checkpoint {
+            return Ok(Prepared {
+                uses: None,
+                step: None,
+            });
+        }
+        self.running.reserve(1)?;
+        let step = self.again(inquiry.job)?;
+        Ok(Prepared { uses: None, step })
     }
 
     /// Room for an event on the tables and in the queue, and the uses of the deck that it submits, if it submits one. What the jobs

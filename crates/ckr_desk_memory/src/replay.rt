@@ -3,7 +3,7 @@ ghost use Rattle.std.specs.Prelude.{◌≡◌, IfOk, IsTrue, OnErr, OnOk, unwrap
 ghost use Rattle.std.specs.Option.{is_some};
 ghost use Rattle.ckr_desk_memory.specs.Holders.{AreHolders};
 ghost use Rattle.ckr_desk_memory.specs.Invariant.{AreJobs};
-ghost use Rattle.ckr_desk_memory.specs.Replay.{deck_of, goes_on, is_run_as, is_run_by, replayed, HasFewCards};
+ghost use Rattle.ckr_desk_memory.specs.Replay.{deck_of, goes_on, is_run_as, is_run_by, replayed, IsBounded};
 ghost use Rattle.ckr_points.specs.Follows.{follows};
 ghost use Rattle.ckr_desk_memory.specs.ForwardEvents.{is_forward_event};
 
@@ -19,7 +19,7 @@ use std::alloc::Global;
 
 /// The deck of the cards that an event keeps.
 fn deck_of(alloc: Global, event: &Event) -> Result<Option<Job>, NoMemory>
-    requires { HasFewCards event.now }
+    requires { IsBounded event.now }
     ensures { IfOk result (λ deck. deck ≡ deck_of event.now) }
 {
     match event {
@@ -48,7 +48,7 @@ fn is_run_by(event: &Event, deck: &Option<Job>) -> bool
     }
 }
 
-/// Whether an event is of those by which a desk goes on: none of a run that is held, released or denied, or continues another one.
+/// Whether an event is of those by which a desk goes on: none of a run that is denied, or continues another one.
 fn is_forward(event: &Event) -> bool
     ensures { result ≡ is_forward_event event.now }
 {
@@ -61,6 +61,8 @@ fn is_forward(event: &Event) -> bool
         | Event::Cancelled { .. }
         | Event::StepEnded { .. }
         | Event::Restarted { .. }
+        | Event::Held { .. }
+        | Event::Released { .. }
         | Event::Ended { .. }
         | Event::Purged { .. } => true,
         _ => false,
@@ -90,13 +92,13 @@ fn goes_on(tables: &Tables, layout: &Layout, event: &Event, deck: &Option<Job>) 
 
 impl Jobs {
     /// Goes on by an event of the desk that is read again, and starts no step. False exactly where it doesn't follow in what the desk
-    /// runs by now: it is of a run that is held, released or denied, or continues another one, or its cards are no deck of a form that the
-    /// desk runs, or it doesn't follow, or its rewrite can't be counted; then the jobs are as before. An event keeps at most 3,355,443 cards
-    /// (this project's profile). Where steps stand at their checkpoints `open` is told.
+    /// runs by now: it is of a run that is denied, or continues another one, or its cards are no deck of a form that the desk runs, or it
+    /// doesn't follow, or its rewrite can't be counted; then the jobs are as before. An event keeps at most 3,355,443 cards, and the code of
+    /// a run that is held is at most 4095 (this project's profile). Where steps stand at their checkpoints `open` is told.
     ///
     /// `NoMemory`: the jobs are as before.
     pub fn replay(&mut self, layout: &Layout, event: &Event) -> Result<bool, NoMemory>
-        requires { HasFewCards event.now }
+        requires { IsBounded event.now }
         ensures answer { IfOk result (λ goes. goes ≡ is_some (replayed layout.now self.old.tables.desk event.now)) }
         ensures ok { OnOk result (self.new.tables.desk ≡ unwrap_or (replayed layout.now self.old.tables.desk event.now) self.old.tables.desk) }
         ensures err { OnErr result (self.new.tables.desk ≡ self.old.tables.desk) }

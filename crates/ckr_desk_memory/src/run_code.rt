@@ -1,5 +1,5 @@
-//! A run that has a code: how far it has come, and its restart, or its end by the rule that denies one.
-ghost use Rattle.std.specs.Prelude.{◌≡◌, ◌≤◌, false, [], ℕ, IsSome, length};
+//! A run that has a code: how far it has come, and its end by the rule that denies a restart, or what the operator is asked.
+ghost use Rattle.std.specs.Prelude.{◌≡◌, ◌≤◌, false, [], ℕ, IsSome, None, Some, length};
 ghost use Rattle.std.specs.List.{list_any, AllByRecursion};
 ghost use Rattle.std.specs.Option.{option_map};
 ghost use Rattle.ckr_base.specs.CodeText.{same_code};
@@ -17,7 +17,7 @@ ghost use Rattle.ckr_points.specs.Restart.{place_of as place_of_row, step_in as 
 ghost use Rattle.ckr_points.specs.Rows.{KeptEntry as EntryOfSet, RunRow};
 ghost use Rattle.ckr_rules.specs.RuleTables.{is_rnc, rule_number, suppresses};
 ghost use Rattle.ckr_points_decks.specs.DeckLimits.{IsWithinLimits};
-ghost use Rattle.ckr_desk_turn.specs.Codes.{code_plan, ended_by, judged_plan, restarted_at, restarted_by};
+ghost use Rattle.ckr_desk_turn.specs.Codes.{asked_at_entry, asked_at_start, code_plan, ended_by, judged_plan};
 ghost use Rattle.ckr_rules.specs.declared.cases.Verdict.TheVariants.{Checkpoint as AtCheckpoint};
 ghost use Rattle.ckr_desk_turn.specs.Jobs.{effect_entry, step_name_of};
 ghost use Rattle.ckr_desk_turn.specs.Spelling.{IsCode};
@@ -25,7 +25,7 @@ ghost use Rattle.ckr_desk_turn.specs.Spelling.{IsCode};
 use crate::RunningStep;
 use arrayvec::ArrayVec;
 use ckr_base::{CheckId, Code, DsName, Name8};
-use ckr_desk_turn::{How, Plan, Reply, coded_event, restarted_event};
+use ckr_desk_turn::{How, Inquiry, Plan, Reply, coded_event};
 use ckr_jcl::{Rd, Step};
 use ckr_library::{DataSet, Library};
 use ckr_meaning::Place;
@@ -43,6 +43,13 @@ pub(crate) struct CodePlace {
     pub(crate) writes: u32,
     /// The lengths of its step's outputs, in records, in the order of the DDs.
     pub(crate) lengths: ArrayVec<u32, 16>,
+}
+
+/// The initiator of a turn, and whether the run with a code is on it. Else it was released, and comes to it.
+#[derive(Clone, Copy)]
+pub(crate) struct Seat {
+    pub(crate) initiator: u8,
+    pub(crate) lodged: bool,
 }
 
 /// Where a run is: before its first step where it wasn't selected yet.
@@ -252,56 +259,46 @@ fn effect_at(tables: &Tables, table: &RunTable) -> Option<(CheckId, u32)>
     }
 }
 
-/// A run is restarted on its initiator after a code, at its checkpoint in effect.
-fn restarted_at(
+/// The operator is asked whether a run may be restarted after a code: at a checkpoint, with the records taken there, or at the start of the step that
+/// the run is within.
+fn asked(
     run: u32,
-    initiator: u8,
+    seat: Seat,
     table: &RunTable,
     code: Code,
-    id: CheckId,
-    taken: u32,
+    reached: CodePlace,
+    at: Option<(CheckId, u32)>,
 ) -> Plan
     requires code { IsCode code }
     requires there { IsSome (own_step (row_for run table.now)) }
-    ensures plan { (entry : EntryOfSet) → told_entry entry ≡ (id, taken) → result ≡ restarted_at (row_for run table.now) initiator code entry }
+    requires lengths { length_list.fits reached.lengths.items }
+    ensures start { at ≡ None → result ≡ asked_at_start (row_for run table.now) seat.initiator seat.lodged code (reached_seen reached) }
+    ensures entry { (entry : EntryOfSet) → at ≡ Some (told_entry entry) → result ≡ asked_at_entry (row_for run table.now) seat.initiator seat.lodged code (reached_seen reached) entry }
     ensures spelled { IsSpelledPlan result }
     ensures unit { IsUnitPlan result }
 {
-    Plan::Tell {
-        reply: Reply::Restarted {
-            job: run,
-            step: name_within(run, table),
-            id: Some(id),
-            taken,
-        },
-        event: restarted_event(run, initiator, code, true),
-    }
+    let (id, taken) = match at {
+        Some((id, taken)) => (Some(id), taken),
+        None => (None, 0),
+    };
+    Plan::Ask(Inquiry {
+        job: run,
+        step: name_within(run, table),
+        initiator: seat.initiator,
+        lodged: seat.lodged,
+        code,
+        id,
+        taken,
+        writes: reached.writes,
+        lengths: reached.lengths,
+    })
 }
 
-/// A run is restarted on its initiator after a code, at the start of the step that it is within.
-fn restarted(run: u32, initiator: u8, table: &RunTable, code: Code) -> Plan
-    requires code { IsCode code }
-    requires there { IsSome (own_step (row_for run table.now)) }
-    ensures plan { result ≡ restarted_by (row_for run table.now) initiator code }
-    ensures spelled { IsSpelledPlan result }
-    ensures unit { IsUnitPlan result }
-{
-    Plan::Tell {
-        reply: Reply::Restarted {
-            job: run,
-            step: name_within(run, table),
-            id: None,
-            taken: 0,
-        },
-        event: restarted_event(run, initiator, code, false),
-    }
-}
-
-/// The rules restart a run with a code at its checkpoint in effect. Where the tables keep no entry of it, the run ends.
-fn restarted_back(
+/// The rules permit the restart of a run with a code at its checkpoint in effect. Where the tables keep no entry of it, the run ends.
+fn asked_back(
     tables: &Tables,
     run: u32,
-    initiator: u8,
+    seat: Seat,
     table: &RunTable,
     code: Code,
     reached: CodePlace,
@@ -309,23 +306,24 @@ fn restarted_back(
     requires code { IsCode code }
     requires there { IsSome (own_step (row_for run table.now)) }
     requires lengths { length_list.fits reached.lengths.items }
-    ensures plan { let row = row_for run table.now in result ≡ judged_plan tables.now.desk row initiator code (reached_seen reached) AtCheckpoint }
+    ensures plan { let row = row_for run table.now in result ≡ judged_plan tables.now.desk row seat.initiator seat.lodged code (reached_seen reached) AtCheckpoint }
     ensures spelled { IsSpelledPlan result }
     ensures unit { IsUnitPlan result }
 {
-    match effect_at(tables, table) {
-        Some((id, taken)) => restarted_at(run, initiator, table, code, id, taken),
-        None => ended(run, code, Rule::A6, reached),
+    let at = effect_at(tables, table);
+    if at.is_none() {
+        return ended(run, code, Rule::A6, reached);
     }
+    asked(run, seat, table, code, reached, at)
 }
 
-/// What becomes of a run with a code that is within a step, on an initiator: it is restarted at its checkpoint in effect or at the start of the
-/// step, or it ends by the rule that denies that (IBM GC28-6708).
+/// What becomes of a run with a code that is within a step: it ends by the rule that denies its restart, or the operator is asked whether it may be
+/// restarted at its checkpoint in effect or at the start of the step (IBM GC28-6708).
 pub(crate) fn code_plan(
     layout: &Layout,
     tables: &Tables,
     run: u32,
-    initiator: u8,
+    seat: Seat,
     table: &RunTable,
     code: Code,
     reached: CodePlace,
@@ -333,13 +331,13 @@ pub(crate) fn code_plan(
     requires code { IsCode code }
     requires there { IsSome (own_step (row_for run table.now)) }
     requires lengths { length_list.fits reached.lengths.items }
-    ensures plan { result ≡ code_plan layout.now tables.now.desk (row_for run table.now) initiator code (reached_seen reached) }
+    ensures plan { result ≡ code_plan layout.now tables.now.desk (row_for run table.now) seat.initiator seat.lodged code (reached_seen reached) }
     ensures spelled { IsSpelledPlan result }
     ensures unit { IsUnitPlan result }
 {
     match automatic(&auto_case(layout, table, code)) {
         Verdict::Denied(rule) => ended(run, code, rule, reached),
-        Verdict::Step => restarted(run, initiator, table, code),
-        Verdict::Checkpoint => restarted_back(tables, run, initiator, table, code, reached),
+        Verdict::Step => asked(run, seat, table, code, reached, None),
+        Verdict::Checkpoint => asked_back(tables, run, seat, table, code, reached),
     }
 }

@@ -5,7 +5,7 @@ ghost use Rattle.ckr_points_library.specs.Holdings.{owned};
 ghost use Rattle.ckr_desk_memory.specs.Invariant.{IsAcceptedRow};
 ghost use Rattle.ckr_desk_memory.specs.Parts.{step_seen};
 ghost use Rattle.ckr_desk_memory.specs.Preparation.{HasAgain, IsEmpty};
-ghost use Rattle.ckr_desk_memory.specs.RunningSteps.{MayGoBack, MayStartStep, StepGoesBack, StepStarts};
+ghost use Rattle.ckr_desk_memory.specs.RunningSteps.{may_go_back, MayGoBack, MayStartStep, StepGoesBack, StepStarts};
 ghost use Rattle.ckr_desk_memory.specs.Start.{has_all, has_any, has_sets, with_all_taken, with_any_taken, with_taken, AllFit, HasNew};
 ghost use Rattle.ckr_desk_memory.specs.View.{PointView as PointOfStep};
 ghost use Rattle.ckr_meaning.specs.EffectiveJob.{name_of, names_of, OwnedStep as OwnedStepOfRun};
@@ -17,6 +17,7 @@ ghost use Rattle.ckr_desk_turn.specs.Queue.{AreNumbered};
 
 use crate::RunningStep;
 use crate::event::leave;
+use crate::lines::is_on;
 use crate::run_code::place_of;
 use crate::set_copy::copy_of_set;
 use ckr_base::DsName;
@@ -149,13 +150,16 @@ fn has_sets(job: u32, step: &Step, from: &Library) -> bool
     true
 }
 
-/// The number of the step that a run is in, where the tables have all that it names.
+/// The number of the step that a run is in, where the run is on an initiator and the tables have all that the step names.
 fn step_there(tables: &Tables, job: u32) -> Option<u8>
     requires job { job ≤ 9999999 }
     requires rows { AllByRecursion IsAcceptedRow tables.now.desk.runs }
     requires numbered { AreNumbered 1 tables.now.desk.runs }
-    ensures { (row : RowOfRun) (owned : OwnedStepOfRun) → run_of tables.now.desk job ≡ Some row → own_step row ≡ Some owned → result ≡ if has_sets tables.now.desk.sets (names_of job owned) then Some (step_in_place (place_of_row row)) else None }
+    ensures { (row : RowOfRun) (owned : OwnedStepOfRun) → run_of tables.now.desk job ≡ Some row → own_step row ≡ Some owned → result ≡ if may_go_back tables.now.desk job owned row then Some (step_in_place (place_of_row row)) else None }
 {
+    if !is_on(tables, job) {
+        return None;
+    }
     let Some(table) = tables.run(job) else {
         return None;
     };
@@ -170,8 +174,8 @@ fn step_there(tables: &Tables, job: u32) -> Option<u8>
     }
 }
 
-/// A run goes on in the step that it is in, as it was prepared, where the tables have all that the step names: no other step of it is
-/// running.
+/// A run goes on in the step that it is in, as it was prepared, where it is on its initiator and the tables have all that the step names: no
+/// other step of it is running.
 pub(crate) fn start_again(
     job: u32,
     again: Option<RunningStep>,

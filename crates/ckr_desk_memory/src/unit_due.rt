@@ -43,8 +43,8 @@ impl Jobs {
         }
     }
 
-    /// Whether the running step of a run does its next unit: no code is given, the run didn't fail, and it is within a step of which a unit
-    /// is due.
+    /// Whether the running step of a run does its next unit: no code is given, the run didn't fail and waits with none, and it is within a step of
+    /// which a unit is due.
     fn works_on(&self, job: u32, fail: Option<Code>) -> bool
         requires { AllByRecursion IsAcceptedRow self.now.tables.desk.runs }
         ensures { result ≡ true → (layout : LayoutOfDisk) (row : RunRow) → run_of self.now.tables.desk job ≡ Some row → run_plan layout (jobs_of self.now) fail row ≡ Plan.Work job }
@@ -53,6 +53,9 @@ impl Jobs {
             return false;
         };
         if fail.is_some() || self.is_marked(job) || !is_within(table) {
+            return false;
+        }
+        if self.waiting_code(job).is_some() {
             return false;
         }
         match self.running_in(job) {

@@ -23,7 +23,7 @@ ghost use Rattle.ckr_desk_turn.specs.Jobs.{step_name_of};
 ghost use Rattle.ckr_desk_turn.specs.Queue.{AreNumbered};
 ghost use Rattle.ckr_volumes.specs.declared.layout.Layout.{Layout as LayoutOfDisk};
 
-use crate::run_code::{CodePlace, Extents, code_plan, lengths_of, place_of};
+use crate::run_code::{CodePlace, Extents, Seat, code_plan, lengths_of, place_of};
 use crate::{Jobs, RunningStep};
 use ckr_desk_turn::{Plan, Reply, rewritten_event};
 use ckr_points::step_in;
@@ -79,8 +79,8 @@ impl Jobs {
     }
 
     /// What a turn tells of a unit that was worked out and isn't done yet, exactly as it tells it behind the unit: the records taken, with
-    /// the rewrite in place if the unit makes one, or what becomes of the run by the code with which the unit ends the step: its restart, or
-    /// its end. The code is at most 4095. Its run is within a step of its deck; else the turn tells nothing (IBM
+    /// the rewrite in place if the unit makes one, or what becomes of the run by the code with which the unit ends the step: its end, or what the
+    /// operator is asked. The code is at most 4095. Its run is within a step of its deck; else the turn tells nothing (IBM
     /// GC28-6704; the replies are this project's profile).
     pub fn told(&self, layout: &Layout, on: &RunningStep, ahead: &UnitAhead) -> Plan
         requires rows { AllByRecursion IsAcceptedRow self.now.tables.desk.runs }
@@ -138,16 +138,11 @@ impl Jobs {
                 ),
             },
             Worked::Abend(code) => {
-                let initiator = self.initiator_of(on.run);
-                code_plan(
-                    layout,
-                    &self.tables,
-                    on.run,
-                    initiator,
-                    table,
-                    *code,
-                    reached,
-                )
+                let seat = Seat {
+                    initiator: self.initiator_of(on.run),
+                    lodged: true,
+                };
+                code_plan(layout, &self.tables, on.run, seat, table, *code, reached)
             }
         }
     }

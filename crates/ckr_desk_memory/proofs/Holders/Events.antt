@@ -8,11 +8,12 @@ use Rattle.std.proofs.lemmas.Option.{same_Some}
 use Rattle.ckr_base.proofs.Bools.{and-first, and-second, or-cases}
 use Rattle.ckr_base.proofs.Numbers.{equal-true, number-cases}
 use Rattle.ckr_base.proofs.Options.{is_some-true, some-not-none, some-one}
+use Rattle.ckr_base.specs.declared.code.Code.{Code}
 use Rattle.ckr_events.specs.Jobs.{job_of}
 use Rattle.ckr_events.specs.declared.event.Ending.{Ending}
 use Rattle.ckr_events.specs.declared.event.Ending.TheVariants.{Allocation, Coded, Completed}
 use Rattle.ckr_events.specs.declared.event.Event.{Event}
-use Rattle.ckr_events.specs.declared.event.Event.TheVariants.{Cancelled, Checkpointed, Ended, Purged, Restarted, Rewritten, Selected, Started, StepEnded, Submitted}
+use Rattle.ckr_events.specs.declared.event.Event.TheVariants.{Cancelled, Checkpointed, Ended, Held, Purged, Released, Restarted, Rewritten, Selected, Started, StepEnded, Submitted}
 use Rattle.ckr_events.specs.declared.event.Made.{Made}
 use Rattle.ckr_jcl.specs.declared.deck.Job.{Job}
 use Rattle.ckr_library.proofs.Named.{at-with_changed-other}
@@ -31,7 +32,7 @@ use Rattle.ckr_points.specs.Office.{is_holder, passed_made}
 use Rattle.ckr_points.specs.Marks.{point_at, put_back, removed_all, with_point}
 use Rattle.ckr_points.specs.Restart.{after_abnormal, after_chosen, after_coded, after_ended, after_event, after_passed_ended, after_put_back, after_restarted, back_to_entry, back_to_start, by_step, effect_restarted, kept_at, place_of, point_restarted, row_on, step_in}
 use Rattle.ckr_points.specs.Rows.{EffectPoint, EntryPoint, RunRow, StartPoint, TableSet, TablesModel, no_tables, run_of, standing_of, step_of_run, table_ways, with_run}
-use Rattle.ckr_points.specs.Tables.{after_submitted, after_cancelled, after_checkpointed, after_commit, after_dispositions, after_rewritten, after_started, after_step_ended, committed, fresh_effect, is_checkpoints, is_updates, name_with_role, own_made, queued_run, row_rewritten, table_rewritten}
+use Rattle.ckr_points.specs.Tables.{after_submitted, after_cancelled, after_checkpointed, after_commit, after_dispositions, after_held, after_rewritten, after_started, after_step_ended, committed, fresh_effect, is_checkpoints, is_updates, name_with_role, own_made, queued_run, row_rewritten, table_rewritten}
 use Rattle.ckr_points_invariant.proofs.Library.PassedList.{ended-leaves}
 use Rattle.ckr_points_invariant.proofs.Steps.Events.{on-holds}
 use Rattle.ckr_points_invariant.proofs.WaitingRuns.{tested-run}
@@ -44,8 +45,9 @@ use Rattle.ckr_desk_memory.proofs.Holders.Moves.{RowGoesOn, HasRow, by-own, by-r
 use Rattle.ckr_desk_memory.proofs.Holders.Names.{changed-named, names-outside, outputs-changed, step-formed}
 use Rattle.ckr_desk_memory.proofs.Holders.Sets.{committed-outside, disposed-outside, passed-outside, passed_back-outside, put_back-outside, restarted-outside, started-outside, there-changed, there-committed, there-put_back, there-started, updated-outside}
 use Rattle.ckr_desk_memory.proofs.Runs.{by-step}
-use Rattle.ckr_desk_memory.specs.Invariant.{IsAcceptedRow, IsPlacedRow}
-use Rattle.ckr_desk_memory.proofs.Invariant.{restarts-running}
+use Rattle.ckr_desk_memory.specs.Invariant.{IsAcceptedRow, IsPlacedRow, is_in_step}
+use Rattle.ckr_desk_memory.proofs.Invariant.{hand-in_step, in_step-holds, in_step-within, restarts-in_step}
+use Rattle.ckr_desk_memory.proofs.Queue.{held-is}
 use Rattle.ckr_desk_memory.proofs.Starts.Steps.{row-among}
 use Rattle.ckr_desk_turn.specs.Queue.{AreNumbered}
 use Rattle.ckr_desk_memory.specs.Holders.{AreHolders, PassesOwn, changed_names}
@@ -273,9 +275,9 @@ module _ (tables : TablesModel) (rows : AllByRecursion IsAcceptedRow tables.runs
         }
 
     -- one that goes back to its checkpoint is within the step still, and what this may change is there
-    goes_back : (initiator : ℕ) (effect : EffectPoint) (point : EntryPoint) → is_running row ≡ true
+    goes_back : (initiator : ℕ) (effect : EffectPoint) (point : EntryPoint) → is_in_step row ≡ true
         → Goes (after_put_back (record (row_on initiator row) { in_effect = Some (effect_restarted effect) }) owned (back_to_entry row owned (step_in (place_of row)) point) tables)
-    goes_back initiator effect point runs =
+    goes_back initiator effect point inside =
         let outputs : List Name = output_names row.job.root owned in
         let sets : Named TableSet = put_back point.marks outputs (names_of row.job.root owned) tables.sets in
         record {
@@ -286,14 +288,33 @@ module _ (tables : TablesModel) (rows : AllByRecursion IsAcceptedRow tables.runs
           number = refl;
           deck = refl;
           job_is = refl;
-          begins = λ was now. absurd (false≢true (sym was ∙ running-holds row runs));
+          begins = λ was now. absurd (false≢true (sym was ∙ in_step-holds row inside));
           passed = λ own name out. passed_back-outside row point.marks sets point.passed name accepted.plain out;
-          still = λ was name. absurd (false≢true (sym was ∙ running-holds row runs));
+          still = λ was name. absurd (false≢true (sym was ∙ in_step-holds row inside));
           outside = λ own name out. put_back-outside row owned (step_in (place_of row)) name (not_of_step name out) point.marks tables.sets;
           changed = λ has other name holding within its among.
               there-put_back point.marks outputs (names_of row.job.root owned) tables.sets name
-              ∙ has other name (running-holds row runs) (and-second (is_in_state On row) (is_within (place_of row)) runs) its among;
+              ∙ has other name (in_step-holds row inside) (in_step-within row inside) its among;
         }
+
+    -- a run that is held stays within the step, with its lengths
+    held : (code : Code) (writes : ℕ) (lengths : List ℕ) → is_in_step row ≡ true → Goes (after_held row owned (step_in (place_of row)) code writes lengths tables)
+    held code writes lengths inside = record {
+      row = row;
+      next = record row { state = HeldRun; initiator = None; code = Some code; place = Some (Within (step_in (place_of row)) writes) };
+      row_at = at;
+      rows = row-next tables tables job row _ (committed (output_names row.job.root owned) lengths tables.sets) (row-as_is tables job row at) mine;
+      number = refl;
+      deck = refl;
+      job_is = refl;
+      begins = λ was now. absurd (false≢true (sym was ∙ in_step-holds row inside));
+      passed = λ own. own;
+      still = λ was name. absurd (false≢true (sym was ∙ in_step-holds row inside));
+      outside = λ own name out. behind_outside lengths name out;
+      changed = λ has other name holding within its among.
+          there-committed (output_names row.job.root owned) lengths tables.sets name
+          ∙ has other name (in_step-holds row inside) (in_step-within row inside) its among;
+    }
 
   -- a run that stays as it is
   unmoved : Goes tables
@@ -312,15 +333,32 @@ module _ (tables : TablesModel) (rows : AllByRecursion IsAcceptedRow tables.runs
     changed = λ has. has;
   }
 
-  restarts : (initiator : ℕ) (checkpoint : Bool) → is_running row ≡ true → Goes (by_step (λ owned step. after_restarted row owned step initiator checkpoint tables) row tables)
-  restarts initiator true runs =
+  -- a held run that is released holds what it held
+  released : is_holder row.state ≡ true → Goes (with_run (record row { state = ReleasedRun }) tables)
+  released holds = record {
+    row = row;
+    next = record row { state = ReleasedRun };
+    row_at = at;
+    rows = row-next tables tables job row _ tables.sets (row-as_is tables job row at) mine;
+    number = refl;
+    deck = refl;
+    job_is = refl;
+    begins = λ was now. absurd (false≢true (sym was ∙ holds));
+    passed = λ own. own;
+    still = λ was name. refl;
+    outside = λ own name out. refl;
+    changed = λ has owned name holding within found among. has owned name holds within found among;
+  }
+
+  restarts : (initiator : ℕ) (checkpoint : Bool) → is_in_step row ≡ true → Goes (by_step (λ owned step. after_restarted row owned step initiator checkpoint tables) row tables)
+  restarts initiator true inside =
       by-step Goes tables (own_step row) _ unmoved
       (λ owned found.
       by-step Goes tables row.in_effect _ unmoved
-      (λ effect now. by-step Goes tables (kept_at tables.sets effect.set effect.kept.id) _ unmoved (λ entry kept. goes_back owned found initiator effect entry.point runs)))
-  restarts initiator false runs =
+      (λ effect now. by-step Goes tables (kept_at tables.sets effect.set effect.kept.id) _ unmoved (λ entry kept. goes_back owned found initiator effect entry.point inside)))
+  restarts initiator false inside =
       by-step Goes tables (own_step row) _ unmoved
-      (λ owned found. by-step Goes tables (point_at row.points (step_in (place_of row))) _ unmoved (λ point began. restarted owned found initiator point (running-holds row runs)))
+      (λ owned found. by-step Goes tables (point_at row.points (step_in (place_of row))) _ unmoved (λ point began. restarted owned found initiator point (in_step-holds row inside)))
 
   -- ---- the end of a run
 
@@ -429,7 +467,21 @@ goes-in layout tables rows numbered placed (Restarted job initiator code checkpo
     tested-run tables job (λ row. (is_running row && option_eq nat_eq row.initiator (Some initiator) || is_in_state ReleasedRun row && is_free layout tables initiator) && may_restart_again checkpoint row) follow
     (λ row at passes.
     by-row (λ after. RowGoesOn tables after job) tables job (λ row. by_step (λ owned step. after_restarted row owned step initiator checkpoint tables) row tables) row at
-    (restarts tables rows numbered job row at initiator checkpoint (restarts-running layout tables initiator checkpoint row (row-among IsPlacedRow tables job row placed at) passes)))
+    (restarts tables rows numbered job row at initiator checkpoint (restarts-in_step layout tables initiator checkpoint row (row-among IsPlacedRow tables job row placed at) passes)))
+goes-in layout tables rows numbered placed (Held job code writes lengths) deck plain other follow =
+    tested-run tables job (λ row. (is_running row || is_in_state ReleasedRun row) && lengths_follow tables row lengths.items) follow
+    (λ row at passes.
+    tested (own_step row) _ (and-second (is_running row || is_in_state ReleasedRun row) (lengths_follow tables row lengths.items) passes)
+    (λ owned found are.
+    by-row (λ after. RowGoesOn tables after job) tables job (λ row. by_step (λ owned step. after_held row owned step code writes lengths.items tables) row tables) row at
+    (by-own (λ after. RowGoesOn tables after job) tables (λ owned step. after_held row owned step code writes lengths.items tables) row owned found
+    (held tables rows numbered job row at owned found code writes lengths.items
+    (hand-in_step row (and-first (is_running row || is_in_state ReleasedRun row) _ passes) (row-among IsPlacedRow tables job row placed at))))))
+goes-in layout tables rows numbered placed (Released job) deck plain other follow =
+    tested-run tables job (is_in_state HeldRun) follow
+    (λ row at passes.
+    by-row (λ after. RowGoesOn tables after job) tables job (λ row. with_run (record row { state = ReleasedRun }) tables) row at
+    (released tables rows numbered job row at (ap is_holder (held-is row.state passes))))
 goes-in layout tables rows numbered placed (Ended job ending) deck plain other follow =
     tested-run tables job (λ row. ended_follows tables row ending) follow
     (λ row at passes. by-row (λ after. RowGoesOn tables after job) tables job (λ row. after_ended row ending tables) row at (ended tables rows numbered job row at ending passes))

@@ -9,7 +9,7 @@ use Rattle.ckr_base.proofs.Options.{some-one}
 use Rattle.ckr_base.proofs.Sequences.{each-implies}
 use Rattle.ckr_events.specs.Jobs.{job_of}
 use Rattle.ckr_events.specs.declared.event.Event.{Event}
-use Rattle.ckr_events.specs.declared.event.Event.TheVariants.{Cancelled, Checkpointed, Ended, Purged, Restarted, Rewritten, Selected, Started, StepEnded, Submitted}
+use Rattle.ckr_events.specs.declared.event.Event.TheVariants.{Cancelled, Checkpointed, Ended, Held, Purged, Released, Restarted, Rewritten, Selected, Started, StepEnded, Submitted}
 use Rattle.ckr_events.specs.declared.event.Made.{Made}
 use Rattle.ckr_jcl.specs.declared.deck.Job.{Job}
 use Rattle.ckr_library.specs.declared.sets.Kept.{Kept}
@@ -29,25 +29,33 @@ use Rattle.ckr_desk_memory.specs.EventChanges.{failed_in}
 use Rattle.ckr_desk_memory.specs.Invariant.{AreJobs, IsAcceptedRow, IsPlacedRow}
 use Rattle.ckr_desk_memory.specs.OwnSteps.{AreLeft, IsLeft, IsOther, LeavesLeft}
 use Rattle.ckr_desk_memory.specs.View.{JobsView}
-use Rattle.ckr_desk_turn.specs.Desk.{failed_behind, is_running as is_lodged}
+use Rattle.ckr_desk_turn.specs.declared.failed_run.FailedRun.{FailedRun}
+use Rattle.ckr_desk_turn.specs.Desk.{failed_behind, is_running as is_lodged, without_mark}
 use Rattle.ckr_desk_turn.specs.Invariant.{is_on_one}
 use Rattle.ckr_desk_turn.specs.Queue.{AreNumbered}
 
+-- so is each of these
+abbrev LeftIn : TablesModel → FailedRun → Type 0
+LeftIn tables one = IsLeft tables one.run
+
+each-left : (tables after : TablesModel) (failed : List FailedRun) → ((number : ℕ) → IsLeft tables number → IsLeft after number) → AllByRecursion (LeftIn tables) failed → AllByRecursion (LeftIn after) failed
+each-left tables after failed goes all = each-implies (LeftIn tables) (LeftIn after) failed (λ one left. goes one.run left) all
+
 -- ---- without the mark of a run
 
-others-marked : (job : ℕ) (failed : List ℕ) → AllByRecursion (IsOther job) (filter (λ number. not (number == job)) failed)
+others-marked : (job : ℕ) (failed : List FailedRun) → AllByRecursion (IsOther job) (without_mark job failed)
 others-marked job [] = tt
-others-marked job (number ∷ rest) = by (number == job) refl (others-marked job rest)
+others-marked job (one ∷ rest) = by (one.run == job) refl (others-marked job rest)
   where
-    by : (b : Bool) → (number == job) ≡ b → AllByRecursion (IsOther job) (filter (λ number. not (number == job)) rest) → AllByRecursion (IsOther job) (cond (not b) (number ∷ filter (λ number. not (number == job)) rest) (filter (λ number. not (number == job)) rest))
+    by : (b : Bool) → (one.run == job) ≡ b → AllByRecursion (IsOther job) (without_mark job rest) → AllByRecursion (IsOther job) (cond (not b) (one ∷ without_mark job rest) (without_mark job rest))
     by true e later = later
-    by false e later = (equal-false number job e, later)
+    by false e later = (equal-false one.run job e, later)
 
-marks-kept : (P : ℕ → Type 0) (job : ℕ) (failed : List ℕ) → AllByRecursion P failed → AllByRecursion P (filter (λ number. not (number == job)) failed)
+marks-kept : (P : FailedRun → Type 0) (job : ℕ) (failed : List FailedRun) → AllByRecursion P failed → AllByRecursion P (without_mark job failed)
 marks-kept P job [] all = tt
-marks-kept P job (number ∷ rest) all = by (number == job) (marks-kept P job rest all.1)
+marks-kept P job (one ∷ rest) all = by (one.run == job) (marks-kept P job rest all.1)
   where
-    by : (b : Bool) → AllByRecursion P (filter (λ number. not (number == job)) rest) → AllByRecursion P (cond (not b) (number ∷ filter (λ number. not (number == job)) rest) (filter (λ number. not (number == job)) rest))
+    by : (b : Bool) → AllByRecursion P (without_mark job rest) → AllByRecursion P (cond (not b) (one ∷ without_mark job rest) (without_mark job rest))
     by true later = later
     by false later = (all.0, later)
 
@@ -64,6 +72,13 @@ module _ (layout : Layout) (tables : TablesModel) (rows : AllByRecursion IsAccep
       let two : state_number row.state ≡ 2 = equal-true (state_number row.state) 2 (and-first (is_in_state On row) (is_within (place_of row)) (on_of job row at left)) in
       absurd (omega (arith, one, two))
 
+  -- nor is a held one
+  is_held : {A : Type 0} (job : ℕ) (row : RunRow) → run_of tables job ≡ Some row → IsLeft tables job → is_in_state HeldRun row ≡ true → A
+  is_held job row at left held =
+      let three : state_number row.state ≡ 3 = equal-true (state_number row.state) 3 held in
+      let two : state_number row.state ≡ 2 = equal-true (state_number row.state) 2 (and-first (is_in_state On row) (is_within (place_of row)) (on_of job row at left)) in
+      absurd (omega (arith, three, two))
+
   -- a run whose event leaves it running, and the others
   one_left : (event : Event) (deck : Option Job) → is_forward_event event ≡ true → is_submission event ≡ false → follows layout tables event deck ≡ true → (IsLeft tables (job_of event) → IsLeft (after_event event deck tables) (job_of event))
       → (number : ℕ) → IsLeft tables number → IsLeft (after_event event deck tables) number
@@ -72,11 +87,11 @@ module _ (layout : Layout) (tables : TablesModel) (rows : AllByRecursion IsAccep
       (λ apart. (left.0, (goes-on layout tables event deck rows numbered placed plain other follow).rows.others number apart ∙ left.1, left.2))
 
   -- those of which the event isn't
-  rest_left : (event : Event) (deck : Option Job) → is_forward_event event ≡ true → is_submission event ≡ false → follows layout tables event deck ≡ true → (failed : List ℕ) → AllByRecursion (IsOther (job_of event)) failed → AllByRecursion (IsLeft tables) failed
-      → AllByRecursion (IsLeft (after_event event deck tables)) failed
+  rest_left : (event : Event) (deck : Option Job) → is_forward_event event ≡ true → is_submission event ≡ false → follows layout tables event deck ≡ true → (failed : List FailedRun) → AllByRecursion (IsOther (job_of event)) failed → AllByRecursion (LeftIn tables) failed
+      → AllByRecursion (LeftIn (after_event event deck tables)) failed
   rest_left event deck plain other follow [] apart all = tt
-  rest_left event deck plain other follow (number ∷ rest) apart all = (
-    (all.0.0, (goes-on layout tables event deck rows numbered placed plain other follow).rows.others number apart.0 ∙ all.0.1, all.0.2),
+  rest_left event deck plain other follow (one ∷ rest) apart all = (
+    (all.0.0, (goes-on layout tables event deck rows numbered placed plain other follow).rows.others one.run apart.0 ∙ all.0.1, all.0.2),
     rest_left event deck plain other follow rest apart.1 all.1,
   )
 
@@ -90,12 +105,12 @@ module _ (layout : Layout) (tables : TablesModel) (rows : AllByRecursion IsAccep
         and_from (is_in_state On row) true (and-first (is_in_state On row) _ follow) refl,
       ))
 
-  left_on : (event : Event) (deck : Option Job) (failed : List ℕ) → is_forward_event event ≡ true → follows layout tables event deck ≡ true → LeavesLeft event failed → AllByRecursion (IsLeft tables) failed → AllByRecursion (IsLeft (after_event event deck tables)) (failed_behind event failed)
+  left_on : (event : Event) (deck : Option Job) (failed : List FailedRun) → is_forward_event event ≡ true → follows layout tables event deck ≡ true → LeavesLeft event failed → AllByRecursion (LeftIn tables) failed → AllByRecursion (LeftIn (after_event event deck tables)) (failed_behind event failed)
   left_on (Submitted job cards) None failed plain follow leaves all = all
   left_on (Submitted job cards) (Some deck) failed plain follow leaves all =
-      each-implies (IsLeft tables) (IsLeft (after_submitted job deck tables)) failed (λ number left. (left.0, row-more tables job deck number left.0 left.1, left.2)) all
+      each-left tables (after_submitted job deck tables) failed (λ number left. (left.0, row-more tables job deck number left.0 left.1, left.2)) all
   left_on (Selected job initiator earlier step id) deck failed plain follow leaves all =
-      each-implies (IsLeft tables) (IsLeft (after_event (Selected job initiator earlier step id) deck tables)) failed
+      each-left tables (after_event (Selected job initiator earlier step id) deck tables) failed
       (one_left (Selected job initiator earlier step id) deck plain refl follow
       (λ left.
       tested-run tables job (selected_follows layout tables initiator earlier step id) follow
@@ -103,7 +118,7 @@ module _ (layout : Layout) (tables : TablesModel) (rows : AllByRecursion IsAccep
       waits job row at left
       (and-first (is_in_state Queued row) (is_free layout tables initiator) (and-first (is_in_state Queued row && is_free layout tables initiator) (may_hold tables row) (and-first (is_in_state Queued row && is_free layout tables initiator && may_hold tables row) _ passes)))))) all
   left_on (Started job step items) deck failed plain follow leaves all =
-      each-implies (IsLeft tables) (IsLeft (after_event (Started job step items) deck tables)) failed
+      each-left tables (after_event (Started job step items) deck tables) failed
       (one_left (Started job step items) deck plain refl follow
       (λ left.
       tested-run tables job (started_follows layout tables step items.items) follow
@@ -111,7 +126,7 @@ module _ (layout : Layout) (tables : TablesModel) (rows : AllByRecursion IsAccep
       by-row (λ after. IsLeft after job) tables job (λ row. option_map_or (λ owned. after_started row owned step items.items tables) (step_of_run row step) tables) row at
       (started_left job step items.items row at passes)))) all
   left_on (Rewritten job taken writes lengths place image) deck failed plain follow leaves all =
-      each-implies (IsLeft tables) (IsLeft (after_event (Rewritten job taken writes lengths place image) deck tables)) failed
+      each-left tables (after_event (Rewritten job taken writes lengths place image) deck tables) failed
       (one_left (Rewritten job taken writes lengths place image) deck plain refl follow
       (λ left.
       tested-run tables job (λ row. is_running row && lengths_follow tables row lengths.items && of_step row (is_rewrite tables place image row)) follow
@@ -125,7 +140,7 @@ module _ (layout : Layout) (tables : TablesModel) (rows : AllByRecursion IsAccep
         and_from (is_in_state On row) true (and-first (is_in_state On row) (is_within (place_of row)) (on_of job row at left)) refl,
       )))))) all
   left_on (Checkpointed job id taken writes lengths place bytes) deck failed plain follow leaves all =
-      each-implies (IsLeft tables) (IsLeft (after_event (Checkpointed job id taken writes lengths place bytes) deck tables)) failed
+      each-left tables (after_event (Checkpointed job id taken writes lengths place bytes) deck tables) failed
       (one_left (Checkpointed job id taken writes lengths place bytes) deck plain refl follow
       (λ left.
       tested-run tables job (λ row. is_running row && lengths_follow tables row lengths.items && of_step row (is_checkpoint tables id lengths.items place bytes row)) follow
@@ -140,35 +155,41 @@ module _ (layout : Layout) (tables : TablesModel) (rows : AllByRecursion IsAccep
         and_from (is_in_state On row) true (and-first (is_in_state On row) (is_within (place_of row)) (on_of job row at left)) refl,
       )))))) all
   left_on (Cancelled job) deck failed plain follow leaves all =
-      each-implies (IsLeft tables) (IsLeft (after_event (Cancelled job) deck tables)) failed
+      each-left tables (after_event (Cancelled job) deck tables) failed
       (one_left (Cancelled job) deck plain refl follow
       (λ left.
       by-row (λ after. IsLeft after job) tables job (λ row. after_cancelled row tables) left.0 left.1
       (record left.0 { in_effect = None }, (row-next tables tables job left.0 _ tables.sets (row-as_is tables job left.0 left.1) (row-number tables job left.0 numbered left.1)).now, left.2))) all
   left_on (StepEnded job step rc writes lengths) deck failed plain follow leaves all = rest_left (StepEnded job step rc writes lengths) deck plain refl follow failed leaves all
   left_on (Restarted job initiator code checkpoint) deck failed plain follow leaves all =
-      rest_left (Restarted job initiator code checkpoint) deck plain refl follow (failed_behind (Restarted job initiator code checkpoint) failed) (others-marked job failed) (marks-kept (IsLeft tables) job failed all)
+      rest_left (Restarted job initiator code checkpoint) deck plain refl follow (failed_behind (Restarted job initiator code checkpoint) failed) (others-marked job failed) (marks-kept (LeftIn tables) job failed all)
+  left_on (Held job code writes lengths) deck failed plain follow leaves all =
+      rest_left (Held job code writes lengths) deck plain refl follow (failed_behind (Held job code writes lengths) failed) (others-marked job failed) (marks-kept (LeftIn tables) job failed all)
+  left_on (Released job) deck failed plain follow leaves all =
+      each-left tables (after_event (Released job) deck tables) failed
+      (one_left (Released job) deck plain refl follow
+      (λ left. tested-run tables job (is_in_state HeldRun) follow (λ row at held. is_held job row at left held))) all
   left_on (Ended job ending) deck failed plain follow leaves all =
-      rest_left (Ended job ending) deck plain refl follow (failed_behind (Ended job ending) failed) (others-marked job failed) (marks-kept (IsLeft tables) job failed all)
+      rest_left (Ended job ending) deck plain refl follow (failed_behind (Ended job ending) failed) (others-marked job failed) (marks-kept (LeftIn tables) job failed all)
   left_on (Purged job) deck failed plain follow leaves all =
-      each-implies (IsLeft tables) (IsLeft (after_event (Purged job) deck tables)) failed
+      each-left tables (after_event (Purged job) deck tables) failed
       (one_left (Purged job) deck plain refl follow
       (λ left. tested-run tables job (is_in_state Queued) follow (λ row at queued. waits job row at left queued))) all
   left_on _ deck failed plain follow leaves all = absurd (false≢true plain)
 
-pub left-behind : (layout : Layout) (old : JobsView) (now : TablesModel) (marked : List ℕ) (event : Event) (deck : Option Job) → AreJobs layout old → AreNumbered 1 old.tables.desk.runs → is_forward_event event ≡ true → now ≡ after_event event deck old.tables.desk → marked ≡ failed_behind event old.failed
-    → AreLeft old → follows layout old.tables.desk event deck ≡ true → LeavesLeft event old.failed → AllByRecursion (IsLeft now) marked
+pub left-behind : (layout : Layout) (old : JobsView) (now : TablesModel) (marked : List FailedRun) (event : Event) (deck : Option Job) → AreJobs layout old → AreNumbered 1 old.tables.desk.runs → is_forward_event event ≡ true → now ≡ after_event event deck old.tables.desk → marked ≡ failed_behind event old.failed
+    → AreLeft old → follows layout old.tables.desk event deck ≡ true → LeavesLeft event old.failed → AllByRecursion (LeftIn now) marked
 left-behind layout old now marked event deck are numbered plain tables failed left follow leaves =
-    subst (λ (t : TablesModel). AllByRecursion (IsLeft t) marked) (sym tables)
-    (subst (AllByRecursion (IsLeft (after_event event deck old.tables.desk))) (sym failed) (left_on layout old.tables.desk are.rows numbered are.placed event deck old.failed plain follow leaves left))
+    subst (λ (t : TablesModel). AllByRecursion (LeftIn t) marked) (sym tables)
+    (subst (AllByRecursion (LeftIn (after_event event deck old.tables.desk))) (sym failed) (left_on layout old.tables.desk are.rows numbered are.placed event deck old.failed plain follow leaves left))
 
 -- none is
 pub left-none : (jobs : JobsView) → jobs.failed ≡ [] → AreLeft jobs
-left-none jobs failed = subst (AllByRecursion (IsLeft jobs.tables.desk)) (sym failed) tt
+left-none jobs failed = subst (AllByRecursion (LeftIn jobs.tables.desk)) (sym failed) tt
 
 -- those of the same jobs are
 pub left-alike : (old new : JobsView) → new.tables.desk ≡ old.tables.desk → new.failed ≡ old.failed → AreLeft old → AreLeft new
-left-alike old new tables failed left = subst (λ (t : TablesModel). AllByRecursion (IsLeft t) new.failed) (sym tables) (subst (AllByRecursion (IsLeft old.tables.desk)) (sym failed) left)
+left-alike old new tables failed left = subst (λ (t : TablesModel). AllByRecursion (LeftIn t) new.failed) (sym tables) (subst (AllByRecursion (LeftIn old.tables.desk)) (sym failed) left)
 
 -- ---- as the desk is opened
 
@@ -194,12 +215,15 @@ all_at tables (row ∷ rest) from numbered at =
     let same : from + 0 ≡ row.number = omega (arith, numbered.0) in
     (ap (run_of tables) (sym same) ∙ at 0 row refl, all_at tables rest (suc from) numbered.1 (λ place next is. ap (run_of tables) (omega arith) ∙ at (suc place) next is))
 
-left_in : (tables : TablesModel) (rows : List RunRow) → AllByRecursion (IsAt tables) rows → AllByRecursion IsPlacedRow rows → AllByRecursion (IsLeft tables) (map (λ (row : RunRow). row.number) (filter is_lodged rows))
+abbrev mark_of : RunRow → FailedRun
+mark_of row = record { run = row.number; asked = false }
+
+left_in : (tables : TablesModel) (rows : List RunRow) → AllByRecursion (IsAt tables) rows → AllByRecursion IsPlacedRow rows → AllByRecursion (LeftIn tables) (map mark_of (filter is_lodged rows))
 left_in tables [] at placed = tt
 left_in tables (row ∷ rest) at placed = by (is_lodged row) refl (left_in tables rest at.1 placed.1)
   where
-    by : (b : Bool) → is_lodged row ≡ b → AllByRecursion (IsLeft tables) (map (λ (row : RunRow). row.number) (filter is_lodged rest))
-        → AllByRecursion (IsLeft tables) (map (λ (row : RunRow). row.number) (cond b (row ∷ filter is_lodged rest) (filter is_lodged rest)))
+    by : (b : Bool) → is_lodged row ≡ b → AllByRecursion (LeftIn tables) (map mark_of (filter is_lodged rest))
+        → AllByRecursion (LeftIn tables) (map mark_of (cond b (row ∷ filter is_lodged rest) (filter is_lodged rest)))
     by true is later = (
       (
         row,
@@ -211,8 +235,8 @@ left_in tables (row ∷ rest) at placed = by (is_lodged row) refl (left_in table
     )
     by false is later = later
 
-pub left-opened : (layout : Layout) (old : JobsView) (now : TablesModel) (marked : List ℕ) → AreNumbered 1 old.tables.desk.runs → AreJobs layout old → now ≡ old.tables.desk → marked ≡ failed_in old.tables.desk → AllByRecursion (IsLeft now) marked
+pub left-opened : (layout : Layout) (old : JobsView) (now : TablesModel) (marked : List FailedRun) → AreNumbered 1 old.tables.desk.runs → AreJobs layout old → now ≡ old.tables.desk → marked ≡ failed_in old.tables.desk → AllByRecursion (LeftIn now) marked
 left-opened layout old now marked numbered are tables failed =
-    subst (λ (t : TablesModel). AllByRecursion (IsLeft t) marked) (sym tables)
-    (subst (AllByRecursion (IsLeft old.tables.desk)) (sym failed)
+    subst (λ (t : TablesModel). AllByRecursion (LeftIn t) marked) (sym tables)
+    (subst (AllByRecursion (LeftIn old.tables.desk)) (sym failed)
     (left_in old.tables.desk old.tables.desk.runs (all_at old.tables.desk old.tables.desk.runs 1 numbered (λ place row is. ap (run_of old.tables.desk) (one-plus place) ∙ is)) are.placed))

@@ -6,7 +6,7 @@ use Rattle.std.specs.Option.{is_some, option_eq, option_map, option_map_or}
 use Rattle.std.proofs.lemmas.Bool.{and_from, or_left, or_right, false≢true}
 use Rattle.std.proofs.lemmas.Bool.Decides.{nat_tests}
 use Rattle.std.proofs.lemmas.Option.{same_Some}
-use Rattle.ckr_base.proofs.Bools.{and-first, and-second, if-then}
+use Rattle.ckr_base.proofs.Bools.{and-first, and-second, if-then, or-cases}
 use Rattle.ckr_base.specs.declared.code.Code.{Code}
 use Rattle.ckr_points.specs.Soundness.{AreLaidOut}
 use Rattle.ckr_points_invariant.proofs.Restart.Verdicts.{restarts-again}
@@ -20,7 +20,7 @@ use Rattle.ckr_base.proofs.Options.{some-not-none}
 use Rattle.ckr_events.specs.declared.event.Ending.{Ending}
 use Rattle.ckr_events.specs.declared.event.Ending.TheVariants.{Allocation, Coded, Completed}
 use Rattle.ckr_events.specs.declared.event.Event.{Event}
-use Rattle.ckr_events.specs.declared.event.Event.TheVariants.{Cancelled, Ended, Restarted, Rewritten, StepEnded}
+use Rattle.ckr_events.specs.declared.event.Event.TheVariants.{Cancelled, Ended, Held, Restarted, Rewritten, StepEnded}
 use Rattle.ckr_jcl.specs.declared.deck.Dd.{Dd}
 use Rattle.ckr_jcl.specs.declared.deck.Job.{Job}
 use Rattle.ckr_jcl.specs.declared.deck.Origin.{Origin}
@@ -34,6 +34,7 @@ use Rattle.ckr_meaning.specs.StepRun.{input_names, output_dd}
 use Rattle.ckr_base.specs.declared.programs.Output.TheVariants.{InPlace}
 use Rattle.ckr_points.specs.Follows.{are_lengths, follows, is_free, is_in_state, is_rewrite, is_running, is_update, is_within, lengths_follow, may_restart_again, of_run, state_number, ended_follows}
 use Rattle.ckr_points.specs.Marks.{point_at}
+use Rattle.ckr_points.specs.Office.{is_holder}
 use Rattle.ckr_points.specs.Payload.{is_formed_step, is_verdict}
 use Rattle.ckr_points.specs.Restart.{place_of, step_in}
 use Rattle.ckr_points.specs.Rows.{RunRow, TableSet, TablesModel, run_of}
@@ -49,8 +50,8 @@ use Rattle.ckr_desk_memory.proofs.Holders.OwnSets.{up_to-itself}
 use Rattle.ckr_desk_memory.proofs.Holders.Rewrites.{AsksForRewrite, IsRewriteIn, rewrite-asked}
 use Rattle.ckr_desk_memory.proofs.Holders.Units.{step-owner, update-is}
 use Rattle.ckr_desk_memory.proofs.Holders.Masters.{updated-changed, updated-dd}
-use Rattle.ckr_desk_memory.proofs.Invariant.{begun-within}
-use Rattle.ckr_desk_memory.proofs.Queue.{on-is}
+use Rattle.ckr_desk_memory.proofs.Invariant.{begun-within, released-within}
+use Rattle.ckr_desk_memory.proofs.Queue.{on-is, released-is}
 use Rattle.ckr_desk_memory.specs.Invariant.{IsAcceptedRow, IsPlacedRow}
 use Rattle.ckr_desk_memory.specs.Start.{AllFit}
 use Rattle.ckr_desk_memory.specs.View.{RunningStepView, length_in, lengths_in}
@@ -58,7 +59,7 @@ use Rattle.ckr_desk_turn.specs.Codes.{initiator_of, verdict_for}
 use Rattle.ckr_desk_turn.specs.Invariant.{is_on_one}
 use Rattle.ckr_desk_turn.specs.Queue.{AreNumbered}
 use Rattle.ckr_desk_memory.specs.Holders.{AreHolders}
-use Rattle.ckr_desk_memory.specs.OwnEvents.{IsLeftWithin, HasOwnLengths, IsOwnEnding, IsOwnEvent, IsOwnRewrite, IsOwnStepEnd}
+use Rattle.ckr_desk_memory.specs.OwnEvents.{IsLeftWithin, HasOwnLengths, is_at_hand, IsOwnEnding, IsOwnEvent, IsOwnRewrite, IsOwnStepEnd}
 use Rattle.ckr_desk_memory.specs.OwnSets.{AreCopies, AreEven, AreUpTo, IsCommitted, IsRunningOf}
 
 -- ---- lengths
@@ -104,6 +105,11 @@ module _ (layout : Layout) (tables : TablesModel) (on : RunningStepView) (is : I
 
   cancelled : (job : ℕ) (deck : Option Job) → job ≡ on.run → follows layout tables (Cancelled job) deck ≡ true
   cancelled job deck same = tested_of job is_running same running-so
+
+  held : (job : ℕ) (code : Code) (writes : ℕ) (lengths : ArrayVec ℕ) (deck : Option Job) → AllFit on.sets.sets → job ≡ on.run → HasOwnLengths tables on lengths.items → follows layout tables (Held job code writes lengths) deck ≡ true
+  held job code writes lengths deck fits same own =
+      tested_of job _ same
+      (and_from (is_running is.row || is_in_state Released is.row) _ (or_left (is_running is.row) (is_in_state Released is.row) running-so) (lengths_so lengths.items fits own))
 
   ended : (job : ℕ) (ending : Ending) (deck : Option Job) → AllFit on.sets.sets → job ≡ on.run → IsOwnEnding ending tables on → follows layout tables (Ended job ending) deck ≡ true
   ended job Completed deck fits same own = absurd own
@@ -204,6 +210,7 @@ module _ (layout : Layout) (tables : TablesModel) (rows : AllByRecursion IsAccep
   own_in (Rewritten job taken writes lengths place image) deck fits own = rewritten job taken writes lengths place image deck fits own
   own_in (StepEnded job step rc writes lengths) deck fits own = step_ended layout tables on is job step rc writes lengths deck fits own
   own_in (Cancelled job) deck fits own = cancelled layout tables on is job deck own
+  own_in (Held job code writes lengths) deck fits own = held layout tables on is job code writes lengths deck fits own.0 own.1
   own_in (Ended job ending) deck fits own = ended layout tables on is job ending deck fits own.0 own.1
   own_in _ deck fits own = absurd own
 
@@ -227,18 +234,50 @@ kept_lengths layout sets (name ∷ names) laid there =
     (kept_length layout (entry_at sets name) (there name (or_left (same_name name name) (is_among names name) (name-itself name))) (λ table found. each-at (λ (t : TableSet). StandsIn layout t.set) sets laid.stand name table found))
     (kept_lengths layout sets names laid (λ other among. there other (or_right (same_name other name) (is_among names other) among)))
 
--- its end by a code follows
-pub left-follows : (layout : Layout) (tables : TablesModel) (job rule writes : ℕ) (code : Code) (lengths : ArrayVec ℕ) (deck : Option Job) → AreHolders tables → AreLaidOut layout tables.sets → IsLeftWithin tables job lengths.items
-    → follows layout tables (Ended job (Coded code rule writes lengths)) deck ≡ true
-left-follows layout tables job rule writes code lengths deck are laid is =
-    ap (λ (o : Option RunRow). option_map_or (λ row. ended_follows tables row (Coded code rule writes lengths)) o false) is.row_at
-    ∙ and_from (is_running is.row || is_in_state Released is.row) _ (or_left (is_running is.row) (is_in_state Released is.row) is.running)
-    (ap (λ (o : Option OwnedStep). option_map_or (λ owned. are_lengths tables.sets (output_names is.row.job.root owned) lengths.items) o false) is.found
+-- a run at hand is running, or was released
+hand-stands : (row : RunRow) → is_at_hand row ≡ true → (is_running row || is_in_state Released row) ≡ true
+hand-stands row hand =
+    or-cases (is_in_state On row) (is_in_state Released row) (and-first (is_in_state On row || is_in_state Released row) _ hand)
+    (λ on. or_left (is_running row) (is_in_state Released row) (and_from (is_in_state On row) (is_within (place_of row)) on (hand-within row hand)))
+    (or_right (is_running row) (is_in_state Released row))
+  where
+    hand-within : (row : RunRow) → is_at_hand row ≡ true → is_within (place_of row) ≡ true
+    hand-within row hand = and-second (is_in_state On row || is_in_state Released row) (is_within (place_of row)) hand
+
+pub running-hand : (row : RunRow) → is_running row ≡ true → is_at_hand row ≡ true
+running-hand row runs =
+    and_from (is_in_state On row || is_in_state Released row) (is_within (place_of row))
+    (or_left (is_in_state On row) (is_in_state Released row) (and-first (is_in_state On row) (is_within (place_of row)) runs)) (and-second (is_in_state On row) (is_within (place_of row)) runs)
+
+pub released-hand : (row : RunRow) → is_in_state Released row ≡ true → is_within (place_of row) ≡ true → is_at_hand row ≡ true
+released-hand row released within = and_from (is_in_state On row || is_in_state Released row) (is_within (place_of row)) (or_right (is_in_state On row) (is_in_state Released row) released) within
+
+hand-holds : (row : RunRow) → is_at_hand row ≡ true → is_holder row.state ≡ true
+hand-holds row hand =
+    or-cases (is_in_state On row) (is_in_state Released row) (and-first (is_in_state On row || is_in_state Released row) _ hand) (on-holds row.state) (λ released. ap is_holder (released-is row.state released))
+
+-- its committed lengths follow
+left_lengths : (layout : Layout) (tables : TablesModel) (job : ℕ) (lengths : List ℕ) → AreHolders tables → AreLaidOut layout tables.sets → (is : IsLeftWithin tables job lengths)
+    → ((is_running is.row || is_in_state Released is.row) && lengths_follow tables is.row lengths) ≡ true
+left_lengths layout tables job lengths are laid is =
+    and_from (is_running is.row || is_in_state Released is.row) _ (hand-stands is.row is.running)
+    (ap (λ (o : Option OwnedStep). option_map_or (λ owned. are_lengths tables.sets (output_names is.row.job.root owned) lengths) o false) is.found
     ∙ ap (are_lengths tables.sets (output_names is.row.job.root is.owned)) is.kept
     ∙ kept_lengths layout tables.sets (output_names is.row.job.root is.owned) laid
     (λ name among.
-    are.changed job is.row is.row_at is.owned name (on-holds is.row.state (and-first (is_in_state On is.row) (is_within (place_of is.row)) is.running)) (and-second (is_in_state On is.row) (is_within (place_of is.row)) is.running) is.found
+    are.changed job is.row is.row_at is.owned name (hand-holds is.row is.running) (and-second (is_in_state On is.row || is_in_state Released is.row) (is_within (place_of is.row)) is.running) is.found
     (outputs-changed is.row.job.root is.owned name among)))
+
+-- its end by a code follows, and so does its hold
+pub left-follows : (layout : Layout) (tables : TablesModel) (job rule writes : ℕ) (code : Code) (lengths : ArrayVec ℕ) (deck : Option Job) → AreHolders tables → AreLaidOut layout tables.sets → IsLeftWithin tables job lengths.items
+    → follows layout tables (Ended job (Coded code rule writes lengths)) deck ≡ true
+left-follows layout tables job rule writes code lengths deck are laid is =
+    ap (λ (o : Option RunRow). option_map_or (λ row. ended_follows tables row (Coded code rule writes lengths)) o false) is.row_at ∙ left_lengths layout tables job lengths.items are laid is
+
+pub left-held : (layout : Layout) (tables : TablesModel) (job writes : ℕ) (code : Code) (lengths : ArrayVec ℕ) (deck : Option Job) → AreHolders tables → AreLaidOut layout tables.sets → IsLeftWithin tables job lengths.items
+    → follows layout tables (Held job code writes lengths) deck ≡ true
+left-held layout tables job writes code lengths deck are laid is =
+    ap (λ (o : Option RunRow). option_map_or (λ row. (is_running row || is_in_state Released row) && lengths_follow tables row lengths.items) o false) is.row_at ∙ left_lengths layout tables job lengths.items are laid is
 
 -- ---- a restart
 
@@ -272,3 +311,21 @@ restarts-follow layout tables row code deck checkpoint at running placed judged 
 
     begun : is_some (point_at row.points (step_in (place_of row))) ≡ true
     begun = begun-within row (and-second (is_in_state On row) (is_within (place_of row)) running) placed
+
+-- So does that of a released run, on an initiator that is free.
+pub released-restarts : (layout : Layout) (tables : TablesModel) (row : RunRow) (initiator : ℕ) (code : Code) (deck : Option Job) (checkpoint : Bool) → run_of tables row.number ≡ Some row → is_in_state Released row ≡ true → is_free layout tables initiator ≡ true → IsPlacedRow row
+    → is_verdict checkpoint (verdict_for layout row code) ≡ true → follows layout tables (Restarted row.number initiator code checkpoint) deck ≡ true
+released-restarts layout tables row initiator code deck checkpoint at released free placed judged =
+    ap (λ (o : Option RunRow). option_map_or test o false) at
+    ∙ and_from (sits row || waits row) (may_restart_again checkpoint row)
+    (or_right (sits row) (waits row) (and_from (is_in_state Released row) (is_free layout tables initiator) released free))
+    (restarts-again row layout.eligible.items code checkpoint (begun-within row (released-within row released placed) placed) judged)
+  where
+    sits : RunRow → Bool
+    sits its = is_running its && option_eq nat_eq its.initiator (Some initiator)
+
+    waits : RunRow → Bool
+    waits its = is_in_state Released its && is_free layout tables initiator
+
+    test : RunRow → Bool
+    test its = (is_running its && option_eq nat_eq its.initiator (Some initiator) || is_in_state Released its && is_free layout tables initiator) && may_restart_again checkpoint its

@@ -8,7 +8,7 @@ use Rattle.ckr_base.proofs.Bools.{and-second}
 use Rattle.ckr_base.proofs.Numbers.{equal-false, equal-true}
 use Rattle.ckr_base.proofs.Sequences.{find-holds, find-passes}
 use Rattle.ckr_events.specs.declared.event.Event.{Event}
-use Rattle.ckr_events.specs.declared.event.Event.TheVariants.{Cancelled, Checkpointed, Ended, Purged, Restarted, Rewritten, Selected, Started, StepEnded, Submitted}
+use Rattle.ckr_events.specs.declared.event.Event.TheVariants.{Cancelled, Checkpointed, Ended, Held, Purged, Released, Restarted, Rewritten, Selected, Started, StepEnded, Submitted}
 use Rattle.ckr_events.specs.declared.event.Made.{Made}
 use Rattle.ckr_jcl.specs.declared.deck.Job.{Job}
 use Rattle.ckr_library.specs.Catalog.{records_of}
@@ -149,6 +149,8 @@ module _ (layout : Layout) (tables : TablesModel) (rows : AllByRecursion IsAccep
   single_on (StepEnded job step rc writes lengths) deck points old new plain follow single goes = subst AreSingle (sym goes) (single-left job old single)
   single_on (Restarted job initiator code true) deck points old new plain follow single goes = again job initiator code deck points old new follow single goes
   single_on (Restarted job initiator code false) deck points old new plain follow single goes = subst AreSingle (sym goes) (single-left job old single)
+  single_on (Held job code writes lengths) deck points old new plain follow single goes = subst AreSingle (sym goes) (single-left job old single)
+  single_on (Released job) deck points old new plain follow single goes = subst AreSingle (sym goes) single
   single_on (Ended job ending) deck points old new plain follow single goes = subst AreSingle (sym goes) (single-left job old single)
   single_on (Submitted job cards) deck points old new plain follow single goes = subst AreSingle (sym goes) single
   single_on (Selected job initiator earlier step id) deck points old new plain follow single goes = subst AreSingle (sym goes) single

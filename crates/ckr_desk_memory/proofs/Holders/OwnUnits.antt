@@ -27,13 +27,14 @@ use Rattle.ckr_steps.specs.declared.step_run.Worked.{Worked}
 use Rattle.ckr_steps.specs.declared.step_run.Worked.TheVariants.{Abend, Rewrite, Went}
 use Rattle.ckr_steps.specs.declared.unit_ahead.UnitAhead.{UnitAhead}
 use Rattle.ckr_volumes.specs.declared.layout.Layout.{Layout}
+use Rattle.ckr_desk_turn.specs.declared.failed_run.FailedRun.{FailedRun}
 use Rattle.ckr_desk_turn.specs.declared.plan.Plan.{Plan}
-use Rattle.ckr_desk_turn.specs.declared.plan.Plan.TheVariants.{Pass, Rest, Take, Tell, Work}
+use Rattle.ckr_desk_turn.specs.declared.plan.Plan.TheVariants.{Ask, Pass, Rest, Take, Tell, Wait, Work}
 use Rattle.ckr_desk_turn.specs.Codes.{initiator_of, running_reached}
 use Rattle.ckr_desk_turn.specs.Queue.{AreNumbered}
-use Rattle.ckr_points.specs.Payload.{is_verdict}
 use Rattle.ckr_desk_turn.proofs.Codes.{by-verdict}
 use Rattle.ckr_desk_memory.proofs.Holders.Moves.{row-number}
+use Rattle.ckr_desk_memory.proofs.Holders.Inquiries.{coded-plan}
 use Rattle.ckr_desk_memory.proofs.Holders.OwnEvents.{own-committed, own-follows, restarts-follow}
 use Rattle.ckr_desk_memory.proofs.Holders.Rewrites.{nothing-before}
 use Rattle.ckr_desk_memory.proofs.Holders.Rooms.{unit-fits}
@@ -117,7 +118,7 @@ module _ (layout : Layout) (tables : TablesModel) (on : RunningStepView) (ahead 
       by : (worked : Worked) → PlanCommits tables (moved ∷ []) (told_by layout tables is.row (running_of tables moved) worked)
       by (Went taken) = tt
       by (Rewrite place image taken) = (own-committed tables moved is.row.number (running_of tables moved).lengths lengths_of, tt)
-      by (Abend code) = by-verdict (PlanCommits tables (moved ∷ [])) layout tables is.row (initiator_of is.row) code (running_reached (running_of tables moved)) (λ rule ends. tt) (λ judged. tt) (λ entry judged there. tt)
+      by (Abend code) = by-verdict (PlanCommits tables (moved ∷ [])) layout tables is.row (initiator_of is.row) true code (running_reached (running_of tables moved)) (λ rule ends. tt) (λ judged. tt) (λ entry judged there. tt)
 
   pub told-of : PlanIsOf on.run plan
   told-of = by-told (PlanIsOf on.run) (by ahead.worked)
@@ -125,7 +126,7 @@ module _ (layout : Layout) (tables : TablesModel) (on : RunningStepView) (ahead 
       by : (worked : Worked) → PlanIsOf on.run (told_by layout tables is.row (running_of tables moved) worked)
       by (Went taken) = tt
       by (Rewrite place image taken) = number
-      by (Abend code) = by-verdict (PlanIsOf on.run) layout tables is.row (initiator_of is.row) code (running_reached (running_of tables moved)) (λ rule ends. number) (λ judged. number) (λ entry judged there. number)
+      by (Abend code) = by-verdict (PlanIsOf on.run) layout tables is.row (initiator_of is.row) true code (running_reached (running_of tables moved)) (λ rule ends. number) (λ judged. number) (λ entry judged there. number)
 
   running : is_running is.row ≡ true
   running = and_from (is_in_state On is.row) (is_within (place_of is.row)) (ap (λ s. state_number s == state_number On) is.state) is.within
@@ -153,16 +154,15 @@ module _ (layout : Layout) (tables : TablesModel) (on : RunningStepView) (ahead 
               asks = asks;
             })
         by (Abend code) same =
-            by-verdict (PlanFollows layout tables) layout tables is.row (initiator_of is.row) code (running_reached (running_of tables moved))
-            (λ rule ends.
+            coded-plan layout tables is.row (initiator_of is.row) true code (running_reached (running_of tables moved))
+            (λ checkpoint judged. restarts-follow layout tables is.row code None checkpoint (ap (run_of tables) number ∙ is.row_at) running (row-among IsPlacedRow tables on.run is.row placed is.row_at) judged)
+            (λ rule.
             own-follows layout tables
             (Ended is.row.number (Coded code (rule_number rule) (running_of tables moved).writes (record { items = (running_of tables moved).lengths })))
             None moved rows numbered (running-unit tables on moved heads ahead.worked rows numbered refl done is) (unit-fits on moved heads ahead.worked there fits done) (number, lengths_of))
-            (λ judged. restarts-follow layout tables is.row code None false (ap (run_of tables) number ∙ is.row_at) running (row-among IsPlacedRow tables on.run is.row placed is.row_at) (ap (is_verdict false) judged))
-            (λ entry judged at. restarts-follow layout tables is.row code None true (ap (run_of tables) number ∙ is.row_at) running (row-among IsPlacedRow tables on.run is.row placed is.row_at) (ap (is_verdict true) judged))
 
 -- it ends no step
-pub told-leaves : (failed : List ℕ) (plan : Plan) → IsUnitPlan plan → PlanLeaves failed plan
+pub told-leaves : (failed : List FailedRun) (plan : Plan) → IsUnitPlan plan → PlanLeaves failed plan
 told-leaves failed (Rest reply) is = tt
 told-leaves failed (Tell reply event) is = by event is
   where
@@ -172,3 +172,5 @@ told-leaves failed (Tell reply event) is = by event is
 told-leaves failed (Work job) is = tt
 told-leaves failed (Pass job reply) is = tt
 told-leaves failed (Take job) is = tt
+told-leaves failed (Ask inquiry) is = tt
+told-leaves failed (Wait job code) is = tt

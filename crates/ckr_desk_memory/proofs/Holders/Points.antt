@@ -3,18 +3,19 @@ use Rattle.std.proofs.Common.{◌≡◌, ◌==◌, ◌+◌, ◌&&◌, ◌||◌, 
 use Rattle.std.specs.Prelude.{IsSome, nat_eq}
 use Rattle.std.specs.List.{AllByRecursion}
 use Rattle.std.specs.Option.{is_none, is_some, option_eq, option_map, option_map_or}
-use Rattle.std.proofs.lemmas.Bool.{false≢true}
+use Rattle.std.proofs.lemmas.Bool.{and_from, false≢true}
 use Rattle.std.proofs.lemmas.Option.{same_Some}
 use Rattle.arrayvec.specs.ArrayVec.{ArrayVec}
 use Rattle.ckr_base.proofs.Bools.{and-first, and-second}
 use Rattle.ckr_base.proofs.Numbers.{equal-itself, equal-true, number-cases}
 use Rattle.ckr_base.proofs.Options.{some-one}
 use Rattle.ckr_base.proofs.Sequences.{find-holds, find-passes}
+use Rattle.ckr_base.specs.declared.code.Code.{Code}
 use Rattle.ckr_events.specs.Jobs.{job_of}
 use Rattle.ckr_events.specs.declared.event.Ending.{Ending}
 use Rattle.ckr_events.specs.declared.event.Ending.TheVariants.{Allocation, Coded, Completed}
 use Rattle.ckr_events.specs.declared.event.Event.{Event}
-use Rattle.ckr_events.specs.declared.event.Event.TheVariants.{Cancelled, Checkpointed, Ended, Purged, Restarted, Rewritten, Selected, Started, StepEnded, Submitted}
+use Rattle.ckr_events.specs.declared.event.Event.TheVariants.{Cancelled, Checkpointed, Ended, Held, Purged, Released as ReleasedEvent, Restarted, Rewritten, Selected, Started, StepEnded, Submitted}
 use Rattle.ckr_events.specs.declared.event.Made.{Made}
 use Rattle.ckr_jcl.specs.declared.deck.Job.{Job}
 use Rattle.ckr_library.specs.Catalog.{records_of}
@@ -22,34 +23,36 @@ use Rattle.ckr_library.specs.NameMaps.{Name}
 use Rattle.ckr_meaning.specs.EffectiveJob.{OwnedStep, flaws_in, placed_in}
 use Rattle.ckr_meaning.specs.declared.place.Place.{Place}
 use Rattle.ckr_meaning.specs.declared.place.Place.TheVariants.{Before, Opened, Within}
-use Rattle.ckr_points.specs.declared.run.RunState.TheVariants.{Queued, On, Released, Purged as PurgedRun}
-use Rattle.ckr_points.specs.Follows.{ended_follows, follows, is_empty, is_free, is_in_state, is_rewrite, is_running, lengths_follow, may_restart_again, may_start, of_step, own_step, selected_follows, started_follows}
+use Rattle.ckr_points.specs.declared.run.RunState.TheVariants.{Queued, On, Held as HeldRun, Released, Purged as PurgedRun}
+use Rattle.ckr_points.specs.Follows.{ended_follows, follows, is_empty, is_free, is_in_state, is_rewrite, is_running, is_within, lengths_follow, may_restart_again, may_start, of_step, own_step, selected_follows, started_follows}
 use Rattle.ckr_points.specs.Marks.{point_at, with_point as with_start_point}
+use Rattle.ckr_points.specs.Office.{is_holder}
 use Rattle.ckr_points.specs.Restart.{after_abnormal, after_chosen, after_ended, after_event, after_passed_ended, after_put_back, after_restarted, back_to_start, by_step, place_of, point_restarted, row_on, step_in}
 use Rattle.ckr_points.specs.Rows.{EffectPoint, RunRow, StartPoint, TablesModel, run_of, standing_of, step_of_run, table_ways, with_run}
-use Rattle.ckr_points.specs.Tables.{after_cancelled, after_commit, after_dispositions, after_rewritten, after_selected, after_started, after_step_ended, after_submitted, effect_rewritten, row_rewritten}
+use Rattle.ckr_points.specs.Tables.{after_cancelled, after_commit, after_dispositions, after_held, after_rewritten, after_selected, after_started, after_step_ended, after_submitted, effect_rewritten, row_rewritten}
 use Rattle.ckr_points_invariant.proofs.WaitingRuns.{tested-run}
 use Rattle.ckr_points_tables.specs.Invariant.{is_submission}
 use Rattle.ckr_volumes.specs.declared.layout.Layout.{Layout}
 use Rattle.ckr_desk_turn.specs.Queue.{AreNumbered}
 use Rattle.ckr_desk_memory.specs.EventChanges.{FirstEnters, HasEntered, check_name_in, is_of_run, is_point_of, point_of, points_behind, with_point, without_first}
 use Rattle.ckr_desk_memory.specs.ForwardEvents.{is_forward_event}
-use Rattle.ckr_desk_memory.specs.Invariant.{IsAcceptedRow, IsPlacedRow}
+use Rattle.ckr_desk_memory.specs.Invariant.{IsAcceptedRow, IsPlacedRow, is_in_step}
 use Rattle.ckr_desk_memory.specs.OwnSets.{CommitsItsOwn, IsRunningOf}
 use Rattle.ckr_desk_memory.specs.OwnSteps.{HasPoint, HavePoints}
 use Rattle.ckr_desk_memory.specs.RunningSteps.{GoesOn}
 use Rattle.ckr_desk_memory.specs.View.{PointView, RunningStepView}
 use Rattle.ckr_desk_memory.proofs.Holders.Events.{by-some, goes-on, row-before, tested}
 use Rattle.ckr_desk_memory.proofs.Holders.Moves.{HasRow, by-own, by-row, row-as_is, row-next, row-number}
-use Rattle.ckr_desk_memory.proofs.Invariant.{idle-between, not-within, restarts-running}
+use Rattle.ckr_desk_memory.proofs.Invariant.{hand-in_step, idle-between, in_step-within, not-within, restarts-in_step, running-in_step}
+use Rattle.ckr_desk_memory.proofs.Queue.{held-is}
 use Rattle.ckr_desk_memory.proofs.Points.{other-point, own-with}
-use Rattle.ckr_desk_memory.proofs.RunningSteps.Again.{is-back, step-of-running}
+use Rattle.ckr_desk_memory.proofs.RunningSteps.Again.{is-back, step-of-within}
 use Rattle.ckr_desk_memory.proofs.Starts.Steps.{row-among}
 
 -- ---- a run that has no checkpoint in effect, or isn't running
 
 abbrev IsGone : RunRow → Type 0
-IsGone row = is_running row ≡ true → is_some row.in_effect ≡ true → ⊥
+IsGone row = is_in_step row ≡ true → is_some row.in_effect ≡ true → ⊥
 
 abbrev Gone : ℕ → TablesModel → Type 0
 Gone job after = (next : RunRow) → run_of after job ≡ Some next → IsGone next
@@ -106,9 +109,9 @@ module _ (layout : Layout) (tables : TablesModel) (rows : AllByRecursion IsAccep
         gone-abnormal tables job tables row row (place_of row) as_is mine (tested (own_step row) _ (and-second (is_in_state On row) _ follow) (λ owned found so. ap is_some found))
 
     -- a restart at the start of the step leaves the checkpoint
-    gone-restarted : (initiator : ℕ) → is_running row ≡ true → may_restart_again false row ≡ true → Gone job (by_step (λ owned step. after_restarted row owned step initiator false tables) row tables)
-    gone-restarted initiator runs again =
-        let its = step-of-running row its_placed runs in
+    gone-restarted : (initiator : ℕ) → is_in_step row ≡ true → may_restart_again false row ≡ true → Gone job (by_step (λ owned step. after_restarted row owned step initiator false tables) row tables)
+    gone-restarted initiator inside again =
+        let its = step-of-within row its_placed (in_step-within row inside) in
         let step = step_in (place_of row) in
         tested (point_at row.points step) _ again
         (λ point began few.
@@ -145,7 +148,7 @@ module _ (layout : Layout) (tables : TablesModel) (rows : AllByRecursion IsAccep
 
     -- a rewrite leaves it in effect
     abbrev StillKnown : List PointView → TablesModel → Type 0
-    StillKnown behind after = (next : RunRow) (owned : OwnedStep) → run_of after job ≡ Some next → is_running next ≡ true → is_some next.in_effect ≡ true → own_step next ≡ Some owned → HasPoint behind job owned
+    StillKnown behind after = (next : RunRow) (owned : OwnedStep) → run_of after job ≡ Some next → is_in_step next ≡ true → is_some next.in_effect ≡ true → own_step next ≡ Some owned → HasPoint behind job owned
 
     known-rewritten : (writes : ℕ) (lengths : List ℕ) → is_running row ≡ true → lengths_follow tables row lengths ≡ true → StillKnown points (by_step (λ owned step. after_rewritten row owned step writes lengths tables) row tables)
     known-rewritten writes lengths runs follow =
@@ -156,11 +159,30 @@ module _ (layout : Layout) (tables : TablesModel) (rows : AllByRecursion IsAccep
         (λ next other now runs_on effect there.
         let next_row : RunRow = record (row_rewritten step row) { place = Some (Within step writes) } in
         let same = some-one next_row next (run_of (after_rewritten row owned step writes lengths tables) job) (row-next tables tables job row next_row (after_rewritten row owned step writes lengths tables).sets as_is mine).now now in
-        known job row other at runs (still row.in_effect ∙ ap (λ (r : RunRow). is_some r.in_effect) same ∙ effect) (ap own_step same ∙ there)))
+        known job row other at (running-in_step row runs) (still row.in_effect ∙ ap (λ (r : RunRow). is_some r.in_effect) same ∙ effect) (ap own_step same ∙ there)))
       where
         still : (effect : Option EffectPoint) → is_some effect ≡ is_some (option_map effect_rewritten effect)
         still None = refl
         still (Some effect) = refl
+
+    -- so does a hold, and the release of a held run
+    known-held : (code : Code) (writes : ℕ) (lengths : List ℕ) → is_in_step row ≡ true → lengths_follow tables row lengths ≡ true → StillKnown points (by_step (λ owned step. after_held row owned step code writes lengths tables) row tables)
+    known-held code writes lengths inside follow =
+        tested (own_step row) _ follow
+        (λ owned found so.
+        let step = step_in (place_of row) in
+        by-own (StillKnown points) tables (λ owned step. after_held row owned step code writes lengths tables) row owned found
+        (λ next other now on effect there.
+        let next_row : RunRow = record row { state = HeldRun; initiator = None; code = Some code; place = Some (Within step writes) } in
+        let same = some-one next_row next (run_of (after_held row owned step code writes lengths tables) job) (row-next tables tables job row next_row (after_held row owned step code writes lengths tables).sets as_is mine).now now in
+        known job row other at inside (ap (λ (r : RunRow). is_some r.in_effect) same ∙ effect) (ap own_step same ∙ there)))
+
+    known-released : is_in_state HeldRun row ≡ true → StillKnown points (with_run (record row { state = Released }) tables)
+    known-released held next other now on effect there =
+        let next_row : RunRow = record row { state = Released } in
+        let same = some-one next_row next (run_of (with_run next_row tables) job) (row-next tables tables job row next_row tables.sets as_is mine).now now in
+        known job row other at (and_from (is_holder row.state) (is_within (place_of row)) (ap is_holder (held-is row.state held)) (in_step-within next_row (ap is_in_step same ∙ on)))
+        (ap (λ (r : RunRow). is_some r.in_effect) same ∙ effect) (ap own_step same ∙ there)
 
   -- ---- by its own run, and the others
 
@@ -173,7 +195,7 @@ module _ (layout : Layout) (tables : TablesModel) (rows : AllByRecursion IsAccep
 
     -- the points of other runs stay, and that of its own run is known
     with-own : is_forward_event event ≡ true → is_submission event ≡ false → follows layout tables event deck ≡ true
-        → ((row : RunRow) (owned : OwnedStep) → run_of after (job_of event) ≡ Some row → is_running row ≡ true → is_some row.in_effect ≡ true → own_step row ≡ Some owned → HasPoint behind (job_of event) owned)
+        → ((row : RunRow) (owned : OwnedStep) → run_of after (job_of event) ≡ Some row → is_in_step row ≡ true → is_some row.in_effect ≡ true → own_step row ≡ Some owned → HasPoint behind (job_of event) owned)
         → HavePoints after behind
     with-own plain other follow own number row owned at runs effect found =
         number-cases number (job_of event)
@@ -225,7 +247,7 @@ module _ (layout : Layout) (tables : TablesModel) (rows : AllByRecursion IsAccep
 
   known-submitted : (job : ℕ) (deck : Job) → HavePoints (after_submitted job deck tables) points
   known-submitted job deck number row owned at runs effect found =
-      row-before tables job deck number row at (λ new. absurd (false≢true (ap is_running new ∙ runs))) (λ was. known number row owned was runs effect found)
+      row-before tables job deck number row at (λ new. absurd (false≢true (ap is_in_step new ∙ runs))) (λ was. known number row owned was runs effect found)
 
   stay : (event : Event) (deck : Option Job) (old new : List RunningStepView) → is_forward_event event ≡ true → follows layout tables event deck ≡ true → CommitsItsOwn event tables old → GoesOn event (after_event event deck tables) points old new
       → AllByRecursion (IsRunningOf (after_event event deck tables)) new → StayKnown event deck new
@@ -269,14 +291,27 @@ module _ (layout : Layout) (tables : TablesModel) (rows : AllByRecursion IsAccep
       (λ row owned at runs effect found.
       let same_row : back.next ≡ row = some-one back.next row (run_of (after_event (Restarted job initiator code true) deck tables) job) back.next_at at in
       let same : back.owned ≡ owned = same_Some back.owned owned (sym back.found ∙ ap own_step same_row ∙ found) in
-      subst (HasPoint points job) same (known job back.row back.owned back.row_at back.runs back.effect back.was))
+      subst (HasPoint points job) same (known job back.row back.owned back.row_at back.inside back.effect back.was))
   stay (Restarted job initiator code false) deck old new plain follow commits goes all =
       with-gone (Restarted job initiator code false) deck new plain refl follow
       (tested-run tables job (λ row. (is_running row && option_eq nat_eq row.initiator (Some initiator) || is_in_state Released row && is_free layout tables initiator) && may_restart_again false row) follow
       (λ row at passes.
       by-row (Gone job) tables job (λ row. by_step (λ owned step. after_restarted row owned step initiator false tables) row tables) row at
-      (gone-restarted job row at initiator (restarts-running layout tables initiator false row (row-among IsPlacedRow tables job row placed at) passes)
+      (gone-restarted job row at initiator (restarts-in_step layout tables initiator false row (row-among IsPlacedRow tables job row placed at) passes)
       (and-second (is_running row && option_eq nat_eq row.initiator (Some initiator) || is_in_state Released row && is_free layout tables initiator) _ passes))))
+  stay (Held job code writes lengths) deck old new plain follow commits goes all =
+      with-own (Held job code writes lengths) deck new plain refl follow
+      (tested-run tables job (λ row. (is_running row || is_in_state Released row) && lengths_follow tables row lengths.items) follow
+      (λ row at passes.
+      by-row (StillKnown job row at points) tables job (λ row. by_step (λ owned step. after_held row owned step code writes lengths.items tables) row tables) row at
+      (known-held job row at code writes lengths.items
+      (hand-in_step row (and-first (is_running row || is_in_state Released row) _ passes) (row-among IsPlacedRow tables job row placed at))
+      (and-second (is_running row || is_in_state Released row) _ passes))))
+  stay (ReleasedEvent job) deck old new plain follow commits goes all =
+      with-own (ReleasedEvent job) deck new plain refl follow
+      (tested-run tables job (is_in_state HeldRun) follow
+      (λ row at passes.
+      by-row (StillKnown job row at points) tables job (λ row. with_run (record row { state = Released }) tables) row at (known-released job row at passes)))
   stay (Ended job ending) deck old new plain follow commits goes all =
       with-gone (Ended job ending) deck new plain refl follow
       (tested-run tables job (λ row. ended_follows tables row ending) follow

@@ -12,14 +12,14 @@ use Rattle.ckr_base.proofs.Options.{some-one}
 use Rattle.ckr_base.proofs.Sequences.{each-implies, find-holds, find-passes}
 use Rattle.ckr_events.specs.Jobs.{job_of}
 use Rattle.ckr_events.specs.declared.event.Event.{Event}
-use Rattle.ckr_events.specs.declared.event.Event.TheVariants.{Cancelled, Checkpointed, Ended, Purged, Restarted, Rewritten, Selected, Started, StepEnded, Submitted}
+use Rattle.ckr_events.specs.declared.event.Event.TheVariants.{Cancelled, Checkpointed, Ended, Held, Purged, Released, Restarted, Rewritten, Selected, Started, StepEnded, Submitted}
 use Rattle.ckr_events.specs.declared.event.Made.{Made}
 use Rattle.ckr_jcl.specs.declared.deck.Job.{Job}
 use Rattle.ckr_library.specs.Catalog.{records_of}
 use Rattle.ckr_library.specs.NameMaps.{Name, entry_at}
 use Rattle.ckr_library.specs.declared.sets.Kept.{Kept}
 use Rattle.ckr_meaning.specs.EffectiveJob.{Effective}
-use Rattle.ckr_points.specs.declared.run.RunState.TheVariants.{Queued, On}
+use Rattle.ckr_points.specs.declared.run.RunState.TheVariants.{Queued, On, Held as HeldRun}
 use Rattle.ckr_points.specs.Follows.{follows, is_checkpoint, is_free, is_in_state, is_length_of, is_running, lengths_follow, may_hold, of_step, own_step, selected_follows, started_follows, state_number}
 use Rattle.ckr_points.specs.Restart.{after_event, by_step, kept_at, place_of, step_in}
 use Rattle.ckr_points.specs.Rows.{RunRow, TableSet, TablesModel, run_of, step_of_run}
@@ -97,6 +97,11 @@ module _ (layout : Layout) (tables : TablesModel) (are : AreHolders tables) (row
   not_queued : {A : Type 0} (job : ℕ) (on : RunningStepView) → on.run ≡ job → IsRunningOf tables on → (row : RunRow) → run_of tables job ≡ Some row → is_in_state Queued row ≡ true → A
   not_queued job on here is row at queued =
       absurd (false≢true (sym (ap (λ s. state_number s == 1) is.state) ∙ ap (is_in_state Queued) (some-one is.row row (run_of tables job) (its_row job on here is) at) ∙ queued))
+
+  -- nor has one that is held
+  not_held : {A : Type 0} (job : ℕ) (on : RunningStepView) → on.run ≡ job → IsRunningOf tables on → (row : RunRow) → run_of tables job ≡ Some row → is_in_state HeldRun row ≡ true → A
+  not_held job on here is row at held =
+      absurd (false≢true (sym (ap (λ s. state_number s == 3) is.state) ∙ ap (is_in_state HeldRun) (some-one is.row row (run_of tables job) (its_row job on here is) at) ∙ held))
 
   submitted : (job : ℕ) (deck : Job) (on : RunningStepView) → IsRunningOf tables on → IsRunningOf (after_submitted job deck tables) on
   submitted job deck on is = running-same tables (after_submitted job deck tables) on is is.row (row-more tables job deck on.run is.row is.row_at) refl refl refl refl
@@ -235,10 +240,10 @@ module _ (layout : Layout) (tables : TablesModel) (are : AreHolders tables) (row
       again-cases tables after job points old new back goes
       (λ gone. subst (AllByRecursion (IsRunningOf after)) (sym gone) others)
       (λ point is new_one.
-      let has = known job back.row back.owned back.row_at back.runs back.effect back.was in
+      let has = known job back.row back.owned back.row_at back.inside back.effect back.was in
       let program = ap (λ (p : PointView). program_of p.state) (some-one point has.point (find (is_point_of job) points) is has.found) ∙ has.program in
       subst (AllByRecursion (IsRunningOf after)) (sym new_one.starts.first) (
-        running-again after job back.next back.owned point old new back.next_at back.state back.within back.found root program new_one.has new_one.starts,
+        running-again after job back.next back.owned point old new back.next_at new_one.state back.within back.found root program new_one.has new_one.starts,
         others,
       ))
 
@@ -281,6 +286,13 @@ module _ (layout : Layout) (tables : TablesModel) (are : AreHolders tables) (row
   stay (Restarted job initiator code false) deck points old new plain follow holders all known commits goes =
       subst (AllByRecursion (IsRunningOf (after_event (Restarted job initiator code false) deck tables))) (sym goes)
       (each-without_run (IsRunningOf tables) (IsRunningOf (after_event (Restarted job initiator code false) deck tables)) job old (other-steps (Restarted job initiator code false) deck plain refl follow) all)
+  stay (Held job code writes lengths) deck points old new plain follow holders all known commits goes =
+      subst (AllByRecursion (IsRunningOf (after_event (Held job code writes lengths) deck tables))) (sym goes)
+      (each-without_run (IsRunningOf tables) (IsRunningOf (after_event (Held job code writes lengths) deck tables)) job old (other-steps (Held job code writes lengths) deck plain refl follow) all)
+  stay (Released job) deck points old new plain follow holders all known commits goes =
+      subst (AllByRecursion (IsRunningOf (after_event (Released job) deck tables))) (sym goes)
+      (all-steps (Released job) deck plain refl follow
+      (λ on here is. tested-run tables job (is_in_state HeldRun) follow (λ row at held. not_held job on here is row at held)) old all)
   stay (Ended job ending) deck points old new plain follow holders all known commits goes =
       subst (AllByRecursion (IsRunningOf (after_event (Ended job ending) deck tables))) (sym goes)
       (each-without_run (IsRunningOf tables) (IsRunningOf (after_event (Ended job ending) deck tables)) job old (other-steps (Ended job ending) deck plain refl follow) all)

@@ -20,21 +20,21 @@ use Rattle.ckr_points.specs.Rows.{EffectPoint, RunRow, TablesModel, run_of, step
 use Rattle.ckr_volumes.specs.declared.layout.Layout.{Layout}
 use Rattle.ckr_desk_turn.specs.Queue.{AreNumbered}
 use Rattle.ckr_desk_memory.specs.EventChanges.{is_point_of, without_run}
-use Rattle.ckr_desk_memory.specs.Invariant.{IsAnyPlaceOf, IsPlacedRow}
-use Rattle.ckr_desk_memory.specs.RunningSteps.{GoesFrom, StepGoesBack}
+use Rattle.ckr_desk_memory.specs.Invariant.{IsAnyPlaceOf, IsPlacedRow, is_in_step}
+use Rattle.ckr_desk_memory.specs.RunningSteps.{GoesFrom, StepGoesBack, may_go_back}
 use Rattle.ckr_desk_memory.specs.Start.{HasNew, has_sets}
 use Rattle.ckr_desk_memory.specs.View.{PointView, RunningStepView, resumed}
 use Rattle.ckr_desk_memory.proofs.Holders.Moves.{by-row, row-as_is, row-next, row-number}
-use Rattle.ckr_desk_memory.proofs.Invariant.{restarts-running}
+use Rattle.ckr_desk_memory.proofs.Invariant.{in_step-within, restarts-in_step}
 use Rattle.ckr_desk_memory.proofs.Queue.{on-is, run-there}
 use Rattle.ckr_desk_memory.proofs.Runs.{by-step}
 use Rattle.ckr_desk_memory.proofs.Starts.Steps.{row-among}
 
 -- ---- the row of the run
 
--- a run that is running has the step that it is within
-pub step-of-running : (row : RunRow) → IsPlacedRow row → is_running row ≡ true → (owned : OwnedStep) × (own_step row ≡ Some owned)
-step-of-running row placed runs = of_some (own_step row) (by row.place placed.place (and-second (is_in_state On row) (is_within (place_of row)) runs))
+-- a run within a step has that step
+pub step-of-within : (row : RunRow) → IsPlacedRow row → is_within (place_of row) ≡ true → (owned : OwnedStep) × (own_step row ≡ Some owned)
+step-of-within row placed within = of_some (own_step row) (by row.place placed.place within)
   where
     by : (place : Option Place) → IsAnyPlaceOf row.job place → is_within (option_map_or (λ one. one) place (Before 1)) ≡ true → IsSome (step_of_run row (step_in (option_map_or (λ one. one) place (Before 1))))
     by None is within = absurd (false≢true within)
@@ -46,17 +46,16 @@ step-of-running row placed runs = of_some (own_step row) (by row.place placed.pl
     of_some None some = absurd (false≢true some)
     of_some (Some owned) some = (owned, refl)
 
--- behind the restart it is on its initiator, within the step that it was within, and its checkpoint is in effect
+-- behind the restart it is within the step that it was within, and its checkpoint was in effect
 pub record IsBack (tables after : TablesModel) (job : ℕ) : Type 0 where
   pub row : RunRow
   pub owned : OwnedStep
   pub next : RunRow
   pub row_at : run_of tables job ≡ Some row
-  pub runs : is_running row ≡ true
+  pub inside : is_in_step row ≡ true
   pub effect : is_some row.in_effect ≡ true
   pub was : own_step row ≡ Some owned
   pub next_at : run_of after job ≡ Some next
-  pub state : next.state ≡ On
   pub within : is_within (place_of next) ≡ true
   pub found : own_step next ≡ Some owned
   pub job_is : next.job ≡ row.job
@@ -74,8 +73,8 @@ is-back layout tables job initiator code deck numbered placed follow =
     let there = run-there tables job (λ row. (is_running row && option_eq nat_eq row.initiator (Some initiator) || is_in_state Released row && is_free layout tables initiator) && may_restart_again true row) follow in
     let row = there.0 in
     let is = row-among IsPlacedRow tables job row placed there.1 in
-    let runs = restarts-running layout tables initiator true row is there.2 in
-    let owned = step-of-running row is runs in
+    let inside = restarts-in_step layout tables initiator true row is there.2 in
+    let owned = step-of-within row is (in_step-within row inside) in
     let effect = in_effect_of row (and-second (is_running row && option_eq nat_eq row.initiator (Some initiator) || is_in_state Released row && is_free layout tables initiator) _ there.2) in
     let Back : TablesModel → Type 0 = λ after. IsBack tables after job in
     let same : Back tables = record {
@@ -83,12 +82,11 @@ is-back layout tables job initiator code deck numbered placed follow =
       owned = owned.0;
       next = row;
       row_at = there.1;
-      runs = runs;
+      inside = inside;
       effect = effect;
       was = owned.1;
       next_at = there.1;
-      state = on-is row.state (and-first (is_in_state On row) (is_within (place_of row)) runs);
-      within = and-second (is_in_state On row) (is_within (place_of row)) runs;
+      within = in_step-within row inside;
       found = owned.1;
       job_is = refl;
     } in
@@ -103,11 +101,10 @@ is-back layout tables job initiator code deck numbered placed follow =
       owned = owned.0;
       next = _;
       row_at = there.1;
-      runs = runs;
+      inside = inside;
       effect = effect;
       was = owned.1;
       next_at = (row-next tables tables job row _ (put_back entry.point.marks (output_names row.job.root own) (names_of row.job.root own) tables.sets) (row-as_is tables job row there.1) (row-number tables job row numbered there.1)).now;
-      state = refl;
       within = refl;
       found = owned.1;
       job_is = refl;
@@ -115,20 +112,25 @@ is-back layout tables job initiator code deck numbered placed follow =
 
 -- ---- its step
 
--- it goes on from its point, with the data sets that the tables have
-pub record IsOnAgain (after : TablesModel) (job : ℕ) (owned : OwnedStep) (point : PointView) (old new : List RunningStepView) : Type 0 where
+-- its run is on its initiator, and it goes on from its point, with the data sets that the tables have
+pub record IsOnAgain (after : TablesModel) (job : ℕ) (next : RunRow) (owned : OwnedStep) (point : PointView) (old new : List RunningStepView) : Type 0 where
+  pub state : next.state ≡ On
   pub has : has_sets after.sets (names_of job owned) ≡ true
   pub starts : HasNew job owned (resumed job owned.step point) after.sets old new
 
 -- so it is, or no step of the run is running
 pub again-cases : {A : Type 0} (tables after : TablesModel) (job : ℕ) (points : List PointView) (old new : List RunningStepView) (back : IsBack tables after job) → StepGoesBack (find (is_point_of job) points) job after old new
-    → (new ≡ without_run job old → A) → ((point : PointView) → find (is_point_of job) points ≡ Some point → IsOnAgain after job back.owned point old new → A) → A
+    → (new ≡ without_run job old → A) → ((point : PointView) → find (is_point_of job) points ≡ Some point → IsOnAgain after job back.next back.owned point old new → A) → A
 again-cases {A = A} tables after job points old new back goes gone again = by (find (is_point_of job) points) refl goes
   where
     by : (found : Option PointView) → find (is_point_of job) points ≡ found → StepGoesBack found job after old new → A
     by None is goes = gone goes
-    by (Some point) is goes = sets (has_sets after.sets (names_of job back.owned)) refl (goes back.next back.owned back.next_at back.found)
+    by (Some point) is goes = sets (may_go_back after job back.owned back.next) refl (goes back.next back.owned back.next_at back.found)
       where
-        sets : (has : Bool) → has_sets after.sets (names_of job back.owned) ≡ has → GoesFrom has job back.owned point after old new → A
-        sets true has starts = again point is (record { has = has; starts = starts })
+        sets : (goes_on : Bool) → may_go_back after job back.owned back.next ≡ goes_on → GoesFrom goes_on job back.owned point after old new → A
+        sets true may starts = again point is (record {
+          state = on-is back.next.state (and-first (is_in_state On back.next) _ may);
+          has = and-second (is_in_state On back.next) _ may;
+          starts = starts;
+        })
         sets false lacks leaves = gone leaves

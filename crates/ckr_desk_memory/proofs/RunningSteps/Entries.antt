@@ -21,6 +21,7 @@ use Rattle.ckr_steps.specs.declared.step_run.StepRun.{StepRun}
 use Rattle.ckr_volumes.specs.Layouts.{StandsIn, lie_apart}
 use Rattle.ckr_volumes.specs.declared.layout.Layout.{Layout}
 use Rattle.ckr_desk_memory.specs.EventChanges.{FirstEnters, HasEntered, IsEntered, has_space, is_of_run, with_entry_end, without_first}
+use Rattle.ckr_desk_memory.specs.Plans.{IsAnyCode}
 use Rattle.ckr_desk_memory.specs.Invariant.{IsRunnable}
 use Rattle.ckr_desk_memory.specs.View.{RunningStepView}
 use Rattle.ckr_desk_memory.proofs.RunningSteps.First.{all-without}
@@ -79,6 +80,7 @@ module _ (layout : Layout) (check : Option Name) (most : ℕ) (on new : RunningS
 
   pub entered-runnable : IsRunnable layout on → IsRunnable layout new
   entered-runnable runs = record {
+    coded = subst IsAnyCode (sym entered.code) runs.coded;
     stored = stored_behind runs.stored;
     there =
         subst (λ (step : StepRun). AreThere step.files new.sets) (sym entered.step)

@@ -10,7 +10,7 @@ use Rattle.ckr_base.proofs.Options.{some-not-none, some-one}
 use Rattle.ckr_base.specs.declared.code.Code.{Code}
 use Rattle.arrayvec.specs.ArrayVec.{ArrayVec}
 use Rattle.ckr_events.specs.declared.event.Event.{Event}
-use Rattle.ckr_events.specs.declared.event.Event.TheVariants.{Started, Checkpointed, Cancelled, StepEnded, Restarted, Ended}
+use Rattle.ckr_events.specs.declared.event.Event.TheVariants.{Started, Checkpointed, Cancelled, StepEnded, Restarted, Held, Ended}
 use Rattle.ckr_events.specs.declared.event.Made.{Made}
 use Rattle.ckr_jcl.specs.declared.deck.Job.{Job}
 use Rattle.ckr_library.specs.Catalog.{records_of}
@@ -145,7 +145,7 @@ module _ (layout : Layout) (old : TablesModel) (numbered : AreNumbered 1 old.run
       let prepared = has there.0 owned.0 there.1 owned.1 in
       subst (AllByRecursion (IsRunnable layout)) (sym new.first) (
         is-runnable layout old job step items deck there.0 owned.0 new.on numbered rows there.1 owned.1 there.2 (laid-behind layout old laid (Started job step items) deck refl follow) new.step
-            (subst AreCounted (prepared.2.step ∙ sym new.step) prepared.2.counted) new.sets,
+            (subst AreCounted (prepared.2.step ∙ sym new.step) prepared.2.counted) new.sets new.code,
         all-filtered (IsRunnable layout) _ before all,
       )
 
@@ -162,7 +162,7 @@ module _ (layout : Layout) (old : TablesModel) (numbered : AreNumbered 1 old.run
       let prepared = subst (λ (found : Option PointView). HasAgain found old job again) is has back.row back.owned back.row_at back.was in
       subst (AllByRecursion (IsRunnable layout)) (sym new.starts.first) (
         runnable-at layout old job (step_in (place_of back.row)) back.row back.owned new.starts.on after.sets numbered rows back.row_at back.was (laid-behind layout old laid (Restarted job initiator code true) deck refl follow)
-            (ap (λ (s : StepRun). s.files) new.starts.step) (subst AreCounted (prepared.2.step ∙ sym new.starts.step) prepared.2.counted) (λ name among. has-among after.sets (names_of job back.owned) name new.has among) new.starts.sets,
+            (ap (λ (s : StepRun). s.files) new.starts.step) (subst AreCounted (prepared.2.step ∙ sym new.starts.step) prepared.2.counted) (λ name among. has-among after.sets (names_of job back.owned) name new.has among) new.starts.sets new.starts.code,
         others,
       ))
 
@@ -192,6 +192,7 @@ module _ (layout : Layout) (old : TablesModel) (numbered : AreNumbered 1 old.run
   runnable (Restarted job initiator code true) deck begun jobs before now is follow has goes all =
       again_runnable job initiator code deck begun jobs.points before now follow (subst (λ t. HasAgain (find (is_point_of job) jobs.points) t job begun) is has.step) goes all
   runnable (Restarted job initiator code false) deck begun jobs before now is follow has goes all = subst (AllByRecursion (IsRunnable layout)) (sym goes) (all-filtered (IsRunnable layout) _ before all)
+  runnable (Held job code writes lengths) deck begun jobs before now is follow has goes all = subst (AllByRecursion (IsRunnable layout)) (sym goes) (all-filtered (IsRunnable layout) _ before all)
   runnable (Ended job ending) deck begun jobs before now is follow has goes all = subst (AllByRecursion (IsRunnable layout)) (sym goes) (all-filtered (IsRunnable layout) _ before all)
   runnable _ deck begun jobs before now is follow has goes all = subst (AllByRecursion (IsRunnable layout)) (sym goes) all
 
@@ -203,7 +204,7 @@ pub jobs-behind : (layout : Layout) (old new : JobsView) (event : Event) (deck :
 jobs-behind layout old new event deck begun numbered plain is follow has tables goes are = record {
   laid = subst (λ (t : TablesModel). AreLaidOut layout t.sets) (sym tables) (laid-behind layout old.tables.desk are.laid event deck plain follow);
   rows = subst (λ (t : TablesModel). AllByRecursion IsAcceptedRow t.runs) (sym tables) (accepted-behind old.tables.desk event deck numbered plain is are.rows);
-  placed = subst (λ (t : TablesModel). AllByRecursion IsPlacedRow t.runs) (sym tables) (placed-behind layout old.tables.desk event deck plain follow are.placed);
+  placed = subst (λ (t : TablesModel). AllByRecursion IsPlacedRow t.runs) (sym tables) (placed-behind layout old.tables.desk event deck plain is follow are.placed);
   running =
       runnable layout old.tables.desk numbered are.rows are.laid are.placed event deck begun old old.running new.running refl follow has
       (subst (λ (t : TablesModel). GoesOn event t old.points old.running new.running) tables goes) are.running;

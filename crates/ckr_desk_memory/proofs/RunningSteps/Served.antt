@@ -40,6 +40,7 @@ step_runnable : (layout : Layout) (on : RunningStepView) → IsRunnable layout o
 step_runnable layout on runs = record {
   stored = runs.stored;
   there = runs.there;
+  coded = runs.coded;
   counted = served_counted on.step.parm on.step.state on.step.writes false runs.counted (λ e. absurd (false≢true e));
 }
 

@@ -4,7 +4,7 @@ use Rattle.std.proofs.lemmas.Option.{same_Some}
 use Rattle.std.specs.List.{AllByRecursion}
 use Rattle.std.specs.Prelude.{if◌then◌else◌}
 use Rattle.std.specs.List.{cons_option, filter_map}
-use Rattle.std.specs.Option.{is_some, option_map}
+use Rattle.std.specs.Option.{is_some, option_map, option_map_or}
 use Rattle.ckr_base.proofs.Options.{some-not-none}
 use Rattle.ckr_points_library.specs.Holdings.{owned}
 use Rattle.ckr_jcl.specs.declared.deck.Dd.{Dd}
@@ -13,7 +13,8 @@ use Rattle.ckr_library.specs.Catalog.{Catalog, Holding}
 use Rattle.ckr_library.specs.NameMaps.{Name, Named, entry_at}
 use Rattle.ckr_library.proofs.Named.{at-viewed}
 use Rattle.ckr_meaning.specs.EffectiveJob.{OwnedStep, name_of, names_of}
-use Rattle.ckr_points.specs.Follows.{own_step}
+use Rattle.ckr_points.specs.declared.run.RunState.TheVariants.{On}
+use Rattle.ckr_points.specs.Follows.{is_in_state, of_run, own_step}
 use Rattle.ckr_points.specs.Restart.{place_of, step_in}
 use Rattle.ckr_points.specs.Rows.{RunRow, TableSet, TablesModel, holding_of, run_of, step_of_run}
 use Rattle.ckr_points_tables.specs.declared.run_table.RunTable.{RunTable}
@@ -26,7 +27,7 @@ use Rattle.ckr_desk_memory.specs.Parts.{step_seen}
 use Rattle.ckr_desk_memory.specs.Preparation.{HasAgain, HasStep, IsEmpty}
 use Rattle.ckr_desk_memory.specs.EventChanges.{without_run}
 use Rattle.ckr_desk_memory.specs.View.{PointView, RunningStepView}
-use Rattle.ckr_desk_memory.specs.RunningSteps.{GoesFrom, StepGoesBack, StepStarts}
+use Rattle.ckr_desk_memory.specs.RunningSteps.{GoesFrom, StepGoesBack, StepStarts, may_go_back}
 use Rattle.ckr_desk_memory.specs.Start.{HasNew, has_all, has_any, has_sets, with_all_taken}
 use Rattle.ckr_desk_memory.proofs.Starts.Steps.{IsNumberOf, IsStepAt, number-in, own-found, owned-is}
 use Rattle.ckr_desk_memory.proofs.Invariant.{seen-without}
@@ -48,6 +49,7 @@ module _ (tables : TablesModel) (job step : ℕ) (table : RunTable) (own : Step)
             ∙ ap (λ (others : List RunningStepView). step_seen (record on { sets = sets }) ∷ others) (seen-without job before);
         run = empty.run;
         step = refl;
+        code = empty.code;
         sets = taken-sets (name_of job (owned own job [])) own.dds tables.sets from sets from_is (sets_is ∙ ap (with_all_taken (name_of job (owned own job [])) from own.dds) empty.empty);
       })
 
@@ -70,15 +72,22 @@ has-all sets name (dd ∷ dds) = by (name dd) (has-all sets name dds)
     by None same = same
     by (Some one) same = ap (λ b. b && has_all name (seen_by holding_of sets) dds) (seen-has sets one) ∙ ap (λ b. is_some (entry_at sets one) && b) same
 
--- so it is found, and its number
-pub found-there : (tables : TablesModel) (job step : ℕ) (table : RunTable) (own : Step) (from : Named Holding) (there : Bool) → AreNumbered 1 tables.runs → AllByRecursion IsAcceptedRow tables.runs → option_map facts_of (Some table) ≡ option_map facts_in (run_of tables job)
+-- a run that isn't on an initiator doesn't go back
+pub off-there : (tables : TablesModel) (job : ℕ) → of_run tables job (is_in_state On) ≡ false → (row : RunRow) (owned : OwnedStep) → run_of tables job ≡ Some row → own_step row ≡ Some owned → None ≡ (if may_go_back tables job owned row then Some (step_in (place_of row)) else None)
+off-there tables job off row owned at found =
+    ap (λ b. if b && has_sets tables.sets (names_of job owned) then Some (step_in (place_of row)) else None)
+    (sym off ∙ ap (λ (o : Option RunRow). option_map_or (is_in_state On) o false) at)
+
+-- one that is has its step found, and its number
+pub found-there : (tables : TablesModel) (job step : ℕ) (table : RunTable) (own : Step) (from : Named Holding) (there : Bool) → of_run tables job (is_in_state On) ≡ true → AreNumbered 1 tables.runs → AllByRecursion IsAcceptedRow tables.runs → option_map facts_of (Some table) ≡ option_map facts_in (run_of tables job)
     → IsStepAt table.job step (Some own) → IsNumberOf table step → from ≡ seen_by holding_of tables.sets → there ≡ has_all (name_of job (owned own job [])) from own.dds
-    → (row : RunRow) (owned : OwnedStep) → run_of tables job ≡ Some row → own_step row ≡ Some owned → (if there then Some step else None) ≡ (if has_sets tables.sets (names_of job owned) then Some (step_in (place_of row)) else None)
-found-there tables job step table own from there numbered rows seen is number from_is there_is row its at found =
+    → (row : RunRow) (owned : OwnedStep) → run_of tables job ≡ Some row → own_step row ≡ Some owned → (if there then Some step else None) ≡ (if may_go_back tables job owned row then Some (step_in (place_of row)) else None)
+found-there tables job step table own from there on numbered rows seen is number from_is there_is row its at found =
     let same = owned-is tables job step table own numbered rows seen is row its at (own-found tables job step table seen number row its at found) in
     ap (λ n. if there then Some n else None) (number-in tables job step table seen number row at)
     ∙ ap (λ b. if b then Some (step_in (place_of row)) else None)
-    (there_is ∙ ap (λ sets. has_all (name_of job (owned own job [])) sets own.dds) from_is ∙ has-all tables.sets (name_of job (owned own job [])) own.dds ∙ ap (λ (o : OwnedStep). has_sets tables.sets (names_of job o)) (sym same))
+    (there_is ∙ ap (λ sets. has_all (name_of job (owned own job [])) sets own.dds) from_is ∙ has-all tables.sets (name_of job (owned own job [])) own.dds ∙ ap (λ (o : OwnedStep). has_sets tables.sets (names_of job o)) (sym same)
+    ∙ ap (λ b. b && has_sets tables.sets (names_of job its)) (sym on ∙ ap (λ (o : Option RunRow). option_map_or (is_in_state On) o false) at))
 
 -- what its number says of its data sets
 pub is-there : (has : Bool) (number step : ℕ) → Some step ≡ (if has then Some number else None) → (has ≡ true) × (step ≡ number)
@@ -113,16 +122,16 @@ module _ (tables : TablesModel) (job : ℕ) (old new : List RunningStepView) whe
   again-none (Some point) again none has leaves = λ row owned at found.
       let prepared = has row owned at found in absurd (some-not-none prepared.0 (sym prepared.1 ∙ none))
 
-  -- the tables don't have all its data sets
+  -- the run isn't on an initiator, or the tables don't have all its data sets
   pub again-left : (on : RunningStep) (point : Option PointView) (again : Option RunningStep) → again ≡ Some on → HasAgain point tables job again → new ≡ without_run job old
-      → ((row : RunRow) (owned : OwnedStep) → run_of tables job ≡ Some row → own_step row ≡ Some owned → has_sets tables.sets (names_of job owned) ≡ false) → StepGoesBack point job tables old new
+      → ((row : RunRow) (owned : OwnedStep) → run_of tables job ≡ Some row → own_step row ≡ Some owned → may_go_back tables job owned row ≡ false) → StepGoesBack point job tables old new
   again-left on None again is has leaves lacks = leaves
   again-left on (Some point) again is has leaves lacks = λ row owned at found.
       subst (λ b. GoesFrom b job owned point tables old new) (sym (lacks row owned at found)) leaves
 
-  -- they have, and it goes on from there
+  -- it is, they have, and it goes on from there
   pub again-some : (on : RunningStep) (point : Option PointView) (again : Option RunningStep) → again ≡ Some on → HasAgain point tables job again
-      → ((row : RunRow) (owned : OwnedStep) → run_of tables job ≡ Some row → own_step row ≡ Some owned → (has_sets tables.sets (names_of job owned) ≡ true) × HasNew job owned on.step tables.sets old new)
+      → ((row : RunRow) (owned : OwnedStep) → run_of tables job ≡ Some row → own_step row ≡ Some owned → (may_go_back tables job owned row ≡ true) × HasNew job owned on.step tables.sets old new)
       → StepGoesBack point job tables old new
   again-some on None again is has goes = absurd (some-not-none on (sym is ∙ has))
   again-some on (Some point) again is has goes = λ row owned at found.

@@ -40,6 +40,7 @@ use Rattle.ckr_points_decks.specs.DeckLimits.{HasNamesOnce}
 use Rattle.ckr_points_decks.proofs.JobForm.{steps_once}
 use Rattle.ckr_desk_turn.specs.Queue.{AreNumbered}
 use Rattle.ckr_desk_turn.proofs.Queue.Events.{run_number}
+use Rattle.ckr_desk_memory.specs.Plans.{IsAnyCode}
 use Rattle.ckr_desk_memory.specs.Invariant.{IsAcceptedRow, IsRunnable}
 use Rattle.ckr_desk_memory.specs.View.{RunningStepView, begun}
 use Rattle.ckr_desk_memory.specs.Start.{set_in_tables}
@@ -136,8 +137,8 @@ pub runnable-at : (layout : Layout) (tables : TablesModel) (job step : ℕ) (row
     → run_of tables job ≡ Some row → step_of_run row step ≡ Some owned → AreLaidOut layout after → on.step.files ≡ files_of job job owned.step → AreCounted on.step
     → ((name : Name) → is_among (names_of job owned) name ≡ true → is_some (entry_at after name) ≡ true)
     → ((name : Name) → set_of on.sets name ≡ cond (is_among (names_of job owned) name) (set_in_tables after name) None)
-    → IsRunnable layout on
-runnable-at layout tables job step row owned on after numbered rows at there laid is counted kept has =
+    → on.code ≡ None → IsRunnable layout on
+runnable-at layout tables job step row owned on after numbered rows at there laid is counted kept has code =
     let own = is_own tables job step row owned numbered rows at there in
     let start : StepStart = record { root = job; owned = owned; number = step; standing = record { sets = []; passed = [] }; earlier = [] } in
     let names : (name : Name) → is_among (names_of job owned) name ≡ true → (set : DataSet) × (set_of on.sets name ≡ Some set) =
@@ -153,6 +154,7 @@ runnable-at layout tables job step row owned on after numbered rows at there lai
           (ap (λ n. files_of job n owned.step) own.owner ∙ sym is)
           (are-there start on.sets names own.distinct first second);
       counted = counted;
+      coded = subst IsAnyCode (sym code) tt;
     }
 
 -- a step that has started can go on
@@ -160,11 +162,11 @@ pub is-runnable : (layout : Layout) (tables : TablesModel) (job step : ℕ) (ite
     → run_of tables job ≡ Some row → step_of_run row step ≡ Some owned → started_follows layout tables step items.items row ≡ true → AreLaidOut layout (after_event (Started job step items) deck tables).sets
     → on.step ≡ begun job owned.step → AreCounted on.step
     → ((name : Name) → set_of on.sets name ≡ cond (is_among (names_of job owned) name) (set_in_tables (after_event (Started job step items) deck tables).sets name) None)
-    → IsRunnable layout on
-is-runnable layout tables job step items deck row owned on numbered rows at there follow laid is counted has =
+    → on.code ≡ None → IsRunnable layout on
+is-runnable layout tables job step items deck row owned on numbered rows at there follow laid is counted has code =
     let own = is_own tables job step row owned numbered rows at there in
     let after : Named TableSet = (after_event (Started job step items) deck tables).sets in
     runnable-at layout tables job step row owned on after numbered rows at there laid (ap (λ (s : StepRun). s.files) is) counted
     (λ name among.
     subst (λ (t : TablesModel). is_some (entry_at t.sets name) ≡ true) (sym (behind_start tables job step items deck row owned at there))
-    (names-there tables row owned step items.items (no_flaws layout tables step items.items row owned follow there) name (ap (λ n. is_among (names_of n owned) name) own.root ∙ among))) has
+    (names-there tables row owned step items.items (no_flaws layout tables step items.items row owned follow there) name (ap (λ n. is_among (names_of n owned) name) own.root ∙ among))) has code

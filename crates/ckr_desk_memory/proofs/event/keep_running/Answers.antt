@@ -45,7 +45,10 @@ returns-in-StepEnded c = λ points from.
     let leaves = ap (map step_seen) c.leave.ensures.items ∙ seen-without c.in-StepEnded.job c.args.running.now.items in
     elim c.in-StepEnded.is [
       | inl step ↦ subst Goes (sym step.4) leaves
-      | inr end ↦ subst Goes (sym end.1) leaves
+      | inr other ↦ elim other [
+        | inl held ↦ subst Goes (sym held.3) leaves
+        | inr end ↦ subst Goes (sym end.1) leaves
+      ]
     ]
 
 module _ (tables : TablesModel) (job initiator : ℕ) (code : Code) (begun : Option RunningStep) where

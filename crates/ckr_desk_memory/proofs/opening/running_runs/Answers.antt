@@ -1,5 +1,5 @@
 use Rattle.std.proofs.Common.{◌≡◌, ◌∷◌, ◌++◌, []}
-use Rattle.ckr_desk_memory.proofs.FailedRuns.{one-left, one-put}
+use Rattle.ckr_desk_memory.proofs.FailedRuns.{mark_at, one-left, one-put}
 use Rattle.ckr_desk_memory.proofs.opening.running_runs.Goals as goal
 use Rattle.ckr_desk_memory.proofs.opening.running_runs.Goals.{then-is_running+in_ok-push, else-is_running}
 
@@ -7,7 +7,7 @@ pub loop-line-preserved : goal.loop-line-preserved
 loop-line-preserved c =
     elim c.if-is_running.branch [
       | then-is_running+in_ok-push w ↦
-          let pushed : c.if-is_running.running.items ≡ c.loop-line.running.items ++ c.line-item.result.number ∷ [] = cc w.in_ok-push.ensures.items in
+          let pushed : c.if-is_running.running.items ≡ c.loop-line.running.items ++ mark_at c.line-item.result ∷ [] = cc w.in_ok-push.ensures.items in
           record {
             lines = c.loop-line.invariant.lines;
             running =

@@ -12,7 +12,7 @@ judged : (c : After-automatic) → c.automatic.result ≡ verdict_for c.args.lay
 judged c = c.automatic.ensures ∙ ap automatic (c.auto_case.ensures c.args.run)
 
 abbrev by_verdict : After-automatic → Verdict → Plan
-by_verdict c = judged_plan c.args.tables.now.desk (row_for c.args.run c.args.table.now) c.args.initiator c.args.code (reached_seen c.args.reached)
+by_verdict c = judged_plan c.args.tables.now.desk (row_for c.args.run c.args.table.now) c.args.seat.initiator c.args.seat.lodged c.args.code (reached_seen c.args.reached)
 
 pub returns-in-Denied-clause-plan : goal.returns-in-Denied-clause-plan
 returns-in-Denied-clause-plan c =
@@ -22,9 +22,9 @@ returns-in-Denied-clause-plan c =
 pub returns-in-Step-clause-plan : goal.returns-in-Step-clause-plan
 returns-in-Step-clause-plan c =
     let before = (goal.at.returns-in-Step-clause-plan c).After-automatic in
-    c.restarted.ensures.plan ∙ ap (by_verdict before) (sym c.in-Step.is ∙ judged before)
+    c.asked.ensures.start refl ∙ ap (by_verdict before) (sym c.in-Step.is ∙ judged before)
 
 pub returns-in-Checkpoint-clause-plan : goal.returns-in-Checkpoint-clause-plan
 returns-in-Checkpoint-clause-plan c =
     let before = (goal.at.returns-in-Checkpoint-clause-plan c).After-automatic in
-    c.restarted_back.ensures.plan ∙ ap (by_verdict before) (sym c.in-Checkpoint.is ∙ judged before)
+    c.asked_back.ensures.plan ∙ ap (by_verdict before) (sym c.in-Checkpoint.is ∙ judged before)

@@ -1,9 +1,8 @@
 use Rattle.std.proofs.Common.{map, ap, sym, ◌∙◌}
-use Rattle.ckr_meaning.specs.EffectiveJob.{names_of}
 use Rattle.ckr_points.specs.Restart.{place_of, step_in}
 use Rattle.ckr_points.specs.Rows.{step_of_run}
 use Rattle.ckr_desk_memory.specs.Parts.{step_seen}
-use Rattle.ckr_desk_memory.specs.Start.{has_sets}
+use Rattle.ckr_desk_memory.specs.RunningSteps.{may_go_back}
 use Rattle.ckr_desk_memory.proofs.Invariant.{seen-without}
 use Rattle.ckr_desk_memory.proofs.Starts.NewStep.{again-left, again-none, again-some, is-there, isnt-there}
 use Rattle.ckr_desk_memory.proofs.start.start_again.Goals as goal
@@ -17,11 +16,11 @@ pub returns-in-None : goal.returns-in-None
 returns-in-None c = λ point has.
     again-left c.args.tables.now.desk c.args.job (map step_seen c.args.running.now.items) _ c.in-Some.on point c.args.again c.in-Some.is has
     (ap (map step_seen) c.leave-in-None.ensures.items ∙ seen-without c.args.job c.args.running.now.items)
-    (λ row owned at found. isnt-there (has_sets c.args.tables.now.desk.sets (names_of c.args.job owned)) (step_in (place_of row)) (sym c.in-None.is ∙ c.step_there.ensures row owned at found))
+    (λ row owned at found. isnt-there (may_go_back c.args.tables.now.desk c.args.job owned row) (step_in (place_of row)) (sym c.in-None.is ∙ c.step_there.ensures row owned at found))
 
 pub returns-in-Some-step_there : goal.returns-in-Some-step_there
 returns-in-Some-step_there c = λ point has.
     again-some c.args.tables.now.desk c.args.job (map step_seen c.args.running.now.items) _ c.in-Some.on point c.args.again c.in-Some.is has
     (λ row owned at found.
-    let there = is-there (has_sets c.args.tables.now.desk.sets (names_of c.args.job owned)) (step_in (place_of row)) c.in-Some-step_there.step (sym c.in-Some-step_there.is ∙ c.step_there.ensures row owned at found) in
+    let there = is-there (may_go_back c.args.tables.now.desk c.args.job owned row) (step_in (place_of row)) c.in-Some-step_there.step (sym c.in-Some-step_there.is ∙ c.step_there.ensures row owned at found) in
     (there.0, c.start_step.ensures row owned at (ap (step_of_run row) there.1 ∙ found)))

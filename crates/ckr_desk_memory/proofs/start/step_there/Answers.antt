@@ -2,19 +2,22 @@ use Rattle.std.proofs.Common.{ap, sym, ◌∙◌, Some, None}
 use Rattle.std.specs.Prelude.{if◌then◌else◌}
 use Rattle.ckr_points.specs.Restart.{step_in}
 use Rattle.ckr_desk_memory.proofs.Starts.Steps.{none-starts, own-found}
-use Rattle.ckr_desk_memory.proofs.Starts.NewStep.{found-there}
+use Rattle.ckr_desk_memory.proofs.Starts.NewStep.{found-there, off-there}
 use Rattle.ckr_desk_memory.proofs.start.step_there.Goals as goal
+
+pub returns-then-not-is_on : goal.returns-then-not-is_on
+returns-then-not-is_on c = λ row owned at found. off-there c.args.tables.now.desk c.args.job (sym c.is_on.ensures ∙ c.if-not-is_on.true) row owned at found
 
 pub returns-then-has_sets : goal.returns-then-has_sets
 returns-then-has_sets c = λ row owned at found.
     ap (λ b. if b then Some c.step_in-step.result else None) (sym c.if-has_sets.true)
-    ∙ found-there c.args.tables.now.desk c.args.job c.step_in-step.result c.in-Some.table.now c.in-Some-step_at.own.now c.library.result.now.sets c.has_sets.result c.requires.numbered c.requires.rows c.in-Some.ensures
+    ∙ found-there c.args.tables.now.desk c.args.job c.step_in-step.result c.in-Some.table.now c.in-Some-step_at.own.now c.library.result.now.sets c.has_sets.result (sym c.is_on.ensures ∙ c.if-not-is_on.false) c.requires.numbered c.requires.rows c.in-Some.ensures
     c.in-Some-step_at.ensures (λ run. c.step_in-step.ensures ∙ ap step_in (c.place_of.ensures run)) c.library.ensures.sets c.has_sets.ensures row owned at found
 
 pub returns-else-has_sets : goal.returns-else-has_sets
 returns-else-has_sets c = λ row owned at found.
     ap (λ b. if b then Some c.step_in-step.result else None) (sym c.if-has_sets.false)
-    ∙ found-there c.args.tables.now.desk c.args.job c.step_in-step.result c.in-Some.table.now c.in-Some-step_at.own.now c.library.result.now.sets c.has_sets.result c.requires.numbered c.requires.rows c.in-Some.ensures
+    ∙ found-there c.args.tables.now.desk c.args.job c.step_in-step.result c.in-Some.table.now c.in-Some-step_at.own.now c.library.result.now.sets c.has_sets.result (sym c.is_on.ensures ∙ c.if-not-is_on.false) c.requires.numbered c.requires.rows c.in-Some.ensures
     c.in-Some-step_at.ensures (λ run. c.step_in-step.ensures ∙ ap step_in (c.place_of.ensures run)) c.library.ensures.sets c.has_sets.ensures row owned at found
 
 pub returns-in_default-step_at : goal.returns-in_default-step_at

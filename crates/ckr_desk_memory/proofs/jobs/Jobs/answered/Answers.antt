@@ -1,4 +1,4 @@
-use Rattle.std.proofs.Common.{◌≡◌, List, ℕ, ap, sym, ◌∙◌, refl}
+use Rattle.std.proofs.Common.{◌≡◌, true, List, ℕ, ap, sym, ◌∙◌, refl}
 use Rattle.ckr_desk_turn.specs.Codes.{CodePlaceModel, code_plan, running_reached}
 use Rattle.ckr_desk_turn.specs.Jobs.{TurnStep}
 use Rattle.ckr_desk_memory.specs.Parts.{step_seen}
@@ -20,8 +20,8 @@ returns-in-Abend-clause-plan c = λ row own at there.
     c.reached_by-reached.ensures.reached
     ∙ ap (λ (ls : List ℕ). let one : CodePlaceModel = record { writes = moved.step.writes; lengths = ls } in one) (sym (lengths-known tables run table known moved refl)) in
     c.code_plan.ensures.plan
-    ∙ ap (λ (j : JobsView). code_plan layout j.tables.desk (row_for run table) c.initiator_of-initiator.result c.in-Abend.code (reached_seen c.reached_by-reached.result)) c.self.view_is
-    ∙ ap (code_plan layout tables (row_for run table) c.initiator_of-initiator.result c.in-Abend.code) reached
-    ∙ sym (known-by tables run table known (λ r. code_plan layout tables r c.initiator_of-initiator.result c.in-Abend.code (running_reached step)) refl row at)
-    ∙ ap (λ i. code_plan layout tables row i c.in-Abend.code (running_reached step)) (c.initiator_of-initiator.ensures row at)
+    ∙ ap (λ (j : JobsView). code_plan layout j.tables.desk (row_for run table) c.initiator_of.result true c.in-Abend.code (reached_seen c.reached_by-reached.result)) c.self.view_is
+    ∙ ap (code_plan layout tables (row_for run table) c.initiator_of.result true c.in-Abend.code) reached
+    ∙ sym (known-by tables run table known (λ r. code_plan layout tables r c.initiator_of.result true c.in-Abend.code (running_reached step)) refl row at)
+    ∙ ap (λ i. code_plan layout tables row i true c.in-Abend.code (running_reached step)) (c.initiator_of.ensures row at)
     ∙ ap (told_by layout tables row step) (sym c.in-Abend.is)

@@ -12,7 +12,7 @@ pub coded-requires-clause-there : goal.coded-requires-clause-there
 coded-requires-clause-there c =
     let tables = c.args.self.now.tables.desk in
     known-there tables c.args.job c.args.table.now c.requires.known c.requires.jobs.placed
-    (ap (next_step false None) (known-is tables c.args.job c.args.table.now c.requires.known place_of refl ∙ sym (c.in-Within.ensures c.args.job)))
+    (ap (next_step false None None) (known-is tables c.args.job c.args.table.now c.requires.known place_of refl ∙ sym (c.in-Within.ensures c.args.job)))
 
 pub coded-requires-clause-counted : goal.coded-requires-clause-counted
 coded-requires-clause-counted c = counted-all c.args.layout.now c.args.self.now.running c.requires.jobs.running
@@ -25,7 +25,7 @@ returns-in-Within-clause-plan c = λ row at on.
     let within = known-by jobs.tables.desk c.args.job c.args.table.now c.requires.known place_of refl row at ∙ sym (c.in-Within.ensures c.args.job) in
     c.coded.ensures.plan
     ∙ sym (fail-within layout (jobs_of jobs) row c.args.code (ap is_within within)
-    ∙ code-known layout jobs c.args.job c.args.table.now c.requires.known c.args.initiator c.args.code row at on)
+    ∙ sym (code-known layout jobs c.args.job c.args.table.now c.requires.known c.args.seat.initiator c.args.seat.lodged c.args.code row at on c.requires.lodged))
 
 pub returns-in-Before : goal.returns-in-Before
 returns-in-Before c = record {

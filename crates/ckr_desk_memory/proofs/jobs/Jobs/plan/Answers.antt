@@ -1,6 +1,7 @@
-use Rattle.std.proofs.Common.{ℕ, List, sym, subst}
+use Rattle.std.proofs.Common.{List, sym, subst}
 use Rattle.std.proofs.lemmas.Result.{IfOk-weaker}
 use Rattle.ckr_points.specs.Rows.{TablesModel}
+use Rattle.ckr_desk_turn.specs.declared.failed_run.FailedRun.{FailedRun}
 use Rattle.ckr_desk_memory.specs.OwnSteps.{PlanCommits, PlanFollows, PlanLeaves}
 use Rattle.ckr_desk_memory.specs.Plans.{HasDue}
 use Rattle.ckr_desk_memory.proofs.Holders.OwnPlans.{plan-commits, plan-leaves, plan-own}
@@ -15,12 +16,12 @@ returns-clause-due c =
     c.planned.ensures.plan
 
 pub returns-clause-own : goal.returns-clause-own
-returns-clause-own c = λ own left.
+returns-clause-own c =
     IfOk-weaker c.planned.result _ _
     (λ plan is.
     subst (λ (tables : TablesModel). PlanFollows c.args.layout.now tables plan) (sym c.planned.ensures.tables)
     (subst (PlanFollows c.args.layout.now c.args.self.now.tables.desk) (sym is)
-    (plan-own c.args.layout.now c.args.self.now c.args.turn c.planned.ensures.numbered c.requires.jobs c.requires.turn own left)))
+    (plan-own c.args.layout.now c.args.self.now c.args.turn c.planned.ensures.numbered c.requires.jobs c.requires.turn c.requires.own c.requires.left)))
     c.planned.ensures.plan
 
 pub returns-clause-commits : goal.returns-clause-commits
@@ -36,6 +37,6 @@ pub returns-clause-left : goal.returns-clause-left
 returns-clause-left c =
     IfOk-weaker c.planned.result _ _
     (λ plan is.
-    subst (λ (failed : List ℕ). PlanLeaves failed plan) (sym c.planned.ensures.failed)
+    subst (λ (failed : List FailedRun). PlanLeaves failed plan) (sym c.planned.ensures.failed)
     (subst (PlanLeaves c.args.self.now.failed) (sym is) (plan-leaves c.args.layout.now c.args.self.now c.args.turn)))
     c.planned.ensures.plan

@@ -62,7 +62,7 @@ returns-clause-ok c =
 
 pub returns-clause-jobs : goal.returns-clause-jobs
 returns-clause-jobs c = λ are.
-    jobs-replayed c.args.layout.now c.args.self.now c.go_on.new.self c.args.event.now
+    jobs-replayed c.args.layout.now c.args.self.now c.go_on.new.self c.args.event.now c.requires
     (subst (λ (j : JobsView). AreNumbered 1 j.tables.desk.runs) c.self.view_is c.self.invariant.queued.numbered)
     (sym (ap (goes_on c.args.layout.now c.args.self.now.tables.desk c.args.event.now) c.in_ok-deck.ensures)
     ∙ sym (ap (λ (j : JobsView). goes_on c.args.layout.now j.tables.desk c.args.event.now c.in_ok-deck.deck) c.self.view_is) ∙ sym c.goes_on.ensures ∙ c.if-not-goes_on.false)
