@@ -1,6 +1,7 @@
 pub mod OtherRows
 pub mod OtherSteps
 pub mod IdleRuns
+pub mod OffRuns
 pub mod StartNeeds
 pub mod Commits
 pub mod Start

@@ -6,3 +6,4 @@ pub mod DeskView
 pub mod Served
 pub mod Points
 pub mod Openings
+pub mod Waits

@@ -13,6 +13,7 @@ pub mod Desk
 pub mod Turns
 pub mod Replies
 pub mod Codes
+pub mod Waits
 pub mod Rewrite
 pub mod AnyReply
 pub mod Forecasts

@@ -19,11 +19,11 @@ use Rattle.ckr_meaning.specs.JobRun.{start_at}
 use Rattle.ckr_meaning.specs.StepRun.{StepStart, case_at}
 use Rattle.ckr_meaning.specs.States.{StandsFor}
 use Rattle.ckr_points_library.specs.Commit.{output_names}
-use Rattle.ckr_points.specs.Follows.{is_running}
 use Rattle.ckr_points.specs.Office.{Leg, Office}
 use Rattle.ckr_points.specs.Restart.{place_of, step_in}
 use Rattle.ckr_points.specs.Rows.{EffectPoint, KeptEntry, RunRow, TableSet, TablesModel, run_of, step_of_run}
 use Rattle.ckr_points.specs.Tables.{committed, entry_point, is_checkpoints, kept_entry, name_with_role}
+use Rattle.ckr_desk_memory.specs.Invariant.{is_in_step}
 use Rattle.ckr_desk_memory.specs.EventChanges.{is_point_of}
 use Rattle.ckr_desk_memory.specs.View.{PointView}
 use Rattle.ckr_desk_turn.specs.Checkpoints.{entry_with}
@@ -115,10 +115,10 @@ pub record IsPointOfEntry (points : List PointView) (run : ℕ) (entry : Entry) 
   pub state : point.state ≡ entry.state
   pub writes : point.writes ≡ entry.writes
 
--- so it is with each run on an initiator, within its step, and the entry of its checkpoint in effect that the image has
+-- so it is with each run within its step that holds its names, and the entry of its checkpoint in effect that the image has
 abbrev pub AreRead : Layout → TablesModel → List ℕ → List PointView → Type 0
 AreRead layout tables image points =
-    (run : ℕ) (row : RunRow) (effect : EffectPoint) (table : TableSet) (entry : Entry) → run_of tables run ≡ Some row → is_running row ≡ true → row.in_effect ≡ Some effect → entry_at tables.sets effect.set ≡ Some table
+    (run : ℕ) (row : RunRow) (effect : EffectPoint) (table : TableSet) (entry : Entry) → run_of tables run ≡ Some row → is_in_step row ≡ true → row.in_effect ≡ Some effect → entry_at tables.sets effect.set ≡ Some table
     → entry_in (bytes_on image layout table.set effect.kept.place effect.kept.bytes) ≡ Ok entry → IsPointOfEntry points run entry
 
 -- ---- entries within their data sets

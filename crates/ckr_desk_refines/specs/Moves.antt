@@ -2,16 +2,17 @@
 use Rattle.std.specs.Prelude.{◌≡◌, ◌≢◌, ◌≤◌, ◌<◌, ℕ, IsTrue, List, Option, None, Some, slice_set}
 use Rattle.ckr_events.specs.declared.event.Event.{Event}
 use Rattle.ckr_jcl.specs.declared.deck.Job.{Job}
-use Rattle.ckr_desk_memory.specs.EventChanges.{points_behind}
+use Rattle.ckr_base.specs.declared.code.Code.{Code}
+use Rattle.ckr_desk_memory.specs.EventChanges.{points_behind, with_code}
 use Rattle.ckr_desk_memory.specs.RunningSteps.{GoesOn}
 use Rattle.ckr_desk_memory.specs.View.{JobsView}
 use Rattle.ckr_library.specs.declared.sets.DataSet.{DataSet}
 use Rattle.ckr_points.specs.Restart.{after_event}
-use Rattle.ckr_desk_turn.specs.Desk.{failed_behind}
+use Rattle.ckr_desk_turn.specs.Desk.{failed_behind, with_asked}
 use Rattle.ckr_desk_turn.specs.declared.plan.Plan.{Plan}
-use Rattle.ckr_desk_turn.specs.declared.plan.Plan.TheVariants.{Rest, Tell, Work, Pass, Take}
+use Rattle.ckr_desk_turn.specs.declared.plan.Plan.TheVariants.{Rest, Tell, Work, Pass, Take, Ask, Wait}
 use Rattle.ckr_desk_turn.specs.declared.reply.Reply.{Reply}
-use Rattle.ckr_desk_turn.specs.declared.reply.Reply.TheVariants.{Idle}
+use Rattle.ckr_desk_turn.specs.declared.reply.Reply.TheVariants.{AwaitingReply, Idle}
 use Rattle.ckr_volumes.specs.declared.layout.Layout.{Layout}
 use Rattle.ckr_volumes.specs.Records.{record_at, records_on}
 use Rattle.ckr_volumes.specs.Layouts.{StandsIn, lie_apart}
@@ -22,6 +23,13 @@ pub record HaveMoved (event : Event) (deck : Option Job) (old new : JobsView) : 
   pub running : GoesOn event new.tables.desk old.points old.running new.running
   pub failed : new.failed ≡ failed_behind event old.failed
   pub points : new.points ≡ points_behind event new.running old.points
+
+-- the operator didn't answer, and a run waits on its initiator with its code
+pub record HasWaited (run : ℕ) (code : Code) (old new : JobsView) : Type 0 where
+  pub tables : new.tables.desk ≡ old.tables.desk
+  pub running : new.running ≡ with_code run code old.running
+  pub failed : new.failed ≡ with_asked run old.failed
+  pub points : new.points ≡ old.points
 
 -- the records of each data set that stands in the layout are the same
 abbrev pub HasSameRecords : Layout → List ℕ → List ℕ → Type 0
@@ -41,6 +49,8 @@ reply_in (Tell reply event) = reply
 reply_in (Work job) = Idle
 reply_in (Pass job reply) = reply
 reply_in (Take job) = Idle
+reply_in (Ask inquiry) = Idle
+reply_in (Wait job code) = AwaitingReply
 
 abbrev pub event_in : Plan → Option Event
 event_in (Rest reply) = None
@@ -48,6 +58,8 @@ event_in (Tell reply event) = Some event
 event_in (Work job) = None
 event_in (Pass job reply) = None
 event_in (Take job) = None
+event_in (Ask inquiry) = None
+event_in (Wait job code) = None
 
 -- An image has what another one has of each data set that lies apart from this one, and of this one each record but the one at a place.
 pub record DiffersAt (layout : Layout) (set : DataSet) (place : ℕ) (told image : List ℕ) : Type 0 where

@@ -20,6 +20,7 @@ pub record AsksToRewrite (layout : Layout) (old : JobsView) (before after : List
   pub planned : plan_of desk.layout (jobs_of desk) turn ≡ Work job
   pub found : find (is_of_run job) old.running ≡ Some on
   pub run : moved.run ≡ on.run
+  pub code : moved.code ≡ on.code
   pub did : HasWorked (Unit {0}) before after layout on.step moved.step on.sets moved.sets (Rewrite place image taken)
   pub goes : (start : StepStart) (taken_before : ℕ) → IsStepPlace start taken_before false on.step on.sets → ShowsWithin (Unit {0}) before layout start on.step.writes on.sets
       → IsToRewrite (Unit {0}) after layout start taken_before taken place image on.step moved.step moved.sets

@@ -1,12 +1,14 @@
 -- The jobs in memory stand for the desk of the events, and an image of the disk has what those events and the running steps have written.
-use Rattle.std.specs.Prelude.{◌≡◌, ℕ, ◌==◌, Bool, true, false, ◌&&◌, not, List, [], ◌∷◌, filter, find, map, Some}
+use Rattle.std.specs.Prelude.{◌≡◌, ℕ, ◌==◌, Bool, true, false, ◌&&◌, not, List, [], ◌∷◌, filter, find, map, Option, None, Some}
 use Rattle.std.specs.List.{list_any}
 use Rattle.ckr_desk_memory.specs.EventChanges.{is_point_of}
+use Rattle.ckr_desk_memory.specs.Invariant.{is_in_step}
 use Rattle.ckr_desk_memory.specs.View.{JobsView, PointView, RunningStepView}
 use Rattle.ckr_library.specs.declared.sets.Content.TheVariants.{Checkpoints}
 use Rattle.ckr_library.specs.declared.sets.DataSet.{DataSet}
 use Rattle.ckr_library.specs.Catalog.{set_of}
 use Rattle.ckr_library.specs.NameMaps.{Name, entry_at}
+use Rattle.ckr_base.specs.declared.code.Code.{Code}
 use Rattle.ckr_base.specs.declared.programs.NextDue.TheVariants.{Checkpoint}
 use Rattle.ckr_desk_turn.specs.Due.{next_due}
 use Rattle.ckr_desk_turn.specs.Invariant.{IsDesk}
@@ -15,27 +17,32 @@ use Rattle.ckr_desk_refines.specs.StepSets.{HasSets}
 use Rattle.ckr_meaning.specs.EffectiveJob.{is_among, names_of}
 use Rattle.ckr_meaning.specs.States.{StandsFor}
 use Rattle.ckr_meaning.specs.StepRun.{StepStart, case_at}
-use Rattle.ckr_points.specs.Follows.{is_running}
 use Rattle.ckr_points.specs.Office.{Office}
 use Rattle.ckr_points.specs.Rows.{KeptEntry, RunRow, TableSet, run_of}
+use Rattle.ckr_steps.specs.declared.step_run.StepRun.{StepRun}
 use Rattle.ckr_steps.specs.Places.{ShowsWithin, IsStepPlace}
 use Rattle.ckr_steps.specs.Units.{AreServed, is_cancelled, is_checkpointed, is_closed, taken_of}
 use Rattle.ckr_desk_turn.specs.Desk.{DeskModel, DeskStep, start_of}
 use Rattle.ckr_desk_turn.specs.Jobs.{effect_entry}
+use Rattle.ckr_desk_turn.specs.Units.{StepProgress, arrived}
 use Rattle.ckr_volumes.specs.declared.layout.Layout.{Layout}
 
--- a running step in memory stands where its job comes to, and the image has what it has written
+-- A running step in memory stands where its job comes to, or has stopped with a code, with which its run waits; and the image has what it has
+-- written.
 pub record StandsForStep (layout : Layout) (office : Office) (image : List ℕ) (on : RunningStepView) (step : DeskStep) : Type 0 where
   pub row : RunRow
   pub row_at : run_of office.tables step.run ≡ Some row
   pub start : StepStart
   pub start_at : start_of office row ≡ Some start
   pub run : on.run ≡ step.run
-  pub stands : IsStepPlace start step.progress.taken step.progress.closed on.step on.sets
-  pub served : AreServed step.progress.checkpointed step.progress.cancelled on.step.state
+  pub code : on.code ≡ step.code
+  pub stands : on.code ≡ None → IsStepPlace start step.progress.taken step.progress.closed on.step on.sets
+  pub served : on.code ≡ None → AreServed step.progress.checkpointed step.progress.cancelled on.step.state
   -- a cancel comes behind the checkpoint that is due at its count
-  pub ordered : next_due start step.progress ≡ Checkpoint → step.progress.cancelled ≡ false
+  pub ordered : on.code ≡ None → next_due start step.progress ≡ Checkpoint → step.progress.cancelled ≡ false
   pub writes : on.step.writes ≡ step.progress.writes
+  -- of one that has stopped only its writes are asked
+  pub stopped : (code : Code) → on.code ≡ Some code → step.progress ≡ arrived 0 on.step.writes
   pub sets : HasSets office.tables.sets (names_of start.root start.owned) on.sets
   -- it has no other data sets than those of its names
   pub named : (name : Name) (set : DataSet) → set_of on.sets name ≡ Some set → is_among (names_of start.root start.owned) name ≡ true
@@ -69,10 +76,10 @@ pub record StandsForPoint (points : List PointView) (run : ℕ) (start : StepSta
   pub unclosed : is_closed point.state ≡ false
   pub served : AreServed true false point.state
 
--- so it is with each run on an initiator, within its step, that has a checkpoint in effect
+-- so it is with each run within its step that holds its names and has a checkpoint in effect
 abbrev pub PointsStand : Office → List PointView → Type 0
 PointsStand office points =
-    (run : ℕ) (row : RunRow) (entry : KeptEntry) (start : StepStart) → run_of office.tables run ≡ Some row → is_running row ≡ true → effect_entry office.tables row ≡ Some entry
+    (run : ℕ) (row : RunRow) (entry : KeptEntry) (start : StepStart) → run_of office.tables run ≡ Some row → is_in_step row ≡ true → effect_entry office.tables row ≡ Some entry
     → start_of office row ≡ Some start → StandsForPoint points run start entry
 
 -- The desk is kept, and the jobs in memory stand for it: their tables, their failed runs, their running steps and the points of their
@@ -108,17 +115,19 @@ pub record StandsBut (run : ℕ) (layout : Layout) (jobs : JobsView) (image : Li
 
 -- ---- what is seen of the desk in memory
 
-abbrev pub step_on : RunningStepView → DeskStep
-step_on on = record {
-  run = on.run;
-  progress = record {
-    taken = taken_of on.step.state;
-    writes = on.step.writes;
-    checkpointed = is_checkpointed on.step.state;
-    cancelled = is_cancelled on.step.state;
-    closed = is_closed on.step.state;
-  };
+-- how far a step has come; of one that has stopped with a code only the writes are asked
+abbrev pub progress_on : Option Code → StepRun → StepProgress
+progress_on None step = record {
+  taken = taken_of step.state;
+  writes = step.writes;
+  checkpointed = is_checkpointed step.state;
+  cancelled = is_cancelled step.state;
+  closed = is_closed step.state;
 }
+progress_on (Some code) step = arrived 0 step.writes
+
+abbrev pub step_on : RunningStepView → DeskStep
+step_on on = record { run = on.run; progress = progress_on on.code on.step; code = on.code }
 
 -- the desk by its jobs in memory, where its events have brought about this office
 abbrev pub desk_seen : Layout → Office → JobsView → DeskModel

@@ -20,6 +20,7 @@ pub record StandsBehindUnit (layout : Layout) (old : JobsView) (before after : L
   pub planned : plan_of desk.layout (jobs_of desk) turn ≡ Work run
   pub found : find (is_of_run run) old.running ≡ Some on
   pub same_run : moved.run ≡ on.run
+  pub same_code : moved.code ≡ on.code
   pub did : HasWorked (Unit {0}) before after layout on.step moved.step on.sets moved.sets worked
   pub goes : (start : StepStart) (taken : ℕ) → IsStepPlace start taken false on.step on.sets → ShowsWithin (Unit {0}) before layout start on.step.writes on.sets
       → GoesOn (Unit {0}) after layout start taken on.step moved.step moved.sets worked

@@ -34,7 +34,7 @@ ghost use Rattle.ckr_volumes.specs.declared.layout.Layout.{Layout};
 /// them.
 pub fn steps_that_stand_are_as_far()
     ensures form { (state : State) (case : ProgramCase) (taken entries : ℕ) → StandsFor state case taken → IsTyped state → 1 ≤ taken → 1 ≤ entries → IsStateForm taken (at_checkpoint entries state) }
-    ensures far { (desk : DeskModel) (image : List ℕ) (on : RunningStepView) (step : DeskStep) (going : IsGoing desk.office step) → IsDesk desk → StandsForStep desk.layout desk.office image on step → IsAsFar desk.office.tables going.row going.start on step.progress }
+    ensures far { (desk : DeskModel) (image : List ℕ) (on : RunningStepView) (step : DeskStep) (going : IsGoing desk.office step) → IsDesk desk → StandsForStep desk.layout desk.office image on step → on.code ≡ None → IsAsFar desk.office.tables going.row going.start on step.progress }
 {}
 
 /// Where the checkpoint that is due doesn't fit, and the running step of its run goes on with it done, the jobs in memory stand for the desk

@@ -2,36 +2,42 @@
 ghost use Rattle.std.specs.Prelude.{◌≡◌, ◌≤◌, ℕ, suc, Bool, true, List, length, None, Some, Ok};
 ghost use Rattle.arrayvec.specs.ArrayVec.{ArrayVec};
 ghost use Rattle.ckr_base.specs.declared.code.Code.{Code};
+ghost use Rattle.ckr_console.specs.declared.question.Answer.{Answer};
 ghost use Rattle.ckr_events.specs.declared.event.Ending.TheVariants.{Coded};
 ghost use Rattle.ckr_events.specs.declared.event.Event.{Event};
-ghost use Rattle.ckr_events.specs.declared.event.Event.TheVariants.{Ended as EndedEvent, Purged as PurgedEvent, Restarted as RestartedEvent, Submitted as SubmittedEvent};
+ghost use Rattle.ckr_events.specs.declared.event.Event.TheVariants.{Ended as EndedEvent, Held as HeldEvent, Purged as PurgedEvent, Released as ReleasedEvent, Restarted as RestartedEvent, Submitted as SubmittedEvent};
 ghost use Rattle.ckr_jcl.specs.declared.deck.Job.{Job};
 ghost use Rattle.ckr_jcl_decks.specs.Deck.{stored_deck};
 ghost use Rattle.ckr_desk_memory.specs.View.{JobsView};
 ghost use Rattle.ckr_desk_turn.specs.NextEvents.{Comes};
 ghost use Rattle.ckr_desk_turn.specs.Invariant.{IsDesk, IsTurnOf};
 ghost use Rattle.ckr_desk_refines.specs.Commits.{HasCommitted, HasWithinRun};
-ghost use Rattle.ckr_points.specs.declared.run.RunState.TheVariants.{Queued};
+ghost use Rattle.ckr_points.specs.declared.run.RunState.TheVariants.{Held, Queued};
 ghost use Rattle.ckr_points.specs.Rows.{RunRow, run_of};
-ghost use Rattle.ckr_desk_refines.specs.Moves.{HasSameRecords, HaveMoved};
+ghost use Rattle.ckr_desk_refines.specs.Moves.{HasSameRecords, HasWaited, HaveMoved};
 ghost use Rattle.ckr_desk_refines.specs.Standing.{StandsForDesk, StandsBut};
 ghost use Rattle.ckr_points_decks.specs.Cards.{kept_of_stored};
 ghost use Rattle.ckr_points_decks.specs.Form.{is_run};
-ghost use Rattle.ckr_desk_turn.specs.declared.plan.Plan.TheVariants.{Tell};
+ghost use Rattle.ckr_desk_turn.specs.declared.plan.Plan.TheVariants.{Tell, Wait};
 ghost use Rattle.ckr_desk_turn.specs.declared.reply.Reply.{Reply};
 ghost use Rattle.ckr_desk_turn.specs.declared.reply.Turn.{Turn};
-ghost use Rattle.ckr_desk_turn.specs.Desk.{DeskModel, behind, jobs_of, purged as purged_desk, submitted as submitted_desk};
+ghost use Rattle.ckr_desk_turn.specs.Desk.{DeskModel, behind, jobs_of, purged as purged_desk, released as released_desk, submitted as submitted_desk};
+ghost use Rattle.ckr_desk_turn.specs.Inquiries.{decide};
 ghost use Rattle.ckr_desk_turn.specs.Plans.{plan_of};
+ghost use Rattle.ckr_desk_turn.specs.Turns.{turn_of};
 ghost use Rattle.ckr_volumes.specs.declared.layout.Layout.{Layout};
 
-/// Behind the event of a turn.
+/// Behind the event of a turn, with the operator's answer if he is asked; and where he is asked and doesn't answer, so that the run waits.
 pub fn desks_behind_turns_that_tell_stand()
-    ensures { (layout : Layout) (old new : JobsView) (before after : List ℕ) (desk : DeskModel) (turn : Turn) (reply : Reply) (event : Event)
-        → StandsForDesk layout old before desk → IsTurnOf desk.layout turn → plan_of desk.layout (jobs_of desk) turn ≡ Tell reply event
+    ensures told { (layout : Layout) (old new : JobsView) (before after : List ℕ) (desk : DeskModel) (turn : Turn) (answer : Answer) (reply : Reply) (event : Event)
+        → StandsForDesk layout old before desk → IsTurnOf desk.layout turn → decide answer (plan_of desk.layout (jobs_of desk) turn) ≡ Tell reply event
         → HaveMoved event None old new → HasSameRecords desk.layout before after → StandsForDesk layout new after (behind event None desk) }
+    ensures waits { (layout : Layout) (old new : JobsView) (image : List ℕ) (desk : DeskModel) (turn : Turn) (answer : Answer) (job : ℕ) (code : Code)
+        → StandsForDesk layout old image desk → IsTurnOf desk.layout turn → decide answer (plan_of desk.layout (jobs_of desk) turn) ≡ Wait job code
+        → HasWaited job code old new → StandsForDesk layout new image (turn_of desk turn answer).desk }
 {}
 
-/// Behind a deck that is submitted, and a run that is purged.
+/// Behind a deck that is submitted, a run that is purged, and one that is released.
 pub fn desks_behind_calls_stand()
     ensures submitted { (layout : Layout) (old new : JobsView) (before after : List ℕ) (desk : DeskModel) (cards : List ℕ) (deck : Job)
         → StandsForDesk layout old before desk → 81 ≤ length cards → stored_deck cards ≡ Ok deck → is_run deck ≡ true
@@ -40,6 +46,9 @@ pub fn desks_behind_calls_stand()
     ensures purged { (layout : Layout) (old new : JobsView) (before after : List ℕ) (desk : DeskModel) (job : ℕ) (row : RunRow)
         → StandsForDesk layout old before desk → run_of desk.office.tables job ≡ Some row → row.state ≡ Queued
         → HaveMoved (PurgedEvent job) None old new → HasSameRecords desk.layout before after → StandsForDesk layout new after (purged_desk job desk) }
+    ensures released { (layout : Layout) (old new : JobsView) (before after : List ℕ) (desk : DeskModel) (job : ℕ) (row : RunRow)
+        → StandsForDesk layout old before desk → run_of desk.office.tables job ≡ Some row → row.state ≡ Held
+        → HaveMoved (ReleasedEvent job) None old new → HasSameRecords desk.layout before after → StandsForDesk layout new after (released_desk job desk) }
 {}
 
 /// Behind the event by which a run ends with a code, whatever its own step has come to.
@@ -49,6 +58,15 @@ pub fn desks_behind_codes_stand()
         → IsDesk (behind (EndedEvent run (Coded code rule writes lengths)) None desk) → HasWithinRun desk.layout desk.office run writes before
         → HaveMoved (EndedEvent run (Coded code rule writes lengths)) None old new → HasSameRecords desk.layout before after
         → StandsForDesk layout new after (behind (EndedEvent run (Coded code rule writes lengths)) None desk) }
+{}
+
+/// Behind the event by which a run is held with a code, whatever its own step has come to.
+pub fn desks_behind_holds_stand()
+    ensures { (layout : Layout) (old new : JobsView) (before after : List ℕ) (desk : DeskModel) (run writes : ℕ) (code : Code) (lengths : ArrayVec ℕ)
+        → StandsBut run layout old before desk → Comes desk (HeldEvent run code writes lengths)
+        → IsDesk (behind (HeldEvent run code writes lengths) None desk) → HasWithinRun desk.layout desk.office run writes before
+        → HaveMoved (HeldEvent run code writes lengths) None old new → HasSameRecords desk.layout before after
+        → StandsForDesk layout new after (behind (HeldEvent run code writes lengths) None desk) }
 {}
 
 /// Behind the event by which a run with a code is restarted, whatever its step has come to: at the start of its step, where its running step
@@ -63,8 +81,8 @@ pub fn desks_behind_restarts_stand()
 
 /// The event is committed on each image that has the records.
 pub fn events_are_committed()
-    ensures told { (layout : Layout) (jobs : JobsView) (before : List ℕ) (desk : DeskModel) (turn : Turn) (reply : Reply) (event : Event)
-        → StandsForDesk layout jobs before desk → IsTurnOf desk.layout turn → plan_of desk.layout (jobs_of desk) turn ≡ Tell reply event
+    ensures told { (layout : Layout) (jobs : JobsView) (before : List ℕ) (desk : DeskModel) (turn : Turn) (answer : Answer) (reply : Reply) (event : Event)
+        → StandsForDesk layout jobs before desk → IsTurnOf desk.layout turn → decide answer (plan_of desk.layout (jobs_of desk) turn) ≡ Tell reply event
         → (image : List ℕ) → HasSameRecords desk.layout before image → HasCommitted desk.layout (behind event None desk).office image }
     ensures submitted { (layout : Layout) (jobs : JobsView) (before : List ℕ) (desk : DeskModel) (cards : List ℕ) (deck : Job)
         → StandsForDesk layout jobs before desk → 81 ≤ length cards → stored_deck cards ≡ Ok deck → is_run deck ≡ true
@@ -72,6 +90,14 @@ pub fn events_are_committed()
     ensures purged { (layout : Layout) (jobs : JobsView) (before : List ℕ) (desk : DeskModel) (job : ℕ) (row : RunRow)
         → StandsForDesk layout jobs before desk → run_of desk.office.tables job ≡ Some row → row.state ≡ Queued
         → (image : List ℕ) → HasSameRecords desk.layout before image → HasCommitted desk.layout (purged_desk job desk).office image }
+    ensures released { (layout : Layout) (jobs : JobsView) (before : List ℕ) (desk : DeskModel) (job : ℕ) (row : RunRow)
+        → StandsForDesk layout jobs before desk → run_of desk.office.tables job ≡ Some row → row.state ≡ Held
+        → (image : List ℕ) → HasSameRecords desk.layout before image → HasCommitted desk.layout (released_desk job desk).office image }
+    ensures held { (layout : Layout) (jobs : JobsView) (before : List ℕ) (desk : DeskModel) (run writes : ℕ) (code : Code) (lengths : ArrayVec ℕ)
+        → StandsBut run layout jobs before desk → Comes desk (HeldEvent run code writes lengths)
+        → IsDesk (behind (HeldEvent run code writes lengths) None desk) → HasWithinRun desk.layout desk.office run writes before
+        → (image : List ℕ) → HasSameRecords desk.layout before image
+        → HasCommitted desk.layout (behind (HeldEvent run code writes lengths) None desk).office image }
     ensures coded { (layout : Layout) (jobs : JobsView) (before : List ℕ) (desk : DeskModel) (run rule writes : ℕ) (code : Code) (lengths : ArrayVec ℕ)
         → StandsBut run layout jobs before desk → Comes desk (EndedEvent run (Coded code rule writes lengths))
         → IsDesk (behind (EndedEvent run (Coded code rule writes lengths)) None desk) → HasWithinRun desk.layout desk.office run writes before

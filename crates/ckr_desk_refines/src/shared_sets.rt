@@ -3,7 +3,7 @@ ghost use Rattle.std.specs.Prelude.{◌≡◌, ◌≢◌, ℕ, Bool, List, Optio
 ghost use Rattle.arrayvec.specs.ArrayVec.{ArrayVec};
 ghost use Rattle.ckr_points_library.specs.Commit.{output_names};
 ghost use Rattle.ckr_base.specs.declared.code.Code.{Code};
-ghost use Rattle.ckr_events.specs.declared.event.Event.TheVariants.{Cancelled, Checkpointed, Ended, Purged, Restarted, Rewritten, Selected, Started, StepEnded, Submitted};
+ghost use Rattle.ckr_events.specs.declared.event.Event.TheVariants.{Cancelled, Checkpointed, Ended, Held, Purged, Released, Restarted, Rewritten, Selected, Started, StepEnded, Submitted};
 ghost use Rattle.ckr_events.specs.declared.event.Ending.TheVariants.{Allocation, Coded, Completed};
 ghost use Rattle.ckr_events.specs.declared.event.Made.{Made};
 ghost use Rattle.ckr_jcl.specs.declared.deck.Job.{Job};
@@ -32,6 +32,8 @@ pub fn events_leave_the_data_sets_of_other_steps()
     ensures cancelled { (now : Office) (job : ℕ) (deck : Option Job) → LeavesOthers now job (office_after (Cancelled job, deck) now) }
     ensures step_ended { (layout : Layout) (now : Office) (job step rc writes : ℕ) (lengths : ArrayVec ℕ) (deck : Option Job) → IsKept layout now → may_come layout now (StepEnded job step rc writes lengths, deck) ≡ true → carries layout now (StepEnded job step rc writes lengths) deck ≡ true → LeavesOthers now job (office_after (StepEnded job step rc writes lengths, deck) now) }
     ensures restarted { (layout : Layout) (now : Office) (job initiator : ℕ) (code : Code) (checkpoint : Bool) (deck : Option Job) → IsKept layout now → ArePointed now → AreReady now → may_come layout now (Restarted job initiator code checkpoint, deck) ≡ true → carries layout now (Restarted job initiator code checkpoint) deck ≡ true → LeavesOthers now job (office_after (Restarted job initiator code checkpoint, deck) now) }
+    ensures held { (layout : Layout) (now : Office) (job writes : ℕ) (code : Code) (lengths : ArrayVec ℕ) (deck : Option Job) → IsKept layout now → may_come layout now (Held job code writes lengths, deck) ≡ true → carries layout now (Held job code writes lengths) deck ≡ true → LeavesOthers now job (office_after (Held job code writes lengths, deck) now) }
+    ensures released { (now : Office) (job : ℕ) (deck : Option Job) → LeavesOthers now job (office_after (Released job, deck) now) }
     ensures completed { (layout : Layout) (now : Office) (job : ℕ) (deck : Option Job) → IsKept layout now → may_come layout now (Ended job Completed, deck) ≡ true → LeavesOthers now job (office_after (Ended job Completed, deck) now) }
     ensures ended { (layout : Layout) (now : Office) (job rule writes : ℕ) (code : Code) (lengths : ArrayVec ℕ) (deck : Option Job) → IsKept layout now → may_come layout now (Ended job (Coded code rule writes lengths), deck) ≡ true → carries layout now (Ended job (Coded code rule writes lengths)) deck ≡ true → LeavesOthers now job (office_after (Ended job (Coded code rule writes lengths), deck) now) }
     ensures refused { (layout : Layout) (now : Office) (job dd cause first second : ℕ) (deck : Option Job) → IsKept layout now → may_come layout now (Ended job (Allocation dd cause first second), deck) ≡ true → LeavesOthers now job (office_after (Ended job (Allocation dd cause first second), deck) now) }

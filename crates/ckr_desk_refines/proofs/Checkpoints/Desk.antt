@@ -44,7 +44,7 @@ use Rattle.ckr_desk_refines.proofs.Checkpoints.Images.{keeps-outside}
 use Rattle.ckr_desk_refines.proofs.Checkpoints.Office.{end, its-dd, leaves, leaves-others, may, office_then, row-then}
 use Rattle.ckr_desk_refines.proofs.Checkpoints.OwnStep.{own-stands}
 use Rattle.ckr_desk_refines.proofs.Checkpoints.Points.{points-written}
-use Rattle.ckr_desk_refines.proofs.Checkpoints.Turn.{due-so, its-step, numbered, pair, taken-by, taken-kept, unclosed}
+use Rattle.ckr_desk_refines.proofs.Checkpoints.Turn.{due-so, its-step, none, numbered, pair, taken-by, taken-kept, unclosed, uncoded}
 use Rattle.ckr_desk_refines.proofs.Durable.Checkpoint.{checkpointed-stays}
 use Rattle.ckr_desk_refines.proofs.Durable.Units.{committed-kept, within-shown}
 use Rattle.ckr_desk_refines.proofs.Entries.CheckSets.{check-dd as has-check-dd}
@@ -75,6 +75,9 @@ module _ (layout : Layout) (old : JobsView) (before : List ℕ) (desk : DeskMode
 
   pub open_yet : p.step.progress.closed ≡ false
   open_yet = unclosed layout old before desk turn run on to
+
+  pub no_code : p.step.code ≡ None
+  no_code = uncoded layout old before desk turn run on to
 
   pub number_is : p.going.row.number ≡ run
   number_is = numbered layout old before desk turn run on to
@@ -114,10 +117,12 @@ module _ (layout : Layout) (old : JobsView) (before : List ℕ) (desk : DeskMode
       start = p.stands.start;
       start_at = p.stands.start_at;
       run = p.stands.run;
+      code = p.stands.code;
       stands = p.stands.stands;
       served = p.stands.served;
       ordered = p.stands.ordered;
       writes = p.stands.writes;
+      stopped = p.stands.stopped;
       sets = p.stands.sets;
       named = p.stands.named;
       shows =
@@ -134,28 +139,28 @@ module _ (layout : Layout) (old : JobsView) (before : List ℕ) (desk : DeskMode
 
   module _ (fits : checkpoint_fits desk.office.tables.sets p.going.row p.going.start p.step.progress ≡ true) (check : Name) (check_is : check_set p.going.start ≡ Some check) (table : TableSet) (at : entry_at sets check ≡ Some table) where
     abbrev pub later : Office
-    later = office_then desk is p.step p.going open_yet fits
+    later = office_then desk is p.step p.going no_code open_yet fits
 
     pub content-so : table.set.content ≡ Checkpoints
     content-so =
         by-step desk is p.step.run p.going.row p.going.number p.going.committed p.going.start (going-within desk.office p.step p.going)
         (λ leg owned running starts spaced.
-        let comes = may-come desk.layout desk.office p.step (may desk is p.step p.going open_yet fits) in
+        let comes = may-come desk.layout desk.office p.step (may desk is p.step p.going no_code open_yet fits) in
         let job : leg.job ≡ p.going.row.job = (place_so desk.layout desk.office p.step.run p.going.row leg owned p.going.number p.going.committed is.kept.events running).job in
         let named : name_with_role p.going.row.job.root owned is_checkpoints ≡ check =
         ap (λ (j : Effective). name_with_role j.root owned is_checkpoints) (sym job)
         ∙ ap (λ (s : StepStart). name_with_role s.root s.owned is_checkpoints) (sym starts)
         ∙ check-named p.going.start check (its-dd p.going.start check check_is) in
         checkpoint-checks desk.layout desk.office is.kept.events p.going.row.number p.step.progress.taken p.step.progress.writes (entry_place sets p.going.start) (entry_bytes sets p.going.row p.going.start p.step.progress)
-        (next_id p.going.row p.going.start) (record { items = lengths_with sets p.going.start p.step.progress.writes (end desk is p.step p.going open_yet fits) }) None comes.may
+        (next_id p.going.row p.going.start) (record { items = lengths_with sets p.going.start p.step.progress.writes (end desk is p.step p.going no_code open_yet fits) }) None comes.may
         (has-check-dd desk.layout desk.office is.kept (has-runs desk is) p.going.row.number p.step.progress.taken p.step.progress.writes (entry_place sets p.going.start) (entry_bytes sets p.going.row p.going.start p.step.progress)
-        (next_id p.going.row p.going.start) (record { items = lengths_with sets p.going.start p.step.progress.writes (end desk is p.step p.going open_yet fits) }) None comes.may)
+        (next_id p.going.row p.going.start) (record { items = lengths_with sets p.going.start p.step.progress.writes (end desk is p.step p.going no_code open_yet fits) }) None comes.may)
         p.going.row owned table (ap (run_of desk.office.tables) (number_is ∙ sym p.same) ∙ p.going.row_at)
         (ap (λ place. step_of_run p.going.row (step_in place)) running.stands ∙ running.found) (ap (entry_at sets) named ∙ at))
 
-    room-so : end desk is p.step p.going open_yet fits ≤ table.set.space
+    room-so : end desk is p.step p.going no_code open_yet fits ≤ table.set.space
     room-so =
-        nat_le-true (end desk is p.step p.going open_yet fits) table.set.space
+        nat_le-true (end desk is p.step p.going no_code open_yet fits) table.set.space
         (and-first _ _ (and-first _ _
         (sym (ap (λ (o : Option Name). option_map_or (λ name. option_map_or (fits_in sets p.going.row p.going.start p.step.progress name) (entry_at sets name) false) o false) check_is
         ∙ ap (λ (o : Option TableSet). option_map_or (fits_in sets p.going.row p.going.start p.step.progress check) o false) at) ∙ fits)))
@@ -163,7 +168,7 @@ module _ (layout : Layout) (old : JobsView) (before : List ℕ) (desk : DeskMode
     -- its name is that of the row behind the event
     check-then : (tables : TablesModel) → tables ≡ later.tables → check_name_in tables p.going.row.number ≡ Some check
     check-then tables same =
-        let next = row-then desk is p.step p.going open_yet fits in
+        let next = row-then desk is p.step p.going no_code open_yet fits in
         ap (λ (t : TablesModel). option_and_then check_name (run_of t p.going.row.number)) same
         ∙ ap (option_and_then check_name) (ap (run_of later.tables) (number_is ∙ sym p.same) ∙ next.1)
         ∙ next.3
@@ -188,8 +193,11 @@ module _ (layout : Layout) (old new : JobsView) (before written after : List ℕ
     abbrev pub goes_open : its.step.progress.closed ≡ false
     goes_open = open_yet layout old before desk turn run on to
 
+    abbrev pub goes_uncoded : its.step.code ≡ None
+    goes_uncoded = no_code layout old before desk turn run on to
+
     abbrev pub now : Office
-    now = office_then desk to.stands.is_desk its.step its.going goes_open fits
+    now = office_then desk to.stands.is_desk its.step its.going goes_uncoded goes_open fits
 
     named : check_set its.going.start ≡ Some behind.name
     named = check_is layout old before desk turn run on to before written count behind
@@ -222,52 +230,52 @@ module _ (layout : Layout) (old new : JobsView) (before written after : List ℕ
     -- what the event commits is there
     pub committed-then : HasCommitted desk.layout now after
     committed-then =
-        let comes = may-come desk.layout desk.office its.step (may desk to.stands.is_desk its.step its.going goes_open fits) in
+        let comes = may-come desk.layout desk.office its.step (may desk to.stands.is_desk its.step its.going goes_uncoded goes_open fits) in
         checkpointed-stays desk.layout desk.office after its.going.row.number its.step.progress.taken its.step.progress.writes (entry_place desk.office.tables.sets its.going.start)
         (entry_bytes desk.office.tables.sets its.going.row its.going.start its.step.progress) (next_id its.going.row its.going.start)
-        (record { items = lengths_with desk.office.tables.sets its.going.start its.step.progress.writes (end desk to.stands.is_desk its.step its.going goes_open fits) }) None
-        to.stands.is_desk.kept comes.may comes.carried (kept-behind desk.layout desk.office its.step (may desk to.stands.is_desk its.step its.going goes_open fits)) had-after within-after
+        (record { items = lengths_with desk.office.tables.sets its.going.start its.step.progress.writes (end desk to.stands.is_desk its.step its.going goes_uncoded goes_open fits) }) None
+        to.stands.is_desk.kept comes.may comes.carried (kept-behind desk.layout desk.office its.step (may desk to.stands.is_desk its.step its.going goes_uncoded goes_open fits)) had-after within-after
 
     other-after : (seen : RunningStepView) (step : DeskStep) → IsGoing desk.office step → step.run ≢ its.going.row.number → StandsForStep desk.layout desk.office before seen step → StandsForStep desk.layout now after seen step
     other-after seen step going apart stands =
         let away : step.run ≢ its.step.run = λ e. apart (e ∙ its.same ∙ sym (number_is layout old before desk turn run on to)) in
-        step-stands desk to.stands.is_desk now its.step.run (leaves desk to.stands.is_desk its.step its.going goes_open fits) (leaves-others desk to.stands.is_desk its.step its.going goes_open fits) written after same
+        step-stands desk to.stands.is_desk now its.step.run (leaves desk to.stands.is_desk its.step its.going goes_uncoded goes_open fits) (leaves-others desk to.stands.is_desk its.step its.going goes_uncoded goes_open fits) written after same
         seen step going away (other-stays desk to.stands.is_desk before on seen its.step step its.going going its.stands stands away written keeps)
 
     abbrev pub own : DeskStep
-    own = record { run = its.going.row.number; progress = checkpoint_done its.step.progress }
+    own = record { run = its.going.row.number; progress = checkpoint_done its.step.progress; code = None }
 
     abbrev pub event_now : Event
-    event_now = written_event desk.layout desk.office its.step (may desk to.stands.is_desk its.step its.going goes_open fits)
+    event_now = written_event desk.layout desk.office its.step (may desk to.stands.is_desk its.step its.going goes_uncoded goes_open fits)
 
     module _ (moved : HaveMoved event_now None old new) where
       tables_now : new.tables.desk ≡ now.tables
       tables_now = moved.tables ∙ ap (after_event event_now None) to.stands.tables
 
-      entered : FirstEnters (Some on) its.going.row.number (check_name_in new.tables.desk its.going.row.number) (end desk to.stands.is_desk its.step its.going goes_open fits) old.running new.running
+      entered : FirstEnters (Some on) its.going.row.number (check_name_in new.tables.desk its.going.row.number) (end desk to.stands.is_desk its.step its.going goes_uncoded goes_open fits) old.running new.running
       entered =
-          subst (λ (o : Option RunningStepView). FirstEnters o its.going.row.number (check_name_in new.tables.desk its.going.row.number) (end desk to.stands.is_desk its.step its.going goes_open fits) old.running new.running)
+          subst (λ (o : Option RunningStepView). FirstEnters o its.going.row.number (check_name_in new.tables.desk its.going.row.number) (end desk to.stands.is_desk its.step its.going goes_uncoded goes_open fits) old.running new.running)
           (ap (λ n. find (is_of_run n) old.running) (number_is layout old before desk turn run on to) ∙ to.found) moved.running
 
       -- its data set for checkpoints has the space
-      space-so : has_space (end desk to.stands.is_desk its.step its.going goes_open fits) behind.name on.sets.sets ≡ true
+      space-so : has_space (end desk to.stands.is_desk its.step its.going goes_uncoded goes_open fits) behind.name on.sets.sets ≡ true
       space-so =
           let own = its.stands.sets.each behind.name behind.table (among layout old before desk turn run on to before written count behind) behind.at in
-          let most : end desk to.stands.is_desk its.step its.going goes_open fits ≤ behind.table.set.space = room-so layout old before desk turn run on to fits behind.name named behind.table behind.at in
+          let most : end desk to.stands.is_desk its.step its.going goes_uncoded goes_open fits ≤ behind.table.set.space = room-so layout old before desk turn run on to fits behind.name named behind.table behind.at in
           let wide : own.0.space ≡ behind.table.set.space = own.2.space in
-          space-there (end desk to.stands.is_desk its.step its.going goes_open fits) own.0 (entry_at on.sets.sets behind.name) own.1 (omega (arith, most, wide))
+          space-there (end desk to.stands.is_desk its.step its.going goes_uncoded goes_open fits) own.0 (entry_at on.sets.sets behind.name) own.1 (omega (arith, most, wide))
 
-      module _ (first : RunningStepView) (enters : IsEntered (check_name_in new.tables.desk its.going.row.number) (end desk to.stands.is_desk its.step its.going goes_open fits) on first) where
-        first-is : IsEntered (Some behind.name) (end desk to.stands.is_desk its.step its.going goes_open fits) on first
+      module _ (first : RunningStepView) (enters : IsEntered (check_name_in new.tables.desk its.going.row.number) (end desk to.stands.is_desk its.step its.going goes_uncoded goes_open fits) on first) where
+        first-is : IsEntered (Some behind.name) (end desk to.stands.is_desk its.step its.going goes_uncoded goes_open fits) on first
         first-is =
-            subst (λ (o : Option Name). IsEntered o (end desk to.stands.is_desk its.step its.going goes_open fits) on first)
+            subst (λ (o : Option Name). IsEntered o (end desk to.stands.is_desk its.step its.going goes_uncoded goes_open fits) on first)
             (check-then layout old before desk turn run on to fits behind.name named behind.table behind.at new.tables.desk tables_now) enters
 
         all-then : AllStand desk.layout now after (first ∷ without_first its.going.row.number old.running) (own ∷ without_run its.going.row.number desk.running)
         all-then = (
-          own-stands desk to.stands.is_desk after on first its.step its.going own-after goes_open fits (due-so layout old before desk turn run on to) behind.name named behind.table behind.at checks
-              first-is.run _ first-is.step
-              (first-is.sets ∙ ap (λ b. cond b (with_changed behind.name (with_length (end desk to.stands.is_desk its.step its.going goes_open fits)) on.sets.sets) on.sets.sets) space-so)
+          own-stands desk to.stands.is_desk after on first its.step its.going own-after goes_uncoded goes_open fits (due-so layout old before desk turn run on to) behind.name named behind.table behind.at checks
+              first-is.run first-is.code _ first-is.step
+              (first-is.sets ∙ ap (λ b. cond b (with_changed behind.name (with_length (end desk to.stands.is_desk its.step its.going goes_uncoded goes_open fits)) on.sets.sets) on.sets.sets) space-so)
               its.going.row.number (number_is layout old before desk turn run on to ∙ sym its.same),
           others-stand desk.layout desk.office now before after its.going.row.number other-after old.running desk.running to.stands.differ_so to.stands.is_desk.going to.stands.running,
         )
@@ -284,9 +292,9 @@ module _ (layout : Layout) (old new : JobsView) (before written after : List ℕ
             differ_so = differ-put own desk.running to.stands.differ_so;
             points =
                 subst (PointsStand now) (sym moved.points)
-                (points-written desk to.stands.is_desk its.step its.going goes_open fits behind.name named after entered.0 (without_first its.going.row.number old.running) new.running its.going.row.number
+                (points-written desk to.stands.is_desk its.step its.going goes_uncoded goes_open fits behind.name named after entered.0 (without_first its.going.row.number old.running) new.running its.going.row.number
                 (its.same ∙ sym (number_is layout old before desk turn run on to)) (all-then entered.0 entered.2).0
-                (its.stands.ordered (sym (place-due its.stands.start its.step.progress on its.stands.stands its.stands.served) ∙ due-so layout old before desk turn run on to)) entered.1 old.points to.stands.points);
+                (its.stands.ordered (none layout old before desk turn run on to) (sym (place-due its.stands.start its.step.progress on (its.stands.stands (none layout old before desk turn run on to)) (its.stands.served (none layout old before desk turn run on to))) ∙ due-so layout old before desk turn run on to)) entered.1 old.points to.stands.points);
             committed = committed-then;
           })
           (taken-kept layout old before desk turn run on to)

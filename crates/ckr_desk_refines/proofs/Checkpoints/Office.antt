@@ -51,9 +51,9 @@ its-dd start set is =
     (λ none. absurd (some-not-none set (sym is ∙ ap (option_and_then (name_of start.root start.owned)) none)))
     (λ dd at. record { dd = dd; at = at; has = sym (ap (option_and_then (name_of start.root start.owned)) at) ∙ is })
 
-module _ (desk : DeskModel) (is : IsDesk desk) (step : DeskStep) (going : IsGoing desk.office step) (unclosed : step.progress.closed ≡ false) (fits : checkpoint_fits desk.office.tables.sets going.row going.start step.progress ≡ true) where
+module _ (desk : DeskModel) (is : IsDesk desk) (step : DeskStep) (going : IsGoing desk.office step) (uncoded : step.code ≡ None) (unclosed : step.progress.closed ≡ false) (fits : checkpoint_fits desk.office.tables.sets going.row going.start step.progress ≡ true) where
   abbrev pub may : MayCheckpoint desk.layout desk.office step
-  may = record { kept = is.kept; spaced = is.spaced_legs; going = going; unclosed = unclosed; fits = fits }
+  may = record { kept = is.kept; spaced = is.spaced_legs; going = going; uncoded = uncoded; unclosed = unclosed; fits = fits }
 
   abbrev pub office_then : Office
   office_then = office_behind desk.layout desk.office step may

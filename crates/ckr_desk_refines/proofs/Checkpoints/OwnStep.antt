@@ -18,6 +18,7 @@ use Rattle.ckr_points.specs.Office.{Office}
 use Rattle.ckr_points.specs.Payload.{length_now}
 use Rattle.ckr_points.specs.Rows.{TableSet, run_of}
 use Rattle.ckr_points_invariant.proofs.Holders.Places.{outputs-among}
+use Rattle.ckr_base.proofs.Options.{some-not-none}
 use Rattle.ckr_steps.proofs.Served.{checkpoint-served}
 use Rattle.ckr_steps.proofs.Start.{served_stands}
 use Rattle.ckr_steps.specs.declared.files.Files.{Files}
@@ -46,15 +47,18 @@ not-plain : Plain ≡ Checkpoints → ⊥
 not-plain e = cc
 
 module _ (desk : DeskModel) (is : IsDesk desk) (image : List ℕ) (on moved : RunningStepView) (step : DeskStep) (going : IsGoing desk.office step) (stands : StandsForStep desk.layout desk.office image on step)
-    (unclosed : step.progress.closed ≡ false) (fits : checkpoint_fits desk.office.tables.sets going.row going.start step.progress ≡ true) (due : due_of on.step.parm on.step.state ≡ Checkpoint)
+    (uncoded : step.code ≡ None) (unclosed : step.progress.closed ≡ false) (fits : checkpoint_fits desk.office.tables.sets going.row going.start step.progress ≡ true) (due : due_of on.step.parm on.step.state ≡ Checkpoint)
     (check : Name) (check_is : check_set going.start ≡ Some check) (its : TableSet) (its_at : entry_at desk.office.tables.sets check ≡ Some its) (its_content : its.set.content ≡ Checkpoints)
-    (same_run : moved.run ≡ on.run) (counted : Bool) (entered_step : moved.step ≡ record on.step { state = served_of on.step.parm counted on.step.state })
-    (entered : moved.sets.sets ≡ with_changed check (with_length (end desk is step going unclosed fits)) on.sets.sets) where
+    (same_run : moved.run ≡ on.run) (same_code : moved.code ≡ on.code) (counted : Bool) (entered_step : moved.step ≡ record on.step { state = served_of on.step.parm counted on.step.state })
+    (entered : moved.sets.sets ≡ with_changed check (with_length (end desk is step going uncoded unclosed fits)) on.sets.sets) where
   abbrev most : ℕ
-  most = end desk is step going unclosed fits
+  most = end desk is step going uncoded unclosed fits
 
   abbrev later : Office
-  later = office_then desk is step going unclosed fits
+  later = office_then desk is step going uncoded unclosed fits
+
+  none : on.code ≡ None
+  none = stands.code ∙ uncoded
 
   starts_same : going.start ≡ stands.start
   starts_same = same-start desk.layout desk.office image on step going stands
@@ -69,12 +73,12 @@ module _ (desk : DeskModel) (is : IsDesk desk) (image : List ℕ) (on moved : Ru
   was = was-of check most on.sets moved.sets entered
 
   lie : LieStill desk.office.tables.sets later.tables.sets
-  lie = lie-still desk is step going unclosed fits
+  lie = lie-still desk is step going uncoded unclosed fits
 
-  length-of : (name : Name) (table : TableSet) → entry_at later.tables.sets name ≡ Some table → HasLength desk is step going unclosed fits name table
+  length-of : (name : Name) (table : TableSet) → entry_at later.tables.sets name ≡ Some table → HasLength desk is step going uncoded unclosed fits name table
   length-of =
-      lengths-then desk is step going unclosed fits
-      (ap (λ (s : StepStart). are_distinct (names_of s.root s.owned)) starts_same ∙ stands.stands.may.distinct)
+      lengths-then desk is step going uncoded unclosed fits
+      (ap (λ (s : StepStart). are_distinct (names_of s.root s.owned)) starts_same ∙ (stands.stands none).may.distinct)
 
   -- ---- the data set for checkpoints
 
@@ -171,14 +175,14 @@ module _ (desk : DeskModel) (is : IsDesk desk) (image : List ℕ) (on moved : Ru
   unfolding room_of
   own-room =
       ap (λ n. let r : OutputRoom = record { main = n; rejects = room_at moved.sets on.step.files.rejects } in r)
-      (file-room on.step.files.main (subst (λ (f : Files). IsPlain (made_at stands.start) f.main) (sym stands.stands.files) stands.stands.may.main))
+      (file-room on.step.files.main (subst (λ (f : Files). IsPlain (made_at stands.start) f.main) (sym (stands.stands none).files) (stands.stands none).may.main))
       ∙ ap (λ n. let r : OutputRoom = record { main = room_at on.sets on.step.files.main; rejects = n } in r)
-      (file-room on.step.files.rejects (subst (λ (f : Files). IsPlain (made_at stands.start) f.rejects) (sym stands.stands.files) stands.stands.may.rejects))
+      (file-room on.step.files.rejects (subst (λ (f : Files). IsPlain (made_at stands.start) f.rejects) (sym (stands.stands none).files) (stands.stands none).may.rejects))
 
   own-place : IsStepPlace stands.start step.progress.taken step.progress.closed moved.step moved.sets
   own-place =
       subst (λ (s : StepRun). IsStepPlace stands.start step.progress.taken step.progress.closed s moved.sets) (sym entered_step)
-      (let so = served_stands stands.start step.progress.taken step.progress.closed counted on.step on.sets stands.stands in
+      (let so = served_stands stands.start step.progress.taken step.progress.closed counted on.step on.sets (stands.stands none) in
       record {
         may = so.may;
         parm = so.parm;
@@ -193,7 +197,7 @@ module _ (desk : DeskModel) (is : IsDesk desk) (image : List ℕ) (on moved : Ru
   own-served : AreServed true step.progress.cancelled moved.step.state
   own-served =
       let served : AreServed true (is_cancelled on.step.state) (served_of on.step.parm counted on.step.state) = checkpoint-served on.step.parm counted on.step.state due in
-      subst (λ (s : StepRun). AreServed true step.progress.cancelled s.state) (sym entered_step) (record { checkpoint = served.checkpoint; cancel = served.cancel ∙ stands.served.cancel })
+      subst (λ (s : StepRun). AreServed true step.progress.cancelled s.state) (sym entered_step) (record { checkpoint = served.checkpoint; cancel = served.cancel ∙ (stands.served none).cancel })
 
   own-checked : (name : Name) (table : TableSet) (set : DataSet) → entry_at later.tables.sets name ≡ Some table → set_of moved.sets name ≡ Some set → table.set.content ≡ Checkpoints → set.length ≡ table.set.length
   own-checked name table set at e content =
@@ -209,19 +213,21 @@ module _ (desk : DeskModel) (is : IsDesk desk) (image : List ℕ) (on moved : Ru
 
   -- ---- it stands
 
-  pub own-stands : (number : ℕ) → number ≡ step.run → StandsForStep desk.layout later image moved (record { run = number; progress = checkpoint_done step.progress })
+  pub own-stands : (number : ℕ) → number ≡ step.run → StandsForStep desk.layout later image moved (record { run = number; progress = checkpoint_done step.progress; code = None })
   own-stands number same =
-      let next = row-then desk is step going unclosed fits in
+      let next = row-then desk is step going uncoded unclosed fits in
       record {
         row = next.0;
         row_at = ap (run_of later.tables) same ∙ next.1;
         start = stands.start;
         start_at = next.2 ∙ ap Some starts_same;
         run = same_run ∙ stands.run ∙ sym same;
-        stands = own-place;
-        served = own-served;
-        ordered = λ again. absurd (checkpoint-once stands.start step.progress again);
+        code = same_code ∙ none;
+        stands = λ _. own-place;
+        served = λ _. own-served;
+        ordered = λ _ again. absurd (checkpoint-once stands.start step.progress again);
         writes = ap (λ (s : StepRun). s.writes) entered_step ∙ stands.writes;
+        stopped = λ code some. absurd (some-not-none code (sym some ∙ same_code ∙ none));
         sets = own-sets;
         named = λ name set e. let old = was name set e in stands.named name old.0 old.1;
         shows = own-shows;

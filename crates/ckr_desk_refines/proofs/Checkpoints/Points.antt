@@ -36,10 +36,10 @@ told-by made (Some found) entry told is =
       ap (λ (e : KeptEntry). e.point.writes) (sym same) ∙ ap (λ (e : Entry). e.writes) whole,
     )
 
-module _ (desk : DeskModel) (is : IsDesk desk) (step : DeskStep) (going : IsGoing desk.office step) (unclosed : step.progress.closed ≡ false) (fits : checkpoint_fits desk.office.tables.sets going.row going.start step.progress ≡ true)
+module _ (desk : DeskModel) (is : IsDesk desk) (step : DeskStep) (going : IsGoing desk.office step) (uncoded : step.code ≡ None) (unclosed : step.progress.closed ≡ false) (fits : checkpoint_fits desk.office.tables.sets going.row going.start step.progress ≡ true)
     (check : Name) (check_is : check_set going.start ≡ Some check) where
   abbrev later : Office
-  later = office_then desk is step going unclosed fits
+  later = office_then desk is step going uncoded unclosed fits
 
   -- its row, with the entry in effect
   record HasNow (tables : TablesModel) : Type 0 where
@@ -53,10 +53,10 @@ module _ (desk : DeskModel) (is : IsDesk desk) (step : DeskStep) (going : IsGoin
 
   has-now : HasNow later.tables
   has-now =
-      behind-by desk.layout desk.office step (may desk is step going unclosed fits) HasNow
+      behind-by desk.layout desk.office step (may desk is step going uncoded unclosed fits) HasNow
       (λ leg owned same job. record {
-        row = next_row desk.layout desk.office step (may desk is step going unclosed fits) owned;
-        row_at = row-now desk.layout desk.office step (may desk is step going unclosed fits) owned;
+        row = next_row desk.layout desk.office step (may desk is step going uncoded unclosed fits) owned;
+        row_at = row-now desk.layout desk.office step (may desk is step going uncoded unclosed fits) owned;
         effect = _;
         got = refl;
         set = ap (λ (j : Effective). name_with_role j.root owned is_checkpoints) (sym job)
@@ -70,8 +70,8 @@ module _ (desk : DeskModel) (is : IsDesk desk) (step : DeskStep) (going : IsGoin
   entry-now : (row : RunRow) (entry : KeptEntry) → run_of later.tables step.run ≡ Some row → effect_entry later.tables row ≡ Some entry → (entry.point.taken ≡ step.progress.taken) × (entry.point.writes ≡ step.progress.writes)
   entry-now row entry at found =
       let same : has-now.row ≡ row = some-one has-now.row row (run_of later.tables step.run) has-now.row_at at in
-      told-by (written_entry desk.layout desk.office step (may desk is step going unclosed fits)) (kept_at later.tables.sets check (next_id going.row going.start)) entry
-      (kept-so desk.layout desk.office step (may desk is step going unclosed fits) check check_is)
+      told-by (written_entry desk.layout desk.office step (may desk is step going uncoded unclosed fits)) (kept_at later.tables.sets check (next_id going.row going.start)) entry
+      (kept-so desk.layout desk.office step (may desk is step going uncoded unclosed fits) check check_is)
       (ap (λ (set : Name). kept_at later.tables.sets set (next_id going.row going.start)) (sym has-now.set) ∙ ap (kept_at later.tables.sets has-now.effect.set) (sym has-now.id)
       ∙ ap (entry_in_effect later.tables) (sym has-now.got ∙ ap (λ (r : RunRow). r.in_effect) same) ∙ found)
 
@@ -80,7 +80,7 @@ module _ (desk : DeskModel) (is : IsDesk desk) (step : DeskStep) (going : IsGoin
       let same : has-now.row ≡ row = some-one has-now.row row (run_of later.tables step.run) has-now.row_at at in
       same_Some start going.start (sym starts ∙ ap (start_of desk.office) (sym same) ∙ has-now.starts)
 
-  module _ (image : List ℕ) (first : RunningStepView) (rest running : List RunningStepView) (run : ℕ) (same_run : step.run ≡ run) (stands : StandsForStep desk.layout later image first (record { run = run; progress = checkpoint_done step.progress }))
+  module _ (image : List ℕ) (first : RunningStepView) (rest running : List RunningStepView) (run : ℕ) (same_run : step.run ≡ run) (stands : StandsForStep desk.layout later image first (record { run = run; progress = checkpoint_done step.progress; code = None }))
       (uncancelled : step.progress.cancelled ≡ false) (is_first : running ≡ first ∷ rest) (points : List PointView) (stand : PointsStand desk.office points) where
     found-first : find (is_of_run run) running ≡ Some first
     found-first = ap (find (is_of_run run)) is_first ∙ ap (λ b. cond b (Some first) (find (is_of_run run) rest)) (ap (λ n. n == run) stands.run ∙ equal-itself run)
@@ -92,10 +92,10 @@ module _ (desk : DeskModel) (is : IsDesk desk) (step : DeskStep) (going : IsGoin
         record {
           point = point_of first;
           found = ap (λ n. find (is_point_of n) (with_point run running points)) same_run ∙ own-with run running points first found-first;
-          stands = subst (λ n. StandsFor first.step.state (case_at start) n) (sym told.0) (subst (λ (s : StepStart). StandsFor first.step.state (case_at s) step.progress.taken) its stands.stands.state);
+          stands = subst (λ n. StandsFor first.step.state (case_at start) n) (sym told.0) (subst (λ (s : StepStart). StandsFor first.step.state (case_at s) step.progress.taken) its (stands.stands stands.code).state);
           writes = stands.writes ∙ sym told.1;
-          unclosed = stands.stands.open_or_closed ∙ unclosed;
-          served = record { checkpoint = stands.served.checkpoint; cancel = stands.served.cancel ∙ uncancelled };
+          unclosed = (stands.stands stands.code).open_or_closed ∙ unclosed;
+          served = record { checkpoint = (stands.served stands.code).checkpoint; cancel = (stands.served stands.code).cancel ∙ uncancelled };
         }
 
     other-same : (number : ℕ) → number ≢ step.run → find (is_point_of number) (with_point run running points) ≡ find (is_point_of number) points
@@ -104,4 +104,4 @@ module _ (desk : DeskModel) (is : IsDesk desk) (step : DeskStep) (going : IsGoin
 
     pub points-written : PointsStand later (with_point run running points)
     points-written =
-        points-next desk.layout desk.office is.kept.events is.ready later step.run (leaves desk is step going unclosed fits) (leaves-others desk is step going unclosed fits) points (with_point run running points) other-same stand own-points
+        points-next desk.layout desk.office is.kept.events is.ready later step.run (leaves desk is step going uncoded unclosed fits) (leaves-others desk is step going uncoded unclosed fits) points (with_point run running points) other-same stand own-points

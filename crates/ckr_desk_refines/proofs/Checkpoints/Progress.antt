@@ -1,5 +1,5 @@
 -- A running step in memory is as far as its job says, with the lengths of its outputs and with the state of its program.
-use Rattle.std.proofs.Common.{◌≡◌, ◌≤◌, ℕ, true, List, length, ap, sym, ◌∙◌, subst}
+use Rattle.std.proofs.Common.{◌≡◌, ◌≤◌, ℕ, true, List, length, ap, sym, ◌∙◌, subst, None}
 use Rattle.ckr_desk_memory.specs.EntryModels.{IsAsFar}
 use Rattle.ckr_desk_memory.specs.View.{RunningStepView, length_in}
 use Rattle.ckr_library.specs.NameMaps.{Name}
@@ -40,18 +40,18 @@ module _ (desk : DeskModel) (is : IsDesk desk) (image : List ℕ) (on : RunningS
       stands.checked name (ap (λ (s : StepStart). is_among (output_names s.root s.owned) name) (sym starts) ∙ among)
       ∙ ap (λ (s : StepStart). length_now (within_at s step.progress.writes) desk.office.tables.sets name) (sym starts))
 
-  pub as-far : IsAsFar desk.office.tables going.row going.start on step.progress
-  as-far =
+  pub as-far : on.code ≡ None → IsAsFar desk.office.tables going.row going.start on step.progress
+  as-far none =
       by-step desk is step.run going.row going.number going.committed going.start (going-within desk.office step going)
       (λ leg owned running starts spaced. record {
         root =
             ap (λ (job : Effective). job.root) (sym (place_so desk.layout desk.office step.run going.row leg owned going.number going.committed is.kept.events running).job)
             ∙ ap (λ (s : StepStart). s.root) (sym starts);
         number = ap step_in running.stands ∙ ap (λ (s : StepStart). s.number) (sym starts);
-        taken = taken_is on.step.state (case_at stands.start) step.progress.taken stands.stands.state;
+        taken = taken_is on.step.state (case_at stands.start) step.progress.taken (stands.stands none).state;
         writes = stands.writes;
         lengths = own-length;
         state = λ entries.
-            state-so on.step.state (case_at stands.start) step.progress.taken entries stands.stands.state
+            state-so on.step.state (case_at stands.start) step.progress.taken entries (stands.stands none).state
             ∙ ap (λ (s : StepStart). checkpoint_state (case_at s) step.progress.taken entries) (sym starts-same);
       })

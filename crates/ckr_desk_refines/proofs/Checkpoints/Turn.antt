@@ -18,7 +18,7 @@ use Rattle.ckr_desk_turn.proofs.Checkpoints.Plans.{takes}
 use Rattle.ckr_desk_turn.proofs.NextEvents.WithinStep.{by-step}
 use Rattle.ckr_desk_turn.proofs.RunningSteps.{going-within}
 use Rattle.ckr_desk_turn.specs.Checkpoints.{checkpoint_event, checkpoint_fits, checkpoint_try, checkpoint_unless}
-use Rattle.ckr_desk_turn.specs.Desk.{DeskModel, DeskStep, TurnDone, progress_of, start_of}
+use Rattle.ckr_desk_turn.specs.Desk.{DeskModel, DeskStep, TurnDone, progress_of, progress_unless, start_of}
 use Rattle.ckr_desk_turn.specs.Due.{next_due}
 use Rattle.ckr_desk_turn.specs.Invariant.{IsDesk}
 use Rattle.ckr_desk_turn.specs.Taken.{served_by, taken_of}
@@ -63,10 +63,17 @@ module _ (layout : Layout) (old : JobsView) (image : List ℕ) (desk : DeskModel
   pub due-so : due_of on.step.parm on.step.state ≡ Checkpoint
   due-so = due-there desk its_desk run Checkpoint due-at image on (subst (λ (step : DeskStep). StandsForStep desk.layout desk.office image on step) (sym same-step) pair.stands)
 
+  -- its run doesn't wait with a code
+  pub uncoded : pair.step.code ≡ None
+  uncoded = ap (λ (step : DeskStep). step.code) (sym same-step) ∙ due-at.uncoded
+
+  pub none : on.code ≡ None
+  none = pair.stands.code ∙ uncoded
+
   next-so : next_due start pair.step.progress ≡ Checkpoint
   next-so =
       ap (λ (s : StepStart). next_due s pair.step.progress) (same-start desk.layout desk.office image on pair.step pair.going pair.stands)
-      ∙ sym (place-due pair.stands.start pair.step.progress on pair.stands.stands pair.stands.served) ∙ due-so
+      ∙ sym (place-due pair.stands.start pair.step.progress on (pair.stands.stands none) (pair.stands.served none)) ∙ due-so
 
   -- RD doesn't suppress it
   takes-so : suppresses (rd_in_effect row start.number) ≡ false
@@ -83,7 +90,9 @@ module _ (layout : Layout) (old : JobsView) (image : List ℕ) (desk : DeskModel
   unclosed = open-yet start pair.step.progress (ap has_finished next-so)
 
   pub known : progress_of desk run ≡ Some pair.step.progress
-  known = ap (λ (o : Option DeskStep). option_map_or (λ (step : DeskStep). Some step.progress) o None) pair.at
+  known =
+      ap (λ (o : Option DeskStep). option_map_or (λ (step : DeskStep). progress_unless step.code step.progress) o None) pair.at
+      ∙ ap (λ code. progress_unless code pair.step.progress) uncoded
 
   -- ---- the turn of the desk
 

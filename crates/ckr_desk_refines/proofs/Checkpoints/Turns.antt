@@ -34,7 +34,7 @@ use Rattle.ckr_desk_refines.proofs.Checkpoints.Desk.{check_is, committed-then, c
 use Rattle.ckr_desk_refines.proofs.Checkpoints.NextEvent.{IsOfJob, is-of-job}
 use Rattle.ckr_desk_refines.proofs.Checkpoints.Office.{may}
 use Rattle.ckr_desk_refines.proofs.Checkpoints.Progress.{as-far}
-use Rattle.ckr_desk_refines.proofs.Checkpoints.Turn.{event-told, fits-told, found-same, pair, taken-by, unclosed}
+use Rattle.ckr_desk_refines.proofs.Checkpoints.Turn.{event-told, fits-told, found-same, none, pair, taken-by, unclosed, uncoded}
 use Rattle.ckr_desk_refines.proofs.Durable.Units.{committed-kept}
 use Rattle.ckr_desk_refines.proofs.Entries.Images.{outside-kept}
 use Rattle.ckr_desk_refines.proofs.Entries.There.{has-then}
@@ -80,7 +80,7 @@ module _ (layout : Layout) (old : JobsView) (before : List ℕ) (desk : DeskMode
       ap (λ (o : Option Name). option_map_or (λ (table : TableSet). table.set.length) (option_and_then (entry_at desk.office.tables.sets) o) 0) named
       ∙ ap (λ (o : Option TableSet). option_map_or (λ (table : TableSet). table.set.length) o 0) behind.at in
       subst (λ (done : TurnDone). HasEntries desk.layout done.desk.office image) (sym (taken-by layout old before desk turn run on to true fits))
-      (has-behind desk.layout desk.office p.step (may desk to.stands.is_desk p.step p.going (unclosed layout old before desk turn run on to) fits) image behind.name behind.table behind.set named behind.at behind.places
+      (has-behind desk.layout desk.office p.step (may desk to.stands.is_desk p.step p.going (uncoded layout old before desk turn run on to) (unclosed layout old before desk turn run on to) fits) image behind.name behind.table behind.set named behind.at behind.places
       (subst IsEntry entry_is is_entry)
       (subst (λ n. HasEntry image desk.layout behind.set n (spelling (next_entry desk.office.tables.sets p.going.row p.going.start p.step.progress))) (sym place)
       (subst (λ (entry : Entry). HasEntry image desk.layout behind.set behind.table.set.length (spelling entry)) entry_is there)) had)
@@ -100,7 +100,7 @@ module _ (layout : Layout) (old : JobsView) (before : List ℕ) (desk : DeskMode
   its : IsOfJob desk.office.tables p.going.row p.going.start p.step.progress made
   its =
       let row_is : c.row ≡ p.going.row = same_Some c.row p.going.row (sym c.row_at ∙ ap (run_of desk.office.tables) p.stands.run ∙ p.going.row_at) in
-      is-of-job desk.office.tables p.going.row p.going.start on p.step.progress made c (as-far desk to.stands.is_desk before on p.step p.going p.stands) row_is
+      is-of-job desk.office.tables p.going.row p.going.start on p.step.progress made c (as-far desk to.stands.is_desk before on p.step p.going p.stands (none layout old before desk turn run on to)) row_is
       (by-step desk to.stands.is_desk p.step.run p.going.row p.going.number p.going.committed p.going.start (going-within desk.office p.step p.going)
       (λ leg owned running starts spaced.
       same_Some c.own p.going.start.owned

@@ -1,5 +1,5 @@
 -- The jobs in memory stand for the desk behind a checkpoint that doesn't fit.
-use Rattle.std.proofs.Common.{◌≡◌, ℕ, false, List, ◌∷◌, sym, ◌∙◌, subst}
+use Rattle.std.proofs.Common.{◌≡◌, ℕ, false, List, ◌∷◌, sym, ◌∙◌, subst, None}
 use Rattle.ckr_desk_memory.specs.EventChanges.{served_step, without_first}
 use Rattle.ckr_desk_memory.specs.View.{JobsView, RunningStepView}
 use Rattle.ckr_desk_turn.specs.Checkpoints.{checkpoint_fits}
@@ -11,7 +11,7 @@ use Rattle.ckr_volumes.specs.declared.layout.Layout.{Layout}
 use Rattle.ckr_desk_refines.specs.Checkpoints.{IsToTake}
 use Rattle.ckr_desk_refines.specs.Standing.{AllStand, PointsStand, StandsForDesk, StandsForStep}
 use Rattle.ckr_desk_refines.specs.Unit.{HasPassed}
-use Rattle.ckr_desk_refines.proofs.Checkpoints.Turn.{due-so, numbered, pair, taken-by, taken-kept}
+use Rattle.ckr_desk_refines.proofs.Checkpoints.Turn.{due-so, none, numbered, pair, taken-by, taken-kept}
 use Rattle.ckr_desk_refines.proofs.Standing.Served.{checkpoint-stands, served-first}
 use Rattle.ckr_desk_refines.proofs.Units.StepLists.{IsPair, differ-put, others-stay}
 
@@ -23,12 +23,12 @@ module _ (layout : Layout) (old new : JobsView) (image : List ℕ) (desk : DeskM
   number_is = numbered layout old image desk turn run on to
 
   abbrev own : DeskStep
-  own = record { run = its.going.row.number; progress = checkpoint_done its.step.progress }
+  own = record { run = its.going.row.number; progress = checkpoint_done its.step.progress; code = None }
 
   own-stands : StandsForStep desk.layout desk.office image (served_step on) own
   own-stands =
-      subst (λ (n : ℕ). StandsForStep desk.layout desk.office image (served_step on) (record { run = n; progress = checkpoint_done its.step.progress })) (its.same ∙ sym number_is)
-      (checkpoint-stands desk.layout desk.office image on its.step its.stands (due-so layout old image desk turn run on to))
+      subst (λ (n : ℕ). StandsForStep desk.layout desk.office image (served_step on) (record { run = n; progress = checkpoint_done its.step.progress; code = None })) (its.same ∙ sym number_is)
+      (checkpoint-stands desk.layout desk.office image on its.step its.stands (none layout old image desk turn run on to) (due-so layout old image desk turn run on to))
 
   rest : AllStand desk.layout desk.office image (without_first run old.running) (without_run its.going.row.number desk.running)
   rest =

@@ -3,7 +3,7 @@ use Rattle.std.proofs.Common.{◌≡◌, ℕ, Bool, true, false, List, refl, ap,
 use Rattle.std.specs.Option.{option_map_or}
 use Rattle.arrayvec.specs.ArrayVec.{ArrayVec}
 use Rattle.ckr_base.specs.declared.code.Code.{Code}
-use Rattle.ckr_events.specs.declared.event.Event.TheVariants.{Submitted, Cancelled, StepEnded, Ended, Purged}
+use Rattle.ckr_events.specs.declared.event.Event.TheVariants.{Submitted, Cancelled, StepEnded, Held, Released, Ended, Purged}
 use Rattle.ckr_events.specs.declared.event.Ending.{Ending}
 use Rattle.ckr_events.specs.declared.event.Ending.TheVariants.{Completed, Coded, Allocation}
 use Rattle.ckr_jcl.specs.declared.deck.Job.{Job}
@@ -25,7 +25,7 @@ use Rattle.ckr_points_invariant.proofs.Steps.Walks.{start_at-of}
 use Rattle.ckr_volumes.specs.declared.layout.Layout.{Layout}
 use Rattle.ckr_desk_refines.specs.Commits.{HasCommitted, HasWithinRun}
 use Rattle.ckr_desk_refines.specs.Origins.Stems.{stays}
-use Rattle.ckr_desk_refines.proofs.Durable.Office.{behind_end, by-coded, by-step-ended}
+use Rattle.ckr_desk_refines.proofs.Durable.Office.{behind_end, behind_hold, by-coded, by-held, by-step-ended}
 use Rattle.ckr_desk_refines.proofs.Durable.Commits.{committed-has, committed-kept}
 use Rattle.ckr_desk_refines.proofs.Durable.StepEnd.{StaysFrom, both-from, disposed-from, ended-from, part-itself}
 use Rattle.ckr_desk_refines.proofs.Durable.Stamps.{LegsStay, goes-on}
@@ -64,6 +64,11 @@ cancelled-stays layout office image job deck kept next had =
     same-sets layout office (office_after (Cancelled job, deck) office) image kept next (λ run led. refl) had
     (by-run-sets _ (run_of office.tables job) office.tables (λ row. refl))
 
+pub released-stays : (layout : Layout) (office : Office) (image : List ℕ) (job : ℕ) (deck : Option Job) → IsKept layout office → IsKept layout (office_after (Released job, deck) office) → HasCommitted layout office image → HasCommitted layout (office_after (Released job, deck) office) image
+released-stays layout office image job deck kept next had =
+    same-sets layout office (office_after (Released job, deck) office) image kept next (λ run led. refl) had
+    (by-run-sets _ (run_of office.tables job) office.tables (λ row. refl))
+
 -- ---- a step ends
 
 dispositions-from : (row : RunRow) (owned : OwnedStep) (step : ℕ) (abnormal : Bool) (tables : TablesModel) (name : Name) (table : TableSet) → entry_at (after_dispositions row owned step abnormal tables).sets name ≡ Some table → StaysFrom tables.sets name table
@@ -87,6 +92,21 @@ step-ended-stays layout office image job step rc writes lengths deck kept may ca
     (committed-has layout office job row leg owned writes lengths.items kept running now.carried now.are image had
     (has row (its_start leg owned (step_now row)) running.holder.row_at (its-start layout office job row leg owned kept running.holder running.found)))
     (λ name table at. dispositions-from row owned (step_now row) false (after_commit row owned (step_now row) writes lengths.items office.tables) name table at))
+    next
+
+-- ---- a run is held
+
+pub held-stays : (layout : Layout) (office : Office) (image : List ℕ) (job writes : ℕ) (code : Code) (lengths : ArrayVec ℕ) (deck : Option Job) → IsKept layout office → may_come layout office (Held job code writes lengths, deck) ≡ true → carries layout office (Held job code writes lengths) deck ≡ true → IsKept layout (office_after (Held job code writes lengths, deck) office) → HasCommitted layout office image → HasWithinRun layout office job writes image → HasCommitted layout (office_after (Held job code writes lengths, deck) office) image
+held-stays layout office image job writes code lengths deck kept may carried next had has =
+    by-held (λ (its : Office). IsKept layout its → HasCommitted layout its image) layout office job writes code lengths deck kept.events may carried
+    (λ row leg owned now next.
+    let running : IsRunning office job row leg owned (step_now row) (writes_in (place_of row)) = now.running in
+    all-stay layout (committed_office office row owned writes lengths.items) (behind_hold office code writes lengths.items row owned) image
+    (committed-kept layout office job row leg owned writes lengths.items kept running now.carried now.are)
+    next (λ run led. refl)
+    (committed-has layout office job row leg owned writes lengths.items kept running now.carried now.are image had
+    (has row (its_start leg owned (step_now row)) running.holder.row_at (its-start layout office job row leg owned kept running.holder running.found)))
+    (λ name table at. (table, at, part-itself table)))
     next
 
 -- ---- a run ends

@@ -6,7 +6,7 @@ use Rattle.ckr_base.specs.declared.code.Code.{Code}
 use Rattle.ckr_base.specs.declared.programs.Output.TheVariants.{InPlace}
 use Rattle.ckr_base.proofs.Bools.{and-first}
 use Rattle.ckr_points_library.specs.Commit.{output_names}
-use Rattle.ckr_events.specs.declared.event.Event.TheVariants.{Cancelled, Ended, Purged, Rewritten, Selected, Started, StepEnded, Submitted}
+use Rattle.ckr_events.specs.declared.event.Event.TheVariants.{Cancelled, Ended, Held, Purged, Released, Rewritten, Selected, Started, StepEnded, Submitted}
 use Rattle.ckr_events.specs.declared.event.Ending.{Ending}
 use Rattle.ckr_events.specs.declared.event.Ending.TheVariants.{Allocation, Coded, Completed}
 use Rattle.ckr_events.specs.declared.event.Made.{Made}
@@ -35,7 +35,7 @@ use Rattle.ckr_points_invariant.proofs.Start.Event.{by-start}
 use Rattle.ckr_volumes.specs.declared.layout.Layout.{Layout}
 use Rattle.ckr_desk_refines.specs.SharedSets.{LeavesOthers}
 use Rattle.ckr_desk_refines.proofs.Durable.OtherSets.{IsLeft, abnormal-left, committed-left, disposed-left, ended-left, left-of, running-leaves, started-left, within-left}
-use Rattle.ckr_desk_refines.proofs.Durable.Office.{CommitsNow, RewritesNow, behind_end, by-coded, by-rewritten, by-step-ended, ended-office}
+use Rattle.ckr_desk_refines.proofs.Durable.Office.{CommitsNow, RewritesNow, behind_end, behind_hold, by-coded, by-held, by-rewritten, by-step-ended, ended-office}
 use Rattle.ckr_desk_refines.proofs.Durable.Events.{by-run-sets}
 
 -- the names of a running step are among those that its holder reaches
@@ -62,6 +62,10 @@ others-purged now job deck =
 pub others-cancelled : (now : Office) (job : ℕ) (deck : Option Job) → LeavesOthers now job (office_after (Cancelled job, deck) now)
 others-cancelled now job deck =
     same-tables now (office_after (Cancelled job, deck) now) job (by-run-sets _ (run_of now.tables job) now.tables (λ row. refl))
+
+pub others-released : (now : Office) (job : ℕ) (deck : Option Job) → LeavesOthers now job (office_after (Released job, deck) now)
+others-released now job deck =
+    same-tables now (office_after (Released job, deck) now) job (by-run-sets _ (run_of now.tables job) now.tables (λ row. refl))
 
 pub others-selected : (layout : Layout) (now : Office) (job initiator step : ℕ) (id : Option Name) (deck : Option Job) → IsKept layout now → may_come layout now (Selected job initiator 0 step id, deck) ≡ true → LeavesOthers now job (office_after (Selected job initiator 0 step id, deck) now)
 others-selected layout now job initiator step id deck kept may =
@@ -110,6 +114,15 @@ others-step-ended layout now job step rc writes lengths deck kept may carried =
     (λ row leg owned commits.
     by-left layout now (record now { tables = after_step_ended row owned (step_now row) rc writes lengths.items now.tables }) job row leg kept.events commits.running.holder
     (λ name left. step_so layout now job row leg owned writes lengths.items name kept.events commits left rc))
+
+-- ---- a run is held
+
+pub others-held : (layout : Layout) (now : Office) (job writes : ℕ) (code : Code) (lengths : ArrayVec ℕ) (deck : Option Job) → IsKept layout now → may_come layout now (Held job code writes lengths, deck) ≡ true → carries layout now (Held job code writes lengths) deck ≡ true → LeavesOthers now job (office_after (Held job code writes lengths, deck) now)
+others-held layout now job writes code lengths deck kept may carried =
+    by-held (LeavesOthers now job) layout now job writes code lengths deck kept.events may carried
+    (λ row leg owned commits.
+    by-left layout now (behind_hold now code writes lengths.items row owned) job row leg kept.events commits.running.holder
+    (λ name left. committed_so layout now job row leg owned writes lengths.items name kept.events commits left))
 
 -- ---- a run ends
 

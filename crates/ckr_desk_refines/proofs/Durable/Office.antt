@@ -6,7 +6,7 @@ use Rattle.arrayvec.specs.ArrayVec.{ArrayVec}
 use Rattle.ckr_points_library.specs.Commit.{output_names}
 use Rattle.ckr_base.specs.declared.code.Code.{Code}
 use Rattle.ckr_base.proofs.Bools.{and-first, and-second}
-use Rattle.ckr_events.specs.declared.event.Event.TheVariants.{Checkpointed, Ended, Rewritten, StepEnded}
+use Rattle.ckr_events.specs.declared.event.Event.TheVariants.{Checkpointed, Ended, Held, Rewritten, StepEnded}
 use Rattle.ckr_events.specs.declared.event.Ending.{Ending}
 use Rattle.ckr_events.specs.declared.event.Ending.TheVariants.{Coded}
 use Rattle.ckr_jcl.specs.declared.deck.Job.{Job}
@@ -14,7 +14,7 @@ use Rattle.ckr_library.specs.NameMaps.{Name}
 use Rattle.ckr_meaning.specs.EffectiveJob.{OwnedStep}
 use Rattle.ckr_meaning.specs.declared.place.Place.TheVariants.{Within}
 use Rattle.ckr_meaning.specs.StepRun.{StepStart, work_at}
-use Rattle.ckr_points.specs.Tables.{after_checkpointed, after_commit, after_rewritten, after_step_ended}
+use Rattle.ckr_points.specs.Tables.{after_checkpointed, after_commit, after_held, after_rewritten, after_step_ended}
 use Rattle.ckr_points.specs.Follows.{are_lengths, ended_follows, is_checkpoint, is_in_state, is_rewrite, is_running, is_update, is_within, lengths_follow, of_step}
 use Rattle.ckr_points.specs.declared.run.RunState.TheVariants.{Released as ReleasedRun, On}
 use Rattle.ckr_points.specs.Payload.{carries, carries_taken, commits, is_returned, writes_in}
@@ -84,6 +84,30 @@ by-coded Q layout office job rule writes code lengths deck kept may carried each
     let same : office_after (Ended job ending, deck) office ≡ behind_end office job ending (after_abnormal (record row { place = Some (Within (step_now row) writes) }) (Within (step_now row) writes) (after_commit row owned (step_now row) writes lengths.items office.tables)) =
     ended-office office job ending deck row e
     ∙ ap (λ (o : Option OwnedStep). behind_end office job ending (option_map_or (λ owned. after_abnormal (record row { place = Some (Within (step_now row) writes) }) (Within (step_now row) writes) (after_commit row owned (step_now row) writes lengths.items office.tables)) o office.tables)) found in
+    subst Q (sym same)
+    (each row leg owned (record {
+      running = running-so layout office job row leg owned holder (running-within office.tables row leg (kept.places job row leg holder) runs) found;
+      carried = carried-of layout office job row leg owned (step_now row) (λ row. commits office.tables.sets row writes lengths.items) kept holder refl found carried;
+      are = are;
+    })))))
+
+-- the office behind the hold of a run, by its row and its step
+abbrev pub behind_hold : Office → Code → ℕ → List ℕ → RunRow → OwnedStep → Office
+behind_hold office code writes lengths row owned = record office { tables = after_held row owned (step_now row) code writes lengths office.tables }
+
+pub by-held : (Q : Office → Type 0) (layout : Layout) (office : Office) (job writes : ℕ) (code : Code) (lengths : ArrayVec ℕ) (deck : Option Job) → IsAgreed layout office → may_come layout office (Held job code writes lengths, deck) ≡ true → carries layout office (Held job code writes lengths) deck ≡ true
+    → ((row : RunRow) (leg : Leg) (owned : OwnedStep) → CommitsNow office job row leg owned writes lengths.items → Q (behind_hold office code writes lengths.items row owned)) → Q (office_after (Held job code writes lengths, deck) office)
+by-held Q layout office job writes code lengths deck kept may carried each =
+    tested-run office.tables job (λ row. (is_running row || is_in_state ReleasedRun row) && lengths_follow office.tables row lengths.items) (follows-of layout office (Held job code writes lengths) deck may)
+    (λ row e passes.
+    let runs : (is_running row || is_in_state ReleasedRun row) ≡ true = and-first (is_running row || is_in_state ReleasedRun row) (lengths_follow office.tables row lengths.items) passes in
+    led-by layout office job row kept e (running-holds row runs)
+    (λ leg holder.
+    step-by office.tables row lengths.items (and-second (is_running row || is_in_state ReleasedRun row) (lengths_follow office.tables row lengths.items) passes)
+    (λ owned found are.
+    let same : office_after (Held job code writes lengths, deck) office ≡ behind_hold office code writes lengths.items row owned =
+    ap (λ (o : Option RunRow). (let its : Office = record office { tables = option_map_or (λ row. by_step (λ owned step. after_held row owned step code writes lengths.items office.tables) row office.tables) o office.tables } in its)) e
+    ∙ ap (λ (o : Option OwnedStep). (let its : Office = record office { tables = option_map_or (λ owned. after_held row owned (step_now row) code writes lengths.items office.tables) o office.tables } in its)) found in
     subst Q (sym same)
     (each row leg owned (record {
       running = running-so layout office job row leg owned holder (running-within office.tables row leg (kept.places job row leg holder) runs) found;

@@ -24,12 +24,12 @@ use Rattle.ckr_desk_refines.proofs.Events.OtherRows.{LeavesRuns, cancelled-leave
 use Rattle.ckr_desk_refines.proofs.Events.OtherSteps.{step-stands, still-stands}
 use Rattle.ckr_desk_refines.proofs.Rewrites.StepLists.{others-stand, put-differ}
 use Rattle.ckr_desk_refines.proofs.Standing.Served.{cancel-stands, changed-first, served-first}
-use Rattle.ckr_desk_refines.proofs.Units.DueUnits.{IsDue, due-there}
+use Rattle.ckr_desk_refines.proofs.Units.DueUnits.{IsDue, due-found, due-there}
 use Rattle.ckr_desk_refines.proofs.Units.StepLists.{IsPair, pair-of, seen-of}
 
 module _ (desk : DeskModel) (is : IsDesk desk) (before after : List ℕ) (same : HasSameRecords desk.layout before after) (seen : List RunningStepView)
     (all : AllStand desk.layout desk.office before seen desk.running) (differs : differ desk.running ≡ true)
-    (job : ℕ) (step : TurnStep) (some : running_in (jobs_of desk) job ≡ Some step) (is_due : step.due ≡ Cancel) where
+    (job : ℕ) (step : TurnStep) (some : running_in (jobs_of desk) job ≡ Some step) (is_due : step.due ≡ Cancel) (uncoded : step.code ≡ None) where
   abbrev later : Office
   later = office_after (Cancelled job, None) desk.office
 
@@ -37,7 +37,7 @@ module _ (desk : DeskModel) (is : IsDesk desk) (before after : List ℕ) (same :
   found = found-step desk.office job desk.running step is.going some
 
   due : IsDue desk job Cancel
-  due = record { step = found.on; at = found.at; same = found.same; going = found.going; is_due = sym (ap (λ (s : TurnStep). s.due) found.is) ∙ is_due }
+  due = due-found desk job Cancel step found is_due uncoded
 
   -- its row is changed, and nothing else
   row-later : (row : RunRow) → run_of desk.office.tables job ≡ Some row → run_of later.tables job ≡ Some (record row { in_effect = None })
@@ -50,21 +50,24 @@ module _ (desk : DeskModel) (is : IsDesk desk) (before after : List ℕ) (same :
 
   module _ (on : RunningStepView) (there : find (is_of_run job) seen ≡ Some on) (pair : IsPair desk.layout desk.office before job on desk.running) where
     abbrev own : DeskStep
-    own = record { run = job; progress = cancel_done pair.step.progress }
+    own = record { run = job; progress = cancel_done pair.step.progress; code = None }
+
+    paired : pair.step ≡ due.step
+    paired = same_Some pair.step due.step (sym pair.at ∙ due.at)
 
     due-so : due_of on.step.parm on.step.state ≡ Cancel
     due-so =
         due-there desk is job Cancel due before on
-        (subst (λ (step : DeskStep). StandsForStep desk.layout desk.office before on step) (same_Some pair.step due.step (sym pair.at ∙ due.at)) pair.stands)
+        (subst (λ (step : DeskStep). StandsForStep desk.layout desk.office before on step) paired pair.stands)
 
     -- its own step stands, with the cancel done
     own-stands : StandsForStep desk.layout later after (served_step on) own
     own-stands =
-        subst (λ (n : ℕ). StandsForStep desk.layout later after (served_step on) (record { run = n; progress = cancel_done pair.step.progress })) pair.same
+        subst (λ (n : ℕ). StandsForStep desk.layout later after (served_step on) (record { run = n; progress = cancel_done pair.step.progress; code = None })) pair.same
         (cancel-stands desk.layout later after on pair.step
         (still-stands desk is later before after same on pair.step pair.going pair.stands (record pair.stands.row { in_effect = None })
         (ap (run_of later.tables) pair.same ∙ row-later pair.stands.row (ap (run_of desk.office.tables) (sym pair.same) ∙ pair.stands.row_at))
-        pair.stands.start_at (λ name among. ap (λ sets. entry_at sets name) sets-same)) due-so)
+        pair.stands.start_at (λ name among. ap (λ sets. entry_at sets name) sets-same)) (pair.stands.code ∙ ap (λ (step : DeskStep). step.code) paired ∙ due.uncoded) due-so)
 
     leaves : LeavesRuns desk.office later job
     leaves = cancelled-leaves desk.layout desk.office job is.kept.events
@@ -89,4 +92,4 @@ module _ (desk : DeskModel) (is : IsDesk desk) (before after : List ℕ) (same :
   pub cancelled-differ : differ (running_behind desk.office.tables (Cancelled job) desk.running) ≡ true
   cancelled-differ =
       subst (λ (running : List DeskStep). differ running ≡ true) (sym (changed-first job cancel_done due.step desk.running due.at))
-      (put-differ (record { run = job; progress = cancel_done due.step.progress }) desk.running differs)
+      (put-differ (record { run = job; progress = cancel_done due.step.progress; code = None }) desk.running differs)

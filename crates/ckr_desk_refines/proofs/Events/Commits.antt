@@ -1,13 +1,13 @@
 -- What an image has of the running steps and of the committed writes, behind an event.
-use Rattle.std.proofs.Common.{◌≡◌, ℕ, List, ap, sym, ◌∙◌, subst, Option, Some}
+use Rattle.std.proofs.Common.{◌≡◌, ℕ, List, refl, ap, sym, ◌∙◌, subst, Option, Some, None}
 use Rattle.std.specs.Prelude.{◌==◌}
 use Rattle.std.specs.Option.{option_map, option_map_or}
 use Rattle.std.proofs.lemmas.Option.{same_Some}
+use Rattle.ckr_base.specs.declared.code.Code.{Code}
 use Rattle.ckr_base.proofs.Options.{option-cases}
-use Rattle.ckr_desk_turn.specs.NextEvents.{IsWithinStep}
 use Rattle.ckr_desk_turn.specs.Invariant.{IsDesk}
 use Rattle.ckr_desk_turn.proofs.RunningSteps.{FoundStep, found-step}
-use Rattle.ckr_desk_turn.proofs.NextEvents.WithinStep.{by-step}
+use Rattle.ckr_desk_turn.proofs.NextEvents.Holders.{HoldsStep, by-holder}
 use Rattle.ckr_desk_refines.specs.Commits.{HasCommitted, HasWithin, HasWithinRun}
 use Rattle.ckr_desk_refines.proofs.Durable.Start.{none-long}
 use Rattle.ckr_desk_refines.proofs.Durable.Stamps.{as-office}
@@ -32,8 +32,8 @@ use Rattle.ckr_desk_refines.specs.Moves.{HasSameRecords}
 use Rattle.ckr_desk_refines.specs.Standing.{AllStand, StandsForStep}
 use Rattle.ckr_desk_memory.specs.View.{RunningStepView}
 use Rattle.ckr_desk_turn.specs.Codes.{kept_reached, reached_by, running_reached}
-use Rattle.ckr_desk_turn.specs.Desk.{DeskModel, DeskStep, jobs_of, start_of}
-use Rattle.ckr_desk_turn.specs.Jobs.{TurnStep, running_in}
+use Rattle.ckr_desk_turn.specs.Desk.{DeskModel, DeskStep, jobs_of, seen_from, start_of}
+use Rattle.ckr_desk_turn.specs.Jobs.{TurnStep, as_stopped, running_in}
 use Rattle.ckr_volumes.specs.declared.layout.Layout.{Layout}
 use Rattle.ckr_volumes.specs.Records.{records_on}
 use Rattle.ckr_volumes.specs.Layouts.{StandsIn}
@@ -55,10 +55,10 @@ within-begun layout office number row leg owned step writes kept running name se
     (ap (λ (standing : Stock LibrarySet). standing.sets) (ap (at leg.job leg.start) running.stands) ∙ at-within leg.job leg.start step writes owned (found_leg layout office number row leg owned step writes kept.events running)) ∙ e)
 
 -- a step has written what is committed of it
-pub place-within : (desk : DeskModel) (is : IsDesk desk) (run : ℕ) (row : RunRow) (number committed : ℕ) (start : StepStart) → IsWithinStep desk.office run row number committed start → (image : List ℕ) → HasCommitted desk.layout desk.office image → HasWithin desk.layout desk.office.tables.sets start committed image
+pub place-within : (desk : DeskModel) (is : IsDesk desk) (run : ℕ) (row : RunRow) (number committed : ℕ) (start : StepStart) → HoldsStep desk.office run row number committed start → (image : List ℕ) → HasCommitted desk.layout desk.office image → HasWithin desk.layout desk.office.tables.sets start committed image
 place-within desk is run row number committed start within image had =
-    by-step desk is run row number committed start within
-    (λ leg owned running same spaced.
+    by-holder desk.layout desk.office run row number committed start within is.kept
+    (λ leg owned running same.
     subst (λ s. HasWithin desk.layout desk.office.tables.sets s committed image) (sym same)
     (λ name table set among e there plain.
     let alike = alike_within desk.layout desk.office run row leg owned number committed is.kept.events running name (in_reach desk.layout desk.office run row leg owned number committed is.kept.events running name among) in
@@ -75,17 +75,22 @@ stands-within layout office image on step stands row start row_at start_at =
     subst (λ (s : StepStart). HasWithin layout office.tables.sets s step.progress.writes image) (same_Some stands.start start (sym stands.start_at ∙ ap (start_of office) mine ∙ start_at))
     (within-shown (Unit {0}) image layout office.tables.sets stands.start step.progress.writes on.sets tt stands.sets stands.shows)
 
+-- a step that has stopped has made its writes
+stopped-writes : (code : Option Code) (step : TurnStep) → (as_stopped code step).writes ≡ step.writes
+stopped-writes None step = refl
+stopped-writes (Some code) step = refl
+
 module _ (desk : DeskModel) (is : IsDesk desk) (image : List ℕ) (seen : List RunningStepView) (all : AllStand desk.layout desk.office image seen desk.running) where
   pub running-written : (run : ℕ) (step : TurnStep) → running_in (jobs_of desk) run ≡ Some step → HasWithinRun desk.layout desk.office run step.writes image
   running-written run step some =
       let found : FoundStep desk.office desk.running run step = found-step desk.office run desk.running step is.going some in
       let its : StandsFor desk.layout desk.office image found.on = found-stands desk.layout desk.office image (λ (one : DeskStep). one.run == run) seen desk.running found.on all found.at in
       subst (λ n. HasWithinRun desk.layout desk.office n step.writes image) found.same
-      (subst (λ n. HasWithinRun desk.layout desk.office found.on.run n image) (ap (λ (s : TurnStep). s.writes) (sym found.is))
+      (subst (λ n. HasWithinRun desk.layout desk.office found.on.run n image) (sym (stopped-writes found.on.code (seen_from desk.office found.on.run found.on.progress found.going.start)) ∙ ap (λ (s : TurnStep). s.writes) (sym found.is))
       (stands-within desk.layout desk.office image its.on found.on its.stands))
 
-  -- a run within a step has written what it has come to
-  pub reached-written : HasCommitted desk.layout desk.office image → (run : ℕ) (row : RunRow) (number committed : ℕ) (start : StepStart) → IsWithinStep desk.office run row number committed start → HasWithinRun desk.layout desk.office run (reached_by (jobs_of desk) row).writes image
+  -- a run within a step, on its initiator or off it, has written what it has come to
+  pub reached-written : HasCommitted desk.layout desk.office image → (run : ℕ) (row : RunRow) (number committed : ℕ) (start : StepStart) → HoldsStep desk.office run row number committed start → HasWithinRun desk.layout desk.office run (reached_by (jobs_of desk) row).writes image
   reached-written had run row number committed start within =
       option-cases (running_in (jobs_of desk) row.number)
       (λ none.

@@ -6,13 +6,13 @@ use Rattle.ckr_base.specs.declared.code.Code.{Code}
 use Rattle.ckr_events.specs.declared.event.Ending.{Ending}
 use Rattle.ckr_events.specs.declared.event.Ending.TheVariants.{Allocation, Coded, Completed}
 use Rattle.ckr_events.specs.declared.event.Event.{Event}
-use Rattle.ckr_events.specs.declared.event.Event.TheVariants.{Cancelled, Ended, Restarted, Selected, Started, StepEnded}
+use Rattle.ckr_events.specs.declared.event.Event.TheVariants.{Cancelled, Ended, Held, Restarted, Selected, Started, StepEnded}
 use Rattle.ckr_events.specs.Jobs.{job_of}
 use Rattle.ckr_events.specs.declared.event.Made.{Made}
 use Rattle.ckr_jcl.specs.declared.deck.Job.{Job}
 use Rattle.ckr_desk_memory.specs.EventChanges.{is_point_of, points_behind, without_run}
 use Rattle.ckr_desk_memory.specs.RunningSteps.{StepGoesBack}
-use Rattle.ckr_desk_memory.specs.View.{JobsView, begun}
+use Rattle.ckr_desk_memory.specs.View.{JobsView, PointView, begun}
 use Rattle.ckr_desk_memory.proofs.Points.{other-point}
 use Rattle.ckr_desk_memory.specs.Start.{HasNew}
 use Rattle.ckr_desk_turn.specs.NextEvents.{Comes}
@@ -20,8 +20,8 @@ use Rattle.ckr_desk_turn.specs.Invariant.{IsDesk, IsGoing}
 use Rattle.ckr_desk_turn.proofs.RunningSteps.{going-within}
 use Rattle.ckr_desk_refines.specs.Commits.{HasCommitted, HasWithinRun}
 use Rattle.ckr_desk_refines.specs.SharedSets.{LeavesOthers}
-use Rattle.ckr_desk_refines.proofs.Durable.Events.{cancelled-stays, coded-stays, completed-stays, refused-stays, step-ended-stays}
-use Rattle.ckr_desk_refines.proofs.Durable.Fellows.{others-cancelled, others-coded, others-completed, others-refused, others-started, others-step-ended}
+use Rattle.ckr_desk_refines.proofs.Durable.Events.{cancelled-stays, coded-stays, completed-stays, held-stays, refused-stays, step-ended-stays}
+use Rattle.ckr_desk_refines.proofs.Durable.Fellows.{others-cancelled, others-coded, others-completed, others-held, others-refused, others-started, others-step-ended}
 use Rattle.ckr_desk_refines.proofs.Durable.Restart.{others-restarted, restarted-stays}
 use Rattle.ckr_desk_refines.proofs.Durable.Start.{selected-stays, started-stays}
 use Rattle.ckr_meaning.specs.EffectiveJob.{OwnedStep}
@@ -38,9 +38,10 @@ use Rattle.ckr_desk_refines.proofs.Events.Cancel.{cancelled-differ, cancelled-ru
 use Rattle.ckr_desk_refines.proofs.Events.OtherSteps.{all-stand, left-differ, left-none, left-stand, rest-stand}
 use Rattle.ckr_desk_refines.proofs.Events.Plans.{OfEach}
 use Rattle.ckr_desk_refines.proofs.Events.IdleRuns.{cancelled-idle, ended-idle, restarted-idle, started-idle, step_ended-idle}
-use Rattle.ckr_desk_refines.proofs.Events.OtherRows.{Enters, LeavesRuns, cancelled-leaves, ended-leaves, restarted-leaves, selected-enters, started-leaves, step_ended-leaves}
+use Rattle.ckr_desk_refines.proofs.Events.OtherRows.{Enters, EntersOut, LeavesRuns, cancelled-leaves, ended-leaves, held-leaves, restarted-leaves, selected-enters, started-leaves, step_ended-leaves}
+use Rattle.ckr_desk_refines.proofs.Events.OffRuns.{held-stands}
 use Rattle.ckr_desk_refines.proofs.Events.Start.{new-stand, started-place}
-use Rattle.ckr_desk_refines.proofs.Standing.Points.{IsIdle, OwnStands, idle-stands, points-next}
+use Rattle.ckr_desk_refines.proofs.Standing.Points.{OwnStands, idle-stands, points-next}
 
 -- ---- what is committed
 
@@ -52,13 +53,18 @@ pub coded-committed : (desk : DeskModel) → IsDesk desk → (image : List ℕ) 
 coded-committed desk is image had job rule writes code lengths has comes later =
     coded-stays desk.layout desk.office image job rule writes code lengths None is.kept comes.may comes.carried later.kept had has
 
+pub held-committed : (desk : DeskModel) → IsDesk desk → (image : List ℕ) → HasCommitted desk.layout desk.office image → (job writes : ℕ) (code : Code) (lengths : ArrayVec ℕ) → HasWithinRun desk.layout desk.office job writes image → IsCommitted desk image (Held job code writes lengths)
+held-committed desk is image had job writes code lengths has comes later =
+    held-stays desk.layout desk.office image job writes code lengths None is.kept comes.may comes.carried later.kept had has
+
 pub each-committed : (desk : DeskModel) → IsDesk desk → (image : List ℕ) → HasCommitted desk.layout desk.office image → OfEach desk image (IsCommitted desk image)
 each-committed desk is image had = record {
   selected = λ job initiator comes later. selected-stays desk.layout desk.office image job initiator 0 None None is.kept comes.may later.kept had;
   started = λ job step items comes later. started-stays desk.layout desk.office image job step items None is.kept comes.may comes.carried later.kept had;
-  cancelled = λ job step some is_due comes later. cancelled-stays desk.layout desk.office image job None is.kept later.kept had;
+  cancelled = λ job step some is_due uncoded comes later. cancelled-stays desk.layout desk.office image job None is.kept later.kept had;
   step_ended = λ job step rc writes lengths has comes later. step-ended-stays desk.layout desk.office image job step rc writes lengths None is.kept comes.may comes.carried later.kept had has;
   restarted = λ job initiator code checkpoint comes later. restarted-stays desk.layout desk.office image job initiator code checkpoint None is.kept later.kept had;
+  held = λ job writes code lengths has. held-committed desk is image had job writes code lengths has;
   completed = λ job comes later. completed-stays desk.layout desk.office image job None is.kept later.kept had;
   refused = λ job dd cause first second comes later. refused-stays desk.layout desk.office image job dd cause first second None is.kept later.kept had;
   coded = λ job rule writes code lengths has. coded-committed desk is image had job rule writes code lengths has;
@@ -85,9 +91,9 @@ behind-stands layout old new after desk event deck at tables failed moved same i
 -- behind the event of a run that was on no initiator all running steps stand
 pub entered-stands : (layout : Layout) (old new : JobsView) (before after : List ℕ) (desk : DeskModel) (event : Event) (deck : Option Job) → StandsForDesk layout old before desk → HaveMoved event deck old new → HasSameRecords desk.layout before after
     → (office_after (event, deck) desk.office).tables ≡ after_event event deck desk.office.tables → IsDesk (behind event deck desk)
-    → Enters desk.office (office_after (event, deck) desk.office) → new.running ≡ old.running → running_behind desk.office.tables event desk.running ≡ desk.running → new.points ≡ old.points
-    → HasCommitted desk.layout (office_after (event, deck) desk.office) after → StandsForDesk layout new after (behind event deck desk)
-entered-stands layout old new before after desk event deck stands moved records same is enters stay still points committed =
+    → (enters : Enters desk.office (office_after (event, deck) desk.office)) → new.running ≡ old.running → running_behind desk.office.tables event desk.running ≡ desk.running → new.points ≡ old.points
+    → OwnStands (office_after (event, deck) desk.office) old.points enters.run → HasCommitted desk.layout (office_after (event, deck) desk.office) after → StandsForDesk layout new after (behind event deck desk)
+entered-stands layout old new before after desk event deck stands moved records same is enters stay still points own committed =
     behind-stands layout old new after desk event deck stands.layout_is stands.tables stands.failed moved same is
     (subst (λ running. AllStand desk.layout (office_after (event, deck) desk.office) after new.running running) (sym still)
     (subst (λ seen. AllStand desk.layout (office_after (event, deck) desk.office) after seen desk.running) (sym stay)
@@ -96,7 +102,11 @@ entered-stands layout old new before after desk event deck stands moved records 
     (subst (PointsStand (office_after (event, deck) desk.office)) (sym points)
     (points-next desk.layout desk.office stands.is_desk.kept.events stands.is_desk.ready (office_after (event, deck) desk.office) enters.run enters.leaves
     (λ number row leg name holder apart among. ap (λ sets. entry_at sets name) enters.sets) old.points old.points (λ number apart. refl) stands.points
-    (idle-stands (office_after (event, deck) desk.office) old.points enters.run (λ row at runs. absurd (false≢true (sym (enters.out row at) ∙ runs)))))) committed
+    own)) committed
+
+-- one that isn't within a step has no point
+pub out-stands : (now later : Office) (out : EntersOut now later) (points : List PointView) → OwnStands later points out.enters.run
+out-stands now later out points = idle-stands later points out.enters.run (λ row at inside. absurd (false≢true (sym (out.out row at) ∙ inside)))
 
 -- the points stand behind an event of a run, if its own does
 pub points-behind : (old new : JobsView) (desk : DeskModel) → IsDesk desk → (event : Event) (job : ℕ) → job_of event ≡ job → PointsStand desk.office old.points → (later : Office) → LeavesRuns desk.office later job → LeavesOthers desk.office job later
@@ -107,19 +117,31 @@ points-behind old new desk is event job own stand later leaves others moved mine
 
 -- behind an event with which the step of its run no longer runs those of the other runs stand
 pub ended-stands : (layout : Layout) (old new : JobsView) (before after : List ℕ) (desk : DeskModel) (event : Event) (job : ℕ) → job_of event ≡ job → desk.layout ≡ layout → IsDesk desk → old.tables.desk ≡ desk.office.tables → old.failed ≡ desk.failed → differ desk.running ≡ true
-    → PointsStand desk.office old.points → IsIdle (office_after (event, None) desk.office).tables job
+    → PointsStand desk.office old.points → OwnStands (office_after (event, None) desk.office) new.points job
     → AllStand desk.layout desk.office before (seen_without job old.running) (steps_without job desk.running) → HaveMoved event None old new → HasSameRecords desk.layout before after
     → (office_after (event, None) desk.office).tables ≡ after_event event None desk.office.tables → IsDesk (behind event None desk)
     → LeavesRuns desk.office (office_after (event, None) desk.office) job → LeavesOthers desk.office job (office_after (event, None) desk.office)
     → new.running ≡ without_run job old.running → running_behind desk.office.tables event desk.running ≡ steps_without job desk.running
     → HasCommitted desk.layout (office_after (event, None) desk.office) after → StandsForDesk layout new after (behind event None desk)
-ended-stands layout old new before after desk event job own at was tables failed differs points idle others moved records same is leaves lies left gone committed =
+ended-stands layout old new before after desk event job own at was tables failed differs points mine others moved records same is leaves lies left gone committed =
     behind-stands layout old new after desk event None at tables failed moved same is
     (subst (λ running. AllStand desk.layout (office_after (event, None) desk.office) after new.running running) (sym gone)
     (subst (λ seen. AllStand desk.layout (office_after (event, None) desk.office) after seen (steps_without job desk.running)) (sym left)
     (rest-stand desk was (office_after (event, None) desk.office) job leaves lies before after records old.running desk.running was.going others)))
     (ap differ gone ∙ left-differ job desk.running differs)
-    (points-behind old new desk was event job own points (office_after (event, None) desk.office) leaves lies moved.points (idle-stands (office_after (event, None) desk.office) new.points job idle)) committed
+    (points-behind old new desk was event job own points (office_after (event, None) desk.office) leaves lies moved.points mine) committed
+
+-- behind the hold of a run too, whose point stands still
+pub hold-stands : (layout : Layout) (old new : JobsView) (before after : List ℕ) (desk : DeskModel) (job writes : ℕ) (code : Code) (lengths : ArrayVec ℕ) → desk.layout ≡ layout → IsDesk desk → old.tables.desk ≡ desk.office.tables → old.failed ≡ desk.failed → differ desk.running ≡ true
+    → PointsStand desk.office old.points → AllStand desk.layout desk.office before (seen_without job old.running) (steps_without job desk.running) → HaveMoved (Held job code writes lengths) None old new → HasSameRecords desk.layout before after
+    → Comes desk (Held job code writes lengths) → IsDesk (behind (Held job code writes lengths) None desk)
+    → HasCommitted desk.layout (office_after (Held job code writes lengths, None) desk.office) after → StandsForDesk layout new after (behind (Held job code writes lengths) None desk)
+hold-stands layout old new before after desk job writes code lengths at is tables failed differs points others moved records comes later committed =
+    ended-stands layout old new before after desk (Held job code writes lengths) job refl at is tables failed differs points
+    (subst (λ points. OwnStands (office_after (Held job code writes lengths, None) desk.office) points job) (sym moved.points)
+    (held-stands desk.layout desk.office is.kept.events is.ready old.points points job writes code lengths comes.may comes.carried)) others moved records refl later
+    (held-leaves desk.layout desk.office job writes code lengths is.kept.events)
+    (others-held desk.layout desk.office job writes code lengths None is.kept comes.may comes.carried) moved.running refl committed
 
 -- behind the restart of a run the running steps of the others stand; at the start of its step it has none, and at its checkpoint in effect it goes on
 -- from its point
@@ -129,7 +151,7 @@ pub restart-stands : (layout : Layout) (old new : JobsView) (before after : List
     → HasCommitted desk.layout (office_after (Restarted job initiator code checkpoint, None) desk.office) after → StandsForDesk layout new after (behind (Restarted job initiator code checkpoint) None desk)
 restart-stands layout old new before after desk job initiator code false at is tables failed differs points others moved records comes later committed =
     ended-stands layout old new before after desk (Restarted job initiator code false) job refl at is tables failed differs points
-    (restarted-idle desk.layout desk.office is.kept.events is.ready job initiator code comes.may) others moved records refl later
+    (idle-stands (office_after (Restarted job initiator code false, None) desk.office) new.points job (restarted-idle desk.layout desk.office is.kept.events is.ready job initiator code comes.may)) others moved records refl later
     (restarted-leaves desk.layout desk.office job initiator code false is.kept.events)
     (others-restarted desk.layout desk.office job initiator code false None is.kept is.pointed is.ready comes.may comes.carried) moved.running refl committed
 restart-stands layout old new before after desk job initiator code true at is tables failed differs points others moved records comes later committed =
@@ -166,7 +188,7 @@ module _ (layout : Layout) (old new : JobsView) (before after : List ℕ) (desk 
   run-ended : (job : ℕ) (ending : Ending) → IsDesk (behind (Ended job ending) None desk) → HaveMoved (Ended job ending) None old new → LeavesOthers desk.office job (office_after (Ended job ending, None) desk.office) → HasCommitted desk.layout (behind (Ended job ending) None desk).office after → StandsForDesk layout new after (behind (Ended job ending) None desk)
   run-ended job ending later moved lies committed =
       ended-stands layout old new before after desk (Ended job ending) job refl stands.layout_is stands.is_desk stands.tables stands.failed stands.differ_so stands.points
-      (ended-idle desk.layout desk.office stands.is_desk.kept.events stands.is_desk.ready job ending) (rest job) moved records refl later
+      (idle-stands (office_after (Ended job ending, None) desk.office) new.points job (ended-idle desk.layout desk.office stands.is_desk.kept.events stands.is_desk.ready job ending)) (rest job) moved records refl later
       (ended-leaves desk.layout desk.office job ending stands.is_desk.kept.events) lies moved.running refl committed
 
   step-started : (job step : ℕ) (items : ArrayVec Made) → BehindStands (Started job step items)
@@ -202,24 +224,27 @@ module _ (layout : Layout) (old new : JobsView) (before after : List ℕ) (desk 
   pub each-stands : OfEach desk before BehindStands
   each-stands = record {
     selected = λ job initiator comes later moved committed.
-        entered-stands layout old new before after desk (Selected job initiator 0 0 None) None stands moved records refl later
-        (selected-enters desk.layout desk.office job initiator 0 stands.is_desk.kept.events comes.may) moved.running refl moved.points committed;
+        let out : EntersOut desk.office (office_after (Selected job initiator 0 0 None, None) desk.office) = selected-enters desk.layout desk.office job initiator 0 stands.is_desk.kept.events comes.may in
+        entered-stands layout old new before after desk (Selected job initiator 0 0 None) None stands moved records refl later out.enters moved.running refl moved.points
+        (out-stands desk.office (office_after (Selected job initiator 0 0 None, None) desk.office) out old.points) committed;
     started = step-started;
-    cancelled = λ job step some is_due comes later moved committed.
+    cancelled = λ job step some is_due uncoded comes later moved committed.
         behind-stands layout old new after desk (Cancelled job) None stands.layout_is stands.tables stands.failed moved refl later
         (subst (λ seen. AllStand desk.layout (office_after (Cancelled job, None) desk.office) after seen (running_behind desk.office.tables (Cancelled job) desk.running)) (sym moved.running)
-        (cancelled-running desk stands.is_desk before after records old.running stands.running stands.differ_so job step some is_due))
-        (cancelled-differ desk stands.is_desk before after records old.running stands.running stands.differ_so job step some is_due)
+        (cancelled-running desk stands.is_desk before after records old.running stands.running stands.differ_so job step some is_due uncoded))
+        (cancelled-differ desk stands.is_desk before after records old.running stands.running stands.differ_so job step some is_due uncoded)
         (points-behind old new desk stands.is_desk (Cancelled job) job refl stands.points (office_after (Cancelled job, None) desk.office)
         (cancelled-leaves desk.layout desk.office job stands.is_desk.kept.events) (others-cancelled desk.office job None) moved.points
         (idle-stands (office_after (Cancelled job, None) desk.office) new.points job (cancelled-idle desk.layout desk.office stands.is_desk.kept.events stands.is_desk.ready job))) committed;
     step_ended = λ job step rc writes lengths has comes later moved committed.
         ended-stands layout old new before after desk (StepEnded job step rc writes lengths) job refl stands.layout_is stands.is_desk stands.tables stands.failed stands.differ_so stands.points
-        (step_ended-idle desk.layout desk.office stands.is_desk.kept.events stands.is_desk.ready job step rc writes lengths) (rest job) moved records refl later
+        (idle-stands (office_after (StepEnded job step rc writes lengths, None) desk.office) new.points job (step_ended-idle desk.layout desk.office stands.is_desk.kept.events stands.is_desk.ready job step rc writes lengths)) (rest job) moved records refl later
         (step_ended-leaves desk.layout desk.office job step rc writes lengths stands.is_desk.kept.events)
         (others-step-ended desk.layout desk.office job step rc writes lengths None stands.is_desk.kept comes.may comes.carried) moved.running refl committed;
     restarted = λ job initiator code checkpoint comes later moved committed.
         restart-stands layout old new before after desk job initiator code checkpoint stands.layout_is stands.is_desk stands.tables stands.failed stands.differ_so stands.points (rest job) moved records comes later committed;
+    held = λ job writes code lengths has comes later moved committed.
+        hold-stands layout old new before after desk job writes code lengths stands.layout_is stands.is_desk stands.tables stands.failed stands.differ_so stands.points (rest job) moved records comes later committed;
     completed = λ job comes later moved committed.
         run-ended job Completed later moved (others-completed desk.layout desk.office job None stands.is_desk.kept comes.may) committed;
     refused = λ job dd cause first second comes later moved committed.

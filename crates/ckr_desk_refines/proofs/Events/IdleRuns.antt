@@ -29,6 +29,7 @@ use Rattle.ckr_points_invariant.proofs.WaitingRuns.{follows-of, tested-run}
 use Rattle.ckr_desk_memory.proofs.Holders.Events.{by-some, tested}
 use Rattle.ckr_desk_memory.proofs.Holders.Moves.{HasRow, by-own, by-row, row-as_is, row-next}
 use Rattle.ckr_volumes.specs.declared.layout.Layout.{Layout}
+use Rattle.ckr_desk_memory.specs.Invariant.{is_in_step}
 use Rattle.ckr_desk_refines.proofs.Standing.Points.{IsIdle, check-by}
 
 -- a place at which a step may start is within none
@@ -44,8 +45,8 @@ module _ (layout : Layout) (now : Office) (agreed : IsAgreed layout now) (ready 
   abbrev Idle : TablesModel → Type 0
   Idle after = IsIdle after job
 
-  idle-row : (after : TablesModel) (row : RunRow) → run_of after job ≡ Some row → (is_running row ≡ true → row.in_effect ≡ None) → Idle after
-  idle-row after row at idle next next_at = subst (λ (r : RunRow). is_running r ≡ true → r.in_effect ≡ None) (some-one row next (run_of after job) at next_at) idle
+  idle-row : (after : TablesModel) (row : RunRow) → run_of after job ≡ Some row → (is_in_step row ≡ true → row.in_effect ≡ None) → Idle after
+  idle-row after row at idle next next_at = subst (λ (r : RunRow). is_in_step r ≡ true → r.in_effect ≡ None) (some-one row next (run_of after job) at next_at) idle
 
   -- a run without a step has none
   idle-without : (row : RunRow) → run_of tables job ≡ Some row → own_step row ≡ None → Idle tables

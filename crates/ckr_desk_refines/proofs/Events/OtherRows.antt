@@ -9,7 +9,7 @@ use Rattle.ckr_base.proofs.Options.{option-cases, some-not-none, some-one}
 use Rattle.arrayvec.specs.ArrayVec.{ArrayVec}
 use Rattle.ckr_events.specs.declared.event.Ending.{Ending}
 use Rattle.ckr_events.specs.declared.event.Ending.TheVariants.{Allocation, Coded, Completed}
-use Rattle.ckr_events.specs.declared.event.Event.TheVariants.{Cancelled, Ended, Purged, Restarted, Selected, Started, StepEnded, Submitted}
+use Rattle.ckr_events.specs.declared.event.Event.TheVariants.{Cancelled, Ended, Held, Purged, Released, Restarted, Selected, Started, StepEnded, Submitted}
 use Rattle.ckr_events.specs.declared.event.Made.{Made}
 use Rattle.ckr_jcl.specs.declared.deck.Job.{Job}
 use Rattle.ckr_points_library.specs.Commit.{output_names}
@@ -20,9 +20,9 @@ use Rattle.ckr_meaning.specs.EffectiveJob.{OwnedStep, placed_in, stamp_of}
 use Rattle.ckr_meaning.specs.declared.place.Place.{Place}
 use Rattle.ckr_meaning.specs.declared.place.Place.TheVariants.{Before, Opened, Within}
 use Rattle.ckr_points.specs.declared.run.RunState.{RunState}
-use Rattle.ckr_points.specs.declared.run.RunState.TheVariants.{Ended as EndedRun, On, Purged as PurgedRun, Queued}
-use Rattle.ckr_points.specs.Tables.{after_commit, after_dispositions, after_started, after_step_ended, committed, made_tables, queued_run, start_point}
-use Rattle.ckr_points.specs.Follows.{is_running, state_number}
+use Rattle.ckr_points.specs.declared.run.RunState.TheVariants.{Ended as EndedRun, Held as HeldRun, On, Purged as PurgedRun, Queued, Released as ReleasedRun}
+use Rattle.ckr_points.specs.Tables.{after_commit, after_dispositions, after_held, after_started, after_step_ended, committed, made_tables, queued_run, start_point}
+use Rattle.ckr_points.specs.Follows.{state_number}
 use Rattle.ckr_points.specs.Marks.{deck_names, point_at, put_back, put_back_passed, removed_all, with_point}
 use Rattle.ckr_points.specs.Office.{Office, leg_of, office_after}
 use Rattle.ckr_points.specs.Restart.{Back, after_abnormal, after_ended, after_passed_ended, after_put_back, after_restarted, back_to_entry, back_to_start, by_run, effect_restarted, kept_at, place_of, point_restarted, row_on, step_in}
@@ -34,6 +34,7 @@ use Rattle.ckr_points_invariant.proofs.WaitingRuns.{by-selected}
 use Rattle.ckr_points_invariant.proofs.Holders.Rows.{run-other, run-same}
 use Rattle.ckr_desk_memory.proofs.Holders.Events.{row-before}
 use Rattle.ckr_volumes.specs.declared.layout.Layout.{Layout}
+use Rattle.ckr_desk_memory.specs.Invariant.{is_in_step}
 
 -- the rows and the legs of the other runs are as they were
 pub record LeavesRuns (now later : Office) (run : ℕ) : Type 0 where
@@ -46,8 +47,11 @@ pub record Enters (now later : Office) : Type 0 where
   pub leaves : LeavesRuns now later run
   pub sets : later.tables.sets ≡ now.tables.sets
   pub waits : (row : RunRow) → run_of now.tables run ≡ Some row → row.state ≡ On → ⊥
-  -- it isn't within a step yet
-  pub out : (row : RunRow) → run_of later.tables run ≡ Some row → is_running row ≡ false
+
+-- it isn't within a step then
+pub record EntersOut (now later : Office) : Type 0 where
+  pub enters : Enters now later
+  pub out : (row : RunRow) → run_of later.tables enters.run ≡ Some row → is_in_step row ≡ false
 
 -- ---- tables with other rows
 
@@ -169,6 +173,17 @@ ended-leaves layout now job ending kept = record {
   legs = λ other apart. refl;
 }
 
+pub held-leaves : (layout : Layout) (now : Office) (job writes : ℕ) (code : Code) (lengths : ArrayVec ℕ) → IsAgreed layout now → LeavesRuns now (office_after (Held job code writes lengths, None) now) job
+held-leaves layout now job writes code lengths kept = record {
+  rows =
+      run-stays job now.tables _
+      (λ row at.
+      found-stays job now.tables (λ owned. after_held row owned (step_in (place_of row)) code writes lengths.items now.tables)
+      (λ owned. commit-stays job now.tables (record row { state = HeldRun; initiator = None; code = Some code }) owned (step_in (place_of row)) writes lengths.items (kept.numbered job row at))
+      (step_of_run row (step_in (place_of row))));
+  legs = λ other apart. refl;
+}
+
 pub cancelled-leaves : (layout : Layout) (now : Office) (job : ℕ) → IsAgreed layout now → LeavesRuns now (office_after (Cancelled job, None) now) job
 cancelled-leaves layout now job kept = record {
   rows =
@@ -182,38 +197,78 @@ cancelled-leaves layout now job kept = record {
 queued-off : (state : RunState) → (state_number state == 1) ≡ true → state ≡ On → ⊥
 queued-off state queued on = false≢true (ap (λ (s : RunState). state_number s == 1) (sym on) ∙ queued)
 
--- a row that is put in place of that of its run
-out-of : (tables : TablesModel) (row next one : RunRow) → run_of tables row.number ≡ Some row → next.number ≡ row.number → run_of (with_run next tables) row.number ≡ Some one → is_running one ≡ is_running next
-out-of tables row next one at same there = ap is_running (sym (some-one next one (run_of (with_run next tables) row.number) (run-same tables next row row.number at same) there))
+held-off : (state : RunState) → (state_number state == 3) ≡ true → state ≡ On → ⊥
+held-off state held on = false≢true (ap (λ (s : RunState). state_number s == 3) (sym on) ∙ held)
 
-pub selected-enters : (layout : Layout) (now : Office) (job initiator step : ℕ) → IsAgreed layout now → may_come layout now (Selected job initiator 0 step None, None) ≡ true → Enters now (office_after (Selected job initiator 0 step None, None) now)
+-- a row that is put in place of that of its run
+out-of : (tables : TablesModel) (row next one : RunRow) → run_of tables row.number ≡ Some row → next.number ≡ row.number → run_of (with_run next tables) row.number ≡ Some one → is_in_step one ≡ is_in_step next
+out-of tables row next one at same there = ap is_in_step (sym (some-one next one (run_of (with_run next tables) row.number) (run-same tables next row row.number at same) there))
+
+pub selected-enters : (layout : Layout) (now : Office) (job initiator step : ℕ) → IsAgreed layout now → may_come layout now (Selected job initiator 0 step None, None) ≡ true → EntersOut now (office_after (Selected job initiator 0 step None, None) now)
 selected-enters layout now job initiator step kept may =
-    by-selected (Enters now) layout now job initiator step None None kept may
+    by-selected (EntersOut now) layout now job initiator step None None kept may
     (λ row at queued plain free. record {
-      run = row.number;
-      leaves = record {
-        rows = λ other apart. run-other now.tables (record row { state = On; initiator = Some initiator; place = Some (Before 1) }) other apart;
-        legs = λ other apart. led_there layout now row initiator kept at queued plain free other apart;
+      enters = record {
+        run = row.number;
+        leaves = record {
+          rows = λ other apart. run-other now.tables (record row { state = On; initiator = Some initiator; place = Some (Before 1) }) other apart;
+          legs = λ other apart. led_there layout now row initiator kept at queued plain free other apart;
+        };
+        sets = refl;
+        waits = λ one there on. queued-off one.state (ap (λ (r : RunRow). state_number r.state == 1) (same_Some one row (sym there ∙ at)) ∙ queued) on;
       };
-      sets = refl;
-      waits = λ one there on. queued-off one.state (ap (λ (r : RunRow). state_number r.state == 1) (same_Some one row (sym there ∙ at)) ∙ queued) on;
       out = λ one there. out-of now.tables row (record row { state = On; initiator = Some initiator; place = Some (Before 1) }) one at refl there;
     })
 
-pub purged-enters : (layout : Layout) (now : Office) (job : ℕ) (row : RunRow) → IsAgreed layout now → run_of now.tables job ≡ Some row → row.state ≡ Queued → Enters now (office_after (Purged job, None) now)
-purged-enters layout now job row kept at queued = record {
-  run = job;
-  leaves = record {
-    rows = run-stays job now.tables _ (λ one there. put-stays job now.tables now.tables (record one { state = PurgedRun }) (kept.numbered job one there) (λ other apart. refl));
+-- a row with another state
+module _ (layout : Layout) (now : Office) (kept : IsAgreed layout now) (job : ℕ) (state : RunState) where
+  abbrev stated : RunRow → RunRow
+  stated row = record row { state = state }
+
+  abbrev with_state : TablesModel
+  with_state = option_map_or (λ row. with_run (stated row) now.tables) (run_of now.tables job) now.tables
+
+  stated-leaves : LeavesRuns now (record now { tables = with_state }) job
+  stated-leaves = record {
+    rows = run-stays job now.tables _ (λ one there. put-stays job now.tables now.tables (stated one) (kept.numbered job one there) (λ other apart. refl));
     legs = λ other apart. refl;
+  }
+
+  module _ (row : RunRow) (at : run_of now.tables job ≡ Some row) where
+    stated-sets : with_state.sets ≡ now.tables.sets
+    stated-sets = ap (λ (o : Option RunRow). (option_map_or (λ row. with_run (stated row) now.tables) o now.tables).sets) at
+
+    stated-is : (one : RunRow) → run_of with_state job ≡ Some one → stated row ≡ one
+    stated-is one there =
+        some-one (stated row) one (run_of (with_run (stated row) now.tables) job) (run-same now.tables (stated row) row job at (kept.numbered job row at))
+        (sym (ap (λ (o : Option RunRow). run_of (option_map_or (λ row. with_run (stated row) now.tables) o now.tables) job) at) ∙ there)
+
+pub purged-enters : (layout : Layout) (now : Office) (job : ℕ) (row : RunRow) → IsAgreed layout now → run_of now.tables job ≡ Some row → row.state ≡ Queued → EntersOut now (office_after (Purged job, None) now)
+purged-enters layout now job row kept at queued = record {
+  enters = record {
+    run = job;
+    leaves = stated-leaves layout now kept job PurgedRun;
+    sets = stated-sets layout now kept job PurgedRun row at;
+    waits = λ one there on. queued-off one.state (ap (λ (r : RunRow). state_number r.state == 1) (same_Some one row (sym there ∙ at)) ∙ ap (λ (s : RunState). state_number s == 1) queued) on;
   };
-  sets = ap (λ (o : Option RunRow). (option_map_or (λ row. with_run (record row { state = PurgedRun }) now.tables) o now.tables).sets) at;
-  waits = λ one there on. queued-off one.state (ap (λ (r : RunRow). state_number r.state == 1) (same_Some one row (sym there ∙ at)) ∙ ap (λ (s : RunState). state_number s == 1) queued) on;
-  out = λ one there.
-      let next : RunRow = record row { state = PurgedRun } in
-      ap is_running (sym (some-one next one (run_of (with_run next now.tables) job) (run-same now.tables next row job at (kept.numbered job row at))
-      (sym (ap (λ (o : Option RunRow). run_of (option_map_or (λ row. with_run (record row { state = PurgedRun }) now.tables) o now.tables) job) at) ∙ there)));
+  out = λ one there. ap is_in_step (sym (stated-is layout now kept job PurgedRun row at one there));
 }
+
+-- a held run that is released stays within its step
+pub released-enters : (layout : Layout) (now : Office) (job : ℕ) (row : RunRow) → IsAgreed layout now → run_of now.tables job ≡ Some row → row.state ≡ HeldRun → Enters now (office_after (Released job, None) now)
+released-enters layout now job row kept at held = record {
+  run = job;
+  leaves = stated-leaves layout now kept job ReleasedRun;
+  sets = stated-sets layout now kept job ReleasedRun row at;
+  waits = λ one there on. held-off one.state (ap (λ (r : RunRow). state_number r.state == 3) (same_Some one row (sym there ∙ at)) ∙ ap (λ (s : RunState). state_number s == 3) held) on;
+}
+
+pub released-run : (layout : Layout) (now : Office) (job : ℕ) (row : RunRow) (kept : IsAgreed layout now) (at : run_of now.tables job ≡ Some row) (held : row.state ≡ HeldRun) → (released-enters layout now job row kept at held).run ≡ job
+unfolding released-enters
+released-run layout now job row kept at held = refl
+
+pub released-row : (layout : Layout) (now : Office) (job : ℕ) (row one : RunRow) → IsAgreed layout now → run_of now.tables job ≡ Some row → run_of (office_after (Released job, None) now).tables job ≡ Some one → record row { state = ReleasedRun } ≡ one
+released-row layout now job row one kept at there = stated-is layout now kept job ReleasedRun row at one there
 
 front_row : (runs : List RunRow) (row : RunRow) (place : ℕ) → place ≢ length runs → slice_get (runs ++ row ∷ []) place ≡ slice_get runs place
 front_row [] row zero apart = absurd (apart refl)
@@ -221,14 +276,16 @@ front_row [] row (suc place) apart = refl
 front_row (first ∷ rest) row zero apart = refl
 front_row (first ∷ rest) row (suc place) apart = front_row rest row place (λ e. apart (ap suc e))
 
-pub submitted-enters : (now : Office) (cards : List ℕ) (deck : Job) → Enters now (office_after (Submitted (suc (length now.tables.runs)) cards, Some deck) now)
+pub submitted-enters : (now : Office) (cards : List ℕ) (deck : Job) → EntersOut now (office_after (Submitted (suc (length now.tables.runs)) cards, Some deck) now)
 submitted-enters now cards deck = record {
-  run = suc (length now.tables.runs);
-  leaves = record { rows = rows; legs = λ other apart. refl };
-  sets = refl;
-  waits = λ row at on. some-not-none row (sym at ∙ slice_get_past now.tables.runs (length now.tables.runs) (omega arith));
+  enters = record {
+    run = suc (length now.tables.runs);
+    leaves = record { rows = rows; legs = λ other apart. refl };
+    sets = refl;
+    waits = λ row at on. some-not-none row (sym at ∙ slice_get_past now.tables.runs (length now.tables.runs) (omega arith));
+  };
   out = λ row at.
-      row-before now.tables (suc (length now.tables.runs)) deck (suc (length now.tables.runs)) row at (λ new. ap is_running (sym new))
+      row-before now.tables (suc (length now.tables.runs)) deck (suc (length now.tables.runs)) row at (λ new. ap is_in_step (sym new))
       (λ was. absurd (some-not-none row (sym was ∙ slice_get_past now.tables.runs (length now.tables.runs) (omega arith))));
 }
   where

@@ -178,10 +178,12 @@ module _ (desk : DeskModel) (is : IsDesk desk) (later : Office) (before after : 
     start = stands.start;
     start_at = start_there;
     run = stands.run;
+    code = stands.code;
     stands = stands.stands;
     served = stands.served;
     ordered = stands.ordered;
     writes = stands.writes;
+    stopped = stands.stopped;
     sets = record {
       from = λ name set own. let from = stands.sets.from name set own in (from.0, entries name (stands.named name set own) ∙ from.1, from.2);
       each = λ name table among e. stands.sets.each name table among (sym (entries name among) ∙ e);

@@ -3,10 +3,10 @@ use Rattle.std.proofs.Common.{◌≡◌, ◌≤◌, ◌==◌, ◌&&◌, ◌||◌
 use Rattle.std.specs.Prelude.{nat_eq}
 use Rattle.std.specs.List.{AllByRecursion}
 use Rattle.std.specs.Option.{is_some, option_eq, option_map_or}
-use Rattle.std.proofs.lemmas.Bool.{and_from, false≢true, or_left, or_right}
+use Rattle.std.proofs.lemmas.Bool.{and_from, or_left, or_right}
 use Rattle.std.proofs.lemmas.Option.{same_Some}
 use Rattle.ckr_base.specs.declared.code.Code.{Code}
-use Rattle.ckr_base.proofs.Bools.{and-first, and-second, or-cases}
+use Rattle.ckr_base.proofs.Bools.{and-first, and-second}
 use Rattle.ckr_base.proofs.Options.{some-one}
 use Rattle.ckr_events.specs.declared.event.Event.TheVariants.{Restarted}
 use Rattle.ckr_library.specs.NameMaps.{Name, Named, entry_at, same_name}
@@ -18,15 +18,16 @@ use Rattle.ckr_meaning.specs.declared.place.Place.{Place}
 use Rattle.ckr_meaning.specs.declared.place.Place.TheVariants.{Before, Within}
 use Rattle.ckr_points_library.specs.Commit.{output_names}
 use Rattle.ckr_points.specs.declared.run.RunState.{RunState}
-use Rattle.ckr_points.specs.declared.run.RunState.TheVariants.{Queued, On, Held, Released, Ended, Denied, Purged}
-use Rattle.ckr_points.specs.Follows.{is_free, is_in_state, is_running, may_restart_again, own_step, state_number}
-use Rattle.ckr_points.specs.Office.{Leg, Office, leg_of, office_after}
+use Rattle.ckr_points.specs.declared.run.RunState.TheVariants.{On, Released}
+use Rattle.ckr_points.specs.Follows.{is_free, is_in_state, is_running, is_within, may_restart_again, own_step, state_number}
+use Rattle.ckr_points.specs.Office.{Leg, Office, is_holder, leg_of, office_after}
 use Rattle.ckr_points.specs.Payload.{writes_in}
 use Rattle.ckr_points.specs.Restart.{after_put_back, after_restarted, back_to_entry, by_step, effect_restarted, kept_at, place_of, row_on, step_in}
 use Rattle.ckr_points.specs.Rows.{EffectPoint, KeptEntry, RunRow, TableSet, TablesModel, run_of, step_of_run}
 use Rattle.ckr_points_invariant.specs.Invariant.{step_now}
 use Rattle.ckr_points_invariant.proofs.PlainRuns.Readiness.{kept-entry}
 use Rattle.ckr_points_invariant.proofs.Steps.Commits.{IsRunning, its_start}
+use Rattle.ckr_points_invariant.proofs.Steps.Events.{led-by, running-holds, running-within}
 use Rattle.ckr_points_invariant.proofs.WaitingRuns.{follows-of, tested-run}
 use Rattle.ckr_steps.specs.declared.files.Files.{Files}
 use Rattle.ckr_steps.specs.declared.step_run.StepRun.{StepRun}
@@ -34,17 +35,17 @@ use Rattle.ckr_steps.specs.Places.{HasWithin, IsPointOf, IsStepPlace}
 use Rattle.ckr_steps.specs.Units.{AreServed}
 use Rattle.ckr_steps.proofs.Start.{shows-within, stands-at_point}
 use Rattle.ckr_desk_memory.specs.EventChanges.{is_point_of, without_run}
+use Rattle.ckr_desk_memory.specs.Invariant.{is_in_step}
 use Rattle.ckr_desk_memory.specs.RunningSteps.{GoesFrom, StepGoesBack}
 use Rattle.ckr_desk_memory.specs.Start.{HasNew, has_sets}
 use Rattle.ckr_desk_memory.specs.View.{PointView, RunningStepView, resumed}
 use Rattle.ckr_desk_memory.proofs.Holders.Events.{by-some, tested}
 use Rattle.ckr_desk_memory.proofs.Holders.Moves.{by-own, by-row, row-as_is, row-next}
 use Rattle.ckr_desk_turn.specs.Desk.{DeskModel, DeskStep, at_entry, behind, running_again, start_of, without_run as without_steps}
-use Rattle.ckr_desk_turn.specs.Invariant.{IsDesk, IsGoing, IsOpen, is_plain_state}
+use Rattle.ckr_desk_turn.specs.Invariant.{IsDesk, IsGoing, IsOpen}
 use Rattle.ckr_desk_turn.specs.Jobs.{effect_entry}
 use Rattle.ckr_desk_turn.specs.NextEvents.{Comes, IsWithinStep}
 use Rattle.ckr_desk_turn.proofs.NextEvents.WithinStep.{by-step, runs}
-use Rattle.ckr_desk_turn.proofs.OtherRuns.{row-plain}
 use Rattle.ckr_desk_turn.proofs.RunningSteps.{going-within}
 use Rattle.ckr_desk_refines.specs.Commits.{HasCommitted}
 use Rattle.ckr_desk_refines.specs.Standing.{AllStand, PointsStand, StandsForPoint, StandsForStep}
@@ -53,15 +54,13 @@ use Rattle.ckr_desk_refines.proofs.Entries.RunningStep.{has-names}
 use Rattle.ckr_desk_refines.proofs.Events.Start.{files_are, may-so, named_so, placed-stands, shows_so}
 use Rattle.ckr_desk_refines.proofs.Standing.Points.{OwnStands, check-by, entry_in_effect}
 
--- a run of the desk isn't released
-none-released : {A : Type 0} (state : RunState) → is_plain_state state ≡ true → (state_number state == 4) ≡ true → A
-none-released Queued plain is = absurd (false≢true is)
-none-released On plain is = absurd (false≢true is)
-none-released Held plain is = absurd (false≢true plain)
-none-released Released plain is = absurd (false≢true plain)
-none-released Ended plain is = absurd (false≢true is)
-none-released Denied plain is = absurd (false≢true plain)
-none-released Purged plain is = absurd (false≢true is)
+-- a run that may be restarted is running, or was released
+abbrev restartable : Bool → Bool → Bool → Bool → Bool
+restartable on lodged off free = on && lodged || off && free
+
+running-or-off : (on lodged off free : Bool) → restartable on lodged off free ≡ true → (on || off) ≡ true
+running-or-off true lodged off free may = refl
+running-or-off false lodged off free may = and-first off free may
 
 -- the tables have each of these data sets
 sets-there : (sets : Named TableSet) (names : List Name) → ((name : Name) → is_among names name ≡ true → is_some (entry_at sets name) ≡ true) → has_sets sets names ≡ true
@@ -77,7 +76,7 @@ pub record IsBack (tables after : TablesModel) (job : ℕ) : Type 0 where
   pub entry : KeptEntry
   pub next : RunRow
   pub row_at : run_of tables job ≡ Some row
-  pub runs : is_running row ≡ true
+  pub runs : is_in_step row ≡ true
   pub there : effect_entry tables row ≡ Some entry
   pub next_at : run_of after job ≡ Some next
   pub number : next.number ≡ row.number
@@ -97,7 +96,7 @@ module _ (desk : DeskModel) (is : IsDesk desk) (job initiator : ℕ) (code : Cod
   abbrev change : RunRow → OwnedStep → EffectPoint → KeptEntry → TablesModel
   change row owned effect entry = after_put_back (record (row_on initiator row) { in_effect = Some (effect_restarted effect) }) owned (back_to_entry row owned (step_now row) entry.point) tables
 
-  run-back : (row : RunRow) → run_of tables job ≡ Some row → is_running row ≡ true → (effect : EffectPoint) → row.in_effect ≡ Some effect → Back later.tables
+  run-back : (row : RunRow) → run_of tables job ≡ Some row → is_in_step row ≡ true → (effect : EffectPoint) → row.in_effect ≡ Some effect → Back later.tables
   run-back row at running effect got =
       check-by desk.layout desk.office is.kept.events is.ready job row effect at running got
       (λ leg holder check.
@@ -124,10 +123,11 @@ module _ (desk : DeskModel) (is : IsDesk desk) (job initiator : ℕ) (code : Cod
       tested-run tables job (λ row. (is_running row && option_eq nat_eq row.initiator (Some initiator) || is_in_state Released row && is_free desk.layout tables initiator) && may_restart_again true row)
       (follows-of desk.layout desk.office (Restarted job initiator code true) None comes.may)
       (λ row at passes.
-      let running : is_running row ≡ true =
-      or-cases (is_running row && option_eq nat_eq row.initiator (Some initiator)) (is_in_state Released row && is_free desk.layout tables initiator) (and-first _ (may_restart_again true row) passes)
-      (λ on. and-first (is_running row) _ on)
-      (λ released. none-released row.state (and-first (is_plain_state row.state) _ (row-plain desk is job row at)) (and-first (is_in_state Released row) _ released)) in
+      let goes : (is_running row || is_in_state Released row) ≡ true =
+      running-or-off (is_running row) (option_eq nat_eq row.initiator (Some initiator)) (is_in_state Released row) (is_free desk.layout tables initiator) (and-first _ (may_restart_again true row) passes) in
+      let running : is_in_step row ≡ true =
+      led-by desk.layout desk.office job row is.kept.events at (running-holds row goes)
+      (λ leg holder. and_from (is_holder row.state) (is_within (place_of row)) (running-holds row goes) (running-within tables row leg (is.kept.events.places job row leg holder) goes)) in
       tested row.in_effect _ (and-second (is_running row && option_eq nat_eq row.initiator (Some initiator) || is_in_state Released row && is_free desk.layout tables initiator) _ passes)
       (λ effect got few. run-back row at running effect got))
 
@@ -202,7 +202,7 @@ module _ (desk : DeskModel) (is : IsDesk desk) (job initiator : ℕ) (code : Cod
 
         again-placed : StandsForStep desk.layout later image has.on step_back
         again-placed =
-            placed-stands then kept step_back going image committed old new leg owned running same (resumed job owned.step point.point) has stands_so
+            placed-stands then kept step_back going image committed old new leg owned running same (resumed job owned.step point.point) has refl stands_so
             (subst (λ (s : StepRun). AreServed true false s.state) (sym has.step) point.served) refl
             (ap (λ (s : StepRun). s.writes) has.step ∙ point.writes)
 
@@ -211,13 +211,14 @@ module _ (desk : DeskModel) (is : IsDesk desk) (job initiator : ℕ) (code : Cod
         has-new : (leg : Leg) (owned : OwnedStep) → IsRunning later job going.row leg owned going.number back.entry.point.writes → HasNew job owned (resumed job owned.step point.point) later.tables.sets old new
         has-new leg owned running =
             subst (λ (b : Bool). GoesFrom b job owned point.point later.tables old new)
+            (and_from (is_in_state On going.row) (has_sets later.tables.sets (names_of job owned)) (ap (λ (state : RunState). state_number state == 2) going.on)
             (sets-there later.tables.sets (names_of job owned)
             (λ name among.
             has-names desk.layout later kept.kept.events job
             (λ row at. subst (λ (r : RunRow). is_running r ≡ true) (some-one going.row row (run_of later.tables job) going.row_at at) (runs then kept job going.row going.number going.committed going.start within))
             going.row owned name going.row_at found
             (ap (λ (job : Effective). is_among (names_of job.root owned) name) (sym (kept.kept.events.places job going.row leg running.holder).job)
-            ∙ sym (named_so then kept step_back going image committed old new leg owned running name) ∙ among)))
+            ∙ sym (named_so then kept step_back going image committed old new leg owned running name) ∙ among))))
             (subst (λ (o : Option PointView). StepGoesBack o job later.tables old new) point.found goes going.row owned going.row_at found)
           where
             found : own_step going.row ≡ Some owned

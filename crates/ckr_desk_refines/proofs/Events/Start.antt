@@ -186,17 +186,19 @@ module _ (desk : DeskModel) (is : IsDesk desk) (on : DeskStep) (going : IsGoing 
       may-so = may-start start (formed_step desk.layout desk.office run going.row leg owned going.number writes is.kept.events running) (under_way desk.layout desk.office run going.row leg owned going.number writes is.kept.events running).flawless
 
       -- it stands where it is placed
-      pub placed-stands : IsStepPlace start on.progress.taken on.progress.closed has.on.step has.on.sets → AreServed on.progress.checkpointed on.progress.cancelled has.on.step.state → on.progress.cancelled ≡ false → has.on.step.writes ≡ writes → StandsForStep desk.layout desk.office image has.on on
-      placed-stands stands served ordered counted = record {
+      pub placed-stands : on.code ≡ None → IsStepPlace start on.progress.taken on.progress.closed has.on.step has.on.sets → AreServed on.progress.checkpointed on.progress.cancelled has.on.step.state → on.progress.cancelled ≡ false → has.on.step.writes ≡ writes → StandsForStep desk.layout desk.office image has.on on
+      placed-stands uncoded stands served ordered counted = record {
         row = going.row;
         row_at = going.row_at;
         start = start;
         start_at = going.start_at ∙ ap Some same;
         run = has.run;
-        stands = stands;
-        served = served;
-        ordered = λ due. ordered;
+        code = has.code ∙ sym uncoded;
+        stands = λ _. stands;
+        served = λ _. served;
+        ordered = λ _ due. ordered;
         writes = counted;
+        stopped = λ code some. absurd (some-not-none code (sym some ∙ has.code));
         sets = has_sets;
         named = λ name set own. sym (named_so name) ∙ (table_of name set own).named;
         shows = shows_so;
@@ -228,7 +230,7 @@ module _ (desk : DeskModel) (is : IsDesk desk) (run : ℕ) (going : IsGoing desk
 
     step-stands : StandsForStep desk.layout desk.office image has.on (at_first run)
     step-stands =
-        placed-stands desk is (at_first run) going image committed old new leg owned running same (begun run owned.step) has stands_so
+        placed-stands desk is (at_first run) going image committed old new leg owned running same (begun run owned.step) has refl stands_so
         (subst (λ (s : StepRun). AreServed false false s.state) (sym has.step) (first-fresh owned.step.program)) refl
         (ap (λ (s : StepRun). s.writes) has.step)
 

@@ -2,6 +2,7 @@
 use Rattle.std.proofs.Common.{◌≡◌, ◌≢◌, ◌<◌, ℕ, List, ◌∷◌, length, refl, ap, sym, ◌∙◌, subst, None, Some}
 use Rattle.ckr_base.proofs.Sequences.{length-fitted}
 use Rattle.ckr_events.specs.declared.event.Event.{Event}
+use Rattle.ckr_console.specs.declared.question.Answer.{Answer}
 use Rattle.ckr_desk_memory.specs.EventChanges.{without_first}
 use Rattle.ckr_desk_memory.specs.View.{JobsView, RunningStepView}
 use Rattle.ckr_desk_turn.specs.Invariant.{IsDesk, IsGoing}
@@ -51,7 +52,7 @@ module _ (old : JobsView) (before after : List ℕ) (desk : DeskModel) (turn : T
 
   module _ (told written : List ℕ) (as_told : HasSameRecords desk.layout after told) (set : DataSet) (found : set_of moved.sets asked.rewrite.name ≡ Some set) (wrote : IsWritten desk.layout set place image told written) where
     abbrev moved_on : DeskStep
-    moved_on = record { run = asked.led.row.number; progress = arrived taken moved.step.writes }
+    moved_on = record { run = asked.led.row.number; progress = arrived taken moved.step.writes; code = None }
 
     abbrev office_then : Office
     office_then = then before after desk is run on moved place image taken asked
@@ -64,7 +65,7 @@ module _ (old : JobsView) (before after : List ℕ) (desk : DeskModel) (turn : T
 
     all_stand : AllStand desk.layout office_then written (moved ∷ without_first asked.led.row.number old.running) (moved_on ∷ without_run asked.led.row.number desk.running)
     all_stand = (
-      own-stands desk is before on asked.step asked.led after moved taken place image asked.rewrite asked.same asked.stood (still before after desk is run on moved place image taken asked) told written as_told set found wrote asks.run,
+      own-stands desk is before on asked.step asked.led after moved taken place image asked.rewrite asked.same asked.stood (still before after desk is run on moved place image taken asked) told written as_told set found wrote asks.run (asks.code ∙ asked.none),
       others-stand desk.layout desk.office office_then before written asked.led.row.number other_stands old.running desk.running asks.stands.differ_so is.going asks.stands.running,
     )
 
@@ -91,17 +92,17 @@ module _ (old : JobsView) (before after : List ℕ) (desk : DeskModel) (turn : T
     }
 
 -- the desk behind the unit
-pub stands-then : (layout : Layout) (old : JobsView) (before after : List ℕ) (desk : DeskModel) (turn : Turn) (run : ℕ) (on moved : RunningStepView) (place : ℕ) (image : List ℕ) (taken : ℕ) → AsksToRewrite layout old before after desk turn run on moved place image taken
-    → (put moved_on : JobsView) → IsPutBack run moved old put → (event : Event) → (work_of run desk).event ≡ Some event → HaveMoved event None put moved_on
+pub stands-then : (layout : Layout) (old : JobsView) (before after : List ℕ) (desk : DeskModel) (turn : Turn) (run : ℕ) (on moved : RunningStepView) (place : ℕ) (image : List ℕ) (taken : ℕ) (answer : Answer) → AsksToRewrite layout old before after desk turn run on moved place image taken
+    → (put moved_on : JobsView) → IsPutBack run moved old put → (event : Event) → (work_of answer run desk).event ≡ Some event → HaveMoved event None put moved_on
     → (told written : List ℕ) → HasSameRecords desk.layout after told → (name : Name) (set : DataSet) → moved.step.files.first ≡ InSet name → set_of moved.sets name ≡ Some set
-    → IsWritten layout set place image told written → StandsForDesk layout moved_on written (work_of run desk).desk
-stands-then layout old before after desk turn run on moved place image taken asks put later back other is_event goes told written as_told name set first found wrote =
-    subst (λ (l : Layout). AsksToRewrite l old before after desk turn run on moved place image taken → IsWritten l set place image told written → StandsForDesk l later written (work_of run desk).desk) asks.stands.layout_is
+    → IsWritten layout set place image told written → StandsForDesk layout moved_on written (work_of answer run desk).desk
+stands-then layout old before after desk turn run on moved place image taken answer asks put later back other is_event goes told written as_told name set first found wrote =
+    subst (λ (l : Layout). AsksToRewrite l old before after desk turn run on moved place image taken → IsWritten l set place image told written → StandsForDesk l later written (work_of answer run desk).desk) asks.stands.layout_is
     (λ asks wrote.
     let is : IsDesk desk = asks.stands.is_desk in
     let asked : IsAsked before after desk run on moved place image taken = is-asked old before after desk turn run on moved place image taken asks in
-    subst (λ (one : TurnDone). StandsForDesk desk.layout later written one.desk) (sym (work-is before after desk is run on moved place image taken asked))
+    subst (λ (one : TurnDone). StandsForDesk desk.layout later written one.desk) (sym (work-is before after desk is run on moved place image taken asked answer))
     (stand old before after desk turn run on moved place image taken asks told written as_told set
     (ap (set_of moved.sets) (sym (name-is before after desk is run on moved place image taken asked name first)) ∙ found) wrote put later back
-    (subst (λ (e : Event). HaveMoved e None put later) (sym (event-is before after desk is run on moved place image taken asked other is_event)) goes)))
+    (subst (λ (e : Event). HaveMoved e None put later) (sym (event-is before after desk is run on moved place image taken asked answer other is_event)) goes)))
     asks wrote

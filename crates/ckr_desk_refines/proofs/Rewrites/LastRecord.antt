@@ -3,6 +3,7 @@ use Rattle.std.proofs.Common.{◌≡◌, ℕ, List, refl, ap, sym, ◌∙◌, su
 use Rattle.std.specs.Option.{option_map_or}
 use Rattle.std.proofs.lemmas.Option.{same_Some}
 use Rattle.ckr_events.specs.declared.event.Event.{Event}
+use Rattle.ckr_console.specs.declared.question.Answer.{Answer}
 use Rattle.ckr_desk_memory.specs.View.{JobsView, RunningStepView}
 use Rattle.ckr_desk_memory.specs.Rewrite.{updated_by, updated_in}
 use Rattle.ckr_desk_turn.specs.Invariant.{IsDesk}
@@ -71,27 +72,27 @@ module _ (old : JobsView) (before after : List ℕ) (desk : DeskModel) (turn : T
       (still before after desk is run on moved place image taken asked) asks.keeps asks.stands.committed told as_told set found stopped (λ other stands apart n le. differs.others other stands apart n le)
       (λ records. slice_set records place image) (λ n le. same-but told stopped desk.layout set place image n (λ at less other. differs.records at (omega (arith, le, less)) other)) name table e plain
 
-  pub again-then : (other : Event) → (work_of run desk).event ≡ Some other → (told stopped : List ℕ) → HasSameRecords desk.layout after told → (name : Name) (set : DataSet) → moved.step.files.first ≡ InSet name
-      → set_of moved.sets name ≡ Some set → DiffersAt desk.layout set place told stopped → HasCommittedAgain desk.layout (work_of run desk).desk.office (Some other) stopped
-  again-then other is_event told stopped as_told name set first found differs =
-      subst (λ (one : TurnDone). HasCommittedAgain desk.layout one.desk.office (Some other) stopped) (sym (work-is before after desk is run on moved place image taken asked))
-      (subst (λ (e : Event). HasCommittedAgain desk.layout (done before after desk is run on moved place image taken asked).desk.office (Some e) stopped) (event-is before after desk is run on moved place image taken asked other is_event)
+  pub again-then : (answer : Answer) (other : Event) → (work_of answer run desk).event ≡ Some other → (told stopped : List ℕ) → HasSameRecords desk.layout after told → (name : Name) (set : DataSet) → moved.step.files.first ≡ InSet name
+      → set_of moved.sets name ≡ Some set → DiffersAt desk.layout set place told stopped → HasCommittedAgain desk.layout (work_of answer run desk).desk.office (Some other) stopped
+  again-then answer other is_event told stopped as_told name set first found differs =
+      subst (λ (one : TurnDone). HasCommittedAgain desk.layout one.desk.office (Some other) stopped) (sym (work-is before after desk is run on moved place image taken asked answer))
+      (subst (λ (e : Event). HasCommittedAgain desk.layout (done before after desk is run on moved place image taken asked).desk.office (Some e) stopped) (event-is before after desk is run on moved place image taken asked answer other is_event)
       (subst (λ (office : Office). HasCommittedAgain desk.layout office (Some event_then) stopped) (sym (office-is before after desk is run on moved place image taken asked))
       (again_so told stopped as_told set (ap (set_of moved.sets) (sym (name-is before after desk is run on moved place image taken asked name first)) ∙ found) differs)))
 
   -- the office has it
-  pub record-then : (other : Event) → (work_of run desk).event ≡ Some other → (rewrite : RewriteRecord) → rewrite_of (work_of run desk).desk.office.tables other ≡ Some rewrite
-      → slice_get (model_records (work_of run desk).desk.office rewrite.name) rewrite.place ≡ Some rewrite.image
-  record-then other is_event rewrite told =
+  pub record-then : (answer : Answer) (other : Event) → (work_of answer run desk).event ≡ Some other → (rewrite : RewriteRecord) → rewrite_of (work_of answer run desk).desk.office.tables other ≡ Some rewrite
+      → slice_get (model_records (work_of answer run desk).desk.office rewrite.name) rewrite.place ≡ Some rewrite.image
+  record-then answer other is_event rewrite told =
       subst (λ (office : Office). slice_get (model_records office rewrite.name) rewrite.place ≡ Some rewrite.image) (sym office_so)
       (subst (λ (one : RewriteRecord). slice_get (model_records office_then one.name) one.place ≡ Some one.image)
       (same_Some (record_so place image asked.rewrite.name) rewrite
-      (sym told_record ∙ ap (rewrite_of office_then.tables) (event-is before after desk is run on moved place image taken asked other is_event) ∙ ap (λ (office : Office). rewrite_of office.tables other) (sym office_so) ∙ told))
+      (sym told_record ∙ ap (rewrite_of office_then.tables) (event-is before after desk is run on moved place image taken asked answer other is_event) ∙ ap (λ (office : Office). rewrite_of office.tables other) (sym office_so) ∙ told))
       (let shown = updated-shown desk is before on asked.step asked.led after moved taken place image asked.rewrite asked.same asked.stood in
       has-record desk is before on asked.step asked.led after moved taken place image asked.rewrite asked.same asked.stood (kept-then before after desk is run on moved place image taken asked) shown.set shown.is))
     where
-      office_so : (work_of run desk).desk.office ≡ office_then
-      office_so = ap (λ (one : TurnDone). one.desk.office) (work-is before after desk is run on moved place image taken asked) ∙ office-is before after desk is run on moved place image taken asked
+      office_so : (work_of answer run desk).desk.office ≡ office_then
+      office_so = ap (λ (one : TurnDone). one.desk.office) (work-is before after desk is run on moved place image taken asked answer) ∙ office-is before after desk is run on moved place image taken asked
 
   -- before the event an image that keeps the step's data sets has what is committed
   pub before-then : (from stopped : List ℕ) → HasCommitted desk.layout desk.office from → Keeps desk.layout on.sets from stopped → HasCommitted desk.layout desk.office stopped

@@ -42,12 +42,14 @@ use Rattle.ckr_steps.specs.Places.{ShowsWithin, IsStepPlace}
 use Rattle.ckr_steps.specs.Units.{AreServed}
 use Rattle.ckr_steps.specs.Writes.{IsShown}
 use Rattle.ckr_desk_turn.specs.Desk.{DeskModel, DeskStep, start_of}
+use Rattle.ckr_base.specs.declared.code.Code.{Code}
+use Rattle.ckr_desk_turn.specs.Units.{arrived}
 use Rattle.ckr_volumes.specs.declared.layout.Layout.{Layout}
 use Rattle.ckr_volumes.specs.Places.{StretchModel, stretches_of, stretches_of_parts}
 use Rattle.ckr_volumes.specs.SamePlaces.{SamePlaces, lie_apart_turned}
 use Rattle.ckr_volumes.specs.Layouts.{StandsIn, all_apart, is_inside, lie_apart, lists_apart, sums_up}
 
--- a running step in memory stands where its job comes to, with its leg
+-- a running step in memory stands where its job comes to, or has stopped with a code, with its leg
 pub record IsLedStep (desk : DeskModel) (image : List ℕ) (on : RunningStepView) (step : DeskStep) : Type 0 where
   pub row : RunRow
   pub leg : Leg
@@ -60,10 +62,12 @@ pub record IsLedStep (desk : DeskModel) (image : List ℕ) (on : RunningStepView
   pub fit : step.progress.writes ≤ length (work_at (its_start leg owned (step_now row))).writes
   pub plain : rewrites_nothing (its_start leg owned (step_now row)) (writes_in (place_of row)) step.progress.writes ≡ true
   pub run : on.run ≡ step.run
-  pub stands : IsStepPlace (its_start leg owned (step_now row)) step.progress.taken step.progress.closed on.step on.sets
-  pub served : AreServed step.progress.checkpointed step.progress.cancelled on.step.state
-  pub ordered : next_due (its_start leg owned (step_now row)) step.progress ≡ Checkpoint → step.progress.cancelled ≡ false
+  pub code : on.code ≡ step.code
+  pub stands : on.code ≡ None → IsStepPlace (its_start leg owned (step_now row)) step.progress.taken step.progress.closed on.step on.sets
+  pub served : on.code ≡ None → AreServed step.progress.checkpointed step.progress.cancelled on.step.state
+  pub ordered : on.code ≡ None → next_due (its_start leg owned (step_now row)) step.progress ≡ Checkpoint → step.progress.cancelled ≡ false
   pub writes : on.step.writes ≡ step.progress.writes
+  pub stopped : (code : Code) → on.code ≡ Some code → step.progress ≡ arrived 0 on.step.writes
   pub sets : HasSets desk.office.tables.sets (names_of leg.job.root owned) on.sets
   pub named : (name : Name) (set : DataSet) → set_of on.sets name ≡ Some set → is_among (names_of leg.job.root owned) name ≡ true
   pub shows : ShowsWithin (Unit {0}) image desk.layout (its_start leg owned (step_now row)) step.progress.writes on.sets
@@ -96,10 +100,12 @@ led-step desk is image on step going stands =
       fit = subst (λ (s : StepStart). step.progress.writes ≤ length (work_at s).writes) mine going.fit;
       plain = ap (λ n. rewrites_nothing (its_start leg owned (step_now going.row)) n step.progress.writes) from ∙ subst (λ (s : StepStart). rewrites_nothing s going.committed step.progress.writes ≡ true) mine going.plain;
       run = stands.run;
-      stands = subst (λ (s : StepStart). IsStepPlace s step.progress.taken step.progress.closed on.step on.sets) its stands.stands;
+      code = stands.code;
+      stands = λ none. subst (λ (s : StepStart). IsStepPlace s step.progress.taken step.progress.closed on.step on.sets) its (stands.stands none);
       served = stands.served;
-      ordered = subst (λ (s : StepStart). next_due s step.progress ≡ Checkpoint → step.progress.cancelled ≡ false) its stands.ordered;
+      ordered = λ none. subst (λ (s : StepStart). next_due s step.progress ≡ Checkpoint → step.progress.cancelled ≡ false) its (stands.ordered none);
       writes = stands.writes;
+      stopped = stands.stopped;
       sets = subst (λ (s : StepStart). HasSets desk.office.tables.sets (names_of s.root s.owned) on.sets) its stands.sets;
       named = λ name set e. ap (λ (s : StepStart). is_among (names_of s.root s.owned) name) (sym its) ∙ stands.named name set e;
       shows = subst (λ (s : StepStart). ShowsWithin (Unit {0}) image desk.layout s step.progress.writes on.sets) its stands.shows;

@@ -128,10 +128,12 @@ module _ (desk : DeskModel) (is : IsDesk desk) (before : List ℕ) (on : Running
           start = their_start;
           start_at = theirs.starts;
           run = theirs.run;
+          code = theirs.code;
           stands = theirs.stands;
           served = theirs.served;
           ordered = theirs.ordered;
           writes = theirs.writes;
+          stopped = theirs.stopped;
           sets = record {
             from = λ name set e. let its = theirs.sets.from name set e in (its.0, stays name (theirs.named name set e) ∙ its.1, its.2);
             each = λ name table among e. theirs.sets.each name table among (sym (stays name among) ∙ e);

@@ -7,6 +7,7 @@ use Rattle.std.proofs.lemmas.Option.{same_Some}
 use Rattle.ckr_points_library.specs.Commit.{output_names}
 use Rattle.ckr_base.specs.declared.programs.Output.TheVariants.{InPlace}
 use Rattle.ckr_base.specs.Columns.{fitted}
+use Rattle.ckr_base.proofs.Options.{some-not-none}
 use Rattle.ckr_desk_memory.specs.View.{RunningStepView, lengths_in}
 use Rattle.ckr_desk_turn.specs.Invariant.{IsDesk}
 use Rattle.ckr_desk_turn.proofs.RunningSteps.{map-same}
@@ -199,21 +200,23 @@ module _ (desk : DeskModel) (is : IsDesk desk) (before : List ℕ) (on : Running
       (λ is_told n le. wrote.written n le) (λ is_told other stands apart n le. wrote.others other stands apart n le)
 
   abbrev moved_on : DeskStep
-  moved_on = record { run = led.row.number; progress = arrived taken moved.step.writes }
+  moved_on = record { run = led.row.number; progress = arrived taken moved.step.writes; code = None }
 
   -- the step stands
   pub own-stands : LieStill desk.office.tables.sets (behind desk before on step led moved.step.writes moved.sets same).tables.sets → (told written : List ℕ) → HasSameRecords desk.layout after told → (set : DataSet) → set_of moved.sets rewrite.name ≡ Some set
-      → IsWritten desk.layout set place bytes told written → moved.run ≡ on.run → StandsForStep desk.layout (behind desk before on step led moved.step.writes moved.sets same) written moved moved_on
-  own-stands still told written keeps set found wrote run = record {
+      → IsWritten desk.layout set place bytes told written → moved.run ≡ on.run → moved.code ≡ None → StandsForStep desk.layout (behind desk before on step led moved.step.writes moved.sets same) written moved moved_on
+  own-stands still told written keeps set found wrote run none = record {
     row = _;
     row_at = ap (λ n. run_of (behind desk before on step led moved.step.writes moved.sets same).tables n) led.numbered ∙ next-at desk before on step led moved.step.writes moved.sets same;
     start = start;
     start_at = led.starts;
     run = run ∙ led.run ∙ sym led.numbered;
-    stands = rewrite.stands;
-    served = rewrite.served;
-    ordered = λ due. refl;
+    code = none;
+    stands = λ _. rewrite.stands;
+    served = λ _. rewrite.served;
+    ordered = λ _ due. refl;
     writes = refl;
+    stopped = λ code some. absurd (some-not-none code (sym some ∙ none));
     sets = own-sets desk before on step led moved.step.writes moved.sets same still;
     named = λ name set e. led.named name set (sym (same name) ∙ e);
     shows = shows-rewrite told written keeps set found wrote;

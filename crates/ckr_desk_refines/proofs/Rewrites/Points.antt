@@ -8,14 +8,15 @@ use Rattle.ckr_base.proofs.Options.{some-not-none, some-one}
 use Rattle.ckr_library.specs.NameMaps.{Named}
 use Rattle.ckr_meaning.specs.EffectiveJob.{OwnedStep}
 use Rattle.ckr_points_library.specs.Commit.{output_names}
-use Rattle.ckr_points.specs.Follows.{are_lengths, is_in_state, is_rewrite, is_running, is_within, lengths_follow, of_step}
-use Rattle.ckr_points.specs.declared.run.RunState.TheVariants.{On}
+use Rattle.ckr_points.specs.Follows.{are_lengths, is_rewrite, is_running, is_within, lengths_follow, of_step}
+use Rattle.ckr_points.specs.Office.{is_holder}
 use Rattle.ckr_points.specs.Restart.{kept_at, place_of}
 use Rattle.ckr_points.specs.Rows.{EffectPoint, KeptEntry, RunRow, TableSet, run_of}
 use Rattle.ckr_points.specs.Tables.{committed, effect_rewritten, is_updates, name_with_role, table_rewritten}
 use Rattle.ckr_points_invariant.specs.Invariant.{step_now}
 use Rattle.ckr_points_invariant.proofs.PlainRuns.Readiness.{kept-entry}
 use Rattle.ckr_points_invariant.proofs.WaitingRuns.{follows-of}
+use Rattle.ckr_desk_memory.specs.Invariant.{is_in_step}
 use Rattle.ckr_desk_memory.specs.View.{PointView, RunningStepView}
 use Rattle.ckr_desk_turn.specs.Desk.{DeskModel, start_of}
 use Rattle.ckr_desk_turn.specs.Invariant.{IsDesk}
@@ -62,7 +63,7 @@ module _ (before after : List ℕ) (desk : DeskModel) (is : IsDesk desk) (run : 
       ∙ and-second (is_running row) _ (and-first (is_running row && lengths_follow desk.office.tables row told) _ passes)
 
   -- its entry is still kept
-  entry-kept : (effect : EffectPoint) → row.in_effect ≡ Some effect → is_running row ≡ true → (entry : KeptEntry) → kept_at (then before after desk is run on moved place image taken asked).tables.sets effect.set effect.kept.id ≡ Some entry → kept_at sets effect.set effect.kept.id ≡ Some entry
+  entry-kept : (effect : EffectPoint) → row.in_effect ≡ Some effect → is_in_step row ≡ true → (entry : KeptEntry) → kept_at (then before after desk is run on moved place image taken asked).tables.sets effect.set effect.kept.id ≡ Some entry → kept_at sets effect.set effect.kept.id ≡ Some entry
   entry-kept effect got runs entry found =
       check-by desk.layout desk.office is.kept.events is.ready asked.step.run row effect its_row runs got
       (λ leg holder check.
@@ -77,7 +78,7 @@ module _ (before after : List ℕ) (desk : DeskModel) (is : IsDesk desk) (run : 
     own-points later entry start at runs found starts =
         let its_next : RunRow = next desk before on asked.step asked.led moved.step.writes moved.sets asked.same in
         let same : its_next ≡ later = some-one its_next later (run_of (then before after desk is run on moved place image taken asked).tables asked.step.run) (next-at desk before on asked.step asked.led moved.step.writes moved.sets asked.same) at in
-        let running : is_running row ≡ true = and_from (is_in_state On row) (is_within (place_of row)) (and-first (is_in_state On row) _ (ap is_running same ∙ runs)) within_so in
+        let running : is_in_step row ≡ true = and_from (is_holder row.state) (is_within (place_of row)) asked.led.running.holder.holds within_so in
         by-effect (then before after desk is run on moved place image taken asked).tables later entry found
         (λ effect got there.
         effect-before row.in_effect effect (ap (λ (r : RunRow). r.in_effect) same ∙ got)

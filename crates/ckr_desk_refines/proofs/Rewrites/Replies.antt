@@ -4,6 +4,7 @@ use Rattle.std.specs.Option.{option_map_or}
 use Rattle.ckr_base.specs.declared.programs.Finish.{Finish}
 use Rattle.ckr_base.proofs.Numbers.{nat_le-from}
 use Rattle.ckr_base.specs.Columns.{fitted}
+use Rattle.ckr_console.specs.declared.question.Answer.{Answer}
 use Rattle.ckr_events.specs.declared.event.Event.{Event}
 use Rattle.ckr_events.specs.declared.event.Event.TheVariants.{Rewritten as RewrittenEvent}
 use Rattle.ckr_library.specs.Catalog.{Catalog}
@@ -40,15 +41,15 @@ told_so row taken writes lengths place bytes desk =
     (with_progress row.number (arrived taken writes) desk)
 
 module _ (desk : DeskModel) (on : DeskStep) (row : RunRow) (start : StepStart) (row_at : run_of desk.office.tables on.run ≡ Some row) (numbered : run_of desk.office.tables row.number ≡ Some row) (start_at : start_of desk.office row ≡ Some start)
-    (found : progress_of desk on.run ≡ Some on.progress)
+    (answer : Answer) (found : progress_of desk on.run ≡ Some on.progress)
     (told : Type 0) (image : List ℕ) (layout : Layout) (taken place : ℕ) (bytes : List ℕ) (old new : StepRun) (sets : Catalog)
     (rewrite : IsToRewrite told image layout start on.progress.taken taken place bytes old new sets) (counts : old.writes ≡ on.progress.writes) (next : taken ≡ suc on.progress.taken)
     (lrecl : updated_lrecl (jobs_of desk) row ≡ rewrite.rewritten.lrecl) where
-  works : work_of on.run desk ≡ unit_done row (unit_end start on.progress) desk
+  works : work_of answer on.run desk ≡ unit_done answer row (unit_end start on.progress) desk
   works =
-      ap (λ (o : Option RunRow). option_map_or (λ row. option_map_or (λ start. option_map_or (λ progress. unit_done row (unit_end start progress) desk) (progress_of desk on.run) (done_by (Rest Idle) desk)) (start_of desk.office row) (done_by (Rest Idle) desk)) o (done_by (Rest Idle) desk)) row_at
-      ∙ ap (λ (o : Option StepStart). option_map_or (λ start. option_map_or (λ progress. unit_done row (unit_end start progress) desk) (progress_of desk on.run) (done_by (Rest Idle) desk)) o (done_by (Rest Idle) desk)) start_at
-      ∙ ap (λ (o : Option StepProgress). option_map_or (λ progress. unit_done row (unit_end start progress) desk) o (done_by (Rest Idle) desk)) found
+      ap (λ (o : Option RunRow). option_map_or (λ row. option_map_or (λ start. option_map_or (λ progress. unit_done answer row (unit_end start progress) desk) (progress_of desk on.run) (done_by (Rest Idle) desk)) (start_of desk.office row) (done_by (Rest Idle) desk)) o (done_by (Rest Idle) desk)) row_at
+      ∙ ap (λ (o : Option StepStart). option_map_or (λ start. option_map_or (λ progress. unit_done answer row (unit_end start progress) desk) (progress_of desk on.run) (done_by (Rest Idle) desk)) o (done_by (Rest Idle) desk)) start_at
+      ∙ ap (λ (o : Option StepProgress). option_map_or (λ progress. unit_done answer row (unit_end start progress) desk) o (done_by (Rest Idle) desk)) found
 
   count : next_writes start on.progress ≡ new.writes
   count =
@@ -76,9 +77,9 @@ module _ (desk : DeskModel) (on : DeskStep) (row : RunRow) (start : StepStart) (
       done_by (Tell (Worked row.number (step_name_of row) step.taken) (rewritten_event row.number step.taken step.writes step.lengths place bytes))
       (with_progress row.number further desk)
 
-  pub work-told : work_of on.run desk ≡ told_so row taken new.writes (lengths_at start desk.office.tables.sets new.writes) place bytes desk
+  pub work-told : work_of answer on.run desk ≡ told_so row taken new.writes (lengths_at start desk.office.tables.sets new.writes) place bytes desk
   work-told =
       works
-      ∙ ap (λ end. unit_done row end desk) end_is
+      ∙ ap (λ end. unit_done answer row end desk) end_is
       ∙ ap (λ step. told_by_step step (fitted (updated_lrecl (jobs_of desk) row) rewrite.write.image)) (seen-so desk.office row.number further row start numbered start_at)
       ∙ ap (told_by_step (seen_from desk.office row.number further start)) (ap (λ n. fitted n rewrite.write.image) lrecl ∙ sym rewrite.fits)

@@ -6,7 +6,7 @@ use Rattle.ckr_entry.specs.declared.point.State.{State}
 use Rattle.ckr_library.specs.declared.sets.Kept.{Kept}
 use Rattle.ckr_meaning.specs.States.{StandsFor}
 use Rattle.ckr_meaning.specs.StepRun.{StepStart, case_at}
-use Rattle.ckr_points.specs.Follows.{is_running}
+use Rattle.ckr_desk_memory.specs.Invariant.{is_in_step}
 use Rattle.ckr_points.specs.Office.{Office}
 use Rattle.ckr_points.specs.Restart.{kept_at}
 use Rattle.ckr_points.specs.Rows.{KeptEntry, RunRow, run_of}
@@ -28,7 +28,7 @@ use Rattle.ckr_desk_refines.proofs.Standing.Points.{entry_in_effect}
 module _ (layout : Layout) (office : Office) (jobs : JobsView) (earlier image : List ℕ) (is : IsDesk (opened layout office)) (are : AreInEffect office.tables) (committed : HasCommitted layout office image) (has : HasEntries layout office earlier)
     (tables : jobs.tables.desk ≡ office.tables) (failed : jobs.failed ≡ (opened layout office).failed) (running : jobs.running ≡ []) (read : AreRead layout office.tables earlier jobs.points) where
   -- a point that was read stands for its entry
-  point-read : (run : ℕ) (row : RunRow) (entry : KeptEntry) (start : StepStart) → run_of office.tables run ≡ Some row → is_running row ≡ true → effect_entry office.tables row ≡ Some entry → start_of office row ≡ Some start → StandsForPoint jobs.points run start entry
+  point-read : (run : ℕ) (row : RunRow) (entry : KeptEntry) (start : StepStart) → run_of office.tables run ≡ Some row → is_in_step row ≡ true → effect_entry office.tables row ≡ Some entry → start_of office row ≡ Some start → StandsForPoint jobs.points run start entry
   point-read run row entry start at runs found starts =
       let its : IsReadInEffect layout office earlier row entry start = effect-read layout office earlier is.kept is.ready are has run row entry start at found starts in
       let effect : IsInEffect office.tables row its.effect = are run row its.effect at its.got in

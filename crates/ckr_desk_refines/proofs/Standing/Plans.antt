@@ -3,11 +3,10 @@ use Rattle.std.proofs.Common.{◌≡◌, ◌≤◌, ℕ, Bool, true, false, cond
 use Rattle.std.specs.Prelude.{◌==◌}
 use Rattle.std.specs.Option.{option_map, option_map_or}
 use Rattle.std.proofs.lemmas.Option.{same_Some}
-use Rattle.ckr_base.specs.declared.programs.NextDue.TheVariants.{Unit as OneUnit}
 use Rattle.ckr_base.proofs.Sequences.{find-holds}
 use Rattle.ckr_desk_memory.specs.View.{JobsView, RunningStepView, jobs_of, lengths_of_row, running_of}
 use Rattle.ckr_desk_turn.specs.Invariant.{IsDesk, IsGoing}
-use Rattle.ckr_desk_turn.proofs.RunningSteps.{going-within, seen-so as seen-as}
+use Rattle.ckr_desk_turn.proofs.RunningSteps.{going-within, nothing_seen, seen-so as seen-as, stopped-run}
 use Rattle.ckr_desk_turn.proofs.NextEvents.WithinStep.{by-step}
 use Rattle.ckr_desk_refines.specs.StepSets.{HasSets}
 use Rattle.ckr_meaning.specs.EffectiveJob.{names_of}
@@ -17,8 +16,9 @@ use Rattle.ckr_points.specs.Office.{Office}
 use Rattle.ckr_points.specs.Rows.{RunRow, TablesModel, run_of}
 use Rattle.ckr_points_invariant.proofs.Steps.Commits.{its_start}
 use Rattle.ckr_steps.specs.Places.{ShowsWithin}
-use Rattle.ckr_desk_turn.specs.Desk.{DeskModel, DeskStep, seen, seen_from, start_of, jobs_of as jobs_of_desk}
-use Rattle.ckr_desk_turn.specs.Jobs.{TurnJobs, TurnStep}
+use Rattle.ckr_desk_turn.specs.Desk.{DeskModel, DeskStep, seen, seen_from, seen_step, start_of, jobs_of as jobs_of_desk}
+use Rattle.ckr_desk_turn.specs.Jobs.{TurnJobs, TurnStep, as_stopped}
+use Rattle.ckr_desk_turn.specs.declared.failed_run.FailedRun.{FailedRun}
 use Rattle.ckr_desk_turn.specs.Plans.{plan_of}
 use Rattle.ckr_desk_turn.specs.declared.reply.Turn.{Turn}
 use Rattle.ckr_desk_refines.specs.Standing.{AllStand, StandsForStep, StandsForDesk}
@@ -38,20 +38,23 @@ find-seen view number same run (x ∷ xs) =
     by later true = refl
     by later false = later
 
-seen-run : (office : Office) (step : DeskStep) → (seen office step.run step.progress).run ≡ step.run
-seen-run office step = by (run_of office.tables step.run)
+seen-run : (office : Office) (step : DeskStep) → (seen_step office step).run ≡ step.run
+seen-run office step = stopped-run step.code (seen office step.run step.progress) ∙ by (run_of office.tables step.run)
   where
-    of_start : (o : Option StepStart) → (option_map_or (seen_from office step.run step.progress) o (record { run = step.run; taken = step.progress.taken; writes = step.progress.writes; due = OneUnit; lengths = [] })).run ≡ step.run
+    of_start : (o : Option StepStart) → (option_map_or (seen_from office step.run step.progress) o (nothing_seen step.run step.progress)).run ≡ step.run
     of_start None = refl
     of_start (Some start) = refl
 
-    by : (o : Option RunRow) → (option_map_or (seen_from office step.run step.progress) (option_map_or (start_of office) o None) (record { run = step.run; taken = step.progress.taken; writes = step.progress.writes; due = OneUnit; lengths = [] })).run ≡ step.run
+    by : (o : Option RunRow) → (option_map_or (seen_from office step.run step.progress) (option_map_or (start_of office) o None) (nothing_seen step.run step.progress)).run ≡ step.run
     by None = refl
     by (Some row) = of_start (start_of office row)
 
+on-run : (tables : TablesModel) (on : RunningStepView) → (running_of tables on).run ≡ on.run
+on-run tables on = stopped-run on.code _
+
 module _ (desk : DeskModel) (is : IsDesk desk) (image : List ℕ) where
   -- a running step as a turn sees it, by the jobs in memory and by the desk
-  same-step : (on : RunningStepView) (step : DeskStep) → IsGoing desk.office step → StandsForStep desk.layout desk.office image on step → running_of desk.office.tables on ≡ seen desk.office step.run step.progress
+  same-step : (on : RunningStepView) (step : DeskStep) → IsGoing desk.office step → StandsForStep desk.layout desk.office image on step → running_of desk.office.tables on ≡ seen_step desk.office step
   same-step on step going stands =
       let row : going.row ≡ stands.row = same_Some going.row stands.row (sym going.row_at ∙ stands.row_at) in
       let start : going.start ≡ stands.start = same_Some going.start stands.start (sym going.start_at ∙ ap (start_of desk.office) row ∙ stands.start_at) in
@@ -69,7 +72,7 @@ module _ (desk : DeskModel) (is : IsDesk desk) (image : List ℕ) where
       (subst (λ (s : StepStart). ShowsWithin (Unit {0}) image desk.layout s step.progress.writes on.sets) (sym its) stands.shows)
       stands.checked
       ∙ ap (λ (s : StepStart). lengths_at s desk.office.tables.sets step.progress.writes) its))
-      ∙ sym (seen-as desk.office step.run step.progress stands.row stands.start stands.row_at stands.start_at)
+      ∙ ap (as_stopped step.code) (sym (seen-as desk.office step.run step.progress stands.row stands.start stands.row_at stands.start_at))
 
   -- the running step of a run, on both sides or on none
   abbrev BothStand : Option RunningStepView → Option DeskStep → Type 0
@@ -92,7 +95,7 @@ module _ (desk : DeskModel) (is : IsDesk desk) (image : List ℕ) where
       by true later = all.0
       by false later = later
 
-  same-found : (found : Option RunningStepView) (other : Option DeskStep) → ((step : DeskStep) → other ≡ Some step → IsGoing desk.office step) → BothStand found other → option_map (running_of desk.office.tables) found ≡ option_map (λ (step : DeskStep). seen desk.office step.run step.progress) other
+  same-found : (found : Option RunningStepView) (other : Option DeskStep) → ((step : DeskStep) → other ≡ Some step → IsGoing desk.office step) → BothStand found other → option_map (running_of desk.office.tables) found ≡ option_map (seen_step desk.office) other
   same-found None None going both = refl
   same-found None (Some step) going both = absurd both
   same-found (Some on) None going both = absurd both
@@ -101,12 +104,12 @@ module _ (desk : DeskModel) (is : IsDesk desk) (image : List ℕ) where
   pub same-running : (running : List RunningStepView) → AllStand desk.layout desk.office image running desk.running
       → (run : ℕ) → find (λ (step : TurnStep). step.run == run) (map (running_of desk.office.tables) running) ≡ find (λ (step : TurnStep). step.run == run) (jobs_of_desk desk).running
   same-running running all run =
-      find-seen (running_of desk.office.tables) (λ (on : RunningStepView). on.run) (λ on. refl) run running
+      find-seen (running_of desk.office.tables) (λ (on : RunningStepView). on.run) (on-run desk.office.tables) run running
       ∙ same-found (find (λ (on : RunningStepView). on.run == run) running) (find (λ (step : DeskStep). step.run == run) desk.running)
       (λ step found. find-holds (IsGoing desk.office) (λ (step : DeskStep). step.run == run) desk.running step is.going found) (both-stand run running desk.running all)
-      ∙ sym (find-seen (λ (step : DeskStep). seen desk.office step.run step.progress) (λ (step : DeskStep). step.run) (seen-run desk.office) run desk.running)
+      ∙ sym (find-seen (seen_step desk.office) (λ (step : DeskStep). step.run) (seen-run desk.office) run desk.running)
 
-abbrev with_running : TablesModel → List ℕ → List TurnStep → TurnJobs
+abbrev with_running : TablesModel → List FailedRun → List TurnStep → TurnJobs
 with_running tables failed running = record { tables = tables; running = running; failed = failed }
 
 -- what a turn comes to by the jobs in memory is what it comes to at the desk

@@ -9,9 +9,8 @@ use Rattle.ckr_meaning.specs.EffectiveJob.{Effective, is_among}
 use Rattle.ckr_meaning.specs.JobRun.{start_at}
 use Rattle.ckr_meaning.specs.StepRun.{StepStart}
 use Rattle.ckr_points_library.specs.Commit.{output_names}
-use Rattle.ckr_points.specs.declared.run.RunState.TheVariants.{On}
-use Rattle.ckr_points.specs.Follows.{is_in_state, is_running, is_within}
-use Rattle.ckr_points.specs.Office.{Leg, Office}
+use Rattle.ckr_points.specs.Follows.{is_within}
+use Rattle.ckr_points.specs.Office.{Leg, Office, is_holder}
 use Rattle.ckr_points.specs.Payload.{writes_in}
 use Rattle.ckr_points.specs.Restart.{kept_at, place_of, step_in}
 use Rattle.ckr_points.specs.Rows.{EffectPoint, KeptEntry, RunRow, TablesModel, run_of}
@@ -20,9 +19,10 @@ use Rattle.ckr_points_invariant.specs.Readiness.{AreReady, IsCheck}
 use Rattle.ckr_points_invariant.proofs.Holders.Places.{outputs-among}
 use Rattle.ckr_points_invariant.proofs.Start.Event.{running-so}
 use Rattle.ckr_points_invariant.proofs.Steps.Commits.{in_reach}
-use Rattle.ckr_points_invariant.proofs.Steps.Events.{led-by, on-holds}
+use Rattle.ckr_points_invariant.proofs.Steps.Events.{led-by}
 use Rattle.ckr_volumes.specs.declared.layout.Layout.{Layout}
 use Rattle.ckr_desk_memory.specs.EventChanges.{is_point_of}
+use Rattle.ckr_desk_memory.specs.Invariant.{is_in_step}
 use Rattle.ckr_desk_memory.specs.View.{PointView}
 use Rattle.ckr_desk_turn.specs.Desk.{start_of}
 use Rattle.ckr_desk_turn.specs.Jobs.{effect_entry}
@@ -56,36 +56,36 @@ point-moves old new run other start entry same stands = record {
 -- the point of one run stands
 abbrev pub OwnStands : Office → List PointView → ℕ → Type 0
 OwnStands office points run =
-    (row : RunRow) (entry : KeptEntry) (start : StepStart) → run_of office.tables run ≡ Some row → is_running row ≡ true → effect_entry office.tables row ≡ Some entry → start_of office row ≡ Some start
+    (row : RunRow) (entry : KeptEntry) (start : StepStart) → run_of office.tables run ≡ Some row → is_in_step row ≡ true → effect_entry office.tables row ≡ Some entry → start_of office row ≡ Some start
     → StandsForPoint points run start entry
 
 -- a run isn't within a step with a checkpoint in effect
 abbrev pub IsIdle : TablesModel → ℕ → Type 0
-IsIdle tables run = (row : RunRow) → run_of tables run ≡ Some row → is_running row ≡ true → row.in_effect ≡ None
+IsIdle tables run = (row : RunRow) → run_of tables run ≡ Some row → is_in_step row ≡ true → row.in_effect ≡ None
 
 pub idle-stands : (office : Office) (points : List PointView) (run : ℕ) → IsIdle office.tables run → OwnStands office points run
 idle-stands office points run idle row entry start at runs found starts = absurd (some-not-none entry (sym found ∙ ap (entry_in_effect office.tables) (idle row at runs)))
 
 module _ (layout : Layout) (now : Office) (agreed : IsAgreed layout now) (ready : AreReady now) where
-  -- what a run on an initiator within its step has of its checkpoint in effect
-  pub check-by : {A : Type 0} (number : ℕ) (row : RunRow) (effect : EffectPoint) → run_of now.tables number ≡ Some row → is_running row ≡ true → row.in_effect ≡ Some effect → ((leg : Leg) → IsHolder now number row leg → IsCheck now.tables.sets row leg effect → A) → A
+  -- what a run that holds its names within its step has of its checkpoint in effect
+  pub check-by : {A : Type 0} (number : ℕ) (row : RunRow) (effect : EffectPoint) → run_of now.tables number ≡ Some row → is_in_step row ≡ true → row.in_effect ≡ Some effect → ((leg : Leg) → IsHolder now number row leg → IsCheck now.tables.sets row leg effect → A) → A
   check-by number row effect at runs got use_it =
-      led-by layout now number row agreed at (on-holds row.state (and-first (is_in_state On row) (is_within (place_of row)) runs))
-      (λ leg holder. use_it leg holder ((ready.runs number row leg holder).check effect (and-second (is_in_state On row) (is_within (place_of row)) runs) got))
+      led-by layout now number row agreed at (and-first (is_holder row.state) (is_within (place_of row)) runs)
+      (λ leg holder. use_it leg holder ((ready.runs number row leg holder).check effect (and-second (is_holder row.state) (is_within (place_of row)) runs) got))
 
   module _ (later : Office) (run : ℕ) (leaves : LeavesRuns now later run) (others : LeavesOthers now run later) (old new : List PointView)
       (same : (number : ℕ) → number ≢ run → find (is_point_of number) new ≡ find (is_point_of number) old) (stand : PointsStand now old) where
     -- the data set with another run's entry is as it was
-    set-same : (number : ℕ) (row : RunRow) (effect : EffectPoint) → number ≢ run → run_of now.tables number ≡ Some row → is_running row ≡ true → row.in_effect ≡ Some effect → entry_at later.tables.sets effect.set ≡ entry_at now.tables.sets effect.set
+    set-same : (number : ℕ) (row : RunRow) (effect : EffectPoint) → number ≢ run → run_of now.tables number ≡ Some row → is_in_step row ≡ true → row.in_effect ≡ Some effect → entry_at later.tables.sets effect.set ≡ entry_at now.tables.sets effect.set
     set-same number row effect apart at runs got =
         check-by number row effect at runs got
         (λ leg holder check.
         others number row leg effect.set holder apart
         (in_reach layout now number row leg check.owned (step_now row) (writes_in (place_of row)) agreed
-        (running-so layout now number row leg check.owned holder (and-second (is_in_state On row) (is_within (place_of row)) runs) check.found_step) effect.set
+        (running-so layout now number row leg check.owned holder (and-second (is_holder row.state) (is_within (place_of row)) runs) check.found_step) effect.set
         (outputs-among leg.job.root check.owned effect.set (ap (λ (job : Effective). is_among (output_names job.root check.owned) effect.set) (agreed.places number row leg holder).job ∙ check.among))))
 
-    other-stands : (number : ℕ) (row : RunRow) (entry : KeptEntry) (start : StepStart) → number ≢ run → run_of later.tables number ≡ Some row → is_running row ≡ true → effect_entry later.tables row ≡ Some entry → start_of later row ≡ Some start → StandsForPoint new number start entry
+    other-stands : (number : ℕ) (row : RunRow) (entry : KeptEntry) (start : StepStart) → number ≢ run → run_of later.tables number ≡ Some row → is_in_step row ≡ true → effect_entry later.tables row ≡ Some entry → start_of later row ≡ Some start → StandsForPoint new number start entry
     other-stands number row entry start apart at_later runs found starts =
         let at : run_of now.tables number ≡ Some row = sym (leaves.rows number apart) ∙ at_later in
         by-effect later.tables row entry found

@@ -1,10 +1,11 @@
 -- A running step of which what is due is served, with no entry written, stands for that of the desk with the checkpoint or the cancel done.
-use Rattle.std.proofs.Common.{◌≡◌, ◌&&◌, ℕ, Bool, true, false, not, if◌then◌else◌, List, ◌∷◌, find, refl, ap, sym, ◌∙◌, Option, Some}
+use Rattle.std.proofs.Common.{◌≡◌, ◌&&◌, ℕ, Bool, true, false, not, if◌then◌else◌, List, ◌∷◌, find, refl, ap, sym, ◌∙◌, Option, Some, None}
 use Rattle.std.specs.Prelude.{◌==◌}
 use Rattle.std.specs.Option.{option_map_or}
 use Rattle.std.proofs.lemmas.Bool.{false≢true}
 use Rattle.ckr_base.specs.declared.programs.NextDue.{NextDue}
 use Rattle.ckr_base.specs.declared.programs.NextDue.TheVariants.{Unit as OneUnit, Checkpoint, Cancel, Finished}
+use Rattle.ckr_base.proofs.Options.{some-not-none}
 use Rattle.ckr_desk_memory.specs.EventChanges.{is_of_run, served_in, served_step, without_first}
 use Rattle.ckr_desk_memory.specs.View.{RunningStepView}
 use Rattle.ckr_meaning.specs.StepRun.{StepStart, work_at}
@@ -64,35 +65,37 @@ cancel-once start progress due again =
 
 -- ---- the step in memory
 
-module _ (layout : Layout) (office : Office) (image : List ℕ) (on : RunningStepView) (step : DeskStep) (stands : StandsForStep layout office image on step) where
+module _ (layout : Layout) (office : Office) (image : List ℕ) (on : RunningStepView) (step : DeskStep) (stands : StandsForStep layout office image on step) (none : on.code ≡ None) where
   served-so : (checkpointed cancelled : Bool) → AreServed checkpointed cancelled (served_of on.step.parm false on.step.state)
-      → (next_due stands.start (record step.progress { checkpointed = checkpointed; cancelled = cancelled }) ≡ Checkpoint → cancelled ≡ false) → StandsForStep layout office image (served_step on) (record { run = step.run; progress = record step.progress { checkpointed = checkpointed; cancelled = cancelled } })
+      → (next_due stands.start (record step.progress { checkpointed = checkpointed; cancelled = cancelled }) ≡ Checkpoint → cancelled ≡ false) → StandsForStep layout office image (served_step on) (record { run = step.run; progress = record step.progress { checkpointed = checkpointed; cancelled = cancelled }; code = None })
   served-so checkpointed cancelled served ordered = record {
     row = stands.row;
     row_at = stands.row_at;
     start = stands.start;
     start_at = stands.start_at;
     run = stands.run;
-    stands = served_stands stands.start step.progress.taken step.progress.closed false on.step on.sets stands.stands;
-    served = served;
-    ordered = ordered;
+    code = none;
+    stands = λ _. served_stands stands.start step.progress.taken step.progress.closed false on.step on.sets (stands.stands none);
+    served = λ _. served;
+    ordered = λ _. ordered;
     writes = stands.writes;
+    stopped = λ code some. absurd (some-not-none code (sym some ∙ none));
     sets = stands.sets;
     named = stands.named;
     shows = stands.shows;
     checked = stands.checked;
   }
 
-  pub checkpoint-stands : due_of on.step.parm on.step.state ≡ Checkpoint → StandsForStep layout office image (served_step on) (record { run = step.run; progress = checkpoint_done step.progress })
+  pub checkpoint-stands : due_of on.step.parm on.step.state ≡ Checkpoint → StandsForStep layout office image (served_step on) (record { run = step.run; progress = checkpoint_done step.progress; code = None })
   checkpoint-stands due =
       let served : AreServed true (is_cancelled on.step.state) (served_of on.step.parm false on.step.state) = checkpoint-served on.step.parm false on.step.state due in
-      served-so true step.progress.cancelled (record { checkpoint = served.checkpoint; cancel = served.cancel ∙ stands.served.cancel }) (λ again. absurd (checkpoint-once stands.start step.progress again))
+      served-so true step.progress.cancelled (record { checkpoint = served.checkpoint; cancel = served.cancel ∙ (stands.served none).cancel }) (λ again. absurd (checkpoint-once stands.start step.progress again))
 
-  pub cancel-stands : due_of on.step.parm on.step.state ≡ Cancel → StandsForStep layout office image (served_step on) (record { run = step.run; progress = cancel_done step.progress })
+  pub cancel-stands : due_of on.step.parm on.step.state ≡ Cancel → StandsForStep layout office image (served_step on) (record { run = step.run; progress = cancel_done step.progress; code = None })
   cancel-stands due =
       let served : AreServed (is_checkpointed on.step.state) true (served_of on.step.parm false on.step.state) = cancel-served on.step.parm false on.step.state due in
-      served-so step.progress.checkpointed true (record { checkpoint = served.checkpoint ∙ stands.served.checkpoint; cancel = served.cancel })
-      (λ again. absurd (cancel-once stands.start step.progress (sym (place-due stands.start step.progress on stands.stands stands.served) ∙ due) again))
+      served-so step.progress.checkpointed true (record { checkpoint = served.checkpoint ∙ (stands.served none).checkpoint; cancel = served.cancel })
+      (λ again. absurd (cancel-once stands.start step.progress (sym (place-due stands.start step.progress on (stands.stands none) (stands.served none)) ∙ due) again))
 
 -- ---- it stands before the others
 
@@ -100,6 +103,6 @@ pub served-first : (run : ℕ) (on : RunningStepView) (seen : List RunningStepVi
 served-first run on seen found = ap (λ (o : Option RunningStepView). option_map_or (λ on. served_step on ∷ without_first run seen) o seen) found
 
 pub changed-first : (run : ℕ) (change : StepProgress → StepProgress) (step : DeskStep) (running : List DeskStep) → find (λ (step : DeskStep). step.run == run) running ≡ Some step
-    → with_change run change running ≡ record { run = run; progress = change step.progress } ∷ without_run run running
+    → with_change run change running ≡ record { run = run; progress = change step.progress; code = None } ∷ without_run run running
 changed-first run change step running found =
-    ap (λ (o : Option DeskStep). option_map_or (λ (step : DeskStep). record { run = run; progress = change step.progress } ∷ without_run run running) o running) found
+    ap (λ (o : Option DeskStep). option_map_or (λ (step : DeskStep). record { run = run; progress = change step.progress; code = None } ∷ without_run run running) o running) found

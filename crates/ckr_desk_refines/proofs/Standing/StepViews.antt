@@ -1,8 +1,10 @@
 -- A running step in memory is seen as its job has it, also in what is due of it.
-use Rattle.std.proofs.Common.{◌≡◌, ℕ, Bool, true, false, List, [], refl, ap, sym, ◌∙◌}
+use Rattle.std.proofs.Common.{◌≡◌, ℕ, Bool, true, false, List, [], refl, ap, sym, ◌∙◌, Some, None}
 use Rattle.std.specs.Option.{option_map_or}
+use Rattle.ckr_base.specs.declared.code.Code.{Code}
 use Rattle.ckr_base.specs.declared.programs.NextDue.{NextDue}
-use Rattle.ckr_base.specs.declared.programs.NextDue.TheVariants.{Finished}
+use Rattle.ckr_base.specs.declared.programs.NextDue.TheVariants.{Unit as OneUnit, Finished}
+use Rattle.ckr_base.proofs.Options.{option-cases}
 use Rattle.ckr_desk_memory.specs.View.{RunningStepView, lengths_of_row, running_of}
 use Rattle.ckr_entry.specs.declared.point.State.{State}
 use Rattle.ckr_entry.specs.declared.point.State.TheVariants.{Plain, Matched}
@@ -17,7 +19,7 @@ use Rattle.ckr_steps.specs.Units.{AreServed, due_of, is_cancelled, is_checkpoint
 use Rattle.ckr_steps.proofs.NextUnits.{taken_is}
 use Rattle.ckr_desk_turn.specs.Desk.{DeskStep, seen_from}
 use Rattle.ckr_desk_turn.specs.Due.{next_due, rc_by}
-use Rattle.ckr_desk_turn.specs.Jobs.{TurnStep}
+use Rattle.ckr_desk_turn.specs.Jobs.{TurnStep, as_stopped}
 use Rattle.ckr_desk_turn.specs.Units.{StepProgress}
 use Rattle.ckr_volumes.specs.declared.layout.Layout.{Layout}
 use Rattle.ckr_desk_refines.specs.Standing.{StandsForStep}
@@ -55,17 +57,32 @@ place-due start progress on stands served =
 -- ---- what is seen
 
 abbrev running_so : ℕ → ℕ → ℕ → NextDue → List ℕ → TurnStep
-running_so run taken writes due lengths = record { run = run; taken = taken; writes = writes; due = due; lengths = lengths }
+running_so run taken writes due lengths = record { run = run; taken = taken; writes = writes; due = due; lengths = lengths; code = None }
+
+-- of a step that has stopped
+abbrev stopped_so : Code → ℕ → ℕ → List ℕ → TurnStep
+stopped_so code run writes lengths = as_stopped (Some code) (running_so run 0 writes OneUnit lengths)
 
 -- but for its lengths
 pub seen-so : (layout : Layout) (office : Office) (image : List ℕ) (on : RunningStepView) (step : DeskStep) (stands : StandsForStep layout office image on step)
     → option_map_or (lengths_of_row on.sets.sets) (run_of office.tables on.run) [] ≡ lengths_at stands.start office.tables.sets step.progress.writes
-    → running_of office.tables on ≡ seen_from office step.run step.progress stands.start
+    → running_of office.tables on ≡ as_stopped step.code (seen_from office step.run step.progress stands.start)
 seen-so layout office image on step stands lengths =
-    ap (λ run. running_so run (taken_of on.step.state) on.step.writes (due_of on.step.parm on.step.state) (option_map_or (lengths_of_row on.sets.sets) (run_of office.tables on.run) [])) stands.run
-    ∙ ap (λ taken. running_so step.run taken on.step.writes (due_of on.step.parm on.step.state) (option_map_or (lengths_of_row on.sets.sets) (run_of office.tables on.run) []))
-    (taken_is on.step.state (case_at stands.start) step.progress.taken stands.stands.state)
-    ∙ ap (λ writes. running_so step.run step.progress.taken writes (due_of on.step.parm on.step.state) (option_map_or (lengths_of_row on.sets.sets) (run_of office.tables on.run) [])) stands.writes
-    ∙ ap (λ due. running_so step.run step.progress.taken step.progress.writes due (option_map_or (lengths_of_row on.sets.sets) (run_of office.tables on.run) []))
-    (place-due stands.start step.progress on stands.stands stands.served)
+    option-cases on.code
+    (λ none.
+    ap (λ code. as_stopped code (running_so on.run (taken_of on.step.state) on.step.writes (due_of on.step.parm on.step.state) its)) none
+    ∙ ap (λ run. running_so run (taken_of on.step.state) on.step.writes (due_of on.step.parm on.step.state) its) stands.run
+    ∙ ap (λ taken. running_so step.run taken on.step.writes (due_of on.step.parm on.step.state) its) (taken_is on.step.state (case_at stands.start) step.progress.taken (stands.stands none).state)
+    ∙ ap (λ writes. running_so step.run step.progress.taken writes (due_of on.step.parm on.step.state) its) stands.writes
+    ∙ ap (λ due. running_so step.run step.progress.taken step.progress.writes due its) (place-due stands.start step.progress on (stands.stands none) (stands.served none))
     ∙ ap (running_so step.run step.progress.taken step.progress.writes (next_due stands.start step.progress)) lengths
+    ∙ ap (λ code. as_stopped code (seen_from office step.run step.progress stands.start)) (sym none ∙ stands.code))
+    (λ code some.
+    ap (λ code. as_stopped code (running_so on.run (taken_of on.step.state) on.step.writes (due_of on.step.parm on.step.state) its)) some
+    ∙ ap (λ run. stopped_so code run on.step.writes its) stands.run
+    ∙ ap (λ writes. stopped_so code step.run writes its) stands.writes
+    ∙ ap (stopped_so code step.run step.progress.writes) lengths
+    ∙ ap (λ code. as_stopped code (seen_from office step.run step.progress stands.start)) (sym some ∙ stands.code))
+  where
+    its : List ℕ
+    its = option_map_or (lengths_of_row on.sets.sets) (run_of office.tables on.run) []

@@ -1,7 +1,9 @@
 -- The jobs in memory stand for the desk behind a checkpoint that is suppressed.
-use Rattle.std.proofs.Common.{◌≡◌, ℕ, List, ◌∷◌, find, ap, sym, ◌∙◌, subst, Some}
+use Rattle.std.proofs.Common.{◌≡◌, ℕ, List, ◌∷◌, find, ap, sym, ◌∙◌, subst, Some, None}
 use Rattle.std.proofs.lemmas.Option.{same_Some}
 use Rattle.ckr_base.specs.declared.programs.NextDue.TheVariants.{Checkpoint}
+use Rattle.ckr_console.specs.declared.question.Answer.{Answer}
+use Rattle.ckr_console.specs.declared.question.Answer.TheVariants.{Silent}
 use Rattle.ckr_desk_memory.specs.EventChanges.{is_of_run, served_step, without_first}
 use Rattle.ckr_desk_memory.specs.View.{JobsView, RunningStepView}
 use Rattle.ckr_desk_turn.specs.Desk.{DeskModel, DeskStep, checkpoint_done, done_by, jobs_of, with_change, without_run}
@@ -23,9 +25,9 @@ use Rattle.ckr_desk_refines.proofs.Units.Plans.{asked_in}
 use Rattle.ckr_desk_refines.proofs.Units.StepLists.{IsPair, differ-put, others-stay, pair-of, seen-of}
 
 -- a turn that passes keeps the desk
-pass-keeps : (desk : DeskModel) (turn : Turn) (run : ℕ) (reply : Reply) → Keeps desk (turn_of desk turn) → plan_of desk.layout (jobs_of desk) turn ≡ Pass run reply → Keeps desk (done_by (Pass run reply) desk)
+pass-keeps : (desk : DeskModel) (turn : Turn) (run : ℕ) (reply : Reply) → (answer : Answer) → Keeps desk (turn_of desk turn answer) → plan_of desk.layout (jobs_of desk) turn ≡ Pass run reply → Keeps desk (done_by (Pass run reply) desk)
 unfolding turn_of
-pass-keeps desk turn run reply keeps planned = subst (λ (plan : Plan). Keeps desk (carried_out plan desk)) planned keeps
+pass-keeps desk turn run reply answer keeps planned = subst (λ (plan : Plan). Keeps desk (carried_out answer plan desk)) planned keeps
 
 module _ (layout : Layout) (old new : JobsView) (image : List ℕ) (desk : DeskModel) (turn : Turn) (run : ℕ) (reply : Reply) (stands : StandsForDesk layout old image desk)
     (planned : plan_of desk.layout (jobs_of desk) turn ≡ Pass run reply) where
@@ -41,18 +43,24 @@ module _ (layout : Layout) (old new : JobsView) (image : List ℕ) (desk : DeskM
   pair : IsPair desk.layout desk.office image run on desk.running
   pair = pair-of desk.layout desk.office image run on old.running desk.running stands.running stands.is_desk.going there.1
 
+  paired : pair.step ≡ due.step
+  paired = same_Some pair.step due.step (sym pair.at ∙ due.at)
+
+  uncoded : on.code ≡ None
+  uncoded = pair.stands.code ∙ ap (λ (step : DeskStep). step.code) paired ∙ due.uncoded
+
   due-so : due_of on.step.parm on.step.state ≡ Checkpoint
   due-so =
       due-there desk stands.is_desk run Checkpoint due image on
-      (subst (λ (step : DeskStep). StandsForStep desk.layout desk.office image on step) (same_Some pair.step due.step (sym pair.at ∙ due.at)) pair.stands)
+      (subst (λ (step : DeskStep). StandsForStep desk.layout desk.office image on step) paired pair.stands)
 
   abbrev own : DeskStep
-  own = record { run = run; progress = checkpoint_done pair.step.progress }
+  own = record { run = run; progress = checkpoint_done pair.step.progress; code = None }
 
   own-stands : StandsForStep desk.layout desk.office image (served_step on) own
   own-stands =
-      subst (λ (n : ℕ). StandsForStep desk.layout desk.office image (served_step on) (record { run = n; progress = checkpoint_done pair.step.progress })) pair.same
-      (checkpoint-stands desk.layout desk.office image on pair.step pair.stands due-so)
+      subst (λ (n : ℕ). StandsForStep desk.layout desk.office image (served_step on) (record { run = n; progress = checkpoint_done pair.step.progress; code = None })) pair.same
+      (checkpoint-stands desk.layout desk.office image on pair.step pair.stands uncoded due-so)
 
   all-stand : AllStand desk.layout desk.office image (served_step on ∷ without_first run old.running) (own ∷ without_run run desk.running)
   all-stand = (
@@ -66,7 +74,7 @@ module _ (layout : Layout) (old new : JobsView) (image : List ℕ) (desk : DeskM
   pub passed-stands : IsTurnOf desk.layout turn → HasPassed run old new → StandsForDesk layout new image (done_by (Pass run reply) desk).desk
   passed-stands its passed = record {
     layout_is = stands.layout_is;
-    is_desk = (pass-keeps desk turn run reply (turn-keeps desk turn stands.is_desk its.above its.below) planned).kept;
+    is_desk = (pass-keeps desk turn run reply Silent (turn-keeps desk turn Silent stands.is_desk its.above its.below) planned).kept;
     tables = passed.tables ∙ stands.tables;
     failed = passed.failed ∙ stands.failed;
     running =

@@ -1,5 +1,6 @@
 -- The jobs in memory behind a unit stand for the desk behind it.
 use Rattle.std.proofs.Common.{◌≡◌, ◌≢◌, ℕ, false, List, ◌∷◌, refl, ap, sym, ◌∙◌, subst, Some, None}
+use Rattle.ckr_console.specs.declared.question.Answer.{Answer}
 use Rattle.ckr_desk_memory.specs.EventChanges.{without_first}
 use Rattle.ckr_desk_memory.specs.View.{JobsView, RunningStepView}
 use Rattle.ckr_desk_turn.proofs.Units.AnyUnit.{work-keeps}
@@ -21,7 +22,7 @@ use Rattle.ckr_desk_turn.specs.Units.{StepProgress, UnitEnd, unit_end, went}
 use Rattle.ckr_volumes.specs.declared.layout.Layout.{Layout}
 use Rattle.ckr_desk_refines.specs.Unit.{IsPutBack, StandsBehindUnit}
 use Rattle.ckr_desk_refines.proofs.Units.Outcomes.{end-went, further_at, open_at}
-use Rattle.ckr_desk_refines.proofs.Units.RunningStep.{number-found, pair-found, progress-found, row-found, shows-found, stands-found, unclosed-found, work-found}
+use Rattle.ckr_desk_refines.proofs.Units.RunningStep.{number-found, pair-found, progress-found, row-found, shows-found, stands-found, unclosed-found, uncoded-found, unwaiting-found, work-found}
 use Rattle.ckr_desk_refines.proofs.Units.StepLists.{IsPair, differ-put, others-stay}
 use Rattle.ckr_desk_refines.proofs.Units.OtherSteps.{other-stays}
 use Rattle.ckr_desk_refines.proofs.Units.OwnStep.{own-stands}
@@ -36,6 +37,12 @@ module _ (layout : Layout) (old : JobsView) (before after : List ℕ) (desk : De
 
   pub unclosed : pair.step.progress.closed ≡ false
   unclosed = unclosed-found layout old before desk turn run on unit.stands unit.planned unit.found
+
+  pub uncoded : on.code ≡ None
+  uncoded = uncoded-found layout old before desk turn run on unit.stands unit.planned unit.found
+
+  pub unwaiting : pair.step.code ≡ None
+  unwaiting = unwaiting-found layout old before desk turn run on unit.stands unit.planned unit.found
 
   abbrev pub start : StepStart
   start = pair.stands.start
@@ -74,11 +81,11 @@ module _ (layout : Layout) (old : JobsView) (before after : List ℕ) (desk : De
   pub progress-at : progress_of desk run ≡ Some pair.step.progress
   progress-at = progress-found layout old before desk turn run on unit.stands unit.planned unit.found
 
-  pub work-is : (end : UnitEnd) → unit_end start (open_at on.step.state taken_before on.step.writes) ≡ end → work_of run desk ≡ unit_done pair.stands.row end desk
+  pub work-is : (answer : Answer) (end : UnitEnd) → unit_end start (open_at on.step.state taken_before on.step.writes) ≡ end → work_of answer run desk ≡ unit_done answer pair.stands.row end desk
   work-is = work-found layout old before desk turn run on unit.stands unit.planned unit.found
 
-  pub work-kept : IsDesk (work_of run desk).desk
-  work-kept = (work-keeps desk its-desk run pair.step.progress progress-at unclosed).kept
+  pub work-kept : (answer : Answer) → IsDesk (work_of answer run desk).desk
+  work-kept answer = (work-keeps answer desk its-desk run pair.step.progress progress-at unclosed).kept
 
   -- ---- what stays
 
@@ -106,9 +113,9 @@ module _ (layout : Layout) (old : JobsView) (before after : List ℕ) (desk : De
   abbrev pub progress : StepProgress
   progress = further_at on.step.state taken moved.step.writes goes-to.closed
 
-  pub went-done : work_of run desk ≡ unit_done p.stands.row (record { unit = went None; progress = progress }) desk
-  went-done =
-      work-is layout old before after desk turn run on moved (Went taken) unit (record { unit = went None; progress = progress })
+  pub went-done : (answer : Answer) → work_of answer run desk ≡ unit_done answer p.stands.row (record { unit = went None; progress = progress }) desk
+  went-done answer =
+      work-is layout old before after desk turn run on moved (Went taken) unit answer (record { unit = went None; progress = progress })
       (end-went before after desk.layout p.stands.start p.step.progress.taken on.step moved.step on.sets moved.sets (Went taken)
       (stands-at layout old before after desk turn run on moved (Went taken) unit) (shows-at layout old before after desk turn run on moved (Went taken) unit) (did-so layout old before after desk turn run on moved (Went taken) unit)
       taken refl goes-to)
@@ -117,12 +124,12 @@ module _ (layout : Layout) (old : JobsView) (before after : List ℕ) (desk : De
   its_run = numbered layout old before after desk turn run on moved (Went taken) unit
 
   abbrev put_step : ℕ → DeskStep
-  put_step number = record { run = number; progress = progress }
+  put_step number = record { run = number; progress = progress; code = None }
 
   own : StandsForStep desk.layout desk.office after moved (put_step run)
   own =
       subst (λ (n : ℕ). StandsForStep desk.layout desk.office after moved (put_step n)) p.same
-      (own-stands desk unit.stands.is_desk before after on moved p.step p.going p.stands (Went taken) (did-so layout old before after desk turn run on moved (Went taken) unit) unit.same_run taken goes-to)
+      (own-stands desk unit.stands.is_desk before after on moved p.step p.going p.stands (uncoded layout old before after desk turn run on moved (Went taken) unit) (Went taken) (did-so layout old before after desk turn run on moved (Went taken) unit) unit.same_run unit.same_code taken goes-to)
 
   others : AllStand desk.layout desk.office after (without_first run old.running) (without_run run desk.running)
   others =
@@ -135,12 +142,12 @@ module _ (layout : Layout) (old : JobsView) (before after : List ℕ) (desk : De
   running-so : AllStand desk.layout desk.office after (moved ∷ without_first run old.running) later.running
   running-so = subst (λ (n : ℕ). AllStand desk.layout desk.office after (moved ∷ without_first run old.running) (put_step n ∷ without_run n desk.running)) (sym its_run) (own, others)
 
-  pub went-stands : (put : JobsView) → IsPutBack run moved old put → StandsForDesk layout put after (work_of run desk).desk
-  went-stands put back =
-      subst (StandsForDesk layout put after) (sym (ap (λ (done : TurnDone). done.desk) went-done))
+  pub went-stands : (answer : Answer) (put : JobsView) → IsPutBack run moved old put → StandsForDesk layout put after (work_of answer run desk).desk
+  went-stands answer put back =
+      subst (StandsForDesk layout put after) (sym (ap (λ (done : TurnDone). done.desk) (went-done answer)))
       (record {
         layout_is = unit.stands.layout_is;
-        is_desk = subst IsDesk (ap (λ (done : TurnDone). done.desk) went-done) (work-kept layout old before after desk turn run on moved (Went taken) unit);
+        is_desk = subst IsDesk (ap (λ (done : TurnDone). done.desk) (went-done answer)) (work-kept layout old before after desk turn run on moved (Went taken) unit answer);
         tables = back.tables ∙ unit.stands.tables;
         failed = back.failed ∙ unit.stands.failed;
         running = subst (λ (seen : List RunningStepView). AllStand desk.layout desk.office after seen later.running) (sym back.running) running-so;

@@ -1,11 +1,13 @@
 -- What a turn does with the running step of a run is due of it, at the desk and in memory.
-use Rattle.std.proofs.Common.{◌≡◌, ℕ, Bool, true, false, List, find, refl, ap, sym, ◌∙◌, Some}
+use Rattle.std.proofs.Common.{◌≡◌, ℕ, Bool, true, false, List, find, refl, ap, sym, ◌∙◌, subst, Option, Some, None}
 use Rattle.std.specs.Prelude.{◌==◌}
 use Rattle.std.proofs.lemmas.Bool.{false≢true}
+use Rattle.ckr_base.specs.declared.code.Code.{Code}
 use Rattle.ckr_base.specs.declared.programs.NextDue.{NextDue}
 use Rattle.ckr_base.specs.declared.programs.NextDue.TheVariants.{Unit as OneUnit, Checkpoint, Cancel, Finished}
+use Rattle.ckr_base.proofs.Options.{some-not-none}
 use Rattle.ckr_desk_memory.specs.View.{RunningStepView}
-use Rattle.ckr_desk_turn.proofs.RunningSteps.{FoundStep, found-step, going-within}
+use Rattle.ckr_desk_turn.proofs.RunningSteps.{FoundStep, found-step, going-within, stopped-code}
 use Rattle.ckr_desk_turn.proofs.NextEvents.WithinStep.{by-step}
 use Rattle.ckr_desk_turn.specs.Invariant.{IsDesk, IsGoing}
 use Rattle.ckr_meaning.specs.EffectiveJob.{OwnedStep}
@@ -14,9 +16,9 @@ use Rattle.ckr_points.specs.Restart.{place_of, step_in}
 use Rattle.ckr_points.specs.Rows.{RunRow, run_of, step_of_run}
 use Rattle.ckr_desk_refines.specs.Standing.{StandsForStep}
 use Rattle.ckr_steps.specs.Units.{due_of}
-use Rattle.ckr_desk_turn.specs.Desk.{DeskModel, DeskStep, jobs_of}
+use Rattle.ckr_desk_turn.specs.Desk.{DeskModel, DeskStep, jobs_of, seen_from}
 use Rattle.ckr_desk_turn.specs.Due.{next_due}
-use Rattle.ckr_desk_turn.specs.Jobs.{TurnStep}
+use Rattle.ckr_desk_turn.specs.Jobs.{TurnStep, as_stopped}
 use Rattle.ckr_desk_turn.specs.declared.reply.Turn.{Turn}
 use Rattle.ckr_desk_turn.specs.Plans.{plan_of}
 use Rattle.ckr_desk_turn.specs.Units.{StepProgress}
@@ -31,18 +33,32 @@ pub record IsDue (desk : DeskModel) (run : ℕ) (due : NextDue) : Type 0 where
   pub same : step.run ≡ run
   pub going : IsGoing desk.office step
   pub is_due : next_due going.start step.progress ≡ due
+  pub uncoded : step.code ≡ None
+
+-- what is due of a step that hasn't stopped
+due-of : (code : Option Code) (step : TurnStep) → code ≡ None → (as_stopped code step).due ≡ step.due
+due-of None step none = refl
+due-of (Some code) step none = absurd (some-not-none code none)
+
+-- it is one that is found with this due, and with no code
+pub due-found : (desk : DeskModel) (run : ℕ) (due : NextDue) (step : TurnStep) (found : FoundStep desk.office desk.running run step) → step.due ≡ due → step.code ≡ None → IsDue desk run due
+due-found desk run due step found is_due uncoded =
+    let its : TurnStep = seen_from desk.office found.on.run found.on.progress found.going.start in
+    let none : found.on.code ≡ None = sym (stopped-code found.on.code its refl) ∙ sym (ap (λ (s : TurnStep). s.code) found.is) ∙ uncoded in
+    record {
+      step = found.on;
+      at = found.at;
+      same = found.same;
+      going = found.going;
+      is_due = sym (due-of found.on.code its none) ∙ sym (ap (λ (s : TurnStep). s.due) found.is) ∙ is_due;
+      uncoded = none;
+    }
 
 pub is-due : (desk : DeskModel) (turn : Turn) (run : ℕ) (due : NextDue) → IsDesk desk → asked_in (plan_of desk.layout (jobs_of desk) turn) ≡ Some (run, due) → IsDue desk run due
 is-due desk turn run due is planned =
     let at : WorksAt desk run due (takes_in (plan_of desk.layout (jobs_of desk) turn)) = works-at desk turn run due (takes_in (plan_of desk.layout (jobs_of desk) turn)) is planned refl in
     let found : FoundStep desk.office desk.running at.row.number at.works.step = found-step desk.office at.row.number desk.running at.works.step is.going at.works.step_at in
-    record {
-      step = found.on;
-      at = ap (λ n. find (λ (step : DeskStep). step.run == n) desk.running) (sym at.works.numbered) ∙ found.at;
-      same = found.same ∙ at.works.numbered;
-      going = found.going;
-      is_due = sym (ap (λ (s : TurnStep). s.due) found.is) ∙ at.works.is_due;
-    }
+    subst (λ n. IsDue desk n due) at.works.numbered (due-found desk at.row.number due at.works.step found at.works.is_due at.works.uncoded)
 
 abbrev pub has_finished : NextDue → Bool
 has_finished OneUnit = false
@@ -81,6 +97,6 @@ module _ (desk : DeskModel) (is : IsDesk desk) (run : ℕ) (what : NextDue) (due
   -- the same is due in memory
   pub due-there : (image : List ℕ) (on : RunningStepView) → StandsForStep desk.layout desk.office image on due.step → due_of on.step.parm on.step.state ≡ what
   due-there image on stands =
-      place-due stands.start due.step.progress on stands.stands stands.served
+      place-due stands.start due.step.progress on (stands.stands (stands.code ∙ due.uncoded)) (stands.served (stands.code ∙ due.uncoded))
       ∙ ap (λ (start : StepStart). next_due start due.step.progress) (sym (same-start desk.layout desk.office image on due.step due.going stands))
       ∙ due.is_due

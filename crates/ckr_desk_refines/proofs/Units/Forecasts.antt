@@ -1,6 +1,7 @@
 -- The event of a unit is foretold by the answer to the unit, before it is done.
-use Rattle.std.proofs.Common.{◌≡◌, ◌≤◌, ℕ, ◌+◌, ◌*◌, ◌++◌, true, false, List, [], ◌∷◌, length, find, refl, ap, sym, ◌∙◌, subst, Option, Some, None, arith, length-append}
+use Rattle.std.proofs.Common.{◌≡◌, ◌≤◌, ℕ, ◌+◌, ◌*◌, ◌++◌, Bool, true, false, List, [], ◌∷◌, length, find, refl, ap, sym, ◌∙◌, subst, Option, Some, None, arith, length-append}
 use Rattle.std.proofs.lemmas.List.{length-map}
+use Rattle.std.specs.Prelude.{if◌then◌else◌}
 use Rattle.std.specs.Int.{w16, w32, to_be_bytes}
 use Rattle.std.specs.Option.{is_some, option_map_or}
 use Rattle.std.proofs.lemmas.Option.{same_Some}
@@ -10,11 +11,14 @@ use Rattle.ckr_base.specs.declared.programs.Heads.{Heads}
 use Rattle.ckr_base.specs.declared.programs.UnitDone.{UnitDone as UnitOfProgram}
 use Rattle.ckr_base.proofs.Numbers.{equal-itself}
 use Rattle.ckr_base.proofs.Options.{some-not-none}
+use Rattle.ckr_console.specs.declared.question.Answer.{Answer}
+use Rattle.ckr_console.specs.declared.question.Answer.TheVariants.{Yes, No, Hold, Silent}
 use Rattle.ckr_events.specs.declared.event.Ending.TheVariants.{Coded}
 use Rattle.ckr_events.specs.declared.event.Event.{Event}
-use Rattle.ckr_events.specs.declared.event.Event.TheVariants.{Rewritten as RewrittenEvent, Ended as EndedEvent}
+use Rattle.ckr_events.specs.declared.event.Event.TheVariants.{Rewritten as RewrittenEvent, Held as HeldEvent, Ended as EndedEvent}
 use Rattle.ckr_events.specs.Event.{spelling}
 use Rattle.ckr_events.specs.Format.{length_list}
+use Rattle.ckr_library.specs.NameMaps.{Name}
 use Rattle.ckr_desk_memory.specs.EventChanges.{is_of_run}
 use Rattle.ckr_desk_memory.specs.Plans.{told_by}
 use Rattle.ckr_desk_memory.specs.View.{JobsView, RunningStepView, lengths_in, lengths_of_row, running_of}
@@ -48,11 +52,14 @@ use Rattle.ckr_steps.specs.Places.{AreNext, ShowsWithin, IsStepPlace}
 use Rattle.ckr_steps.specs.StepUnit.{HasDone, HasLooked, HasWritten, behind_unit, done_for, heads_on, unit_for, worked_for, writes_for}
 use Rattle.ckr_steps.specs.Units.{state_of, taken_of}
 use Rattle.ckr_steps.specs.Writes.{Shows, answer_of, done_of, done_unless, grown, put_all, rewrite_of, room_of, worked_by}
-use Rattle.ckr_desk_turn.specs.Codes.{ended_by, initiator_of, judged_plan, restarted_at, running_reached, verdict_for}
-use Rattle.ckr_desk_turn.specs.declared.plan.Plan.TheVariants.{Work}
+use Rattle.ckr_desk_turn.specs.Codes.{asked_at_entry, ended_by, initiator_of, inquiry_of, judged_plan, running_reached, verdict_for}
+use Rattle.ckr_desk_turn.specs.Inquiries.{decide}
+use Rattle.ckr_desk_turn.specs.declared.plan.Plan.{Plan}
+use Rattle.ckr_desk_turn.specs.declared.plan.Plan.TheVariants.{Ask, Rest, Wait, Work}
+use Rattle.ckr_desk_turn.specs.declared.reply.Reply.TheVariants.{AwaitingReply}
 use Rattle.ckr_desk_turn.specs.declared.reply.Turn.{Turn}
 use Rattle.ckr_desk_turn.specs.Desk.{DeskModel, TurnDone, jobs_of, seen, seen_from, with_progress, work_of}
-use Rattle.ckr_desk_turn.specs.Jobs.{TurnStep, effect_entry}
+use Rattle.ckr_desk_turn.specs.Jobs.{TurnStep, as_stopped, effect_entry}
 use Rattle.ckr_desk_turn.specs.Plans.{plan_of}
 use Rattle.ckr_desk_turn.specs.Units.{StepProgress, finished_by, unit_end}
 use Rattle.ckr_volumes.specs.declared.layout.Layout.{Layout}
@@ -60,7 +67,7 @@ use Rattle.ckr_desk_refines.specs.Forecast.{IsAsForetold, IsTold}
 use Rattle.ckr_desk_refines.specs.Unit.{StandsBehindUnit}
 use Rattle.ckr_desk_refines.proofs.Units.CodeOutcomes.{by-abend, end_coded, fit-so, full-so, no-room, some-room}
 use Rattle.ckr_desk_refines.proofs.Units.Outcomes.{end-fits, end-spills, open_at}
-use Rattle.ckr_desk_refines.proofs.Units.Replies.{event-done}
+use Rattle.ckr_desk_refines.proofs.Units.Replies.{event-done, plain_of}
 use Rattle.ckr_desk_refines.proofs.Units.RunningStep.{number-found, pair-found, row-found, shows-found, stands-found, work-found}
 use Rattle.ckr_desk_refines.proofs.Units.StepLists.{IsPair}
 use Rattle.ckr_desk_refines.proofs.Units.OtherSteps.{same-start}
@@ -82,6 +89,11 @@ coded-long : (run writes others rule : ℕ) (code : Code) (one two : List ℕ) �
 coded-long run writes others rule (System number) one two same = omega (arith, same, lengths-long one, lengths-long two)
 coded-long run writes others rule (User number) one two same = omega (arith, same, lengths-long one, lengths-long two)
 
+held-long : (run writes others : ℕ) (code : Code) (one two : List ℕ) → length one ≡ length two
+    → length (spelling (HeldEvent run code others (record { items = two }))) ≡ length (spelling (HeldEvent run code writes (record { items = one })))
+held-long run writes others (System number) one two same = omega (arith, same, lengths-long one, lengths-long two)
+held-long run writes others (User number) one two same = omega (arith, same, lengths-long one, lengths-long two)
+
 -- an event where there is one, and none where there is none
 abbrev pub BothTell : Option Event → Option Event → Type 0
 BothTell None None = Unit {0}
@@ -89,50 +101,81 @@ BothTell None (Some told) = ⊥
 BothTell (Some foretold) None = ⊥
 BothTell (Some foretold) (Some told) = IsAsForetold foretold told
 
--- what is told of a code, whatever the rules say of it
-code-tell : (tables : TablesModel) (row : RunRow) (initiator : ℕ) (code : Code) (one two : TurnStep) → length one.lengths ≡ length two.lengths → (verdict : Verdict)
-    → BothTell (event_in (judged_plan tables row initiator code (running_reached one) verdict)) (event_in (judged_plan tables row initiator code (running_reached two) verdict))
-code-tell tables row initiator code one two same verdict = by verdict
-  where
-    ended : (rule : Rule) → BothTell (event_in (ended_by row code rule (running_reached one))) (event_in (ended_by row code rule (running_reached two)))
-    ended rule = record {
-      like = equal-itself row.number;
-      long = coded-long row.number one.writes two.writes (rule_number rule) code one.lengths two.lengths same;
-    }
+-- so it is with two plans, with the operator's answer
+abbrev pub BothPlansTell : Answer → Plan → Plan → Type 0
+BothPlansTell answer one two = BothTell (event_in (decide answer one)) (event_in (decide answer two))
 
-    back : (entry : Option KeptEntry) → BothTell (event_in (option_map_or (restarted_at row initiator code) entry (ended_by row code A6 (running_reached one)))) (event_in (option_map_or (restarted_at row initiator code) entry (ended_by row code A6 (running_reached two))))
-    back None = ended A6
-    back (Some entry) = record { like = equal-itself row.number; long = refl }
+-- what is told of a code, whatever the rules say of it, and whatever the operator answers
+module _ (tables : TablesModel) (row : RunRow) (initiator : ℕ) (lodged : Bool) (code : Code) (one two : TurnStep) (same : length one.lengths ≡ length two.lengths) where
+  ended-tell : (answer : Answer) (rule : Rule) → BothPlansTell answer (ended_by row code rule (running_reached one)) (ended_by row code rule (running_reached two))
+  ended-tell answer rule = record {
+    like = equal-itself row.number;
+    long = coded-long row.number one.writes two.writes (rule_number rule) code one.lengths two.lengths same;
+  }
 
-    by : (verdict : Verdict) → BothTell (event_in (judged_plan tables row initiator code (running_reached one) verdict)) (event_in (judged_plan tables row initiator code (running_reached two) verdict))
-    by (Denied rule) = ended rule
-    by Step = record { like = equal-itself row.number; long = refl }
-    by Checkpoint = back (effect_entry tables row)
+  silent-tell : (job : ℕ) (on : Bool) → BothTell (event_in (if on then Wait job code else Rest AwaitingReply)) (event_in (if on then Wait job code else Rest AwaitingReply))
+  silent-tell job true = tt
+  silent-tell job false = tt
+
+  asked-tell : (answer : Answer) (id : Option Name) (taken : ℕ)
+      → BothPlansTell answer (Ask (inquiry_of row initiator lodged code (running_reached one) id taken)) (Ask (inquiry_of row initiator lodged code (running_reached two) id taken))
+  asked-tell Yes id taken = record { like = equal-itself row.number; long = refl }
+  asked-tell No id taken = record {
+    like = equal-itself row.number;
+    long = coded-long row.number one.writes two.writes (rule_number A6) code one.lengths two.lengths same;
+  }
+  asked-tell Hold id taken = record {
+    like = equal-itself row.number;
+    long = held-long row.number one.writes two.writes code one.lengths two.lengths same;
+  }
+  asked-tell Silent id taken = silent-tell row.number lodged
+
+  code-tell : (answer : Answer) (verdict : Verdict) → BothPlansTell answer (judged_plan tables row initiator lodged code (running_reached one) verdict) (judged_plan tables row initiator lodged code (running_reached two) verdict)
+  code-tell answer (Denied rule) = ended-tell answer rule
+  code-tell answer Step = asked-tell answer None 0
+  code-tell answer Checkpoint = back (effect_entry tables row)
+    where
+      back : (entry : Option KeptEntry) → BothPlansTell answer (option_map_or (asked_at_entry row initiator lodged code (running_reached one)) entry (ended_by row code A6 (running_reached one)))
+          (option_map_or (asked_at_entry row initiator lodged code (running_reached two)) entry (ended_by row code A6 (running_reached two)))
+      back None = ended-tell answer A6
+      back (Some entry) = asked-tell answer (Some entry.kept.id) entry.point.taken
 
 -- what is told of two steps with one answer, which have as many outputs
-pub both-tell : (layout : Layout) (tables : TablesModel) (row : RunRow) (one two : TurnStep) (worked : Worked) → length one.lengths ≡ length two.lengths → BothTell (event_in (told_by layout tables row one worked)) (event_in (told_by layout tables row two worked))
-both-tell layout tables row one two (Went taken) same = tt
-both-tell layout tables row one two (Rewrite place image taken) same = record {
+pub both-tell : (answer : Answer) (layout : Layout) (tables : TablesModel) (row : RunRow) (one two : TurnStep) (worked : Worked) → length one.lengths ≡ length two.lengths → BothPlansTell answer (told_by layout tables row one worked) (told_by layout tables row two worked)
+both-tell answer layout tables row one two (Went taken) same = tt
+both-tell answer layout tables row one two (Rewrite place image taken) same = record {
   like = equal-itself row.number;
   long = rewritten-long row.number two.taken two.writes place two.lengths image
       ∙ ap (λ n. 20 + 4 * n + length image) (sym same)
       ∙ sym (rewritten-long row.number one.taken one.writes place one.lengths image);
 }
-both-tell layout tables row one two (Abend code) same = code-tell tables row (initiator_of row) code one two same (verdict_for layout row code)
+both-tell answer layout tables row one two (Abend code) same = code-tell tables row (initiator_of row) true code one two same answer (verdict_for layout row code)
 
-pub told-by-both : (one two : Option Event) → BothTell one two → (foretold : Event) → one ≡ Some foretold → IsTold foretold two
+told-by-both : (one two : Option Event) → BothTell one two → (foretold : Event) → one ≡ Some foretold → IsTold foretold two
 told-by-both None two both foretold is = absurd (some-not-none foretold (sym is))
 told-by-both (Some event) None both foretold is = absurd both
 told-by-both (Some event) (Some told) both foretold is = record { told = told; is = refl; so = subst (λ (e : Event). IsAsForetold e told) (same_Some event foretold is) both }
 
--- a step behind its unit has as many outputs as before it
-pub as-many : (row : Option RunRow) (one two : RunningStepView) → length (option_map_or (lengths_of_row one.sets.sets) row []) ≡ length (option_map_or (lengths_of_row two.sets.sets) row [])
-as-many None one two = refl
-as-many (Some row) one two = by (step_of_run row (step_in (place_of row)))
+-- a step that has stopped has the same outputs
+stopped-lengths : (code : Option Code) (step : TurnStep) → (as_stopped code step).lengths ≡ step.lengths
+stopped-lengths None step = refl
+stopped-lengths (Some code) step = refl
+
+outputs-many : (row : Option RunRow) (one two : RunningStepView) → length (option_map_or (lengths_of_row one.sets.sets) row []) ≡ length (option_map_or (lengths_of_row two.sets.sets) row [])
+outputs-many None one two = refl
+outputs-many (Some row) one two = by (step_of_run row (step_in (place_of row)))
   where
     by : (owned : Option OwnedStep) → length (option_map_or (lengths_in one.sets.sets row.job.root) owned []) ≡ length (option_map_or (lengths_in two.sets.sets row.job.root) owned [])
     by None = refl
     by (Some owned) = simp length-map
+
+-- a step behind its unit has as many outputs as before it
+pub as-many : (tables : TablesModel) (one two : RunningStepView) → one.run ≡ two.run → length (running_of tables one).lengths ≡ length (running_of tables two).lengths
+as-many tables one two same =
+    ap length (stopped-lengths one.code (plain_of tables one))
+    ∙ ap (λ n. length (option_map_or (lengths_of_row one.sets.sets) (run_of tables n) [])) same
+    ∙ outputs-many (run_of tables two.run) one two
+    ∙ sym (ap length (stopped-lengths two.code (plain_of tables two)))
 
 module _ (layout : Layout) (jobs : JobsView) (image : List ℕ) (desk : DeskModel) (turn : Turn) (run : ℕ) (on : RunningStepView)
     (stands : StandsForDesk layout jobs image desk) (planned : plan_of desk.layout (jobs_of desk) turn ≡ Work run) (found : find (is_of_run run) jobs.running ≡ Some on)
@@ -174,7 +217,7 @@ module _ (layout : Layout) (jobs : JobsView) (image : List ℕ) (desk : DeskMode
     nothing = ap (λ rewrite. done_unless rewrite (fitting (writes_for on.step heads) (room_of on.sets on.step.files))) rewrite-at.1
 
     abbrev pub moved : RunningStepView
-    moved = record { run = on.run; step = behind_unit on.sets on.step heads; sets = on.sets }
+    moved = record { run = on.run; step = behind_unit on.sets on.step heads; sets = on.sets; code = on.code }
 
     done : HasDone heads on.step moved.step on.sets on.sets (Rewrite place bytes now)
     done = record { answer = looked.answer; step = refl; lengths = sym (ap (λ writes. grown on.step.files writes on.sets.sets) nothing) }
@@ -188,22 +231,25 @@ module _ (layout : Layout) (jobs : JobsView) (image : List ℕ) (desk : DeskMode
       planned = planned;
       found = found;
       same_run = refl;
+      same_code = refl;
       did = record { heads = heads; read = looked.read; done = done; written = written };
       goes = λ from taken stood shows.
           goes_on (Unit {0}) image image layout from taken on.step moved.step on.sets on.sets heads (Rewrite place bytes now) stood (next-at heads (looked.read tt) from taken stood shows) done written shows there;
       keeps = record { records = λ name set n is le. refl; others = λ other n clear its le. refl; front = refl };
     }
 
-    rewrite-told : (row : RunRow) → run_of desk.office.tables run ≡ Some row → BothTell (event_in (told_by layout desk.office.tables row (running_of desk.office.tables on) (Rewrite place bytes now))) (work_of run desk).event
-    rewrite-told row at =
-        subst (BothTell (event_in (told_by layout desk.office.tables row (running_of desk.office.tables on) (Rewrite place bytes now)))) (told-unit layout jobs image image desk turn run on moved (Rewrite place bytes now) unit row at).1
-        (both-tell layout desk.office.tables row (running_of desk.office.tables on) (running_of desk.office.tables moved) (Rewrite place bytes now) refl)
+    rewrite-told : (answer : Answer) (row : RunRow) → run_of desk.office.tables run ≡ Some row → BothTell (event_in (decide answer (told_by layout desk.office.tables row (running_of desk.office.tables on) (Rewrite place bytes now)))) (work_of answer run desk).event
+    rewrite-told answer row at =
+        subst (BothTell (event_in (decide answer (told_by layout desk.office.tables row (running_of desk.office.tables on) (Rewrite place bytes now))))) (told-unit layout jobs image image desk turn run on moved (Rewrite place bytes now) answer unit row at).1
+        (both-tell answer layout desk.office.tables row (running_of desk.office.tables on) (running_of desk.office.tables moved) (Rewrite place bytes now)
+        (as-many desk.office.tables on moved refl))
 
   -- ---- an end with a code
 
   -- the lengths of its outputs before the unit
   lengths-on : (running_of desk.office.tables on).lengths ≡ lengths_at start desk.office.tables.sets p.step.progress.writes
   lengths-on =
+      stopped-lengths on.code (plain_of desk.office.tables on) ∙
       let same : p.going.start ≡ p.stands.start = same-start desk.layout desk.office image on p.step p.going p.stands in
       ap (λ n. option_map_or (lengths_of_row on.sets.sets) (run_of desk.office.tables n) []) p.stands.run
       ∙ ap (λ (o : Option RunRow). option_map_or (lengths_of_row on.sets.sets) o []) p.going.row_at
@@ -266,16 +312,16 @@ module _ (layout : Layout) (jobs : JobsView) (image : List ℕ) (desk : DeskMode
               (sym (ap (λ (u : UnitOfProgram). u.finish) unit-is) ∙ finish),
         ))
 
-    coded-told : (row : RunRow) → run_of desk.office.tables run ≡ Some row → BothTell (event_in (told_by layout desk.office.tables row (running_of desk.office.tables on) (Abend code))) (work_of run desk).event
-    coded-told row at =
+    coded-told : (answer : Answer) (row : RunRow) → run_of desk.office.tables run ≡ Some row → BothTell (event_in (decide answer (told_by layout desk.office.tables row (running_of desk.office.tables on) (Abend code)))) (work_of answer run desk).event
+    coded-told answer row at =
         let mine : p.stands.row ≡ row = same_Some p.stands.row row (sym (row-found layout jobs image desk turn run on stands planned found) ∙ at) in
-        subst (λ (r : RunRow). BothTell (event_in (told_by layout desk.office.tables r (running_of desk.office.tables on) (Abend code))) (work_of run desk).event) mine
-        (subst (λ (l : Layout). BothTell (event_in (told_by l desk.office.tables p.stands.row (running_of desk.office.tables on) (Abend code))) (work_of run desk).event) stands.layout_is
-        (subst (λ (done : TurnDone). BothTell (event_in (told_by desk.layout desk.office.tables p.stands.row (running_of desk.office.tables on) (Abend code))) done.event)
-        (sym (work-found layout jobs image desk turn run on stands planned found (end_coded on.step.state code taken ends-so.0) ends-so.1))
-        (subst (BothTell (event_in (told_by desk.layout desk.office.tables p.stands.row (running_of desk.office.tables on) (Abend code))))
-        (event-done (told_by desk.layout desk.office.tables p.stands.row behind (Abend code)) (with_progress p.stands.row.number progress desk))
-        (both-tell desk.layout desk.office.tables p.stands.row (running_of desk.office.tables on) behind (Abend code) (as-many-seen progress)))))
+        subst (λ (r : RunRow). BothTell (event_in (decide answer (told_by layout desk.office.tables r (running_of desk.office.tables on) (Abend code)))) (work_of answer run desk).event) mine
+        (subst (λ (l : Layout). BothTell (event_in (decide answer (told_by l desk.office.tables p.stands.row (running_of desk.office.tables on) (Abend code)))) (work_of answer run desk).event) stands.layout_is
+        (subst (λ (done : TurnDone). BothTell (event_in (decide answer (told_by desk.layout desk.office.tables p.stands.row (running_of desk.office.tables on) (Abend code)))) done.event)
+        (sym (work-found layout jobs image desk turn run on stands planned found answer (end_coded on.step.state code taken ends-so.0) ends-so.1))
+        (subst (BothTell (event_in (decide answer (told_by desk.layout desk.office.tables p.stands.row (running_of desk.office.tables on) (Abend code)))))
+        (event-done (decide answer (told_by desk.layout desk.office.tables p.stands.row behind (Abend code))) (with_progress p.stands.row.number progress desk))
+        (both-tell answer desk.layout desk.office.tables p.stands.row (running_of desk.office.tables on) behind (Abend code) (as-many-seen progress)))))
       where
         progress : StepProgress
         progress = open_at on.step.state taken ends-so.0
@@ -285,16 +331,16 @@ module _ (layout : Layout) (jobs : JobsView) (image : List ℕ) (desk : DeskMode
 
   -- ---- whatever the answer
 
-  answer-told : (worked : Worked) → HasLooked (Unit {0}) image layout on.step on.sets worked → (row : RunRow) → run_of desk.office.tables run ≡ Some row
-      → (foretold : Event) → event_in (told_by layout desk.office.tables row (running_of desk.office.tables on) worked) ≡ Some foretold → IsTold foretold (work_of run desk).event
-  answer-told (Went taken) looked row at foretold is = absurd (some-not-none foretold (sym is))
-  answer-told (Rewrite place bytes now) looked row at foretold is = told-by-both _ (work_of run desk).event (rewrite-told place now bytes looked row at) foretold is
-  answer-told (Abend code) looked row at foretold is = told-by-both _ (work_of run desk).event (coded-told code looked row at) foretold is
+  answer-told : (answer : Answer) (worked : Worked) → HasLooked (Unit {0}) image layout on.step on.sets worked → (row : RunRow) → run_of desk.office.tables run ≡ Some row
+      → (foretold : Event) → event_in (decide answer (told_by layout desk.office.tables row (running_of desk.office.tables on) worked)) ≡ Some foretold → IsTold foretold (work_of answer run desk).event
+  answer-told answer (Went now) looked row at foretold is = absurd (some-not-none foretold (sym is))
+  answer-told answer (Rewrite place bytes now) looked row at foretold is = told-by-both _ (work_of answer run desk).event (rewrite-told place now bytes looked answer row at) foretold is
+  answer-told answer (Abend code) looked row at foretold is = told-by-both _ (work_of answer run desk).event (coded-told code looked answer row at) foretold is
 
 -- what the turn tells of the unit is as the answer before it foretells
-pub foretold-so : (layout : Layout) (jobs : JobsView) (image : List ℕ) (desk : DeskModel) (turn : Turn) (run : ℕ) (on : RunningStepView) (worked : Worked)
+pub foretold-so : (layout : Layout) (jobs : JobsView) (image : List ℕ) (desk : DeskModel) (turn : Turn) (run : ℕ) (on : RunningStepView) (worked : Worked) (answer : Answer)
     → StandsForDesk layout jobs image desk → plan_of desk.layout (jobs_of desk) turn ≡ Work run → find (is_of_run run) jobs.running ≡ Some on → AreThere on.step.files on.sets
     → HasLooked (Unit {0}) image layout on.step on.sets worked → (row : RunRow) → run_of desk.office.tables run ≡ Some row
-    → (foretold : Event) → event_in (told_by layout desk.office.tables row (running_of desk.office.tables on) worked) ≡ Some foretold → IsTold foretold (work_of run desk).event
-foretold-so layout jobs image desk turn run on worked stands planned found there looked row at foretold is =
-    answer-told layout jobs image desk turn run on stands planned found there worked looked row at foretold is
+    → (foretold : Event) → event_in (decide answer (told_by layout desk.office.tables row (running_of desk.office.tables on) worked)) ≡ Some foretold → IsTold foretold (work_of answer run desk).event
+foretold-so layout jobs image desk turn run on worked answer stands planned found there looked row at foretold is =
+    answer-told layout jobs image desk turn run on stands planned found there answer worked looked row at foretold is

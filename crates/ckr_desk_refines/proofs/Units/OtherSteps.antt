@@ -119,10 +119,12 @@ module _ (desk : DeskModel) (is : IsDesk desk) (image : List ℕ) (on other : Ru
     start = keeps_on.start;
     start_at = keeps_on.start_at;
     run = keeps_on.run;
+    code = keeps_on.code;
     stands = keeps_on.stands;
     served = keeps_on.served;
     ordered = keeps_on.ordered;
     writes = keeps_on.writes;
+    stopped = keeps_on.stopped;
     sets = keeps_on.sets;
     named = keeps_on.named;
     shows =

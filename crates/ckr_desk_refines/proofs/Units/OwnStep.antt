@@ -1,8 +1,9 @@
 -- A running step behind its unit: its data sets in memory are those of the tables still.
-use Rattle.std.proofs.Common.{◌≡◌, ◌≤◌, ◌&&◌, ℕ, Bool, true, false, List, refl, ap, sym, ◌∙◌, subst, Option, Some, arith}
+use Rattle.std.proofs.Common.{◌≡◌, ◌≤◌, ◌&&◌, ℕ, Bool, true, false, List, refl, ap, sym, ◌∙◌, subst, Option, Some, None, arith}
 use Rattle.std.specs.Option.{option_map}
 use Rattle.std.proofs.lemmas.Bool.{false≢true}
 use Rattle.std.proofs.lemmas.Option.{same_Some}
+use Rattle.ckr_base.proofs.Options.{some-not-none}
 use Rattle.ckr_desk_memory.specs.View.{RunningStepView}
 use Rattle.ckr_base.specs.declared.programs.NextDue.TheVariants.{Checkpoint}
 use Rattle.ckr_desk_turn.specs.Due.{next_due}
@@ -45,7 +46,7 @@ lies-longer files name table was later lies longer =
     }
 
 module _ (desk : DeskModel) (is : IsDesk desk) (before after : List ℕ) (on moved : RunningStepView) (step : DeskStep) (going : IsGoing desk.office step)
-    (stands : StandsForStep desk.layout desk.office before on step) (worked : Worked) (did : HasWorked (Unit {0}) before after desk.layout on.step moved.step on.sets moved.sets worked) where
+    (stands : StandsForStep desk.layout desk.office before on step) (none : on.code ≡ None) (worked : Worked) (did : HasWorked (Unit {0}) before after desk.layout on.step moved.step on.sets moved.sets worked) where
   from-before : (name : Name) (set : DataSet) → set_of moved.sets name ≡ Some set → (was : DataSet) × (set_of on.sets name ≡ Some was) × IsLengthened on.step.files name was set
   from-before name set e = lengthened-from on.step.files name (done_for on.sets on.step did.heads) on.sets moved.sets did.done.lengths set e
 
@@ -78,8 +79,8 @@ module _ (desk : DeskModel) (is : IsDesk desk) (before after : List ℕ) (on mov
   own-checked name table set at e checks =
       let was = from-before name set e in
       was.2.unless
-      (λ main. no-output name table was.0 at was.1 checks _ stands.stands.may.main (ap (λ (files : Files). files.main) (sym stands.stands.files) ∙ main))
-      (λ rejects. no-output name table was.0 at was.1 checks _ stands.stands.may.rejects (ap (λ (files : Files). files.rejects) (sym stands.stands.files) ∙ rejects))
+      (λ main. no-output name table was.0 at was.1 checks _ (stands.stands none).may.main (ap (λ (files : Files). files.main) (sym (stands.stands none).files) ∙ main))
+      (λ rejects. no-output name table was.0 at was.1 checks _ (stands.stands none).may.rejects (ap (λ (files : Files). files.rejects) (sym (stands.stands none).files) ∙ rejects))
       ∙ stands.checked name table was.0 at was.1 checks
 
   -- a checkpoint isn't due of a closed step, and where a record was taken no cancel is done yet
@@ -88,18 +89,20 @@ module _ (desk : DeskModel) (is : IsDesk desk) (before after : List ℕ) (on mov
   closed-ordered taken writes false due = refl
 
   -- where it goes on, it stands for the step of the desk that has come so far
-  pub own-stands : moved.run ≡ on.run → (taken : ℕ) (goes : GoesTo (Unit {0}) after desk.layout stands.start taken on.step moved.step moved.sets)
-      → StandsForStep desk.layout desk.office after moved (record { run = step.run; progress = further_at on.step.state taken moved.step.writes goes.closed })
-  own-stands run taken goes = record {
+  pub own-stands : moved.run ≡ on.run → moved.code ≡ on.code → (taken : ℕ) (goes : GoesTo (Unit {0}) after desk.layout stands.start taken on.step moved.step moved.sets)
+      → StandsForStep desk.layout desk.office after moved (record { run = step.run; progress = further_at on.step.state taken moved.step.writes goes.closed; code = None })
+  own-stands run code taken goes = record {
     row = stands.row;
     row_at = stands.row_at;
     start = stands.start;
     start_at = stands.start_at;
     run = run ∙ stands.run;
-    stands = goes.stands;
-    served = goes.served;
-    ordered = closed-ordered taken moved.step.writes goes.closed;
+    code = code ∙ none;
+    stands = λ _. goes.stands;
+    served = λ _. goes.served;
+    ordered = λ _. closed-ordered taken moved.step.writes goes.closed;
     writes = refl;
+    stopped = λ its some. absurd (some-not-none its (sym some ∙ code ∙ none));
     sets = own-sets;
     named = own-named;
     shows = goes.shows;

@@ -31,17 +31,16 @@ use Rattle.ckr_desk_turn.specs.declared.reply.How.TheVariants.{Completed}
 use Rattle.ckr_desk_turn.specs.declared.reply.Reply.TheVariants.{Idle, JobEnded, NothingToFail, Started}
 use Rattle.ckr_desk_turn.specs.declared.reply.Turn.{Turn}
 use Rattle.ckr_desk_turn.specs.Desk.{DeskModel, jobs_of}
-use Rattle.ckr_desk_turn.specs.Jobs.{TurnJobs, TurnStep, is_failed, running_in}
-use Rattle.ckr_desk_turn.specs.Plans.{allocation_ended, between_plan, cancelled_plan, chosen_plan, due_plan, fail_plan, finished_plan, free_plan, is_within, placed_plan, plan_of, run_plan, running_plan, start_plan, suppressed_plan, system_failure}
+use Rattle.ckr_desk_turn.specs.Jobs.{TurnJobs, TurnStep, is_asked, is_failed, running_in, waiting_code}
+use Rattle.ckr_desk_turn.specs.Plans.{allocation_ended, between_plan, cancelled_plan, chosen_plan, due_plan, fail_plan, finished_plan, free_plan, is_within, placed_plan, plan_of, run_plan, running_plan, start_plan, suppressed_plan, system_failure, unmarked_plan, waiting_plan}
 use Rattle.ckr_volumes.specs.declared.layout.Layout.{Layout}
 
 -- the run whose running step does what is due of it, and that, where the turn tells no event
 abbrev pub asked_in : Plan → Option (ℕ × NextDue)
-asked_in (Rest reply) = None
-asked_in (Tell reply event) = None
 asked_in (Work run) = Some (run, OneUnit)
 asked_in (Pass run reply) = Some (run, Checkpoint)
 asked_in (Take run) = Some (run, Checkpoint)
+asked_in _ = None
 
 -- whether the turn takes a checkpoint
 abbrev pub takes_in : Plan → Bool
@@ -57,8 +56,22 @@ pub record Works (jobs : TurnJobs) (row : RunRow) (run : ℕ) (due : NextDue) (t
   pub step : TurnStep
   pub step_at : running_in jobs row.number ≡ Some step
   pub is_due : step.due ≡ due
+  -- its run doesn't wait with a code
+  pub uncoded : step.code ≡ None
   -- RD suppresses no checkpoint that is taken
   pub unless : takes ≡ true → suppresses (rd_in_effect row number) ≡ false
+
+-- the running step of a run that waits with no code has none
+pub step-uncoded : (jobs : TurnJobs) (number : ℕ) (step : TurnStep) → running_in jobs number ≡ Some step → waiting_code jobs number ≡ None → step.code ≡ None
+step-uncoded jobs number step there none =
+    bool-cases (is_asked jobs number)
+    (λ was. absurd (some-not-none system_failure (sym (ap (λ b. cond b (Some system_failure) its) was) ∙ none)))
+    (λ wasnt.
+    sym (ap (λ (o : Option TurnStep). option_map_or (λ (step : TurnStep). step.code) o None) there)
+    ∙ sym (ap (λ b. cond b (Some system_failure) its) wasnt) ∙ none)
+  where
+    its : Option Code
+    its = option_map_or (λ (step : TurnStep). step.code) (running_in jobs number) None
 
 module _ (layout : Layout) (jobs : TurnJobs) (run : ℕ) (due : NextDue) (takes : Bool) where
   abbrev Asks : Plan → Type 0
@@ -67,17 +80,17 @@ module _ (layout : Layout) (jobs : TurnJobs) (run : ℕ) (due : NextDue) (takes 
   never : {A : Type 0} (plan : Plan) → asked_in plan ≡ None → Asks plan → A
   never plan isnt e = absurd (some-not-none _ (sym e.0 ∙ isnt))
 
-  -- a code is told
-  code-none : (row : RunRow) (initiator : ℕ) (code : Code) (reached : CodePlaceModel) → asked_in (code_plan layout jobs.tables row initiator code reached) ≡ None
-  code-none row initiator code reached =
-      by-verdict (λ plan. asked_in plan ≡ None) layout jobs.tables row initiator code reached (λ rule ends. refl) (λ judged. refl) (λ entry judged there. refl)
+  -- of a code the event is told, or the operator is asked
+  code-none : (row : RunRow) (initiator : ℕ) (lodged : Bool) (code : Code) (reached : CodePlaceModel) → asked_in (code_plan layout jobs.tables row initiator lodged code reached) ≡ None
+  code-none row initiator lodged code reached =
+      by-verdict (λ plan. asked_in plan ≡ None) layout jobs.tables row initiator lodged code reached (λ rule ends. refl) (λ judged. refl) (λ entry judged there. refl)
 
   chosen-none : (initiator : ℕ) (row : RunRow) → asked_in (chosen_plan layout jobs initiator row) ≡ None
   chosen-none initiator row = by row.code
     where
       by : (code : Option Code) → asked_in (chosen_plan layout jobs initiator (record row { code = code })) ≡ None
       by None = refl
-      by (Some code) = code-none (record row { code = Some code }) initiator code (reached_by jobs (record row { code = Some code }))
+      by (Some code) = code-none (record row { code = Some code }) initiator false code (reached_by jobs (record row { code = Some code }))
 
   free-none : (initiator : ℕ) (fail : Option Code) → asked_in (free_plan layout jobs initiator fail) ≡ None
   free-none initiator (Some code) = refl
@@ -108,10 +121,10 @@ module _ (layout : Layout) (jobs : TurnJobs) (run : ℕ) (due : NextDue) (takes 
         by None = refl
         by (Some owned) = start-none owned number
 
-    placed-works : (place : Place) → place_of row ≡ place → Asks (placed_plan layout jobs row place) → Works jobs row run due takes
-    placed-works (Before number) at e = never (between_plan layout jobs row number) (between-none number) e
-    placed-works (Opened number) at e = never (between_plan layout jobs row number) (between-none number) e
-    placed-works (Within number writes) at e =
+    placed-works : waiting_code jobs row.number ≡ None → (place : Place) → place_of row ≡ place → Asks (placed_plan layout jobs row place) → Works jobs row run due takes
+    placed-works none_waits (Before number) at e = never (between_plan layout jobs row number) (between-none number) e
+    placed-works none_waits (Opened number) at e = never (between_plan layout jobs row number) (between-none number) e
+    placed-works none_waits (Within number writes) at e =
         option-cases (running_in jobs row.number)
         (λ none. never (Rest Idle) refl (subst (λ (o : Option TurnStep). Asks (option_map_or (running_plan row number) o (Rest Idle))) none e))
         (λ step there. by step there (subst (λ (o : Option TurnStep). Asks (option_map_or (running_plan row number) o (Rest Idle))) there e))
@@ -125,6 +138,7 @@ module _ (layout : Layout) (jobs : TurnJobs) (run : ℕ) (due : NextDue) (takes 
           step = step;
           step_at = there;
           is_due = is ∙ ap (λ (pair : ℕ × NextDue). pair.1) same;
+          uncoded = step-uncoded jobs row.number step there none_waits;
           unless = rd;
         }
 
@@ -144,21 +158,29 @@ module _ (layout : Layout) (jobs : TurnJobs) (run : ℕ) (due : NextDue) (takes 
         by : (step : TurnStep) → running_in jobs row.number ≡ Some step → Asks (running_plan row number step) → Works jobs row run due takes
         by step there e = by_due step step.due refl there e
 
-    fail-works : (fail : Option Code) → Asks (fail_plan layout jobs row fail) → Works jobs row run due takes
-    fail-works None e = placed-works (place_of row) refl e
-    fail-works (Some code) e = never (fail_plan layout jobs row (Some code)) (by (is_within (place_of row))) e
+    fail-works : waiting_code jobs row.number ≡ None → (fail : Option Code) → Asks (fail_plan layout jobs row fail) → Works jobs row run due takes
+    fail-works none_waits None e = placed-works none_waits (place_of row) refl e
+    fail-works none_waits (Some code) e = never (fail_plan layout jobs row (Some code)) (by (is_within (place_of row))) e
       where
-        by : (b : Bool) → asked_in (elim b as (λ _. Plan) [ true ↦ code_plan layout jobs.tables row (initiator_of row) code (reached_by jobs row) | false ↦ Rest NothingToFail ]) ≡ None
-        by true = code-none row (initiator_of row) code (reached_by jobs row)
+        by : (b : Bool) → asked_in (elim b as (λ _. Plan) [ true ↦ code_plan layout jobs.tables row (initiator_of row) true code (reached_by jobs row) | false ↦ Rest NothingToFail ]) ≡ None
+        by true = code-none row (initiator_of row) true code (reached_by jobs row)
         by false = refl
+
+    waiting-none : (code : Code) (fail : Option Code) → asked_in (waiting_plan layout jobs row code fail) ≡ None
+    waiting-none code None = code-none row (initiator_of row) true code (reached_by jobs row)
+    waiting-none code (Some given) = refl
+
+    unmarked-works : (fail code : Option Code) → waiting_code jobs row.number ≡ code → Asks (unmarked_plan layout jobs row fail code) → Works jobs row run due takes
+    unmarked-works fail None waits e = fail-works waits fail e
+    unmarked-works fail (Some code) waits e = never (waiting_plan layout jobs row code fail) (waiting-none code fail) e
 
     run-works : (fail : Option Code) → Asks (run_plan layout jobs fail row) → Works jobs row run due takes
     run-works fail e = by (is_failed jobs row.number) e
       where
-        by : (b : Bool) → Asks (elim b as (λ _. Plan) [ true ↦ code_plan layout jobs.tables row (initiator_of row) system_failure (reached_by jobs row) | false ↦ fail_plan layout jobs row fail ]) → Works jobs row run due takes
+        by : (b : Bool) → Asks (elim b as (λ _. Plan) [ true ↦ code_plan layout jobs.tables row (initiator_of row) true system_failure (reached_by jobs row) | false ↦ unmarked_plan layout jobs row fail (waiting_code jobs row.number) ]) → Works jobs row run due takes
         by true e =
-            never (code_plan layout jobs.tables row (initiator_of row) system_failure (reached_by jobs row)) (code-none row (initiator_of row) system_failure (reached_by jobs row)) e
-        by false e = fail-works fail e
+            never (code_plan layout jobs.tables row (initiator_of row) true system_failure (reached_by jobs row)) (code-none row (initiator_of row) true system_failure (reached_by jobs row)) e
+        by false e = unmarked-works fail (waiting_code jobs row.number) refl e
 
 -- the run of a turn that works
 pub record WorksAt (desk : DeskModel) (run : ℕ) (due : NextDue) (takes : Bool) : Type 0 where

@@ -17,6 +17,7 @@ use Rattle.ckr_base.specs.Columns.{fitted}
 use Rattle.ckr_events.specs.declared.event.Event.TheVariants.{Rewritten as RewrittenEvent}
 use Rattle.ckr_jcl.specs.declared.deck.Kind.{Kind}
 use Rattle.ckr_desk_memory.specs.Plans.{told_by}
+use Rattle.ckr_console.specs.declared.question.Answer.{Answer}
 use Rattle.ckr_desk_memory.specs.View.{JobsView, RunningStepView, running_of}
 use Rattle.ckr_desk_turn.proofs.RunningSteps.{going-within, map-same}
 use Rattle.ckr_desk_turn.proofs.NextEvents.WithinStep.{by-step}
@@ -40,7 +41,6 @@ use Rattle.ckr_points.specs.Restart.{place_of, step_in}
 use Rattle.ckr_points.specs.Rows.{RunRow, TableSet, run_of, step_of_run}
 use Rattle.ckr_points_invariant.proofs.Steps.Commits.{IsRunning, formed_step, its_start, place_so}
 use Rattle.ckr_points_invariant.proofs.Rewrite.Invariant.{rewritten-long, updated-name}
-use Rattle.ckr_desk_refines.specs.Moves.{event_in, reply_in}
 use Rattle.ckr_steps.proofs.UnitProgress.{so_far_written}
 use Rattle.ckr_steps.proofs.NextHeads.{IsNamed, among_names, set_found, source_named}
 use Rattle.ckr_steps.proofs.NextUnits.{taken_is}
@@ -63,13 +63,13 @@ use Rattle.ckr_desk_turn.specs.Jobs.{TurnStep, step_name_of}
 use Rattle.ckr_desk_turn.specs.Units.{UnitEnd, arrived, finished_by, first_rewrite, unit_end, updated_lrecl, went}
 use Rattle.ckr_volumes.specs.declared.layout.Layout.{Layout}
 use Rattle.ckr_desk_refines.specs.Unit.{StandsBehindUnit}
-use Rattle.ckr_desk_refines.proofs.Units.Desk.{did-so, goes-so, pair, shows-at, stands-at, work-is}
+use Rattle.ckr_desk_refines.proofs.Units.Desk.{did-so, goes-so, pair, shows-at, stands-at, uncoded, work-is}
 use Rattle.ckr_desk_refines.proofs.Units.Contents.{within-content}
 use Rattle.ckr_desk_refines.proofs.Units.Outcomes.{answer-is, end-fits, finish-is, kinds, less-so, made-fit, open_at, taken-more}
 use Rattle.ckr_desk_refines.proofs.Units.StepLists.{IsPair}
 use Rattle.ckr_desk_refines.proofs.Units.OtherSteps.{same-start}
 use Rattle.ckr_desk_refines.proofs.Units.OwnStep.{own-sets}
-use Rattle.ckr_desk_refines.proofs.Units.Replies.{lengths-behind, seen-behind, told-so}
+use Rattle.ckr_desk_refines.proofs.Units.Replies.{TellsSo, lengths-behind, moved-plain, plain_of, seen-behind, told-so}
 
 -- ---- what an answer says of the unit
 
@@ -223,16 +223,16 @@ module _ (layout : Layout) (old : JobsView) (before after : List ℕ) (desk : De
   abbrev its_end : UnitEnd
   its_end = record { unit = went (Some (place, to.write.image)); progress = arrived now moved.step.writes }
 
-  rewriting-done : work_of run desk ≡ unit_done p.stands.row its_end desk
-  rewriting-done =
-      work-is layout old before after desk turn run on moved (Rewrite place bytes now) unit its_end
+  rewriting-done : (answer : Answer) → work_of answer run desk ≡ unit_done answer p.stands.row its_end desk
+  rewriting-done answer =
+      work-is layout old before after desk turn run on moved (Rewrite place bytes now) unit answer its_end
       (end-rewriting before after desk.layout p.stands.start p.step.progress.taken on.step moved.step on.sets moved.sets place now bytes stands shows did to)
 
   same : p.going.start ≡ p.stands.start
   same = same-start desk.layout desk.office before on p.step p.going p.stands
 
   -- the step in memory behind the unit, as the desk sees it
-  running-so : (running_of desk.office.tables moved).lengths ≡ lengths_at p.stands.start desk.office.tables.sets moved.step.writes
+  running-so : (plain_of desk.office.tables moved).lengths ≡ lengths_at p.stands.start desk.office.tables.sets moved.step.writes
   running-so =
       lengths-behind layout old before after desk turn run on moved (Rewrite place bytes now) unit p.step.progress.writes p.going.behind p.going.fit p.going.plain
       (subst (λ n. ShowsWithin (Unit {0}) after desk.layout p.stands.start n moved.sets) p.stands.writes to.shows)
@@ -254,7 +254,7 @@ module _ (layout : Layout) (old : JobsView) (before after : List ℕ) (desk : De
 
   table-lrecl : option_map_or (λ (table : TableSet). table.set.lrecl) (entry_at desk.office.tables.sets to.name) 0 ≡ to.rewritten.lrecl
   table-lrecl =
-      let from = (own-sets desk unit.stands.is_desk before after on moved p.step p.going p.stands (Rewrite place bytes now) did).from to.name shown.set shown.is in
+      let from = (own-sets desk unit.stands.is_desk before after on moved p.step p.going p.stands (uncoded layout old before after desk turn run on moved (Rewrite place bytes now) unit) (Rewrite place bytes now) did).from to.name shown.set shown.is in
       ap (λ (o : Option TableSet). option_map_or (λ (table : TableSet). table.set.lrecl) o 0) from.1
       ∙ sym from.2.places.lrecl ∙ shown.shows.lrecl
 
@@ -292,11 +292,11 @@ module _ (layout : Layout) (old : JobsView) (before after : List ℕ) (desk : De
   abbrev seen_step : TurnStep → Plan
   seen_step step = tell_so step.taken step.writes step.lengths (fitted (updated_lrecl (jobs_of (with_progress p.stands.row.number its_end.progress desk)) p.stands.row) to.write.image)
 
-  pub told-rewriting : (row : RunRow) → run_of desk.office.tables run ≡ Some row
-      → (reply_in (told_by layout desk.office.tables row (running_of desk.office.tables moved) (Rewrite place bytes now)) ≡ (work_of run desk).reply) × (event_in (told_by layout desk.office.tables row (running_of desk.office.tables moved) (Rewrite place bytes now)) ≡ (work_of run desk).event)
-  told-rewriting =
-      told-so layout old before after desk turn run on moved (Rewrite place bytes now) unit its_end rewriting-done
-      (ap (λ n. tell_so n moved.step.writes (running_of desk.office.tables moved).lengths bytes) taken-so
+  pub told-rewriting : (answer : Answer) (row : RunRow) → run_of desk.office.tables run ≡ Some row → TellsSo answer run desk (told_by layout desk.office.tables row (running_of desk.office.tables moved) (Rewrite place bytes now))
+  told-rewriting answer =
+      told-so layout old before after desk turn run on moved (Rewrite place bytes now) unit answer its_end (rewriting-done answer)
+      (ap (λ (s : TurnStep). tell_so s.taken s.writes s.lengths bytes) (moved-plain layout old before after desk turn run on moved (Rewrite place bytes now) unit)
+      ∙ ap (λ n. tell_so n moved.step.writes (plain_of desk.office.tables moved).lengths bytes) taken-so
       ∙ ap (λ lengths. tell_so now moved.step.writes lengths bytes) running-so
       ∙ ap (tell_so now moved.step.writes (lengths_at p.stands.start desk.office.tables.sets moved.step.writes))
       (to.fits ∙ ap (λ (n : ℕ). fitted n to.write.image) (sym lrecl-so))

@@ -5,5 +5,5 @@ use Rattle.ckr_desk_refines.proofs.checkpoint_laws.steps_that_stand_are_as_far.G
 pub returns : goal.returns
 returns c = record {
   form = state-form;
-  far = λ desk image on step going is stands. as-far desk is image on step going stands;
+  far = λ desk image on step going is stands none. as-far desk is image on step going stands none;
 }

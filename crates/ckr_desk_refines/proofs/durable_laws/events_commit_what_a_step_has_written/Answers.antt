@@ -1,5 +1,5 @@
 use Rattle.ckr_desk_refines.proofs.Durable.Checkpoint.{checkpointed-stays}
-use Rattle.ckr_desk_refines.proofs.Durable.Events.{coded-stays, step-ended-stays}
+use Rattle.ckr_desk_refines.proofs.Durable.Events.{coded-stays, held-stays, step-ended-stays}
 use Rattle.ckr_desk_refines.proofs.Durable.Rewrite.{rewritten-stays}
 use Rattle.ckr_desk_refines.proofs.durable_laws.events_commit_what_a_step_has_written.Goals as goal
 
@@ -9,6 +9,9 @@ returns-clause-step_ended c = step-ended-stays
 pub returns-clause-ended : goal.returns-clause-ended
 returns-clause-ended c =
     λ layout now image job rule writes code lengths deck kept may carried next had has. coded-stays layout now image job rule writes code lengths deck kept may carried next had has
+
+pub returns-clause-held : goal.returns-clause-held
+returns-clause-held c = λ layout now image job writes code lengths deck kept may carried next had has. held-stays layout now image job writes code lengths deck kept may carried next had has
 
 pub returns-clause-rewritten : goal.returns-clause-rewritten
 returns-clause-rewritten c = rewritten-stays

@@ -1,4 +1,4 @@
-use Rattle.ckr_desk_refines.proofs.Durable.Events.{cancelled-stays, completed-stays, purged-stays, refused-stays, submitted-stays}
+use Rattle.ckr_desk_refines.proofs.Durable.Events.{cancelled-stays, completed-stays, purged-stays, refused-stays, released-stays, submitted-stays}
 use Rattle.ckr_desk_refines.proofs.Durable.Restart.{restarted-stays}
 use Rattle.ckr_desk_refines.proofs.Durable.Start.{selected-stays, started-stays}
 use Rattle.ckr_desk_refines.proofs.durable_laws.events_leave_what_is_committed.Goals as goal
@@ -17,6 +17,9 @@ returns-clause-cancelled c = cancelled-stays
 
 pub returns-clause-restarted : goal.returns-clause-restarted
 returns-clause-restarted c = restarted-stays
+
+pub returns-clause-released : goal.returns-clause-released
+returns-clause-released c = released-stays
 
 pub returns-clause-completed : goal.returns-clause-completed
 returns-clause-completed c = completed-stays

@@ -1,5 +1,13 @@
-use Rattle.ckr_desk_refines.proofs.Events.Turns.{code-committed, purged-committed, restart-committed, submitted-committed, told-committed}
+use Rattle.ckr_desk_refines.proofs.Events.Turns.{code-committed, hold-committed, purged-committed, released-committed, restart-committed, submitted-committed, told-committed}
 use Rattle.ckr_desk_refines.proofs.event_laws.events_are_committed.Goals as goal
 
 pub returns : goal.returns
-returns c = record { told = told-committed; submitted = submitted-committed; purged = purged-committed; coded = code-committed; restarted = restart-committed }
+returns c = record {
+  told = told-committed;
+  submitted = submitted-committed;
+  purged = purged-committed;
+  released = released-committed;
+  held = hold-committed;
+  coded = code-committed;
+  restarted = restart-committed;
+}

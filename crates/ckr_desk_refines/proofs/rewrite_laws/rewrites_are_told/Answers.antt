@@ -22,6 +22,6 @@ returns-clause-set c = λ layout old before after desk turn run on moved place i
     (λ asks. has-set old before after desk turn run on moved place image taken asks) asks
 
 pub returns-clause-event : goal.returns-clause-event
-returns-clause-event c = λ layout old before after desk turn run on moved place image taken asks row row_at.
-    subst (λ (l : Layout). AsksToRewrite l old before after desk turn run on moved place image taken → (work_of run desk).event ≡ event_in (told_by l desk.office.tables row (running_of desk.office.tables moved) (Rewrite place image taken))) asks.stands.layout_is
-    (λ asks. event-seen before after desk asks.stands.is_desk run on moved place image taken (is-asked old before after desk turn run on moved place image taken asks) asks.run row row_at) asks
+returns-clause-event c = λ layout old before after desk turn run on moved place image taken answer asks row row_at.
+    subst (λ (l : Layout). AsksToRewrite l old before after desk turn run on moved place image taken → (work_of answer run desk).event ≡ event_in (told_by l desk.office.tables row (running_of desk.office.tables moved) (Rewrite place image taken))) asks.stands.layout_is
+    (λ asks. event-seen before after desk asks.stands.is_desk run on moved place image taken (is-asked old before after desk turn run on moved place image taken asks) asks.run asks.code answer row row_at) asks

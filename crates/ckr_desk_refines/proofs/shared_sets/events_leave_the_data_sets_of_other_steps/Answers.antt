@@ -1,4 +1,4 @@
-use Rattle.ckr_desk_refines.proofs.Durable.Fellows.{others-cancelled, others-coded, others-completed, others-purged, others-refused, others-rewritten, others-selected, others-started, others-step-ended, others-submitted}
+use Rattle.ckr_desk_refines.proofs.Durable.Fellows.{others-cancelled, others-coded, others-completed, others-held, others-purged, others-refused, others-released, others-rewritten, others-selected, others-started, others-step-ended, others-submitted}
 use Rattle.ckr_desk_refines.proofs.Durable.Restart.{others-restarted}
 use Rattle.ckr_desk_refines.proofs.Durable.SharedSets.{step-others}
 use Rattle.ckr_desk_refines.proofs.shared_sets.events_leave_the_data_sets_of_other_steps.Goals as goal
@@ -20,6 +20,12 @@ returns-clause-step_ended c = others-step-ended
 
 pub returns-clause-restarted : goal.returns-clause-restarted
 returns-clause-restarted c = others-restarted
+
+pub returns-clause-held : goal.returns-clause-held
+returns-clause-held c = λ layout now job writes code lengths deck kept may carried. others-held layout now job writes code lengths deck kept may carried
+
+pub returns-clause-released : goal.returns-clause-released
+returns-clause-released c = others-released
 
 pub returns-clause-completed : goal.returns-clause-completed
 returns-clause-completed c = others-completed
