@@ -8,8 +8,10 @@ use Rattle.ckr_desk_memory.specs.OwnSets.{IsRunningOf}
 use Rattle.ckr_desk_memory.specs.OwnSteps.{AreLeft, AreSingle, HavePoints, HoldTheirOwn, IsLeft}
 use Rattle.ckr_desk_memory.specs.View.{JobsView}
 use Rattle.ckr_desk_turn.specs.Queue.{AreNumbered}
+use Rattle.ckr_desk_turn.specs.declared.failed_run.FailedRun.{FailedRun}
 use Rattle.ckr_points.specs.Rows.{TablesModel, no_tables}
 use Rattle.ckr_points.specs.Soundness.{AreLaidOut}
+use Rattle.ckr_points_tables.specs.View.{RoomyTables}
 use Rattle.ckr_desk_store.specs.Answers.{AppendCause, DiskCause}
 use Rattle.ckr_desk_store.specs.State.{StoreView}
 use Rattle.ckr_desk_store.specs.declared.error.StoreError.{StoreError}
@@ -19,7 +21,8 @@ use Rattle.ckr_desk.specs.State.{AreKept}
 
 left-same : (one two : JobsView) → two.tables.desk ≡ one.tables.desk → two.failed ≡ one.failed → AreLeft one → AreLeft two
 left-same one two desk failed left =
-    subst (λ (tables : TablesModel). AllByRecursion (IsLeft tables) two.failed) (sym desk) (subst (AllByRecursion (IsLeft one.tables.desk)) (sym failed) left)
+    subst (λ (tables : TablesModel). AllByRecursion (λ (run : FailedRun). IsLeft tables run.run) two.failed) (sym desk)
+    (subst (AllByRecursion (λ (run : FailedRun). IsLeft one.tables.desk run.run)) (sym failed) left)
 
 pub jobs-stay : (layout later : Layout) (one two : JobsView) → later ≡ layout → two.tables.desk ≡ one.tables.desk → two.running ≡ one.running → AreJobs layout one → AreJobs later two
 jobs-stay layout later one two same desk running jobs =
@@ -52,6 +55,15 @@ kept-moved layout one two desk failed are own kept = record {
   own = own;
   left = left-same one two desk failed kept.left;
   numbered = subst (λ (tables : TablesModel). AreNumbered 1 tables.runs) (sym desk) kept.numbered;
+}
+
+-- where one of them waits with its code
+pub kept-waiting : (layout : Layout) (one two : JobsView) → two.tables ≡ one.tables → AreJobs layout two → HoldTheirOwn two → AreLeft two → AreKept layout one → AreKept layout two
+kept-waiting layout one two same are own left kept = record {
+  are = are;
+  own = own;
+  left = left;
+  numbered = subst (λ (tables : RoomyTables). AreNumbered 1 tables.desk.runs) (sym same) kept.numbered;
 }
 
 -- where no step is running, and the runs stay apart

@@ -1,6 +1,10 @@
+pub mod Answers
 pub mod Stops
 pub mod Checkpoints
 pub mod PlainEvents
+pub mod Decided
 pub mod Events
 pub mod Plans
+pub mod Resting
+pub mod Readiness
 pub mod Preparation

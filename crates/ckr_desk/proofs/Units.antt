@@ -4,4 +4,6 @@ pub mod Results
 pub mod Readiness
 pub mod Forecast
 pub mod Events
+pub mod Failures
 pub mod Preparation
+pub mod Questions

@@ -4,7 +4,7 @@ use Rattle.std.specs.Option.{is_some}
 use Rattle.ckr_book.specs.Book.{room_of}
 use Rattle.ckr_desk_memory.specs.declared.checkpoint.Checkpoint.{Checkpoint}
 use Rattle.ckr_desk_memory.specs.Checkpoints.{HasEntrySpace, IsCheckpointOf}
-use Rattle.ckr_desk_memory.specs.Entries.{next_entry, next_id, step_now}
+use Rattle.ckr_desk_memory.specs.Entries.{next_entry, next_id}
 use Rattle.ckr_desk_turn.specs.Checkpoints.{id_in}
 use Rattle.ckr_desk_memory.specs.EventChanges.{is_of_run}
 use Rattle.ckr_desk_memory.specs.OwnSets.{CommitsItsOwn}
@@ -12,7 +12,7 @@ use Rattle.ckr_desk_memory.specs.View.{RunningStepView}
 use Rattle.ckr_library.specs.Catalog.{records_of}
 use Rattle.ckr_meaning.specs.EffectiveJob.{OwnedStep}
 use Rattle.ckr_outside.specs.Disk.{Only}
-use Rattle.ckr_points.specs.Rows.{RunRow, run_of, step_of_run}
+use Rattle.ckr_points.specs.Rows.{RunRow}
 use Rattle.ckr_steps.specs.EntryRecords.{ChangesRecords, HasEntry, StemsFromRecords}
 use Rattle.ckr_desk_store.specs.OpenImages.{event_records}
 use Rattle.ckr_desk_turn.specs.declared.reply.Chkpt.{Chkpt}
@@ -29,14 +29,9 @@ use Rattle.ckr_desk.specs.Calls.{IsSame, may_follow}
 use Rattle.ckr_desk.specs.Preparation.{IsReady}
 use Rattle.ckr_desk.specs.Rewrite.{OpensSame}
 use Rattle.ckr_desk.specs.State.{DeskView, need_of}
+use Rattle.ckr_desk.specs.Units.{IsAt}
 
 -- ---- before it is written
-
--- the running step of a run, with the row of the run and the step of its deck
-pub record IsAt {D : Type 0} (run : ℕ) (desk : DeskView D) (on : RunningStepView) (row : RunRow) (own : OwnedStep) : Type 0 where
-  pub found : find (is_of_run run) desk.jobs.running ≡ Some on
-  pub row_at : run_of desk.jobs.tables.desk run ≡ Some row
-  pub step_at : step_of_run row (step_now row) ≡ Some own
 
 -- the reply of a checkpoint with this code: it names the step, and the next entry's identifier
 pub record IsReplyWith {D : Type 0} (run : ℕ) (desk : DeskView D) (code : Chkpt) (reply : Reply) : Type 0 where

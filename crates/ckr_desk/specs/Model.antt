@@ -8,6 +8,7 @@ pub use Rattle.ckr_desk_turn.specs.declared.reply.How
 pub use Rattle.ckr_desk_turn.specs.declared.reply.Reply
 pub use Rattle.ckr_desk_turn.specs.declared.reply.Submitted
 pub use Rattle.ckr_desk_turn.specs.declared.reply.Turn
+pub use Rattle.ckr_points.specs.Restart
 pub use Rattle.ckr_points.specs.Rows
 pub use Rattle.ckr_points.specs.declared.denial.Denial
 pub use Rattle.ckr_points.specs.declared.denial.Seen

@@ -1,28 +1,35 @@
--- What an event needs before it is told, and what a unit comes to before it is done.
-use Rattle.std.specs.Prelude.{◌≡◌, ◌≤◌, ◌<◌, ◌⊎◌, ℕ, List, [], ◌∷◌, length, find, true, false, Option, Some, None, Vec}
+-- What an event needs before it is told, what the operator's answer comes to before anything is written, and what a unit comes to before it is done.
+use Rattle.std.specs.Prelude.{◌≡◌, ◌≤◌, ◌<◌, ◌⊎◌, ℕ, List, [], ◌∷◌, length, find, Bool, true, false, Option, Some, None, Vec}
 use Rattle.ckr_book.specs.Book.{room_of}
+use Rattle.ckr_console.specs.declared.question.Answer.{Answer}
 use Rattle.ckr_events.specs.declared.event.Event.{Event}
 use Rattle.ckr_events.specs.Event.{IsSmall, spelling}
 use Rattle.ckr_desk_memory.specs.Model.RewriteCounts.{may_count}
 use Rattle.ckr_jcl.specs.declared.deck.Job.{Job}
 use Rattle.ckr_desk_memory.specs.EventChanges.{is_of_run}
 use Rattle.ckr_desk_memory.specs.OwnSteps.{PlanCommits, PlanFollows, PlanIsOf}
-use Rattle.ckr_desk_memory.specs.Plans.{IsSpelledPlan, IsUnitPlan, behind_unit}
+use Rattle.ckr_desk_memory.specs.Plans.{IsSpelledPlan, IsUnitPlan, behind_unit, told_by}
 use Rattle.ckr_desk_memory.specs.Preparation.{IsPrepared, needs_room}
-use Rattle.ckr_desk_memory.specs.View.{RunningStepView}
+use Rattle.ckr_desk_memory.specs.View.{JobsView, RunningStepView, running_of}
+use Rattle.ckr_meaning.specs.EffectiveJob.{OwnedStep}
+use Rattle.ckr_points.specs.Rows.{RunRow}
 use Rattle.ckr_desk_refines.specs.Moves.{event_in}
 use Rattle.ckr_steps.specs.declared.unit_ahead.UnitAhead.{UnitAhead}
 use Rattle.ckr_steps.specs.Inputs.{AreThere}
 use Rattle.ckr_steps.specs.StepUnit.{HasWorkedOut}
 use Rattle.ckr_desk_store.specs.Answers.{HasFailed}
+use Rattle.ckr_desk_turn.specs.Inquiries.{decide, is_ask}
 use Rattle.ckr_desk_turn.specs.declared.plan.Plan.{Plan}
+use Rattle.ckr_desk_turn.specs.declared.plan.Plan.TheVariants.{Tell}
 use Rattle.ckr_desk.specs.declared.error.DeskError.{DeskError}
 use Rattle.ckr_desk.specs.declared.error.DeskError.TheVariants.{NoMemory, DiskFault, BookFull, Stopped}
+use Rattle.ckr_desk_memory.specs.declared.preparation.Prepared.{Prepared}
 use Rattle.ckr_desk.specs.declared.preparation.Ready.{Ready}
 use Rattle.ckr_desk.specs.declared.unit.Ahead.{Ahead}
 use Rattle.ckr_desk.specs.Calls.{IsSame}
+use Rattle.ckr_desk.specs.Requests.{IsFull}
 use Rattle.ckr_desk.specs.State.{DeskView, need_of}
-use Rattle.ckr_desk.specs.Units.{IsToldOf}
+use Rattle.ckr_desk.specs.Units.{IsAt, IsToldOf}
 
 -- ---- an event
 
@@ -59,53 +66,93 @@ abbrev pub NotReadyFor : {D : Type 0} → Option Event → DeskView D → DeskVi
 NotReadyFor None old new error = ⊥
 NotReadyFor (Some event) old new error = NotReady event old new error
 
+-- the book has no room for an event
+abbrev pub NotFit : {D : Type 0} → Option Event → DeskView D → DeskView D → DeskError → Type 0
+NotFit event old new (BookFull need room) = IsFull (room_of old.store.book) event need room × IsSame old new
+NotFit event old new _ = ⊥
+
+-- ---- the operator's answer
+
+-- a plan's event needs no more memory than this, if it tells one, and counts no rewrite
+abbrev pub IsPreparedPlan : JobsView → Plan → Prepared → Type 0
+IsPreparedPlan jobs (Tell reply event) prepared = (may_count event jobs.tables.desk.sets ≡ true) × IsPrepared jobs event None prepared
+IsPreparedPlan jobs _ prepared = Unit {0}
+
+-- there is no memory for his answers, and he wasn't asked
+abbrev pub LacksAnswers : {D : Type 0} → Plan → DeskView D → DeskView D → DeskError → Type 0
+LacksAnswers plan old new NoMemory = IsSame old new × (is_ask plan ≡ true)
+LacksAnswers plan old new _ = ⊥
+
+-- why a plan wasn't settled with this answer: there is no memory for it, or what it comes to isn't ready
+abbrev pub NotSettled : {D : Type 0} → Answer → Plan → DeskView D → DeskView D → DeskError → Type 0
+NotSettled answer plan old new error = LacksAnswers plan old new error ⊎ NotReadyFor (event_in (decide answer plan)) old new error
+
 -- ---- a unit
 
--- the next unit of a run's running step was worked out, for records that the disk reads where it tells
+-- the next unit of a run's running step was worked out, for records that the disk reads where it tells; the run waits with no code
 pub record IsWorkedOut {D : Type 0} (told : Type 0) (content : D → List ℕ) (run : ℕ) (desk : DeskView D) (unit : UnitAhead) : Type 0 where
   pub on : RunningStepView
   pub found : find (is_of_run run) desk.jobs.running ≡ Some on
+  pub uncoded : on.code ≡ None
   pub there : AreThere on.step.files on.sets
   pub out : HasWorkedOut told (content desk.store.disk) desk.store.layout on.step on.sets unit
 
--- And this is what the turn tells of it: it follows, and commits what the step has behind the unit.
-pub record IsLookedAhead {D : Type 0} (told : Type 0) (content : D → List ℕ) (run : ℕ) (desk : DeskView D) (unit : UnitAhead) (plan : Plan) : Type 0 where
+-- why it wasn't: the disk failed
+abbrev pub NotWorkedOut : {D : Type 0} → (D → ℕ) → DeskView D → DeskView D → DeskError → Type 0
+NotWorkedOut faults old new DiskFault = HasFailed faults old.store new.store
+NotWorkedOut faults old new _ = ⊥
+
+-- whether the operator is asked behind it
+abbrev pub asks_behind : {D : Type 0} → DeskView D → RunRow → RunningStepView → UnitAhead → Bool
+asks_behind desk row on unit = is_ask (told_by desk.store.layout desk.jobs.tables.desk row (running_of desk.jobs.tables.desk (behind_unit on unit)) unit.worked)
+
+-- And this is what the turn tells of it with the operator's answer: it follows, and commits what the step has behind the unit.
+pub record IsLookedAhead {D : Type 0} (told : Type 0) (content : D → List ℕ) (run : ℕ) (desk : DeskView D) (unit : UnitAhead) (answer : Answer) (plan : Plan) : Type 0 where
   pub of : IsWorkedOut told content run desk unit
-  pub planned : IsToldOf desk.store.layout desk.jobs.tables.desk (behind_unit of.on unit) unit.worked plan
+  pub planned : IsToldOf desk.store.layout desk.jobs.tables.desk (behind_unit of.on unit) unit.worked answer plan
   pub shape : IsUnitPlan plan
+  pub settled : is_ask plan ≡ false
   pub spelled : IsSpelledPlan plan
   pub follows : PlanFollows desk.store.layout desk.jobs.tables.desk plan
   pub commits : PlanCommits desk.jobs.tables.desk (behind_unit of.on unit ∷ []) plan
   pub of_run : PlanIsOf of.on.run plan
 
 -- what it tells is ready
-pub record IsAhead {D : Type 0} (told : Type 0) (content : D → List ℕ) (run : ℕ) (desk : DeskView D) (ahead : Ahead) : Type 0 where
-  pub looked : IsLookedAhead told content run desk ahead.unit ahead.plan
+pub record IsAhead {D : Type 0} (told : Type 0) (content : D → List ℕ) (run : ℕ) (answer : Answer) (desk : DeskView D) (ahead : Ahead) : Type 0 where
+  pub looked : IsLookedAhead told content run desk ahead.unit answer ahead.plan
   pub ready : IsReadyFor (event_in ahead.plan) desk ahead.ready
 
--- it tells an event
-pub record HasEventAhead {D : Type 0} (told : Type 0) (content : D → List ℕ) (run : ℕ) (desk : DeskView D) : Type 0 where
+-- it tells an event, with the operator's answer
+pub record HasEventAhead {D : Type 0} (told : Type 0) (content : D → List ℕ) (run : ℕ) (answer : Answer) (desk : DeskView D) : Type 0 where
   pub unit : UnitAhead
+  pub of : IsWorkedOut told content run desk unit
   pub plan : Plan
-  pub looked : IsLookedAhead told content run desk unit plan
+  pub planned : IsToldOf desk.store.layout desk.jobs.tables.desk (behind_unit of.on unit) unit.worked answer plan
   pub event : Event
   pub is : event_in plan ≡ Some event
 
 -- and there may be no memory for it
-pub record MayLackAhead {D : Type 0} (told : Type 0) (content : D → List ℕ) (run : ℕ) (desk : DeskView D) : Type 0 where
-  pub ahead : HasEventAhead told content run desk
+pub record MayLackAhead {D : Type 0} (told : Type 0) (content : D → List ℕ) (run : ℕ) (answer : Answer) (desk : DeskView D) : Type 0 where
+  pub ahead : HasEventAhead told content run answer desk
   pub lacks : MayLack ahead.event desk
 
+-- or the operator is asked behind it
+pub record AsksAhead {D : Type 0} (told : Type 0) (content : D → List ℕ) (run : ℕ) (desk : DeskView D) : Type 0 where
+  pub unit : UnitAhead
+  pub of : IsWorkedOut told content run desk unit
+  pub asks : (row : RunRow) (own : OwnedStep) → IsAt run desk of.on row own → asks_behind desk row of.on unit ≡ true
+
 -- or the book has no room for it: what it needs, and the room that is left
-pub record HasNoRoomAhead {D : Type 0} (told : Type 0) (content : D → List ℕ) (run : ℕ) (desk : DeskView D) (need room : ℕ) : Type 0 where
-  pub ahead : HasEventAhead told content run desk
+pub record HasNoRoomAhead {D : Type 0} (told : Type 0) (content : D → List ℕ) (run : ℕ) (answer : Answer) (desk : DeskView D) (need room : ℕ) : Type 0 where
+  pub ahead : HasEventAhead told content run answer desk
   pub needed : need ≡ need_of ahead.event
   pub left : room ≡ room_of desk.store.book
   pub full : room_of desk.store.book < need_of ahead.event
 
--- why a unit wasn't looked at, or what it tells isn't ready
-abbrev pub NotLooked : {D : Type 0} → Type 0 → (D → List ℕ) → (D → ℕ) → ℕ → DeskView D → DeskView D → DeskError → Type 0
-NotLooked told content faults run old new NoMemory = (new.store ≡ record old.store { disk = new.store.disk }) × MayLackAhead told content run new
-NotLooked told content faults run old new DiskFault = HasFailed faults old.store new.store
-NotLooked told content faults run old new (BookFull need room) = (new.store ≡ record old.store { disk = new.store.disk }) × HasNoRoomAhead told content run new need room
-NotLooked told content faults run old new (Stopped fault) = ⊥
+-- why a unit wasn't looked at: what it tells isn't ready, or there is no memory for the operator's answers
+abbrev pub NotLooked : {D : Type 0} → Type 0 → (D → List ℕ) → ℕ → Answer → DeskView D → DeskView D → DeskError → Type 0
+NotLooked told content run answer old new NoMemory =
+    (new.store ≡ record old.store { disk = new.store.disk }) × (MayLackAhead told content run answer new ⊎ AsksAhead told content run new)
+NotLooked told content run answer old new (BookFull need room) =
+    (new.store ≡ record old.store { disk = new.store.disk }) × HasNoRoomAhead told content run answer new need room
+NotLooked told content run answer old new _ = ⊥

@@ -1,6 +1,7 @@
--- The desk on its disk: the open disk, and the jobs in memory.
+-- The desk on its disk: the open disk, the jobs in memory, and the operator.
 use Rattle.std.specs.Prelude.{◌≡◌, ℕ, ◌+◌, List, length, Option, None}
 use Rattle.ckr_book.specs.Book.{room_of}
+use Rattle.ckr_console.specs.Answering.{Answering}
 use Rattle.ckr_events.specs.declared.event.Event.{Event}
 use Rattle.ckr_events.specs.Event.{spelling}
 use Rattle.ckr_desk_memory.specs.Invariant.{AreJobs}
@@ -8,6 +9,7 @@ use Rattle.ckr_desk_memory.specs.OwnSteps.{AreLeft, HoldTheirOwn}
 use Rattle.ckr_desk_memory.specs.View.{JobsView}
 use Rattle.ckr_points.specs.Rows.{TablesModel}
 use Rattle.ckr_desk_store.specs.State.{StoreView}
+use Rattle.ckr_desk_turn.specs.declared.failed_run.FailedRun.{FailedRun}
 use Rattle.ckr_desk_turn.specs.Desk.{DeskModel}
 use Rattle.ckr_desk_turn.specs.Queue.{AreNumbered}
 use Rattle.ckr_volumes.specs.declared.layout.Layout.{Layout}
@@ -15,6 +17,7 @@ use Rattle.ckr_volumes.specs.declared.layout.Layout.{Layout}
 pub record DeskView (D : Type 0) : Type 0 where
   pub store : StoreView D
   pub jobs : JobsView
+  pub operator : Option Answering
 
 -- ---- what a desk has
 
@@ -33,6 +36,10 @@ room_left desk = room_of desk.store.book
 -- the fault of the disk at which the desk has stopped, if it has
 abbrev pub fault_of : {D : Type 0} → DeskView D → Option ℕ
 fault_of desk = desk.store.fault
+
+-- what the operator in office answers, or None where nobody is in office
+abbrev pub operator_of : {D : Type 0} → DeskView D → Option Answering
+operator_of desk = desk.operator
 
 -- it hasn't stopped
 abbrev pub IsOpen : {D : Type 0} → DeskView D → Type 0
@@ -62,7 +69,7 @@ need_of event = length (spelling event) + 6
 pub record Opened : Type 0 where
   pub layout : Layout
   pub tables : TablesModel
-  pub failed : List ℕ
+  pub failed : List FailedRun
   pub room : ℕ
 
 abbrev pub opened_of : {D : Type 0} → DeskView D → Opened

@@ -1,8 +1,8 @@
--- What becomes of a deck that is submitted, and of a run that is to be purged.
+-- What becomes of a deck that is submitted, and of a run that is to be purged or released.
 use Rattle.std.specs.Prelude.{ℕ, suc, Bool, if◌then◌else◌, List, length, Option, None, Some}
-use Rattle.ckr_events.specs.declared.event.Event.TheVariants.{Submitted as SubmittedEvent, Purged as PurgedEvent}
+use Rattle.ckr_events.specs.declared.event.Event.TheVariants.{Submitted as SubmittedEvent, Purged as PurgedEvent, Released as ReleasedEvent}
 use Rattle.ckr_jcl.specs.declared.deck.Job.{Job as JobOfDeck}
-use Rattle.ckr_points.specs.declared.run.RunState.TheVariants.{Queued}
+use Rattle.ckr_points.specs.declared.run.RunState.TheVariants.{Held, Queued}
 use Rattle.ckr_points.specs.Follows.{is_in_state, of_run}
 use Rattle.ckr_points.specs.Restart.{Decked}
 use Rattle.ckr_points.specs.Rows.{TablesModel}
@@ -54,3 +54,12 @@ is_queued tables job = of_run tables job (is_in_state Queued)
 
 abbrev pub purge_call : TablesModel → ℕ → Option Decked
 purge_call tables job = if is_queued tables job then Some (PurgedEvent job, None) else None
+
+-- ---- released
+
+-- whether the operator holds a run, so that it can be released
+abbrev pub is_held_run : TablesModel → ℕ → Bool
+is_held_run tables job = of_run tables job (is_in_state Held)
+
+abbrev pub release_call : TablesModel → ℕ → Option Decked
+release_call tables job = if is_held_run tables job then Some (ReleasedEvent job, None) else None

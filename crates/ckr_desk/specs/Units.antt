@@ -1,6 +1,7 @@
 -- A unit of a running step, and what goes on behind what a turn comes to, on any disk.
 use Rattle.std.specs.Prelude.{◌≡◌, ◌⊎◌, ◌++◌, ◌∷◌, [], ℕ, Bool, true, false, List, find, IfErr, IfOk, OnOk, Option, Some, None, Result}
 use Rattle.std.specs.Option.{option_map_or}
+use Rattle.ckr_console.specs.declared.question.Answer.{Answer}
 use Rattle.ckr_events.specs.declared.event.Event.{Event}
 use Rattle.ckr_events.specs.Event.{spelling}
 use Rattle.ckr_desk_memory.specs.EventChanges.{is_of_run, without_first}
@@ -12,7 +13,7 @@ use Rattle.ckr_meaning.specs.StepRun.{StepStart}
 use Rattle.ckr_points.specs.Restart.{after_event, place_of, step_in}
 use Rattle.ckr_outside.specs.Faults.{Rose}
 use Rattle.ckr_points.specs.Rows.{RunRow, TablesModel, run_of, step_of_run}
-use Rattle.ckr_desk_refines.specs.Moves.{HasSameRecords}
+use Rattle.ckr_desk_refines.specs.Moves.{HasSameRecords, HasWaited}
 use Rattle.ckr_steps.specs.declared.step_run.Worked.{Worked}
 use Rattle.ckr_steps.specs.Places.{GoesOn, ShowsWithin, IsStepPlace}
 use Rattle.ckr_steps.specs.StepUnit.{HasWorked}
@@ -21,12 +22,13 @@ use Rattle.ckr_desk_store.specs.OpenImages.{event_records, Opens}
 use Rattle.ckr_desk_memory.specs.ForwardEvents.{is_forward_event}
 use Rattle.ckr_desk_turn.specs.Invariant.{IsTurnOf}
 use Rattle.ckr_desk_turn.specs.declared.plan.Plan.{Plan}
-use Rattle.ckr_desk_turn.specs.declared.plan.Plan.TheVariants.{Rest, Tell, Work, Pass, Take}
+use Rattle.ckr_desk_turn.specs.declared.plan.Plan.TheVariants.{Rest, Tell, Work, Pass, Take, Ask, Wait}
 use Rattle.ckr_desk_turn.specs.declared.reply.Chkpt.{Chkpt}
 use Rattle.ckr_desk_turn.specs.declared.reply.Chkpt.TheVariants.{Suppressed}
 use Rattle.ckr_desk_turn.specs.declared.reply.Reply.{Reply}
 use Rattle.ckr_desk_turn.specs.declared.reply.Reply.TheVariants.{Checkpointed}
 use Rattle.ckr_desk_turn.specs.declared.reply.Turn.{Turn}
+use Rattle.ckr_desk_turn.specs.Inquiries.{decide}
 use Rattle.ckr_desk_turn.specs.Plans.{plan_of}
 use Rattle.ckr_volumes.specs.declared.layout.Layout.{Layout}
 use Rattle.ckr_desk.specs.declared.error.DeskError.{DeskError}
@@ -36,22 +38,29 @@ use Rattle.ckr_desk.specs.Soundness.{IsTrusted, KeepsWithin, state_of}
 use Rattle.ckr_desk.specs.State.{DeskView}
 use Rattle.ckr_desk.specs.Rewrite.{IsWrittenBy, LacksAtMost, OpensSame}
 use Rattle.ckr_desk.specs.Requests.{FailsBy, came_by, spelled}
-use Rattle.ckr_desk.specs.Turn.{behind_turn, event_of_turn, reply_of, turn_fits}
+use Rattle.ckr_desk.specs.Turn.{asks, behind_turn, event_of_turn, reply_of, turn_fits}
 
--- the plan is what the turn tells of the unit, where its run is within a step of its deck
-abbrev pub IsToldOf : Layout → TablesModel → RunningStepView → Worked → Plan → Type 0
-IsToldOf layout tables moved worked plan =
+-- the running step of a run, with the row of the run and the step of its deck
+pub record IsAt {D : Type 0} (run : ℕ) (desk : DeskView D) (on : RunningStepView) (row : RunRow) (own : OwnedStep) : Type 0 where
+  pub found : find (is_of_run run) desk.jobs.running ≡ Some on
+  pub row_at : run_of desk.jobs.tables.desk run ≡ Some row
+  pub step_at : step_of_run row (step_in (place_of row)) ≡ Some own
+
+-- the plan is what the turn tells of the unit with this answer, where its run is within a step of its deck
+abbrev pub IsToldOf : Layout → TablesModel → RunningStepView → Worked → Answer → Plan → Type 0
+IsToldOf layout tables moved worked answer plan =
     (row : RunRow) (own : OwnedStep) → run_of tables moved.run ≡ Some row → step_of_run row (step_in (place_of row)) ≡ Some own
-    → plan ≡ told_by layout tables row (running_of tables moved) worked
+    → plan ≡ decide answer (told_by layout tables row (running_of tables moved) worked)
 
 module _ {D : Type 0} (told : Type 0) (content : D → List ℕ) (may_leave : D → List ℕ → Type 0) (moment : D → ℕ) (left_since : D → ℕ → List ℕ → Type 0) where
-  -- One unit of the running step of a run was done, and the step stands before the others. The plan is what the turn tells of it.
-  pub record HasDoneUnit (run : ℕ) (old new : DeskView D) (plan : Plan) : Type 0 where
+  -- One unit of the running step of a run was done, and the step stands before the others. The plan is what the turn tells of it with this answer.
+  pub record HasDoneUnit (run : ℕ) (old new : DeskView D) (answer : Answer) (plan : Plan) : Type 0 where
     pub on : RunningStepView
     pub moved : RunningStepView
     pub worked : Worked
     pub found : find (is_of_run run) old.jobs.running ≡ Some on
     pub same_run : moved.run ≡ on.run
+    pub same_code : moved.code ≡ on.code
     pub did : HasWorked told (content old.store.disk) (content new.store.disk) old.store.layout on.step moved.step on.sets moved.sets worked
     pub goes : told → (start : StepStart) (taken : ℕ) → IsStepPlace start taken false on.step on.sets
         → ShowsWithin told (content old.store.disk) old.store.layout start on.step.writes on.sets
@@ -62,7 +71,7 @@ module _ {D : Type 0} (told : Type 0) (content : D → List ℕ) (may_leave : D 
     pub running : new.jobs.running ≡ moved ∷ without_first run old.jobs.running
     pub points : new.jobs.points ≡ old.jobs.points
     pub store : new.store ≡ record old.store { disk = new.store.disk }
-    pub planned : IsToldOf old.store.layout old.jobs.tables.desk moved worked plan
+    pub planned : IsToldOf old.store.layout old.jobs.tables.desk moved worked answer plan
 
 -- ---- what a stop leaves
 
@@ -99,10 +108,11 @@ pub record HasWrittenBehind {D : Type 0} (content : D → List ℕ) (event : Eve
   pub same : HasSameRecords old.store.layout (content old.store.disk) told_on
   pub written : IsWrittenBy old.store.layout new.jobs.tables.desk event told_on (content new.store.disk)
 
--- what a turn comes to is done
-abbrev pub HasGoneBehind : {D : Type 0} → Type 0 → (D → List ℕ) → Option Event → DeskView D → DeskView D → Type 0
-HasGoneBehind told content None old new = new ≡ old
-HasGoneBehind told content (Some event) old new = HasGoneOn event None old new × (told → HasWrittenBehind content event old new)
+-- what a turn comes to is done: its event is kept, or its run waits, and the disk isn't called
+abbrev pub HasGoneBehind : {D : Type 0} → Type 0 → (D → List ℕ) → Plan → DeskView D → DeskView D → Type 0
+HasGoneBehind told content (Tell reply event) old new = HasGoneOn event None old new × (told → HasWrittenBehind content event old new)
+HasGoneBehind told content (Wait job code) old new = HasWaited job code old.jobs new.jobs × (new.store ≡ old.store)
+HasGoneBehind told content _ old new = new ≡ old
 
 -- the event of a plan, if it has one, is plain
 abbrev pub IsPlainPlan : Plan → Type 0
@@ -111,14 +121,18 @@ IsPlainPlan (Tell reply event) = is_forward_event event ≡ true
 IsPlainPlan (Work job) = Unit {0}
 IsPlainPlan (Pass job reply) = Unit {0}
 IsPlainPlan (Take job) = Unit {0}
+IsPlainPlan (Ask inquiry) = Unit {0}
+IsPlainPlan (Wait job code) = Unit {0}
 
--- a plan that tells a forward event or none
+-- a plan that tells a forward event or none, and asks nobody
 abbrev pub IsPlainTold : Plan → Type 0
 IsPlainTold (Rest reply) = Unit {0}
 IsPlainTold (Tell reply event) = is_forward_event event ≡ true
 IsPlainTold (Work job) = ⊥
 IsPlainTold (Pass job reply) = ⊥
 IsPlainTold (Take job) = ⊥
+IsPlainTold (Ask inquiry) = ⊥
+IsPlainTold (Wait job code) = Unit {0}
 
 -- why what a turn comes to wasn't done
 abbrev pub NotTold : {D : Type 0} → (D → ℕ) → Event → DeskView D → DeskView D → DeskError → Type 0
@@ -126,11 +140,8 @@ NotTold faults event old new DiskFault = Rose (faults old.store.disk) (faults ne
 NotTold faults event old new _ = ⊥
 
 abbrev pub NotBehind : {D : Type 0} → (D → ℕ) → Plan → DeskView D → DeskView D → DeskError → Type 0
-NotBehind faults (Rest reply) old new error = ⊥
 NotBehind faults (Tell reply event) old new error = NotTold faults event old new error
-NotBehind faults (Work job) old new error = ⊥
-NotBehind faults (Pass job reply) old new error = ⊥
-NotBehind faults (Take job) old new error = ⊥
+NotBehind faults _ old new error = ⊥
 
 -- ---- a turn
 
@@ -147,25 +158,26 @@ IsTried _ = ⊥
 abbrev pub needs_some : Option Event → Bool
 needs_some event = option_map_or needs_room event false
 
--- there is no memory only where the turn tells such an event or tries a checkpoint
-abbrev pub TakesBy : Reply → Option Event → DeskError → Type 0
-TakesBy reply event NoMemory = (needs_some event ≡ true) ⊎ IsTried reply
-TakesBy reply event _ = Unit {0}
+-- there is no memory only where the turn tells such an event, asks the operator or tries a checkpoint
+abbrev pub TakesBy : Reply → Option Event → Bool → DeskError → Type 0
+TakesBy reply event asks NoMemory = (needs_some event ≡ true) ⊎ ((asks ≡ true) ⊎ IsTried reply)
+TakesBy reply event asks _ = Unit {0}
 
--- the desk is trusted, and this is what the turn comes to
+-- the desk is trusted, and this is what the turn comes to, before the operator is asked
 pub record IsPlanned {D : Type 0} (told : Type 0) (content : D → List ℕ) (may_leave : D → List ℕ → Type 0) (desk : DeskView D) (turn : Turn) (plan : Plan) : Type 0 where
   pub trusted : IsTrusted told content may_leave desk
   pub its : IsTurnOf desk.store.layout turn
   pub planned : plan_of desk.store.layout (jobs_of desk.jobs) turn ≡ plan
 
--- What a turn has come to on a trusted disk: the reply, the desk behind it, why it wasn't done, and what a stop within it leaves.
+-- What a turn has come to on a trusted disk with the operator's answer: the reply, the desk behind it, why it wasn't done, and what a stop within it
+-- leaves.
 pub record HasTurned {D : Type 0} (told : Type 0) (content : D → List ℕ) (may_leave : D → List ℕ → Type 0) (moment : D → ℕ) (left_since : D → ℕ → List ℕ → Type 0) (size : D → ℕ)
-    (turn : Turn) (old new : DeskView D) (result : Result Reply DeskError) : Type 0 where
-  pub reply : IfOk result (λ reply. reply ≡ reply_of (state_of content old) turn)
-  pub fits : OnOk result (turn_fits (state_of content old) turn ≡ true)
-  pub after : OnOk result (state_of content new ≡ behind_turn (state_of content old) turn)
+    (turn : Turn) (answer : Answer) (old new : DeskView D) (result : Result Reply DeskError) : Type 0 where
+  pub reply : IfOk result (λ reply. reply ≡ reply_of (state_of content old) turn answer)
+  pub fits : OnOk result (turn_fits (state_of content old) turn answer ≡ true)
+  pub after : OnOk result (state_of content new ≡ behind_turn (state_of content old) turn answer)
   pub trusted : OnOk result (IsTrusted told content may_leave new)
-  pub events : OnOk result (event_records old.store.layout (content new.store.disk) ≡ event_records old.store.layout (content old.store.disk) ++ spelled (event_of_turn (state_of content old) turn))
-  pub cause : IfErr result (FailsBy (state_of content old).room (event_of_turn (state_of content old) turn))
-  pub takes : IfErr result (TakesBy (reply_of (state_of content old) turn) (event_of_turn (state_of content old) turn))
-  pub kept : KeepsWithin content moment left_since size old new (came_by result (spelled (event_of_turn (state_of content old) turn)))
+  pub events : OnOk result (event_records old.store.layout (content new.store.disk) ≡ event_records old.store.layout (content old.store.disk) ++ spelled (event_of_turn (state_of content old) turn answer))
+  pub cause : IfErr result (FailsBy (state_of content old).room (event_of_turn (state_of content old) turn answer))
+  pub takes : IfErr result (TakesBy (reply_of (state_of content old) turn answer) (event_of_turn (state_of content old) turn answer) (asks (state_of content old) turn answer))
+  pub kept : KeepsWithin content moment left_since size old new (came_by result (spelled (event_of_turn (state_of content old) turn answer)))

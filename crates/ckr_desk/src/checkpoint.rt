@@ -1,6 +1,7 @@
 //! The checkpoint that is due in a running step: its entry is written and synced, and then its event is kept.
 ghost use Rattle.std.specs.Prelude.{◌≡◌, ◌≤◌, IfErr, IfOk, OnOk, None};
 ghost use Rattle.ckr_book.specs.Book.{room_of};
+ghost use Rattle.ckr_console.specs.declared.question.Answer.{Answer as AnswerOf};
 ghost use Rattle.ckr_desk_memory.specs.Plans.{HasDue, IsToldReply};
 ghost use Rattle.ckr_outside.specs.Disk.{EachSince};
 ghost use Rattle.ckr_desk_turn.specs.declared.plan.Plan.TheVariants as Plans;
@@ -14,6 +15,7 @@ ghost use Rattle.ckr_desk.specs.Units.{HasTurned, IsPlanned};
 
 use crate::preparation::Ready;
 use crate::{Desk, DeskError};
+use ckr_console::Operator;
 use ckr_desk_memory::Checkpoint;
 use ckr_desk_turn::{Chkpt, Reply};
 use ckr_outside::Disk;
@@ -33,7 +35,7 @@ pub(crate) enum Attempt {
     },
 }
 
-impl<D: Disk> Desk<D> {
+impl<D: Disk, O: Operator> Desk<D, O> {
     /// Works out what the checkpoint that is due in a run's running step comes to, and makes its event ready where it fits. What the jobs are and
     /// the disk stay as they are.
     ///
@@ -43,6 +45,7 @@ impl<D: Disk> Desk<D> {
         ensures attempt { IfOk result (IsAttempt run self.new) }
         ensures jobs { HasSameJobs self.old self.new }
         ensures store { self.new.store ≡ self.old.store }
+        ensures operator { self.new.operator ≡ self.old.operator }
         ensures cause { IfErr result (NotAttempted run self.old self.new) }
     {
         let _layout = self.store.layout();
@@ -65,6 +68,7 @@ impl<D: Disk> Desk<D> {
         ensures written { OnOk result (HasWrittenEntry D.told D.content D.may_leave D.moment D.left_since made.now self.old self.new) }
         ensures left { EachSince D.moment D.left_since self.old.store.disk self.new.store.disk (IsLeftByEntry D.content D.may_leave D.size made.now self.old) }
         ensures jobs { self.new.jobs ≡ self.old.jobs }
+        ensures operator { self.new.operator ≡ self.old.operator }
         ensures layout { self.new.store.layout ≡ self.old.store.layout }
         ensures size { D.size self.new.store.disk ≡ D.size self.old.store.disk }
         ensures faults { D.faults self.old.store.disk ≤ D.faults self.new.store.disk }
@@ -91,8 +95,9 @@ impl<D: Disk> Desk<D> {
     ) -> Result<Reply, DeskError>
         requires is_open { self.old.store.fault ≡ None }
         requires attempt { IsAttemptWritten run self.old made ready reply }
-        ensures turned { (turn : TurnOf) → IsPlanned D.told D.content D.may_leave self.old turn (Plans.Take run) → HasTurned D.told D.content D.may_leave D.moment D.left_since D.size turn self.old self.new result }
+        ensures turned { (turn : TurnOf) (answer : AnswerOf) → IsPlanned D.told D.content D.may_leave self.old turn (Plans.Take run) → HasTurned D.told D.content D.may_leave D.moment D.left_since D.size turn answer self.old self.new result }
         ensures spelled { IfOk result IsToldReply }
+        ensures operator { self.new.operator ≡ self.old.operator }
         ensures is_open { OnOk result (self.new.store.fault ≡ None) }
         ensures layout { self.new.store.layout ≡ self.old.store.layout }
         ensures size { D.size self.new.store.disk ≡ D.size self.old.store.disk }
@@ -112,8 +117,9 @@ impl<D: Disk> Desk<D> {
     pub(crate) fn checkpoint(&mut self, run: u32) -> Result<Reply, DeskError>
         requires is_open { self.old.store.fault ≡ None }
         requires due { HasDue self.old.jobs (Plans.Take run) }
-        ensures turned { (turn : TurnOf) → IsPlanned D.told D.content D.may_leave self.old turn (Plans.Take run) → HasTurned D.told D.content D.may_leave D.moment D.left_since D.size turn self.old self.new result }
+        ensures turned { (turn : TurnOf) (answer : AnswerOf) → IsPlanned D.told D.content D.may_leave self.old turn (Plans.Take run) → HasTurned D.told D.content D.may_leave D.moment D.left_since D.size turn answer self.old self.new result }
         ensures spelled { IfOk result IsToldReply }
+        ensures operator { self.new.operator ≡ self.old.operator }
         ensures is_open { OnOk result (self.new.store.fault ≡ None) }
         ensures layout { self.new.store.layout ≡ self.old.store.layout }
         ensures size { D.size self.new.store.disk ≡ D.size self.old.store.disk }

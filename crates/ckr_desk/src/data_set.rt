@@ -5,10 +5,11 @@ ghost use Rattle.ckr_desk_refines.specs.Listing.{listed};
 ghost use Rattle.ckr_desk.specs.Soundness.{IsTrusted, state_of};
 
 use crate::Desk;
+use ckr_console::Operator;
 use ckr_desk_refines::Listed;
 use ckr_outside::Disk;
 
-impl<D: Disk> Desk<D> {
+impl<D: Disk, O: Operator> Desk<D, O> {
     /// The data set at a place of the library, counted from 0 in the order of names, with its length in records, those since the last
     /// event included. None behind the last one. It takes no memory (this project's profile).
     pub fn set_at(&self, place: u32) -> Option<Listed>

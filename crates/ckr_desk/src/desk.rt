@@ -1,5 +1,5 @@
-//! The jobs in memory with their disk.
-ghost use Rattle.std.specs.Prelude.{◌≡◌, ◌≤◌, ◌++◌, ◌∷◌, [], IfErr, IfSome, IsTrue, OnOk, Err, None, length, map, true};
+//! The jobs in memory with their disk, and the operator.
+ghost use Rattle.std.specs.Prelude.{◌≡◌, ◌≤◌, ◌++◌, ◌∷◌, [], IfErr, IfSome, IsTrue, OnOk, Err, None, Some, length, map, true};
 ghost use Rattle.ckr_events.specs.Event.{IsCounted, spelling};
 ghost use Rattle.ckr_desk_memory.specs.Invariant.{IsAnyAccepted};
 ghost use Rattle.ckr_desk_memory.specs.Rewrite.{HasRecordPlace};
@@ -20,6 +20,7 @@ ghost use Rattle.ckr_desk.specs.State.{IsOpen, disk_of, layout_of, tables_in_mem
 use crate::DeskError;
 use crate::event_bytes::EventBytes;
 use crate::preparation::Ready;
+use ckr_console::{Console, Operator};
 use ckr_desk_memory::Jobs;
 use ckr_desk_store::Store;
 use ckr_events::Event;
@@ -31,26 +32,27 @@ use ckr_volumes::Layout;
 use std::alloc::Global;
 use std::marker::Model;
 
-/// The jobs in memory with their disk.
+/// The jobs in memory with their disk, and the console with the operator in office, if anybody is.
 #[derive(Drop)]
-pub struct Desk<D: Disk> {
+pub struct Desk<D: Disk, O: Operator> {
     pub(crate) alloc: Global,
     pub(crate) store: Store<D>,
     pub(crate) jobs: Jobs,
+    pub(crate) console: Console<O>,
     pub(crate) event_bytes: EventBytes,
 }
 
-impl<D: Disk> Model for Desk<D> {
+impl<D: Disk, O: Operator> Model for Desk<D, O> {
     ghost use Rattle.ckr_desk.specs.State.{DeskView, IsKept};
 
     ghost Value = { DeskView D };
 
-    ghost view = { λ s. record { store = s.store; jobs = s.jobs } };
+    ghost view = { λ s. record { store = s.store; jobs = s.jobs; operator = s.console } };
 
-    ghost invariant = { λ s. IsKept (record { store = s.store; jobs = s.jobs }) };
+    ghost invariant = { λ s. IsKept (record { store = s.store; jobs = s.jobs; operator = s.console }) };
 }
 
-impl<D: Disk> Desk<D> {
+impl<D: Disk, O: Operator> Desk<D, O> {
     /// The layout of the disk: where its book and its volumes stand, in bytes, and how many initiators there are. It takes no memory
     /// (this project's profile).
     pub fn layout(&self) -> &Layout
@@ -74,12 +76,19 @@ impl<D: Disk> Desk<D> {
         self.jobs.runs()
     }
 
-    /// The disk alone.
+    /// The disk alone. The operator is dropped.
     pub fn close(self) -> D
         ensures { result ≡ disk_of self }
     {
         let Desk { store, .. } = self;
         store.into_disk()
+    }
+
+    /// The next operator takes office, and the former one is dropped. Nothing else changes, and no memory is taken.
+    pub fn shift(&mut self, operator: O)
+        ensures { self.new ≡ record self.old { operator = Some (O.answering operator) } }
+    {
+        self.console.shift(operator);
     }
 
     /// Puts an event on the disk that follows and is ready, behind all that was written before, and the jobs go on by it. What it commits is up to
@@ -110,6 +119,7 @@ impl<D: Disk> Desk<D> {
         ensures size { D.size self.new.store.disk ≡ D.size self.old.store.disk }
         ensures faults { D.faults self.old.store.disk ≤ D.faults self.new.store.disk }
         ensures layout { self.new.store.layout ≡ self.old.store.layout }
+        ensures operator { self.new.operator ≡ self.old.operator }
         ensures cause { IfErr result (NotEntered D.faults self.old self.new) }
     {
         let _layout = self.store.layout();
@@ -145,6 +155,7 @@ impl<D: Disk> Desk<D> {
         ensures size { D.size self.new.store.disk ≡ D.size self.old.store.disk }
         ensures faults { D.faults self.old.store.disk ≤ D.faults self.new.store.disk }
         ensures layout { self.new.store.layout ≡ self.old.store.layout }
+        ensures operator { self.new.operator ≡ self.old.operator }
         ensures stopped { IfSome self.old.store.fault (λ fault. result ≡ Err (DeskError.Stopped fault)) }
         ensures cause { IfErr result (NotKept D.faults event.now deck self.old self.new) }
     {

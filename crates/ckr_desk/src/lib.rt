@@ -12,6 +12,7 @@ mod plan;
 mod preparation;
 mod purge;
 mod records;
+mod release;
 mod rewrite;
 mod submit;
 mod turn;

@@ -5,7 +5,7 @@ ghost use Rattle.ckr_desk_memory.specs.Holders.{AreHolders};
 ghost use Rattle.ckr_desk_memory.specs.Invariant.{AreJobs};
 ghost use Rattle.ckr_desk_turn.specs.Queue.{AreNumbered};
 ghost use Rattle.ckr_journal.specs.Events.{ReadAt, GoesOn};
-ghost use Rattle.std.specs.Option.{is_some};
+ghost use Rattle.std.specs.Option.{is_some, option_map};
 ghost use Rattle.ckr_book.specs.Records.{records_from};
 ghost use Rattle.ckr_outside.specs.Disk.{EachSince, Only, OnlyReads, part};
 ghost use Rattle.ckr_outside.specs.Faults.{Rose};
@@ -21,12 +21,13 @@ ghost use Rattle.ckr_desk.specs.FirstSync.{FromSync, IsLeft};
 ghost use Rattle.ckr_desk.specs.Replay.{IsReplayed, IsReplayedTo, GoneOn, LastGone, ReplayCause, EventCause, IsReadTo, OpenCause, IsFound};
 ghost use Rattle.ckr_desk.specs.Replay.{HasFailedAgain, IsLackingAgain, IsWrittenAgain, fits_in, has_record};
 ghost use Rattle.ckr_desk.specs.Soundness.{AllSound, HasKept, IsTrusted, desk_opening, events_in, last_on, state_of};
-ghost use Rattle.ckr_desk.specs.State.{AreKept, opened_of};
+ghost use Rattle.ckr_desk.specs.State.{AreKept, opened_of, operator_of};
 
 use crate::entries::check_entries;
 use crate::event_bytes::EventBytes;
 use crate::{Desk, OpenError, Opening};
 use ckr_base::Rec;
+use ckr_console::{Console, Operator};
 use ckr_desk_memory::Jobs;
 use ckr_desk_store::Store;
 use ckr_events::Event;
@@ -221,19 +222,20 @@ fn fits_in(set: &DataSet, place: u32, image: &Rec) -> bool
 
 /// A desk as its disk was read, and the last event of the disk.
 #[derive(Drop)]
-struct Read<D: Disk> {
-    desk: Desk<D>,
+struct Read<D: Disk, O: Operator> {
+    desk: Desk<D, O>,
     last: Option<Event>,
 }
 
-impl<D: Disk> Desk<D> {
-    /// The desk that a disk reads. It begins with a sync, and writes nothing.
-    fn read_on(alloc: Global, mut disk: D) -> Result<Read<D>, Opening<D>>
+impl<D: Disk, O: Operator> Desk<D, O> {
+    /// The desk that a disk reads, with this operator in office. It begins with a sync, and writes nothing.
+    fn read_on(alloc: Global, mut disk: D, operator: Option<O>) -> Result<Read<D, O>, Opening<D>>
         ensures opened { D.told → IfOk result (λ found. opening_of (D.content disk) (D.size disk) ≡ Ok (opened_of found.desk)) }
         ensures last { D.told → IfOk result (λ found. last_on found.desk.store.layout (D.content disk) ≡ found.last) }
         ensures failed { IfOk result (λ found. found.desk.jobs.failed ≡ failed_in found.desk.jobs.tables.desk) }
         ensures points { IfOk result (λ found. ArePointsRead D.told found.desk.store.layout found.desk.jobs.tables.desk (D.content disk) found.desk.jobs.points) }
         ensures running { IfOk result (λ found. found.desk.jobs.running ≡ []) }
+        ensures operator { IfOk result (λ found. found.desk.operator ≡ option_map O.answering operator) }
         ensures is_open { IfOk result (λ found. found.desk.store.fault ≡ None) }
         ensures settled { IfOk result (λ found. Only (D.content found.desk.store.disk) (D.may_leave found.desk.store.disk)) }
         ensures synced { IfOk result (λ found. FromSync D.content D.may_leave D.moment D.left_since disk found.desk.store.disk (λ image. image ≡ D.content disk)) }
@@ -262,6 +264,7 @@ impl<D: Disk> Desk<D> {
                         alloc,
                         store,
                         jobs,
+                        console: Console::new(operator),
                         event_bytes,
                     },
                     last,
@@ -312,6 +315,7 @@ impl<D: Disk> Desk<D> {
         ensures left { EachSince D.moment D.left_since self.old.store.disk self.new.store.disk (IsLackingAgain D.content D.size last.now self.old) }
         ensures events { D.told → event_records self.old.store.layout (D.content self.new.store.disk) ≡ event_records self.old.store.layout (D.content self.old.store.disk) }
         ensures jobs { HasSameJobs self.old self.new }
+        ensures operator { self.new.operator ≡ self.old.operator }
         ensures kept { OnOk result (self.new.store ≡ record self.old.store { disk = self.new.store.disk }) }
         ensures size { D.size self.new.store.disk ≡ D.size self.old.store.disk }
         ensures faults { D.faults self.old.store.disk ≤ D.faults self.new.store.disk }
@@ -330,20 +334,21 @@ impl<D: Disk> Desk<D> {
         }
     }
 
-    /// Opens a disk. It begins with a sync; and where the last event tells of a record that was rewritten in place, that record is
-    /// written again. No step is running; the runs that are within a step by the events were running when the disk was left, and
-    /// have failed.
+    /// Opens a disk with this operator in office, or nobody. It begins with a sync; and where the last event tells of a record that was
+    /// rewritten in place, that record is written again. No step is running; the runs that are on an initiator and within a step by the
+    /// events were running when the disk was left, and have failed.
     ///
     /// `OpenError`: `NoMemory`, and `Fault` only where the disk's faults rose in this call; the causes behind them exactly by the bytes
     /// that the disk reads, the first one in their order (this project's profile). So the entry of each checkpoint in effect is read, and
     /// where its step stands there is kept, so that the run can be restarted there. Until the first sync has succeeded a stop leaves an
     /// image that the disk might have left before, and from then on a sound one with exactly the events that the disk reads. A disk that
-    /// isn't opened was only read, unless it failed while that record was written again.
-    pub fn open_on(alloc: Global, disk: D) -> Result<Desk<D>, Opening<D>>
+    /// isn't opened was only read, unless it failed while that record was written again; the operator is dropped then.
+    pub fn open_on(alloc: Global, disk: D, operator: Option<O>) -> Result<Desk<D, O>, Opening<D>>
         ensures opened { AllSound D.told D.may_leave D.size disk → IfOk result (λ desk. desk_opening (D.content disk) (D.size disk) ≡ Ok (state_of D.content desk)) }
         ensures trusted { AllSound D.told D.may_leave D.size disk → IfOk result (λ desk. IsTrusted D.told D.content D.may_leave desk) }
         ensures read { D.told → IfOk result (λ desk. opening_of (D.content disk) (D.size disk) ≡ Ok (opened_of desk)) }
         ensures failed { IfOk result (λ desk. desk.jobs.failed ≡ failed_in desk.jobs.tables.desk) }
+        ensures operator { IfOk result (λ desk. operator_of desk ≡ option_map O.answering operator) }
         ensures running { IfOk result (λ desk. desk.jobs.running ≡ []) }
         ensures is_open { IfOk result (λ desk. desk.store.fault ≡ None) }
         ensures settled { IfOk result (λ desk. Only (D.content desk.store.disk) (D.may_leave desk.store.disk)) }
@@ -362,7 +367,7 @@ impl<D: Disk> Desk<D> {
         ensures records { D.told → IfOk result (λ desk.
             event_records desk.store.layout (D.content desk.store.disk) ≡ event_records desk.store.layout (D.content disk)) }
     {
-        let Read { mut desk, last } = Desk::read_on(alloc, disk)?;
+        let Read { mut desk, last } = Desk::read_on(alloc, disk, operator)?;
         match desk.write_again(&last) {
             Ok(()) => {
                 let _layout = desk.store.layout();

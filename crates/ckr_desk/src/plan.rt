@@ -1,6 +1,7 @@
 //! What goes on behind what a turn comes to.
 ghost use Rattle.std.specs.Prelude.{◌≡◌, ◌≤◌, IfErr, IfOk, OnOk, None};
 ghost use Rattle.ckr_book.specs.Book.{room_of};
+ghost use Rattle.ckr_console.specs.Answering.{restart_answer};
 ghost use Rattle.ckr_desk_memory.specs.OwnSteps.{PlanCommits, PlanFollows, PlanLeaves};
 ghost use Rattle.ckr_desk_memory.specs.Plans.{HasDue, IsSpelledPlan, IsToldReply};
 ghost use Rattle.ckr_outside.specs.Disk.{EachSince};
@@ -10,17 +11,20 @@ ghost use Rattle.ckr_desk.specs.Calls.{IsSettledBehind};
 ghost use Rattle.ckr_desk.specs.Requests.{MayFail, TellsNumbers};
 ghost use Rattle.ckr_desk.specs.Preparation.{IsReadyFor};
 ghost use Rattle.ckr_desk.specs.NoChange.{HasHalted, StaysBy};
+ghost use Rattle.ckr_desk.specs.Soundness.{state_of};
+ghost use Rattle.ckr_desk.specs.Turn.{AnswerStands, asks};
 ghost use Rattle.ckr_desk.specs.Units.{HasGoneBehind, HasTurned, IsLeftBehind, IsPlainPlan, IsPlainTold, IsPlanned, NotBehind};
 ghost use Rattle.ckr_desk_turn.specs.declared.reply.Turn.{Turn as TurnOf};
 
 use crate::preparation::Ready;
 use crate::{Desk, DeskError};
+use ckr_console::Operator;
 use ckr_desk_turn::{Plan, Reply};
 use ckr_outside::Disk;
 
-impl<D: Disk> Desk<D> {
-    /// Goes on behind what a turn comes to, which is no unit: its event, if it tells one, is kept with what is ready for it, and the record
-    /// that it tells of is written. It takes no memory.
+impl<D: Disk, O: Operator> Desk<D, O> {
+    /// Goes on behind what a turn comes to, which is no unit and no question: its event, if it tells one, is kept with what is ready for it, and the
+    /// record that it tells of is written; or its run waits for the operator's word. It takes no memory.
     pub(crate) fn go_on(&mut self, plan: Plan, ready: Option<Ready>) -> Result<Reply, DeskError>
         requires is_open { self.old.store.fault ≡ None }
         requires spelled { IsSpelledPlan plan }
@@ -31,9 +35,10 @@ impl<D: Disk> Desk<D> {
         requires ready { IsReadyFor (event_in plan) self.old ready }
         ensures reply { IfOk result (λ reply. reply ≡ reply_in plan) }
         ensures spelled { IfOk result IsToldReply }
-        ensures gone { OnOk result (HasGoneBehind D.told D.content (event_in plan) self.old self.new) }
+        ensures gone { OnOk result (HasGoneBehind D.told D.content plan self.old self.new) }
         ensures settled { OnOk result (IsSettledBehind D.content D.may_leave (event_in plan) self.new) }
         ensures left { D.told → EachSince D.moment D.left_since self.old.store.disk self.new.store.disk (IsLeftBehind D.content D.may_leave D.size (event_in plan) self.old) }
+        ensures operator { self.new.operator ≡ self.old.operator }
         ensures is_open { OnOk result (self.new.store.fault ≡ None) }
         ensures layout { self.new.store.layout ≡ self.old.store.layout }
         ensures size { D.size self.new.store.disk ≡ D.size self.old.store.disk }
@@ -50,7 +55,13 @@ impl<D: Disk> Desk<D> {
                 self.rewrite(&event)?;
                 Ok(reply)
             }
-            Plan::Work { .. } | Plan::Pass { .. } | Plan::Take { .. } => unreachable!(),
+            Plan::Wait { job, code } => {
+                self.jobs.wait(job, code);
+                Ok(Reply::AwaitingReply)
+            }
+            Plan::Work { .. } | Plan::Pass { .. } | Plan::Take { .. } | Plan::Ask(_) => {
+                unreachable!()
+            }
         }
     }
 
@@ -59,11 +70,12 @@ impl<D: Disk> Desk<D> {
     pub(crate) fn pass(&mut self, run: u32)
         ensures passed { HasPassed run self.old.jobs self.new.jobs }
         ensures store { self.new.store ≡ self.old.store }
+        ensures operator { self.new.operator ≡ self.old.operator }
     {
         self.jobs.pass(run);
     }
 
-    /// Carries out what a turn comes to. What it tells is made ready before anything is written.
+    /// Carries out what a turn comes to. What it tells is made ready before anything is written, and what it asks the operator is answered before.
     pub(crate) fn carry_out(&mut self, plan: Plan) -> Result<Reply, DeskError>
         requires is_open { self.old.store.fault ≡ None }
         requires spelled { IsSpelledPlan plan }
@@ -72,7 +84,10 @@ impl<D: Disk> Desk<D> {
         requires commits { PlanCommits self.old.jobs.tables.desk self.old.jobs.running plan }
         requires leaves { PlanLeaves self.old.jobs.failed plan }
         requires due { HasDue self.old.jobs plan }
-        ensures turned { (turn : TurnOf) → IsPlanned D.told D.content D.may_leave self.old turn plan → HasTurned D.told D.content D.may_leave D.moment D.left_since D.size turn self.old self.new result }
+        ensures turned { (turn : TurnOf) → IsPlanned D.told D.content D.may_leave self.old turn plan
+            → HasTurned D.told D.content D.may_leave D.moment D.left_since D.size turn (restart_answer self.old.operator) self.old self.new result }
+        ensures answered { (turn : TurnOf) → IsPlanned D.told D.content D.may_leave self.old turn plan
+            → AnswerStands (asks (state_of D.content self.old) turn (restart_answer self.old.operator)) self.old.operator self.new.operator result }
         ensures spelled { IfOk result IsToldReply }
         ensures is_open { OnOk result (self.new.store.fault ≡ None) }
         ensures layout { self.new.store.layout ≡ self.old.store.layout }
@@ -91,7 +106,7 @@ impl<D: Disk> Desk<D> {
                 Ok(reply)
             }
             plan => {
-                let ready = self.ready_for(&plan)?;
+                let (plan, ready) = self.settle(plan)?;
                 self.go_on(plan, ready)
             }
         }

@@ -1,16 +1,23 @@
-//! What an event needs before it is told: its bytes, room for them in the book, and memory for the jobs to go on by it.
-ghost use Rattle.std.specs.Prelude.{◌≡◌, ◌≤◌, IfErr, IfOk, length};
+//! What an event needs before it is told: its bytes, room for them in the book, and memory for the jobs to go on by it; and the operator's word, where
+//! what is told rests on it.
+ghost use Rattle.std.specs.Prelude.{◌≡◌, ◌≤◌, IfErr, IfOk, OnOk, Some, length};
 ghost use Rattle.std.specs.Option.{option_copied};
+ghost use Rattle.ckr_book.specs.Book.{room_of};
+ghost use Rattle.ckr_console.specs.Answering.{restart_answer};
 ghost use Rattle.ckr_events.specs.Event.{IsCounted, spelling};
 ghost use Rattle.ckr_desk_memory.specs.Plans.{IsSpelledPlan};
 ghost use Rattle.ckr_desk_refines.specs.Moves.{event_in};
 ghost use Rattle.ckr_points_tables.specs.Invariant.{MaySubmit};
+ghost use Rattle.ckr_desk_turn.specs.Inquiries.{decide, is_ask};
 ghost use Rattle.ckr_desk.specs.Calls.{HasSameJobs};
-ghost use Rattle.ckr_desk.specs.Preparation.{IsReady, IsReadyFor, NotReady, NotReadyFor};
+ghost use Rattle.ckr_desk.specs.Preparation.{IsPreparedPlan, IsReady, IsReadyFor, IsSpelledIn, NotFit, NotReady, NotReadyFor, NotSettled};
+ghost use Rattle.ckr_desk.specs.State.{need_of};
+ghost use Rattle.ckr_desk.specs.Turn.{AnswerStands};
 
 use crate::event_bytes::spelled_deck;
 use crate::{Desk, DeskError};
-use ckr_desk_memory::{Prepared, may_count};
+use ckr_console::Operator;
+use ckr_desk_memory::{Prepared, decided, may_count};
 use ckr_desk_turn::Plan;
 use ckr_events::Event;
 use ckr_jcl::Job;
@@ -23,7 +30,7 @@ pub(crate) struct Ready {
     pub prepared: Prepared,
 }
 
-impl<D: Disk> Desk<D> {
+impl<D: Disk, O: Operator> Desk<D, O> {
     /// Makes an event ready to be told: spells it, and takes the memory for it. A deck is given exactly where the event is Submitted and its
     /// cards are a deck, and it is that deck. What the jobs are and the disk stay as they are.
     ///
@@ -40,6 +47,7 @@ impl<D: Disk> Desk<D> {
         ensures ready { IfOk result (IsReady event.now (option_copied deck.entry) self.new) }
         ensures jobs { HasSameJobs self.old self.new }
         ensures store { self.new.store ≡ self.old.store }
+        ensures operator { self.new.operator ≡ self.old.operator }
         ensures cause { IfErr result (NotReady event.now self.old self.new) }
     {
         let _layout = self.store.layout();
@@ -47,13 +55,29 @@ impl<D: Disk> Desk<D> {
             return Err(DeskError::NoMemory);
         }
         let spelled = spelled_deck(self.alloc, event)?;
-        let need = self.event_bytes.of(event, &spelled).len() as u32 + 6;
+        self.fit(event, &spelled)?;
+        let prepared = self.jobs.prepare(event, deck)?;
+        Ok(Ready { spelled, prepared })
+    }
+
+    /// Whether the book has room for an event. What the jobs are and the disk stay as they are.
+    ///
+    /// `BookFull`: exactly where the event needs more than the room of the book.
+    fn fit(&mut self, event: &Event, spelled: &Option<Vec<u8>>) -> Result<(), DeskError>
+        requires spelled { IsSpelledIn event.now spelled.now }
+        requires small { length (spelling event.now) ≤ 4294967289 }
+        ensures fits { OnOk result (need_of event.now ≤ room_of self.new.store.book) }
+        ensures jobs { self.new.jobs ≡ self.old.jobs }
+        ensures store { self.new.store ≡ self.old.store }
+        ensures operator { self.new.operator ≡ self.old.operator }
+        ensures cause { IfErr result (NotFit (Some event.now) self.old self.new) }
+    {
+        let need = self.event_bytes.of(event, spelled).len() as u32 + 6;
         let room = self.store.room();
         if room < need {
             return Err(DeskError::BookFull { need, room });
         }
-        let prepared = self.jobs.prepare(event, deck)?;
-        Ok(Ready { spelled, prepared })
+        Ok(())
     }
 
     /// Makes ready what a plan tells, if it tells an event. The errors are those of `make_ready`.
@@ -62,11 +86,64 @@ impl<D: Disk> Desk<D> {
         ensures ready { IfOk result (IsReadyFor (event_in plan.now) self.new) }
         ensures jobs { HasSameJobs self.old self.new }
         ensures store { self.new.store ≡ self.old.store }
+        ensures operator { self.new.operator ≡ self.old.operator }
         ensures cause { IfErr result (NotReadyFor (event_in plan.now) self.old self.new) }
     {
         match plan {
             Plan::Tell { event, .. } => Ok(Some(self.make_ready(event, None)?)),
-            Plan::Rest(_) | Plan::Work { .. } | Plan::Pass { .. } | Plan::Take { .. } => Ok(None),
+            _ => Ok(None),
+        }
+    }
+
+    /// Makes ready what the operator's answer comes to, if it tells an event, for which there is this memory. `BookFull`, as `make_ready`.
+    fn ready_with(&mut self, plan: &Plan, prepared: Prepared) -> Result<Option<Ready>, DeskError>
+        requires spelled { IsSpelledPlan plan.now }
+        requires prepared { IsPreparedPlan self.old.jobs plan.now prepared }
+        ensures ready { IfOk result (IsReadyFor (event_in plan.now) self.new) }
+        ensures jobs { HasSameJobs self.old self.new }
+        ensures store { self.new.store ≡ self.old.store }
+        ensures operator { self.new.operator ≡ self.old.operator }
+        ensures cause { IfErr result (NotFit (event_in plan.now) self.old self.new) }
+    {
+        match plan {
+            Plan::Tell { event, .. } => {
+                self.fit(event, &None)?;
+                Ok(Some(Ready {
+                    spelled: None,
+                    prepared,
+                }))
+            }
+            _ => Ok(None),
+        }
+    }
+
+    /// Settles what a turn comes to, before anything is written: where it asks the operator, his answer decides, and what is told then is made ready.
+    /// What the jobs are and the disk stay as they are.
+    ///
+    /// `NoMemory`, and the operator wasn't asked: there is memory for each of his answers before he is. `BookFull`: the event needs more than the
+    /// room of the book; an answer that was given stands (this project's profile).
+    pub(crate) fn settle(&mut self, plan: Plan) -> Result<(Plan, Option<Ready>), DeskError>
+        requires spelled { IsSpelledPlan plan }
+        ensures decided { IfOk result (λ settled. settled.0 ≡ decide (restart_answer self.old.operator) plan) }
+        ensures spelled { IfOk result (λ settled. IsSpelledPlan settled.0) }
+        ensures ready { IfOk result (λ settled. IsReadyFor (event_in settled.0) self.new settled.1) }
+        ensures jobs { HasSameJobs self.old self.new }
+        ensures store { self.new.store ≡ self.old.store }
+        ensures answered { AnswerStands (is_ask plan) self.old.operator self.new.operator result }
+        ensures cause { IfErr result (NotSettled (restart_answer self.old.operator) plan self.old self.new) }
+    {
+        match plan {
+            Plan::Ask(inquiry) => {
+                let prepared = self.jobs.prepare_answers(&inquiry)?;
+                let answer = self.console.ask(&inquiry.question());
+                let plan = decided(inquiry, answer);
+                let ready = self.ready_with(&plan, prepared)?;
+                Ok((plan, ready))
+            }
+            plan => {
+                let ready = self.ready_for(&plan)?;
+                Ok((plan, ready))
+            }
         }
     }
 }

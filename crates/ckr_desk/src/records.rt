@@ -8,10 +8,11 @@ ghost use Rattle.ckr_desk.specs.CallOutcomes.{HasComeTo, KeepsDesk};
 ghost use Rattle.ckr_desk.specs.Records.{ReadingCause};
 ghost use Rattle.ckr_desk.specs.Requests.{TellsFull};
 ghost use Rattle.ckr_desk.specs.Soundness.{IsTrusted, KeepsWithin, state_of};
-ghost use Rattle.ckr_desk.specs.State.{IsOpen, room_left};
+ghost use Rattle.ckr_desk.specs.State.{IsOpen, operator_of, room_left};
 
 use crate::{Desk, DeskError};
 use ckr_base::{DsName, Records};
+use ckr_console::Operator;
 use ckr_desk_refines::free_set;
 use ckr_desk_store::Store;
 use ckr_library::DataSet;
@@ -62,7 +63,7 @@ fn read_all<D: Disk>(
     Ok(found)
 }
 
-impl<D: Disk> Desk<D> {
+impl<D: Disk, O: Operator> Desk<D, O> {
     /// The records of a data set, the first one first. None exactly where there is no data set of the name, it is one for checkpoint
     /// entries, or a run holds it. The disk is only read.
     ///
@@ -73,6 +74,7 @@ impl<D: Disk> Desk<D> {
         ensures comes { IsTrusted D.told D.content D.may_leave self.old
             → HasComeTo D.told D.content D.may_leave None (state_of D.content self.old) self.old self.new result }
         ensures full { IfErr result (TellsFull (room_left self.old) None) }
+        ensures operator { operator_of self.new ≡ operator_of self.old }
         ensures keeps { KeepsDesk D.content D.may_leave D.faults D.size self.old self.new result }
 
         // A stop at any moment leaves a sound image with the same events.

@@ -8,10 +8,11 @@ ghost use Rattle.ckr_desk.specs.Rewrite.{IsFault, IsLackingBy, IsWrittenBy};
 ghost use Rattle.ckr_desk.specs.NoChange.{HasHalted};
 
 use crate::{Desk, DeskError};
+use ckr_console::Operator;
 use ckr_events::Event;
 use ckr_outside::Disk;
 
-impl<D: Disk> Desk<D> {
+impl<D: Disk, O: Operator> Desk<D, O> {
     /// The record that an event tells of is written, for good, if it tells of one. It has its place, since the event was kept.
     pub(crate) fn rewrite(&mut self, event: &Event) -> Result<(), DeskError>
         requires is_open { self.old.store.fault ≡ None }
@@ -22,6 +23,7 @@ impl<D: Disk> Desk<D> {
             → EachSince D.moment D.left_since self.old.store.disk self.new.store.disk (IsLackingBy D.content D.size event.now self.old) }
         ensures events { D.told → event_records self.old.store.layout (D.content self.new.store.disk) ≡ event_records self.old.store.layout (D.content self.old.store.disk) }
         ensures jobs { HasSameJobs self.old self.new }
+        ensures operator { self.new.operator ≡ self.old.operator }
         ensures kept { OnOk result (self.new.store ≡ record self.old.store { disk = self.new.store.disk }) }
         ensures layout { self.new.store.layout ≡ self.old.store.layout }
         ensures size { D.size self.new.store.disk ≡ D.size self.old.store.disk }

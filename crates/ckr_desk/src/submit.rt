@@ -12,18 +12,19 @@ ghost use Rattle.ckr_points_decks.specs.declared.submit.Submission.TheVariants a
 ghost use Rattle.ckr_desk.specs.CallOutcomes.{HasComeTo, KeepsDesk};
 ghost use Rattle.ckr_desk.specs.Requests.{TellsFull, behind_call, came_by, event_in, spelled};
 ghost use Rattle.ckr_desk.specs.Soundness.{IsTrusted, KeepsWithin, state_of};
-ghost use Rattle.ckr_desk.specs.State.{IsOpen, disk_of, layout_of, room_left, tables_in_memory};
+ghost use Rattle.ckr_desk.specs.State.{IsOpen, disk_of, layout_of, operator_of, room_left, tables_in_memory};
 ghost use Rattle.ckr_desk.specs.Calls.{HasDone, HasGoneOn, IsLeftBy, IsLeftByCall, IsSettledBehind, NotDone, NotKept, with_event};
 ghost use Rattle.ckr_desk.specs.Submit.{answer_to, call_by, next_number, number_for, submit_answer, submit_call};
 
 use crate::{Desk, DeskError};
+use ckr_console::Operator;
 use ckr_desk_turn::Submitted;
 use ckr_jcl::Job;
 use ckr_outside::Disk;
 use ckr_points_decks::{Submission, submission_of, submitted_event};
 use ckr_points_tables::is_submittable;
 
-impl<D: Disk> Desk<D> {
+impl<D: Disk, O: Operator> Desk<D, O> {
     /// The number that a deck's job gets, which is the next one. `None` exactly where the deck may not be submitted under it: an accepted
     /// deck may, if the number has at most seven digits (this project's profile).
     fn number_for(&self, job: &Job) -> Option<u32>
@@ -54,6 +55,7 @@ impl<D: Disk> Desk<D> {
         ensures layout { self.new.store.layout ≡ self.old.store.layout }
         ensures size { D.size self.new.store.disk ≡ D.size self.old.store.disk }
         ensures faults { D.faults self.old.store.disk ≤ D.faults self.new.store.disk }
+        ensures operator { self.new.operator ≡ self.old.operator }
         ensures cause { IfErr result (NotKept D.faults (Events.Submitted number (kept_of_stored cards.now)) (Some job) self.old self.new) }
     {
         let _layout = self.store.layout();
@@ -76,6 +78,7 @@ impl<D: Disk> Desk<D> {
         ensures layout { self.new.store.layout ≡ self.old.store.layout }
         ensures size { D.size self.new.store.disk ≡ D.size self.old.store.disk }
         ensures faults { D.faults self.old.store.disk ≤ D.faults self.new.store.disk }
+        ensures operator { self.new.operator ≡ self.old.operator }
         ensures cause { IfErr result (NotDone D.faults (call_by self.old.jobs.tables.desk cards.now (Decks.Accepted job)) self.old self.new) }
     {
         let Some(number) = self.number_for(&job) else {
@@ -106,6 +109,7 @@ impl<D: Disk> Desk<D> {
         ensures layout { self.new.store.layout ≡ self.old.store.layout }
         ensures size { D.size self.new.store.disk ≡ D.size self.old.store.disk }
         ensures faults { D.faults self.old.store.disk ≤ D.faults self.new.store.disk }
+        ensures operator { self.new.operator ≡ self.old.operator }
         ensures is_open { OnOk result (self.old.store.fault ≡ None) }
         ensures stopped { IfSome self.old.store.fault (λ fault. result ≡ Err (DeskError.Stopped fault)) }
         ensures cause { IfErr result (NotDone D.faults (submit_call self.old.jobs.tables.desk cards.now) self.old self.new) }
@@ -139,6 +143,7 @@ impl<D: Disk> Desk<D> {
         ensures told { D.told → OnOk result (event_records (layout_of self.old) (D.content (disk_of self.new))
             ≡ event_records (layout_of self.old) (D.content (disk_of self.old)) ++ spelled (event_in (submit_call (tables_in_memory self.old) cards.now))) }
         ensures full { IfErr result (TellsFull (room_left self.old) (event_in (submit_call (tables_in_memory self.old) cards.now))) }
+        ensures operator { operator_of self.new ≡ operator_of self.old }
         ensures keeps { KeepsDesk D.content D.may_leave D.faults D.size self.old self.new result }
 
         // A stop at any moment leaves a sound image with the events before the call, or with its one event too; with none where it found no memory, or no room in the book.

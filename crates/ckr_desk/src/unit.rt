@@ -1,10 +1,15 @@
 //! Turns, and the units of running steps.
 ghost use Rattle.std.specs.Prelude.{◌≡◌, ◌≤◌, ℕ, IfErr, IfOk, OnOk, None, false};
 ghost use Rattle.ckr_book.specs.Book.{room_of};
+ghost use Rattle.ckr_console.specs.Answering.{restart_answer};
+ghost use Rattle.ckr_console.specs.declared.question.Answer.{Answer as AnswerOf};
 ghost use Rattle.ckr_desk_memory.specs.Invariant.{IsRunnable};
 ghost use Rattle.ckr_desk_memory.specs.OwnSteps.{PlanCommits};
 ghost use Rattle.ckr_desk_memory.specs.Parts.{step_seen};
 ghost use Rattle.ckr_desk_memory.specs.Plans.{HasDue, IsToldReply, IsWent};
+ghost use Rattle.ckr_desk_memory.specs.View.{RunningStepView as RunningStepOf};
+ghost use Rattle.ckr_meaning.specs.EffectiveJob.{OwnedStep};
+ghost use Rattle.ckr_points.specs.Rows.{RunRow};
 ghost use Rattle.ckr_meaning.specs.StepRun.{StepStart};
 ghost use Rattle.ckr_outside.specs.Disk.{EachSince, OnlyReads};
 ghost use Rattle.ckr_steps.specs.Places.{GoesOn, ShowsWithin, IsStepPlace};
@@ -16,13 +21,16 @@ ghost use Rattle.ckr_desk_turn.specs.declared.plan.Plan.TheVariants as Plans;
 ghost use Rattle.ckr_desk_turn.specs.declared.reply.Turn.{Turn as TurnOf};
 ghost use Rattle.ckr_desk.specs.Requests.{MayFail, TellsNumbers};
 ghost use Rattle.ckr_desk.specs.Calls.{HasSameJobs};
-ghost use Rattle.ckr_desk.specs.Preparation.{IsAhead, IsLookedAhead, IsWorkedOut, NotLooked};
+ghost use Rattle.ckr_desk.specs.Preparation.{IsAhead, IsLookedAhead, IsWorkedOut, NotLooked, NotWorkedOut, asks_behind};
 ghost use Rattle.ckr_desk.specs.Rewrite.{IsFault, OpensSame};
 ghost use Rattle.ckr_desk.specs.NoChange.{HasHalted, IsOfDisk, StaysBy};
-ghost use Rattle.ckr_desk.specs.Units.{HasDoneUnit, HasTurned, IsPlanned, IsLeftByUnit};
+ghost use Rattle.ckr_desk.specs.Soundness.{state_of};
+ghost use Rattle.ckr_desk.specs.Turn.{AnswerStands, asks};
+ghost use Rattle.ckr_desk.specs.Units.{HasDoneUnit, HasTurned, IsAt, IsPlanned, IsLeftByUnit};
 
 use crate::preparation::Ready;
 use crate::{Desk, DeskError};
+use ckr_console::Operator;
 use ckr_desk_memory::RunningStep;
 use ckr_desk_store::Store;
 use ckr_desk_turn::{Plan, Reply};
@@ -40,6 +48,7 @@ fn do_unit<D: Disk>(
     requires unit { HasWorkedOut D.told (D.content store.old.disk) store.old.layout on.old.step on.old.sets unit }
     ensures answer { IfOk result (λ worked. worked ≡ unit.worked) }
     ensures run { on.new.run ≡ on.old.run }
+    ensures code { on.new.code ≡ on.old.code }
     ensures behind { OnOk result (on.new.step ≡ behind_ahead on.old.step unit) }
     ensures lengths { OnOk result (on.new.sets.sets ≡ grown on.old.step.files unit.writes.items on.old.sets.sets) }
     ensures runnable { OnOk result (IsRunnable store.old.layout (step_seen on.new)) }
@@ -70,7 +79,7 @@ pub(crate) struct Ahead {
     ready: Option<Ready>,
 }
 
-impl<D: Disk> Desk<D> {
+impl<D: Disk, O: Operator> Desk<D, O> {
     /// Works the next unit of a run's running step out, which is due, so that what it comes to is known before it is done. The disk is only read,
     /// and what the jobs are stays the same.
     ///
@@ -81,13 +90,14 @@ impl<D: Disk> Desk<D> {
         ensures unit { IfOk result (IsWorkedOut D.told D.content run self.new) }
         ensures kept { OnOk result (self.new.store ≡ record self.old.store { disk = self.new.store.disk }) }
         ensures jobs { HasSameJobs self.old self.new }
+        ensures operator { self.new.operator ≡ self.old.operator }
         ensures only_reads { OnlyReads D.content D.may_leave D.moment D.left_since self.old.store.disk self.new.store.disk }
         ensures any_moment { EachSince D.moment D.left_since self.old.store.disk self.new.store.disk (OpensSame D.content D.size self.old) }
         ensures layout { self.new.store.layout ≡ self.old.store.layout }
         ensures room { room_of self.new.store.book ≡ room_of self.old.store.book }
         ensures size { D.size self.new.store.disk ≡ D.size self.old.store.disk }
         ensures faults { D.faults self.old.store.disk ≤ D.faults self.new.store.disk }
-        ensures cause { IfErr result (NotLooked D.told D.content D.faults run self.old self.new) }
+        ensures cause { IfErr result (NotWorkedOut D.faults self.old self.new) }
     {
         let _layout = self.store.layout();
         let Some(on) = self.jobs.running_step(run) else {
@@ -97,23 +107,26 @@ impl<D: Disk> Desk<D> {
         Ok(unit)
     }
 
-    /// Makes what a unit tells that was worked out ready, before it is done. What the jobs are and the disk stay as they are.
+    /// Makes what a unit tells that was worked out ready, before it is done; where the unit ends the step with a code after which the run may be
+    /// restarted, the operator is asked first. What the jobs are and the disk stay as they are.
     ///
-    /// `NoMemory`. `BookFull`: the event that the unit tells needs more than the room of the book.
+    /// `NoMemory`, and the operator wasn't asked. `BookFull`: the event that the unit tells needs more than the room of the book.
     fn look(&mut self, run: u32, unit: UnitAhead) -> Result<Ahead, DeskError>
         requires is_open { self.old.store.fault ≡ None }
         requires unit { IsWorkedOut D.told D.content run self.old unit }
-        ensures ahead { IfOk result (IsAhead D.told D.content run self.new) }
+        ensures ahead { IfOk result (IsAhead D.told D.content run (restart_answer self.old.operator) self.new) }
         ensures jobs { HasSameJobs self.old self.new }
         ensures store { self.new.store ≡ self.old.store }
-        ensures cause { IfErr result (NotLooked D.told D.content D.faults run self.old self.new) }
+        ensures answered { (on : RunningStepOf) (row : RunRow) (own : OwnedStep) → IsAt run self.old on row own
+            → AnswerStands (asks_behind self.old row on unit) self.old.operator self.new.operator result }
+        ensures cause { IfErr result (NotLooked D.told D.content run (restart_answer self.old.operator) self.old self.new) }
     {
         let _layout = self.store.layout();
         let Some(on) = self.jobs.running_step(run) else {
             unreachable!()
         };
         let plan = self.jobs.told(self.store.layout(), on, &unit);
-        let ready = self.ready_for(&plan)?;
+        let (plan, ready) = self.settle(plan)?;
         Ok(Ahead { unit, plan, ready })
     }
 
@@ -121,11 +134,13 @@ impl<D: Disk> Desk<D> {
     fn done_unit(&mut self, run: u32, unit: UnitAhead) -> Result<(), DeskError>
         requires is_open { self.old.store.fault ≡ None }
         requires unit { IsWorkedOut D.told D.content run self.old unit }
-        ensures done { OnOk result ((plan : PlanOf) → IsLookedAhead D.told D.content run self.old unit plan → HasDoneUnit D.told D.content D.may_leave D.moment D.left_since run self.old self.new plan) }
+        ensures done { OnOk result ((answer : AnswerOf) (plan : PlanOf) → IsLookedAhead D.told D.content run self.old unit answer plan
+            → HasDoneUnit D.told D.content D.may_leave D.moment D.left_since run self.old self.new answer plan) }
         ensures tables { OnOk result (self.new.jobs.tables ≡ self.old.jobs.tables) }
         ensures points { OnOk result (self.new.jobs.points ≡ self.old.jobs.points) }
         ensures place { OnOk result (self.new.jobs.running_room ≡ self.old.jobs.running_room) }
-        ensures commits { OnOk result ((plan : PlanOf) → IsLookedAhead D.told D.content run self.old unit plan → PlanCommits self.new.jobs.tables.desk self.new.jobs.running plan) }
+        ensures commits { OnOk result ((answer : AnswerOf) (plan : PlanOf) → IsLookedAhead D.told D.content run self.old unit answer plan → PlanCommits self.new.jobs.tables.desk self.new.jobs.running plan) }
+        ensures operator { self.new.operator ≡ self.old.operator }
         ensures left { EachSince D.moment D.left_since self.old.store.disk self.new.store.disk (IsLeftByUnit D.content D.may_leave D.size run self.old) }
         ensures events { D.told → OnOk result (event_records self.old.store.layout (D.content self.new.store.disk) ≡ event_records self.old.store.layout (D.content self.old.store.disk)) }
         ensures kept { OnOk result (self.new.store ≡ record self.old.store { disk = self.new.store.disk }) }
@@ -148,8 +163,10 @@ impl<D: Disk> Desk<D> {
     /// The next unit of a run's running step, which was looked at, and what goes on behind it. It takes no memory.
     fn work_on(&mut self, run: u32, ahead: Ahead) -> Result<Reply, DeskError>
         requires is_open { self.old.store.fault ≡ None }
-        requires ahead { IsAhead D.told D.content run self.old ahead }
-        ensures turned { (turn : TurnOf) → IsPlanned D.told D.content D.may_leave self.old turn (Plans.Work run) → HasTurned D.told D.content D.may_leave D.moment D.left_since D.size turn self.old self.new result }
+        requires ahead { (answer : AnswerOf) × IsAhead D.told D.content run answer self.old ahead }
+        ensures turned { (turn : TurnOf) (answer : AnswerOf) → IsPlanned D.told D.content D.may_leave self.old turn (Plans.Work run) → IsAhead D.told D.content run answer self.old ahead
+            → HasTurned D.told D.content D.may_leave D.moment D.left_since D.size turn answer self.old self.new result }
+        ensures operator { self.new.operator ≡ self.old.operator }
         ensures spelled { IfOk result IsToldReply }
         ensures is_open { OnOk result (self.new.store.fault ≡ None) }
         ensures layout { self.new.store.layout ≡ self.old.store.layout }
@@ -177,7 +194,10 @@ impl<D: Disk> Desk<D> {
         requires is_open { self.old.store.fault ≡ None }
         requires unit { IsWorkedOut D.told D.content run self.old unit }
         requires went { IsWent unit.worked }
-        ensures turned { (turn : TurnOf) → IsPlanned D.told D.content D.may_leave self.old turn (Plans.Work run) → HasTurned D.told D.content D.may_leave D.moment D.left_since D.size turn self.old self.new result }
+        ensures turned { (turn : TurnOf) (answer : AnswerOf) → IsPlanned D.told D.content D.may_leave self.old turn (Plans.Work run) → HasTurned D.told D.content D.may_leave D.moment D.left_since D.size turn answer self.old self.new result }
+        ensures answered { (turn : TurnOf) (answer : AnswerOf) → IsPlanned D.told D.content D.may_leave self.old turn (Plans.Work run)
+            → AnswerStands (asks (state_of D.content self.old) turn answer) self.old.operator self.new.operator result }
+        ensures operator { self.new.operator ≡ self.old.operator }
         ensures spelled { IfOk result IsToldReply }
         ensures is_open { OnOk result (self.new.store.fault ≡ None) }
         ensures layout { self.new.store.layout ≡ self.old.store.layout }
@@ -196,11 +216,16 @@ impl<D: Disk> Desk<D> {
         Ok(reply)
     }
 
-    /// The next unit of a run's running step, which was worked out, where it tells an event: that is made ready before the unit is done.
+    /// The next unit of a run's running step, which was worked out, where it tells an event or asks the operator: that is made ready before the unit
+    /// is done.
     fn tell_unit(&mut self, run: u32, unit: UnitAhead) -> Result<Reply, DeskError>
         requires is_open { self.old.store.fault ≡ None }
         requires unit { IsWorkedOut D.told D.content run self.old unit }
-        ensures turned { (turn : TurnOf) → IsPlanned D.told D.content D.may_leave self.old turn (Plans.Work run) → HasTurned D.told D.content D.may_leave D.moment D.left_since D.size turn self.old self.new result }
+        requires tells { IsWent unit.worked → ⊥ }
+        ensures turned { (turn : TurnOf) → IsPlanned D.told D.content D.may_leave self.old turn (Plans.Work run)
+            → HasTurned D.told D.content D.may_leave D.moment D.left_since D.size turn (restart_answer self.old.operator) self.old self.new result }
+        ensures answered { (turn : TurnOf) → IsPlanned D.told D.content D.may_leave self.old turn (Plans.Work run)
+            → AnswerStands (asks (state_of D.content self.old) turn (restart_answer self.old.operator)) self.old.operator self.new.operator result }
         ensures spelled { IfOk result IsToldReply }
         ensures is_open { OnOk result (self.new.store.fault ≡ None) }
         ensures layout { self.new.store.layout ≡ self.old.store.layout }
@@ -220,7 +245,10 @@ impl<D: Disk> Desk<D> {
     pub(crate) fn work(&mut self, run: u32) -> Result<Reply, DeskError>
         requires is_open { self.old.store.fault ≡ None }
         requires due { HasDue self.old.jobs (Plans.Work run) }
-        ensures turned { (turn : TurnOf) → IsPlanned D.told D.content D.may_leave self.old turn (Plans.Work run) → HasTurned D.told D.content D.may_leave D.moment D.left_since D.size turn self.old self.new result }
+        ensures turned { (turn : TurnOf) → IsPlanned D.told D.content D.may_leave self.old turn (Plans.Work run)
+            → HasTurned D.told D.content D.may_leave D.moment D.left_since D.size turn (restart_answer self.old.operator) self.old self.new result }
+        ensures answered { (turn : TurnOf) → IsPlanned D.told D.content D.may_leave self.old turn (Plans.Work run)
+            → AnswerStands (asks (state_of D.content self.old) turn (restart_answer self.old.operator)) self.old.operator self.new.operator result }
         ensures spelled { IfOk result IsToldReply }
         ensures is_open { OnOk result (self.new.store.fault ≡ None) }
         ensures layout { self.new.store.layout ≡ self.old.store.layout }

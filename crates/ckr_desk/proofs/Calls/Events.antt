@@ -4,18 +4,18 @@ use Rattle.std.proofs.lemmas.Bool.{and_from, le-leb}
 use Rattle.ckr_base.proofs.Options.{some-not-none}
 use Rattle.ckr_book.specs.Book.{IsBeforeOrAfter, room_of}
 use Rattle.ckr_events.specs.declared.event.Event.{Event}
-use Rattle.ckr_events.specs.declared.event.Event.TheVariants.{Submitted, Purged}
+use Rattle.ckr_events.specs.declared.event.Event.TheVariants.{Submitted, Purged, Released}
 use Rattle.ckr_events.specs.Event.{IsEvent, spelling}
 use Rattle.ckr_jcl.specs.declared.deck.Job.{Job}
 use Rattle.ckr_jcl_decks.specs.Deck.{stored_deck}
 use Rattle.ckr_desk_memory.specs.Replay.{deck_of, goes_on, is_run_by}
-use Rattle.ckr_desk_turn.proofs.NextEvents.BetweenSteps.{purged_comes}
-use Rattle.ckr_desk_turn.proofs.Select.{purged-keeps, stored-comes, stored-keeps}
+use Rattle.ckr_desk_turn.proofs.NextEvents.BetweenSteps.{purged_comes, released_comes}
+use Rattle.ckr_desk_turn.proofs.Select.{purged-keeps, released-keeps, stored-comes, stored-keeps}
 use Rattle.ckr_desk_turn.specs.Invariant.{IsDesk}
 use Rattle.ckr_desk_refines.specs.Commits.{HasCommitted}
 use Rattle.ckr_desk_refines.specs.Entries.{HasEntries}
 use Rattle.ckr_outside.specs.Disk.{Only}
-use Rattle.ckr_points.specs.declared.run.RunState.TheVariants.{Queued}
+use Rattle.ckr_points.specs.declared.run.RunState.TheVariants.{Held, Queued}
 use Rattle.ckr_points.specs.Events.{IsNext}
 use Rattle.ckr_points.specs.Office.{Office, office_after}
 use Rattle.ckr_points.specs.Restart.{after_event}
@@ -29,7 +29,7 @@ use Rattle.ckr_points_decks.specs.Cards.{kept_of_stored}
 use Rattle.ckr_points_decks.specs.Form.{is_run}
 use Rattle.ckr_points_tables.specs.Invariant.{is_submittable}
 use Rattle.ckr_desk_memory.specs.ForwardEvents.{is_forward_event}
-use Rattle.ckr_desk_refines.proofs.Events.Turns.{purged-committed, purged-stands, submitted-committed, submitted-stands}
+use Rattle.ckr_desk_refines.proofs.Events.Turns.{purged-committed, purged-stands, release-stands, released-committed, submitted-committed, submitted-stands}
 use Rattle.ckr_desk_turn.specs.Desk.{DeskModel, behind}
 use Rattle.ckr_volumes.specs.declared.layout.Layout.{Layout}
 use Rattle.ckr_desk.proofs.Images.Entries.{HasNewOne, behind-same}
@@ -170,4 +170,22 @@ module _ {D : Type 0} (told : Type 0) (content : D → List ℕ) (may_leave : D 
         kept = purged-keeps desk trusted.stands.is_desk job row there queued;
         stand = λ new moved records. purged-stands layout old.jobs new.jobs (content old.store.disk) (content new.store.disk) desk job row trusted.stands there queued moved records;
         commits = λ image records. purged-committed layout old.jobs (content old.store.disk) desk job row trusted.stands there queued image records;
+      }
+
+  -- ---- a run that is released
+
+  pub called-released : (job : ℕ) (row : RunRow) → run_of old.jobs.tables.desk job ≡ Some row → row.state ≡ Held → IsEvent (Released job) → IsCalled (Released job) None
+  called-released job row at held is_event =
+      let there : run_of desk.office.tables job ≡ Some row = ap (λ t. run_of t job) (sym trusted.stands.tables) ∙ at in
+      record {
+        is_event = is_event;
+        decked = refl;
+        runs = refl;
+        plain = refl;
+        quiet = λ tables. refl;
+        takes = λ now image. tt;
+        next = record { may = released_comes desk job row there held; carried = refl };
+        kept = released-keeps desk trusted.stands.is_desk job row there held;
+        stand = λ new moved records. release-stands layout old.jobs new.jobs (content old.store.disk) (content new.store.disk) desk job row trusted.stands there held moved records;
+        commits = λ image records. released-committed layout old.jobs (content old.store.disk) desk job row trusted.stands there held image records;
       }

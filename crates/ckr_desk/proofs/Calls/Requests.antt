@@ -1,17 +1,18 @@
 -- A call that is one event with its deck, or none, on a trusted disk.
-use Rattle.std.proofs.Common.{◌≡◌, ◌≤◌, ◌++◌, ◌/◌, ℕ, suc, List, [], Bool, true, false, cond, length, refl, ap, sym, ◌∙◌, subst, arith, append-nil, Option, Some, None, Result, Ok, Err, IfErr, OnOk, nat_le}
-use Rattle.std.proofs.lemmas.Bool.{le-leb}
+use Rattle.std.proofs.Common.{◌≡◌, ◌==◌, ◌≤◌, ◌++◌, ◌/◌, ℕ, suc, List, [], Bool, true, false, cond, length, refl, ap, sym, ◌∙◌, subst, arith, append-nil, Option, Some, None, Result, Ok, Err, IfErr, OnOk, nat_le}
+use Rattle.std.proofs.lemmas.Bool.{false≢true, le-leb}
 use Rattle.std.proofs.lemmas.Bool.Decides.{nat_tests}
 use Rattle.ckr_base.proofs.Bools.{and-first}
 use Rattle.ckr_book.specs.Book.{room_of}
-use Rattle.ckr_events.specs.declared.event.Event.TheVariants.{Purged}
+use Rattle.ckr_events.specs.declared.event.Event.TheVariants.{Purged, Released}
 use Rattle.ckr_events.specs.Event.{IsEvent}
 use Rattle.ckr_jcl.specs.declared.deck.Job.{Job}
 use Rattle.ckr_desk_memory.proofs.Queue.{run-there}
 use Rattle.ckr_outside.specs.Disk.{EachSince}
 use Rattle.ckr_outside.specs.Moments.{in_other_words, started}
-use Rattle.ckr_points.specs.declared.run.RunState.TheVariants.{Queued}
-use Rattle.ckr_points.specs.Follows.{is_in_state}
+use Rattle.ckr_points.specs.declared.run.RunState.{RunState}
+use Rattle.ckr_points.specs.declared.run.RunState.TheVariants.{Denied, Ended, Held, On, Purged as PurgedRun, Queued, Released as ReleasedRun}
+use Rattle.ckr_points.specs.Follows.{is_in_state, state_number}
 use Rattle.ckr_points.specs.Restart.{Decked}
 use Rattle.ckr_points_invariant.proofs.Holders.Rows.{queued-is}
 use Rattle.ckr_desk_refines.specs.Moves.{HasSameRecords}
@@ -25,7 +26,7 @@ use Rattle.ckr_points_decks.specs.declared.submit.Submission.TheVariants.{Accept
 use Rattle.ckr_points_tables.specs.Invariant.{is_submittable}
 use Rattle.ckr_volumes.specs.declared.layout.Layout.{Layout}
 use Rattle.ckr_desk.proofs.Turns.Preparation.{same-unchanged}
-use Rattle.ckr_desk.proofs.Calls.Events.{IsCalled, called-deck, called-kept, called-purged, called-state, called-trusted}
+use Rattle.ckr_desk.proofs.Calls.Events.{IsCalled, called-deck, called-kept, called-purged, called-released, called-state, called-trusted}
 use Rattle.ckr_desk.proofs.Calls.CardCounts.{accepted-deck, few-accepted}
 use Rattle.ckr_desk.proofs.Images.Soundness.{kept-left}
 use Rattle.ckr_desk.proofs.Calls.Stops.{opens-so}
@@ -36,7 +37,7 @@ use Rattle.ckr_desk.specs.Calls.{HasDone, IsLeftByCall, IsSettledBehind, NotDone
 use Rattle.ckr_desk.specs.Soundness.{HasKept, IsTrusted, KeepsWithin, state_of}
 use Rattle.ckr_desk.specs.State.{DeskView, need_of}
 use Rattle.ckr_desk.specs.NoChange.{StaysBy}
-use Rattle.ckr_desk.specs.Submit.{call_by, entered, is_queued, number_for, purge_call, submit_call}
+use Rattle.ckr_desk.specs.Submit.{call_by, entered, is_held_run, is_queued, number_for, purge_call, release_call, submit_call}
 
 -- ---- of each answer
 
@@ -61,6 +62,15 @@ on-ok-all of (Ok x) a b c d = of a b c d
 on-ok-all of (Err error) a b c d = tt
 
 -- ---- on any disk
+
+held-is : (state : RunState) → (state_number state == 3) ≡ true → state ≡ Held
+held-is Held e = refl
+held-is Queued e = absurd (false≢true e)
+held-is On e = absurd (false≢true e)
+held-is ReleasedRun e = absurd (false≢true e)
+held-is Ended e = absurd (false≢true e)
+held-is Denied e = absurd (false≢true e)
+held-is PurgedRun e = absurd (false≢true e)
 
 module _ {D : Type 0} (faults : D → ℕ) (old new : DeskView D) where
   pub call-may-fail : (call : Option Decked) (error : DeskError) → NotDone faults call old new error → MayFail (faults old.store.disk) (faults new.store.disk) old.store.fault error
@@ -229,3 +239,14 @@ module _ {D : Type 0} (told : Type 0) (content : D → List ℕ) (may_leave : D 
 
   pub purge-called : (job : ℕ) → IsEvent (Purged job) → IsCalledSo (purge_call old.jobs.tables.desk job)
   purge-called job is_event = purged job is_event (is_queued old.jobs.tables.desk job) refl
+
+  -- ---- a run that is released
+
+  released : (job : ℕ) → IsEvent (Released job) → (held : Bool) → is_held_run old.jobs.tables.desk job ≡ held → IsCalledSo (cond held (Some (Released job, None)) None)
+  released job is_event false is = tt
+  released job is_event true is =
+      let there = run-there old.jobs.tables.desk job (is_in_state Held) is in
+      called-released told content may_leave size old trusted job there.0 there.1 (held-is there.0.state there.2) is_event
+
+  pub release-called : (job : ℕ) → IsEvent (Released job) → IsCalledSo (release_call old.jobs.tables.desk job)
+  release-called job is_event = released job is_event (is_held_run old.jobs.tables.desk job) refl

@@ -2,6 +2,7 @@
 use Rattle.std.proofs.Common.{◌≡◌, ◌≤◌, ◌<◌, ◌&&◌, ℕ, List, IsTrue, Option, None, Some, true, ⊎_elim, inl, inr, ap, subst, sym, refl, arith, ◌∙◌}
 use Rattle.ckr_base.proofs.Options.{some-not-none}
 use Rattle.ckr_book.specs.Book.{IsBeforeOrAfter, room_of}
+use Rattle.ckr_console.specs.Answering.{Answering}
 use Rattle.ckr_events.specs.declared.event.Event.{Event}
 use Rattle.ckr_events.specs.Event.{spelling}
 use Rattle.ckr_desk_memory.specs.EventChanges.{points_behind}
@@ -106,20 +107,20 @@ module _ {D : Type 0} (told : Type 0) (content : D → List ℕ) (may_leave : D 
       (now-left old sound is_open only) (λ image both. inl both)
 
 -- What jobs do that took memory for an event, those before that have the same tables, steps and failed runs do.
-module _ {D : Type 0} (event : Event) (deck : Option Job) (store : StoreView D) (one two : JobsView) (desk : two.tables.desk ≡ one.tables.desk) where
-  prepared-may : may_keep event deck (record { store = store; jobs = two }) ≡ true → may_keep event deck (record { store = store; jobs = one }) ≡ true
+module _ {D : Type 0} (event : Event) (deck : Option Job) (store : StoreView D) (one two : JobsView) (first second : Option Answering) (desk : two.tables.desk ≡ one.tables.desk) where
+  prepared-may : may_keep event deck (record { store = store; jobs = two; operator = second }) ≡ true → may_keep event deck (record { store = store; jobs = one; operator = first }) ≡ true
   prepared-may might = subst (λ (t : TablesModel). (follows store.layout t event deck && may_count event t.sets) ≡ true) desk might
 
   pub prepared-left : (content : D → List ℕ) (may_leave : D → List ℕ → Type 0) (moment : D → ℕ) (left_since : D → ℕ → List ℕ → Type 0) (size : D → ℕ) (new : D)
-      → EachSince moment left_since store.disk new (IsLeftBy content may_leave size event deck (record { store = store; jobs = two }))
-      → EachSince moment left_since store.disk new (IsLeftBy content may_leave size event deck (record { store = store; jobs = one }))
+      → EachSince moment left_since store.disk new (IsLeftBy content may_leave size event deck (record { store = store; jobs = two; operator = second }))
+      → EachSince moment left_since store.disk new (IsLeftBy content may_leave size event deck (record { store = store; jobs = one; operator = first }))
   prepared-left content may_leave moment left_since size new left =
-      in_other_words moment left_since store.disk new (IsLeftBy content may_leave size event deck (record { store = store; jobs = two }))
-      (IsLeftBy content may_leave size event deck (record { store = store; jobs = one })) left
+      in_other_words moment left_since store.disk new (IsLeftBy content may_leave size event deck (record { store = store; jobs = two; operator = second }))
+      (IsLeftBy content may_leave size event deck (record { store = store; jobs = one; operator = first })) left
       (λ image by. ⊎_elim (λ before. inl before) (λ behind. inr (prepared-may behind.0, behind.1, behind.2)) by)
 
   module _ (running : two.running ≡ one.running) (failed : two.failed ≡ one.failed) (points : two.points ≡ one.points) where
-    pub prepared-gone : (new : DeskView D) → HasGoneOn event deck (record { store = store; jobs = two }) new → HasGoneOn event deck (record { store = store; jobs = one }) new
+    pub prepared-gone : (new : DeskView D) → HasGoneOn event deck (record { store = store; jobs = two; operator = second }) new → HasGoneOn event deck (record { store = store; jobs = one; operator = first }) new
     prepared-gone new gone = record {
       might = prepared-may gone.might;
       moved = record {
@@ -135,14 +136,14 @@ module _ {D : Type 0} (event : Event) (deck : Option Job) (store : StoreView D) 
       room = gone.room;
     }
 
-    same-as-before : (new : DeskView D) → HasSameJobs (record { store = store; jobs = two }) new → HasSameJobs (record { store = store; jobs = one }) new
+    same-as-before : (new : DeskView D) → HasSameJobs (record { store = store; jobs = two; operator = second }) new → HasSameJobs (record { store = store; jobs = one; operator = first }) new
     same-as-before new same = record { tables = same.tables ∙ desk; running = same.running ∙ running; failed = same.failed ∙ failed; points = same.points ∙ points }
 
-    same-store : (new : DeskView D) → IsSame (record { store = store; jobs = two }) new → IsSame (record { store = store; jobs = one }) new
+    same-store : (new : DeskView D) → IsSame (record { store = store; jobs = two; operator = second }) new → IsSame (record { store = store; jobs = one; operator = first }) new
     same-store new same = record { jobs = same-as-before new same.jobs; store = same.store }
 
-    pub prepared-cause : (faults : D → ℕ) (new : DeskView D) (error : DeskError) → NotEntered faults (record { store = store; jobs = two }) new error
-        → NotKept faults event deck (record { store = store; jobs = one }) new error
+    pub prepared-cause : (faults : D → ℕ) (new : DeskView D) (error : DeskError) → NotEntered faults (record { store = store; jobs = two; operator = second }) new error
+        → NotKept faults event deck (record { store = store; jobs = one; operator = first }) new error
     prepared-cause faults new NoMemory cause = absurd cause
     prepared-cause faults new DiskFault cause = (cause.0, same-as-before new cause.1)
     prepared-cause faults new (BookFull need room) cause = absurd cause
@@ -156,13 +157,13 @@ unready-cause event deck faults old new (BookFull need room) cause = cause
 unready-cause event deck faults old new (Stopped fault) cause = absurd cause
 
 -- an event that is ready isn't kept where the disk doesn't sync, or doesn't take its bytes
-pub unsynced : {D : Type 0} (faults : D → ℕ) (old : DeskView D) (mid : StoreView D) (error : StoreError) → old.store.fault ≡ None → DiskCause faults old.store mid error → NotEntered faults old (record { store = mid; jobs = old.jobs }) (of_store error)
+pub unsynced : {D : Type 0} (faults : D → ℕ) (old : DeskView D) (mid : StoreView D) (error : StoreError) → old.store.fault ≡ None → DiskCause faults old.store mid error → NotEntered faults old (record old { store = mid }) (of_store error)
 unsynced faults old mid OfStore.DiskFault is_open cause = (cause, record { tables = refl; running = refl; failed = refl; points = refl })
 unsynced faults old mid (OfStore.BookFull need room) is_open cause = absurd cause
 unsynced faults old mid (OfStore.Stopped fault) is_open cause = absurd (some-not-none fault (sym cause.0 ∙ is_open))
 
 pub unappended : {D : Type 0} (faults : D → ℕ) (old : DeskView D) (mid new : StoreView D) (needed : ℕ) (error : StoreError) → old.store.fault ≡ None → mid ≡ record old.store { disk = mid.disk } → faults old.store.disk ≤ faults mid.disk
-    → needed ≤ room_of old.store.book → AppendCause faults needed mid new error → NotEntered faults old (record { store = new; jobs = old.jobs }) (of_store error)
+    → needed ≤ room_of old.store.book → AppendCause faults needed mid new error → NotEntered faults old (record old { store = new }) (of_store error)
 unappended {D} faults old mid new needed OfStore.DiskFault is_open kept later fits cause = (
   (
     rose_before (faults old.store.disk) (faults mid.disk) (faults new.disk) later cause.0,

@@ -2,6 +2,7 @@
 use Rattle.std.proofs.Common.{◌≡◌, ◌<◌, ℕ, Bool, true, false, List, sym, subst, inr, arith, Some}
 use Rattle.ckr_base.proofs.Bools.{bool-cases}
 use Rattle.ckr_book.specs.Book.{room_of}
+use Rattle.ckr_console.specs.declared.question.Answer.{Answer}
 use Rattle.ckr_desk_memory.specs.Plans.{HasDue}
 use Rattle.ckr_desk_memory.specs.View.{RunningStepView, jobs_of}
 use Rattle.ckr_desk_refines.proofs.Checkpoints.Turn.{taken-by}
@@ -22,7 +23,7 @@ use Rattle.ckr_desk.specs.NoChange.{StaysBy}
 use Rattle.ckr_desk.specs.Requests.{FailsBy, IsFull, MayFail, TellsNumbers}
 use Rattle.ckr_desk.specs.Soundness.{IsTrusted, office_on, state_of}
 use Rattle.ckr_desk.specs.State.{DeskView, RoomyDesk}
-use Rattle.ckr_desk.specs.Turn.{event_of_turn, reply_of}
+use Rattle.ckr_desk.specs.Turn.{asks, event_of_turn, reply_of}
 use Rattle.ckr_desk.specs.Units.{IsTried, TakesBy}
 
 -- the numbers of a full book
@@ -44,19 +45,19 @@ attempt-stays content may_leave faults run old new (BookFull need left) not = (s
 attempt-stays content may_leave faults run old new (Stopped fault) not = absurd not
 
 module _ {D : Type 0} (told : Type 0) (content : D → List ℕ) (may_leave : D → List ℕ → Type 0) (moment : D → ℕ) (left_since : D → ℕ → List ℕ → Type 0) (size : D → ℕ)
-    (old : DeskView D) (trusted : IsTrusted told content may_leave old) (turn : Turn) (its : IsTurnOf old.store.layout turn) (run : ℕ) (planned : plan_of old.store.layout (jobs_of old.jobs) turn ≡ Take run) where
+    (old : DeskView D) (trusted : IsTrusted told content may_leave old) (turn : Turn) (its : IsTurnOf old.store.layout turn) (run : ℕ) (planned : plan_of old.store.layout (jobs_of old.jobs) turn ≡ Take run) (answer : Answer) where
   abbrev state : RoomyDesk
   state = state_of content old
 
-  pub attempt-cause : (new : DeskView D) (error : DeskError) → NotAttempted run old new error → FailsBy state.room (event_of_turn state turn) error
+  pub attempt-cause : (new : DeskView D) (error : DeskError) → NotAttempted run old new error → FailsBy state.room (event_of_turn state turn answer) error
   attempt-cause new NoMemory not = tt
   attempt-cause new DiskFault not = absurd not
   attempt-cause new (BookFull need left) not =
-      subst (λ e. IsFull state.room e need left) (sym (event-turn told content may_leave moment left_since size old trusted turn its run planned not.0.made not.0.its)) (full-by run old need left not.0)
+      subst (λ e. IsFull state.room e need left) (sym (event-turn told content may_leave moment left_since size old trusted turn its run planned not.0.made not.0.its answer)) (full-by run old need left not.0)
   attempt-cause new (Stopped fault) not = absurd not
 
   -- the turn tries a checkpoint
-  tried : HasDue old.jobs (Take run) → IsTried (reply_of state turn)
+  tried : HasDue old.jobs (Take run) → IsTried (reply_of state turn answer)
   unfolding reply_of
   tried due =
       let on : RunningStepView = due.0 in
@@ -66,11 +67,11 @@ module _ {D : Type 0} (told : Type 0) (content : D → List ℕ) (may_leave : D 
       λ fits is holds.
       subst (λ (done : TurnDone). IsTried done.reply)
       (sym (taken-by old.store.layout old.jobs (content old.store.disk) state.desk turn run on (to-take told content may_leave size old trusted turn its run planned on due.1) fits is)) holds in
-      subst (λ (done : TurnDone). IsTried done.reply) (sym (turned-take told content may_leave size old trusted turn its run planned))
+      subst (λ (done : TurnDone). IsTried done.reply) (sym (turned-take told content may_leave size old trusted turn its run planned answer))
       (bool-cases (checkpoint_fits (office_on old.store.layout (content old.store.disk)).tables.sets p.going.row p.going.start p.step.progress) (λ e. by true e tt) (λ e. by false e tt))
 
-  pub attempt-takes : (new : DeskView D) (error : DeskError) → HasDue old.jobs (Take run) → NotAttempted run old new error → TakesBy (reply_of state turn) (event_of_turn state turn) error
-  attempt-takes new NoMemory due not = inr (tried due)
+  pub attempt-takes : (new : DeskView D) (error : DeskError) → HasDue old.jobs (Take run) → NotAttempted run old new error → TakesBy (reply_of state turn answer) (event_of_turn state turn answer) (asks state turn answer) error
+  attempt-takes new NoMemory due not = inr (inr (tried due))
   attempt-takes new DiskFault due not = absurd not
   attempt-takes new (BookFull need left) due not = tt
   attempt-takes new (Stopped fault) due not = absurd not

@@ -1,5 +1,5 @@
 -- The entry of a checkpoint that is made for a running step has a spelling, on a trusted disk.
-use Rattle.std.proofs.Common.{◌≡◌, ◌≤◌, ◌&&◌, ℕ, zero, suc, Bool, true, false, List, ap, sym, ◌∙◌, subst, Some, arith}
+use Rattle.std.proofs.Common.{◌≡◌, ◌≤◌, ◌&&◌, ℕ, zero, suc, Bool, true, false, List, ap, sym, ◌∙◌, subst, Some, None, arith}
 use Rattle.std.specs.Prelude.{not, ◌==◌}
 use Rattle.std.proofs.lemmas.Bool.{false≢true}
 use Rattle.ckr_base.specs.declared.programs.NextDue.TheVariants.{Checkpoint as CheckpointDue}
@@ -18,7 +18,7 @@ use Rattle.ckr_points_tables.specs.Checkpoint.{checkpoint_name}
 use Rattle.ckr_programs.specs.Due.{is_checkpoint_count}
 use Rattle.ckr_desk_refines.proofs.Checkpoints.NextEvent.{entry-is}
 use Rattle.ckr_desk_refines.proofs.Checkpoints.StateForm.{state-form}
-use Rattle.ckr_desk_refines.proofs.Checkpoints.Turn.{due-so, pair}
+use Rattle.ckr_desk_refines.proofs.Checkpoints.Turn.{due-so, none, pair}
 use Rattle.ckr_desk_refines.proofs.Standing.StepViews.{place-due}
 use Rattle.ckr_desk_refines.proofs.Units.OtherSteps.{same-start}
 use Rattle.ckr_desk_refines.proofs.Units.StepLists.{IsPair}
@@ -56,10 +56,14 @@ module _ (layout : Layout) (old : JobsView) (image : List ℕ) (desk : DeskModel
   abbrev progress : StepProgress
   progress = p.step.progress
 
+  -- its run doesn't wait with a code
+  waits-not : on.code ≡ None
+  waits-not = none layout old image desk turn run on to
+
   next-so : next_due start progress ≡ CheckpointDue
   next-so =
       ap (λ (s : StepStart). next_due s progress) (same-start desk.layout desk.office image on p.step p.going p.stands)
-      ∙ sym (place-due p.stands.start progress on p.stands.stands p.stands.served) ∙ due-so layout old image desk turn run on to
+      ∙ sym (place-due p.stands.start progress on (p.stands.stands waits-not) (p.stands.served waits-not)) ∙ due-so layout old image desk turn run on to
 
   taken-some : 1 ≤ progress.taken
   taken-some = some-taken start.owned.step.parm progress.taken (checkpoint-only start progress next-so).count
@@ -73,7 +77,7 @@ module _ (layout : Layout) (old : JobsView) (image : List ℕ) (desk : DeskModel
     form-made =
         c.form
         (subst (λ n. IsStateForm n (at_checkpoint (suc (step_entries c.row (step_now c.row))) on.step.state)) (sym far.taken)
-        (state-form on.step.state (case_at p.stands.start) progress.taken (suc (step_entries c.row (step_now c.row))) p.stands.stands.state c.typed taken-some (omega arith)))
+        (state-form on.step.state (case_at p.stands.start) progress.taken (suc (step_entries c.row (step_now c.row))) (p.stands.stands waits-not).state c.typed taken-some (omega arith)))
 
     entry-same : next_entry desk.office.tables.sets row start progress ≡ made_entry row start.owned
     entry-same =

@@ -4,6 +4,7 @@ use Rattle.std.specs.Prelude.{if◌then◌else◌}
 use Rattle.std.proofs.lemmas.Bool.{and_from, le-leb}
 use Rattle.ckr_base.proofs.Options.{some-not-none}
 use Rattle.ckr_book.specs.Book.{IsBeforeOrAfter, ends_closed, room_of}
+use Rattle.ckr_console.specs.declared.question.Answer.{Answer}
 use Rattle.ckr_events.specs.declared.event.Event.{Event}
 use Rattle.ckr_events.specs.Event.{spelling}
 use Rattle.ckr_desk_memory.specs.declared.checkpoint.Checkpoint.{Checkpoint}
@@ -65,7 +66,7 @@ use Rattle.ckr_desk.specs.Turn.{behind_turn, event_of_turn, reply_of, turn_fits}
 
 module _ {D : Type 0} (told : Type 0) (content : D → List ℕ) (may_leave : D → List ℕ → Type 0) (moment : D → ℕ) (left_since : D → ℕ → List ℕ → Type 0) (size : D → ℕ)
     (old : DeskView D) (trusted : IsTrusted told content may_leave old) (turn : Turn) (its : IsTurnOf old.store.layout turn) (run : ℕ) (planned : plan_of old.store.layout (jobs_of old.jobs) turn ≡ Take run)
-    (made : Checkpoint) (is : IsMade run old made) where
+    (made : Checkpoint) (is : IsMade run old made) (answer : Answer) where
   abbrev layout : Layout
   layout = old.store.layout
 
@@ -99,9 +100,9 @@ module _ {D : Type 0} (told : Type 0) (content : D → List ℕ) (may_leave : D 
   rewrites-none : (tables : TablesModel) (rewrite : RewriteRecord) → rewrite_of tables event ≡ Some rewrite → ⊥
   rewrites-none tables rewrite same = some-not-none rewrite (sym same ∙ ap (rewrite_of tables) is.of.event)
 
-  pub event-turn : event_of_turn (state_of content old) turn ≡ Some event
+  pub event-turn : event_of_turn (state_of content old) turn answer ≡ Some event
   unfolding event_of_turn
-  event-turn = ap (λ (done : TurnDone). done.event) (turned-take told content may_leave size old trusted turn its run planned) ∙ told-so
+  event-turn = ap (λ (done : TurnDone). done.event) (turned-take told content may_leave size old trusted turn its run planned answer) ∙ told-so
 
   -- ---- the desk behind it
 
@@ -197,7 +198,7 @@ module _ {D : Type 0} (told : Type 0) (content : D → List ℕ) (may_leave : D 
         settled = settled;
       }
 
-      pub taken-fits : turn_fits (state_of content old) turn ≡ true
+      pub taken-fits : turn_fits (state_of content old) turn answer ≡ true
       unfolding turn_fits
       taken-fits =
           ap (has_room (room_of old.store.book)) event-turn
@@ -206,18 +207,18 @@ module _ {D : Type 0} (told : Type 0) (content : D → List ℕ) (may_leave : D 
       pub taken-trusted : IsTrusted told content may_leave new
       taken-trusted = trusted-behind told content may_leave event old new later (coming (might-before gone.might)) behind-so trusted
 
-      pub taken-state : state_of content new ≡ behind_turn (state_of content old) turn
+      pub taken-state : state_of content new ≡ behind_turn (state_of content old) turn answer
       unfolding behind_turn
       taken-state =
           ap (λ (d : DeskModel). state_as d (room_of new.store.book)) (sym (desk-behind told content may_leave event old new later (coming (might-before gone.might)) behind-so))
           ∙ ap (state_as later) (let e : room_of new.store.book ≡ room_of old.store.book - (length (spelling event) + 5) = omega (arith, gone.room, room-same) in e)
           ∙ ap (λ (e : Option Event). state_as later (room_behind (room_of old.store.book) e)) (sym event-turn)
-          ∙ ap (λ (d : TurnDone). state_as d.desk (room_behind (room_of old.store.book) (event_of_turn (state_of content old) turn))) (sym (turned-take told content may_leave size old trusted turn its run planned))
+          ∙ ap (λ (d : TurnDone). state_as d.desk (room_behind (room_of old.store.book) (event_of_turn (state_of content old) turn answer))) (sym (turned-take told content may_leave size old trusted turn its run planned answer))
         where
           state_as : DeskModel → ℕ → RoomyDesk
           state_as d room = record { desk = d; room = room }
 
-      pub taken-events : event_records layout (content new.store.disk) ≡ event_records layout image ++ spelled (event_of_turn (state_of content old) turn)
+      pub taken-events : event_records layout (content new.store.disk) ≡ event_records layout image ++ spelled (event_of_turn (state_of content old) turn answer)
       taken-events = behind-so.events ∙ ap (λ (e : Option Event). event_records layout image ++ spelled e) (sym event-turn)
 
     -- ---- what a stop leaves meanwhile
@@ -273,7 +274,7 @@ module _ {D : Type 0} (told : Type 0) (content : D → List ℕ) (may_leave : D 
 
       pub taken-kept-within : (new : DeskView D) → EachSince moment left_since old.store.disk mid.store.disk (IsLeftByEntry content may_leave size made old)
           → EachSince moment left_since mid.store.disk new.store.disk (IsLeftBy content may_leave size event None mid)
-          → KeepsWithin content moment left_since size old new (spelled (event_of_turn (state_of content old) turn))
+          → KeepsWithin content moment left_since size old new (spelled (event_of_turn (state_of content old) turn answer))
       taken-kept-within new first second =
           subst (λ (e : Option Event). KeepsWithin content moment left_since size old new (spelled e)) (sym event-turn)
           (and_then moment left_since old.store.disk mid.store.disk new.store.disk (IsLeftByEntry content may_leave size made old) (IsLeftBy content may_leave size event None mid)
@@ -281,7 +282,7 @@ module _ {D : Type 0} (told : Type 0) (content : D → List ℕ) (may_leave : D 
           (entry-kept told content may_leave moment left_since size old trusted turn its run planned made is came) image-kept)
 
   -- the reply of code 00
-  pub done-reply : (reply : Reply) → IsReplyWith run old Done reply → reply ≡ reply_of (state_of content old) turn
+  pub done-reply : (reply : Reply) → IsReplyWith run old Done reply → reply ≡ reply_of (state_of content old) turn answer
   unfolding reply_of
   done-reply reply with_it =
       let its_to = to told content may_leave moment left_since size old trusted turn its run planned made is in
@@ -291,4 +292,4 @@ module _ {D : Type 0} (told : Type 0) (content : D → List ℕ) (may_leave : D 
       (ap (λ b. if b then Some (next_id its_pair.going.row its_pair.going.start) else None)
       (id-ranged desk its_pair.step its_pair.going trusted.stands.is_desk (fits-ranged office.tables.sets its_pair.going.row its_pair.going.start its_pair.step.progress fits)))
       ∙ sym (ap (λ (done : TurnDone). done.reply) (taken-by layout old.jobs image desk turn run on its_to true fits))
-      ∙ sym (ap (λ (done : TurnDone). done.reply) (turned-take told content may_leave size old trusted turn its run planned))
+      ∙ sym (ap (λ (done : TurnDone). done.reply) (turned-take told content may_leave size old trusted turn its run planned answer))

@@ -1,5 +1,6 @@
 -- What a turn has done that takes a checkpoint, or why it wasn't taken.
 use Rattle.std.proofs.Common.{◌≡◌, ◌++◌, ℕ, List, [], ◌∷◌, None, Ok, Err}
+use Rattle.ckr_console.specs.declared.question.Answer.{Answer}
 use Rattle.ckr_events.specs.Event.{spelling}
 use Rattle.ckr_desk_memory.specs.declared.checkpoint.Checkpoint.{Checkpoint}
 use Rattle.ckr_desk_memory.specs.View.{jobs_of}
@@ -27,13 +28,13 @@ use Rattle.ckr_desk.specs.Units.{HasTurned}
 
 module _ {D : Type 0} (told : Type 0) (content : D → List ℕ) (may_leave : D → List ℕ → Type 0) (moment : D → ℕ) (left_since : D → ℕ → List ℕ → Type 0) (size : D → ℕ)
     (old : DeskView D) (trusted : IsTrusted told content may_leave old) (turn : Turn) (its : IsTurnOf old.store.layout turn) (run : ℕ) (planned : plan_of old.store.layout (jobs_of old.jobs) turn ≡ Take run)
-    (made : Checkpoint) (is : IsMade run old made) where
+    (made : Checkpoint) (is : IsMade run old made) (answer : Answer) where
   abbrev state : RoomyDesk
   state = state_of content old
 
   -- the entry wasn't written
   pub unwritten-turned : (new : DeskView D) (faulted now : ℕ) (error : DeskError) → IsFault faulted now error → EachSince moment left_since old.store.disk new.store.disk (IsLeftByEntry content may_leave size made old)
-      → HasTurned told content may_leave moment left_since size turn old new (Err error)
+      → HasTurned told content may_leave moment left_since size turn answer old new (Err error)
   unwritten-turned new faulted now NoMemory not left = absurd not
   unwritten-turned new faulted now DiskFault not left = record {
     reply = tt;
@@ -44,8 +45,8 @@ module _ {D : Type 0} (told : Type 0) (content : D → List ℕ) (may_leave : D 
     cause = tt;
     takes = tt;
     kept = in_other_words moment left_since old.store.disk new.store.disk (IsLeftByEntry content may_leave size made old)
-        (HasKept old.store.layout (size old.store.disk) (event_records old.store.layout (content old.store.disk)) (spelled (event_of_turn state turn))) left
-        (entry-kept told content may_leave moment left_since size old trusted turn its run planned made is (spelled (event_of_turn state turn)));
+        (HasKept old.store.layout (size old.store.disk) (event_records old.store.layout (content old.store.disk)) (spelled (event_of_turn state turn answer))) left
+        (entry-kept told content may_leave moment left_since size old trusted turn its run planned made is (spelled (event_of_turn state turn answer)));
   }
   unwritten-turned new faulted now (BookFull need room) not left = absurd not
   unwritten-turned new faulted now (Stopped fault) not left = absurd not
@@ -54,7 +55,7 @@ module _ {D : Type 0} (told : Type 0) (content : D → List ℕ) (may_leave : D 
       (first : EachSince moment left_since old.store.disk mid.store.disk (IsLeftByEntry content may_leave size made old)) (new : DeskView D)
       (second : EachSince moment left_since mid.store.disk new.store.disk (IsLeftBy content may_leave size made.event None mid)) where
     -- its event wasn't kept
-    pub untold-turned : (faults : D → ℕ) (error : DeskError) → NotEntered faults mid new error → HasTurned told content may_leave moment left_since size turn old new (Err error)
+    pub untold-turned : (faults : D → ℕ) (error : DeskError) → NotEntered faults mid new error → HasTurned told content may_leave moment left_since size turn answer old new (Err error)
     untold-turned faults NoMemory not = absurd not
     untold-turned faults DiskFault not = record {
       reply = tt;
@@ -64,23 +65,23 @@ module _ {D : Type 0} (told : Type 0) (content : D → List ℕ) (may_leave : D 
       trusted = tt;
       cause = tt;
       takes = tt;
-      kept = taken-kept-within told content may_leave moment left_since size old trusted turn its run planned made is mid wrote sized new first second;
+      kept = taken-kept-within told content may_leave moment left_since size old trusted turn its run planned made is answer mid wrote sized new first second;
     }
     untold-turned faults (BookFull need room) not = absurd not
     untold-turned faults (Stopped fault) not = absurd not
 
     -- it was
-    pub taken-turned : (reply : Reply) → reply ≡ reply_of state turn → HasGoneOn made.event None mid new
+    pub taken-turned : (reply : Reply) → reply ≡ reply_of state turn answer → HasGoneOn made.event None mid new
         → event_records mid.store.layout (content new.store.disk) ≡ event_records mid.store.layout (content mid.store.disk) ++ spelling made.event ∷ []
         → HasSameRecords mid.store.layout (content mid.store.disk) (content new.store.disk) → Only (content new.store.disk) (may_leave new.store.disk)
-        → HasTurned told content may_leave moment left_since size turn old new (Ok reply)
-    taken-turned reply answer gone events records settled = record {
-      reply = answer;
-      fits = taken-fits told content may_leave moment left_since size old trusted turn its run planned made is mid wrote new gone events records settled;
-      after = taken-state told content may_leave moment left_since size old trusted turn its run planned made is mid wrote new gone events records settled;
-      events = taken-events told content may_leave moment left_since size old trusted turn its run planned made is mid wrote new gone events records settled;
-      trusted = taken-trusted told content may_leave moment left_since size old trusted turn its run planned made is mid wrote new gone events records settled;
+        → HasTurned told content may_leave moment left_since size turn answer old new (Ok reply)
+    taken-turned reply its_reply gone events records settled = record {
+      reply = its_reply;
+      fits = taken-fits told content may_leave moment left_since size old trusted turn its run planned made is answer mid wrote new gone events records settled;
+      after = taken-state told content may_leave moment left_since size old trusted turn its run planned made is answer mid wrote new gone events records settled;
+      events = taken-events told content may_leave moment left_since size old trusted turn its run planned made is answer mid wrote new gone events records settled;
+      trusted = taken-trusted told content may_leave moment left_since size old trusted turn its run planned made is answer mid wrote new gone events records settled;
       cause = tt;
       takes = tt;
-      kept = taken-kept-within told content may_leave moment left_since size old trusted turn its run planned made is mid wrote sized new first second;
+      kept = taken-kept-within told content may_leave moment left_since size old trusted turn its run planned made is answer mid wrote sized new first second;
     }

@@ -1,6 +1,8 @@
 -- The running step whose checkpoint a turn takes, on a trusted disk.
-use Rattle.std.proofs.Common.{◌≡◌, ℕ, suc, List, find, ap, sym, ◌∙◌, Option, Some}
+use Rattle.std.proofs.Common.{◌≡◌, ℕ, suc, false, List, find, refl, ap, sym, ◌∙◌, Option, Some, None}
+use Rattle.std.specs.Option.{option_map_or}
 use Rattle.std.proofs.lemmas.Option.{same_Some}
+use Rattle.ckr_console.specs.declared.question.Answer.{Answer}
 use Rattle.ckr_desk_memory.specs.Entries.{next_id, step_now}
 use Rattle.ckr_desk_memory.specs.EntryModels.{IsAsFar}
 use Rattle.ckr_desk_memory.specs.EventChanges.{is_of_run}
@@ -11,28 +13,56 @@ use Rattle.ckr_points.specs.Office.{Office}
 use Rattle.ckr_points.specs.Restart.{step_in}
 use Rattle.ckr_points.specs.Rows.{RunRow, TablesModel, run_of, step_of_run}
 use Rattle.ckr_desk_refines.proofs.Checkpoints.Progress.{as-far}
-use Rattle.ckr_desk_refines.proofs.Checkpoints.Turn.{its-step, pair}
+use Rattle.ckr_desk_refines.proofs.Checkpoints.Turn.{its-step, none, pair}
 use Rattle.ckr_desk_refines.proofs.Units.StepLists.{IsPair}
 use Rattle.ckr_desk_refines.specs.Checkpoints.{IsToTake}
 use Rattle.ckr_desk_turn.proofs.NextEvents.WithinStep.{by-step}
 use Rattle.ckr_desk_turn.proofs.RunningSteps.{going-within}
-use Rattle.ckr_desk_turn.specs.Checkpoints.{id_by, step_entries, id_in}
+use Rattle.ckr_desk_turn.specs.Checkpoints.{checkpoint_turn, id_by, step_entries, id_in}
 use Rattle.ckr_desk_turn.specs.Checkpoints as model
-use Rattle.ckr_desk_turn.specs.declared.plan.Plan.TheVariants.{Take}
+use Rattle.ckr_desk_turn.specs.declared.plan.Plan.TheVariants.{Rest, Take}
 use Rattle.ckr_desk_turn.specs.declared.reply.Chkpt.{Chkpt}
 use Rattle.ckr_desk_turn.specs.declared.reply.Reply.{Reply}
-use Rattle.ckr_desk_turn.specs.declared.reply.Reply.TheVariants.{Checkpointed}
+use Rattle.ckr_desk_turn.specs.declared.reply.Reply.TheVariants.{Checkpointed, Idle}
 use Rattle.ckr_desk_turn.specs.declared.reply.Turn.{Turn}
-use Rattle.ckr_desk_turn.specs.Desk.{DeskModel}
+use Rattle.ckr_desk_turn.specs.Desk.{DeskModel, TurnDone, done_by, progress_of, start_of}
 use Rattle.ckr_desk_turn.specs.Invariant.{IsTurnOf}
 use Rattle.ckr_desk_turn.specs.Plans.{plan_of}
-use Rattle.ckr_desk_turn.specs.Taken.{taken_of}
+use Rattle.ckr_desk_turn.specs.Taken.{served_by, taken_of}
 use Rattle.ckr_desk_turn.specs.Turns.{turn_of}
+use Rattle.ckr_desk_turn.specs.Units.{StepProgress}
 use Rattle.ckr_volumes.specs.declared.layout.Layout.{Layout}
 use Rattle.ckr_desk.proofs.Turns.Events.{plans-desk, turned}
 use Rattle.ckr_desk.specs.Checkpoint.{IsReplyWith}
 use Rattle.ckr_desk.specs.Soundness.{IsTrusted, office_on, state_of}
 use Rattle.ckr_desk.specs.State.{DeskView}
+use Rattle.ckr_desk.specs.Turn.{asks}
+
+-- the operator isn't asked for a checkpoint
+module _ (run : ℕ) (desk : DeskModel) where
+  abbrev none_done : TurnDone
+  none_done = done_by (Rest Idle) desk
+
+  abbrev by_progress : RunRow → StepStart → Option StepProgress → TurnDone
+  by_progress row start progress = option_map_or (λ progress. served_by row (checkpoint_turn desk.office.tables row start progress) desk) progress none_done
+
+  abbrev by_start : RunRow → Option StepStart → TurnDone
+  by_start row start = option_map_or (λ start. by_progress row start (progress_of desk run)) start none_done
+
+  progress-quiet : (row : RunRow) (start : StepStart) (progress : Option StepProgress) → (by_progress row start progress).asked ≡ false
+  progress-quiet row start None = refl
+  progress-quiet row start (Some progress) = refl
+
+  start-quiet : (row : RunRow) (start : Option StepStart) → (by_start row start).asked ≡ false
+  start-quiet row None = refl
+  start-quiet row (Some start) = progress-quiet row start (progress_of desk run)
+
+  row-quiet : (row : Option RunRow) → (option_map_or (λ row. by_start row (start_of desk.office row)) row none_done).asked ≡ false
+  row-quiet None = refl
+  row-quiet (Some row) = start-quiet row (start_of desk.office row)
+
+  taken-quiet : (taken_of run desk).asked ≡ false
+  taken-quiet = row-quiet (run_of desk.office.tables run)
 
 module _ {D : Type 0} (told : Type 0) (content : D → List ℕ) (may_leave : D → List ℕ → Type 0) (size : D → ℕ) (old : DeskView D) (trusted : IsTrusted told content may_leave old)
     (turn : Turn) (its : IsTurnOf old.store.layout turn) (run : ℕ) (planned : plan_of old.store.layout (jobs_of old.jobs) turn ≡ Take run) where
@@ -48,8 +78,12 @@ module _ {D : Type 0} (told : Type 0) (content : D → List ℕ) (may_leave : D 
   abbrev desk : DeskModel
   desk = (state_of content old).desk
 
-  pub turned-take : turn_of desk turn ≡ taken_of run desk
-  turned-take = turned told content may_leave size old trusted turn its (Take run) planned
+  pub turned-take : (answer : Answer) → turn_of desk turn answer ≡ taken_of run desk
+  turned-take answer = turned told content may_leave size old trusted turn its answer (Take run) planned
+
+  pub take-asks : (answer : Answer) → asks (state_of content old) turn answer ≡ false
+  unfolding asks
+  take-asks answer = ap (λ (done : TurnDone). done.asked) (turned-take answer) ∙ taken-quiet run desk
 
   module _ (on : RunningStepView) (found : find (is_of_run run) old.jobs.running ≡ Some on) where
     abbrev pub to-take : IsToTake layout old.jobs image desk turn run on
@@ -65,7 +99,7 @@ module _ {D : Type 0} (told : Type 0) (content : D → List ℕ) (may_leave : D 
     start = its_pair.going.start
 
     pub far : IsAsFar office.tables row start on its_pair.step.progress
-    far = as-far desk trusted.stands.is_desk image on its_pair.step its_pair.going its_pair.stands
+    far = as-far desk trusted.stands.is_desk image on its_pair.step its_pair.going its_pair.stands (none layout old.jobs image desk turn run on to-take)
 
     owned-at : step_of_run row (step_now row) ≡ Some start.owned
     owned-at =

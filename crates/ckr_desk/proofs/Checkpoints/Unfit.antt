@@ -1,8 +1,10 @@
 -- A turn whose checkpoint doesn't fit, on a trusted disk: nothing is written, and the step goes on.
-use Rattle.std.proofs.Common.{◌≡◌, ◌&&◌, ℕ, Bool, true, false, List, refl, ap, sym, ◌∙◌, None, Some, Ok}
+use Rattle.std.proofs.Common.{◌≡◌, ◌&&◌, ℕ, Bool, true, false, List, refl, ap, sym, ◌∙◌, Option, None, Some, Ok}
 use Rattle.std.specs.Prelude.{if◌then◌else◌}
 use Rattle.std.specs.Option.{is_some}
 use Rattle.std.proofs.lemmas.Bool.{true≢false}
+use Rattle.ckr_console.specs.Answering.{Answering}
+use Rattle.ckr_console.specs.declared.question.Answer.{Answer}
 use Rattle.ckr_entry.specs.Parts.{Entry}
 use Rattle.ckr_desk_memory.proofs.EntryModels.{next-same}
 use Rattle.ckr_desk_memory.specs.Entries.{is_written, next_entry}
@@ -29,7 +31,7 @@ use Rattle.ckr_desk_turn.specs.Taken.{served_by, taken_of}
 use Rattle.ckr_desk_turn.specs.Units.{StepProgress}
 use Rattle.ckr_desk.proofs.Checkpoints.Parts.{records-so, written-so}
 use Rattle.ckr_desk.proofs.Checkpoints.Steps.{far, its_pair, own-is, reply-for, row-is, to-take, turned-take}
-use Rattle.ckr_desk.proofs.Turns.Checkpoints.{turned-resting}
+use Rattle.ckr_desk.proofs.Turns.Resting.{turned-resting}
 use Rattle.ckr_desk.specs.Checkpoint.{IsUnfit}
 use Rattle.ckr_desk.specs.Rewrite.{OpensSame}
 use Rattle.ckr_desk.specs.Soundness.{IsTrusted, office_on, state_of}
@@ -82,16 +84,16 @@ module _ {D : Type 0} (told : Type 0) (content : D → List ℕ) (may_leave : D 
   taken =
       taken-by old.store.layout old.jobs (content old.store.disk) desk turn run on (to-take told content may_leave size old trusted turn its run planned on unfit.reply_is.at.found) false unfits
 
-  answer : reply ≡ (taken_of run desk).reply
-  answer =
+  reply-so : reply ≡ (taken_of run desk).reply
+  reply-so =
       reply-for told content may_leave size old trusted turn its run planned on unfit.reply_is.at.found NotWritten reply unfit.reply_is
       ∙ sym (ap (λ (done : TurnDone). done.reply) taken)
 
-  pub turned-unfit : (jobs : JobsView) → HasPassed run old.jobs jobs → (store : StoreView D) → store ≡ old.store
+  pub turned-unfit : (answer : Answer) (jobs : JobsView) (operator : Option Answering) → HasPassed run old.jobs jobs → (store : StoreView D) → store ≡ old.store
       → EachSince moment left_since old.store.disk old.store.disk (λ image. OpensSame content size old image × may_leave old.store.disk image)
-      → HasTurned told content may_leave moment left_since size turn old (record { store = store; jobs = jobs }) (Ok reply)
-  turned-unfit jobs passed =
-      turned-resting told content may_leave moment left_since size old trusted turn run reply jobs passed (taken_of run desk)
-      (turned-take told content may_leave size old trusted turn its run planned)
-      (ap (λ (done : TurnDone). done.event) taken) answer (ap (λ (done : TurnDone). done.desk.office) taken)
-      (unwritten-stands old.store.layout old.jobs jobs (content old.store.disk) desk turn run on (to-take told content may_leave size old trusted turn its run planned on unfit.reply_is.at.found) unfits passed)
+      → HasTurned told content may_leave moment left_since size turn answer old (record { store = store; jobs = jobs; operator = operator }) (Ok reply)
+  turned-unfit answer jobs operator passed =
+      turned-resting told content may_leave moment left_since size old trusted turn answer jobs operator passed.tables (taken_of run desk)
+      (turned-take told content may_leave size old trusted turn its run planned answer)
+      (ap (λ (done : TurnDone). done.event) taken) (ap (λ (done : TurnDone). done.desk.office) taken)
+      (unwritten-stands old.store.layout old.jobs jobs (content old.store.disk) desk turn run on (to-take told content may_leave size old trusted turn its run planned on unfit.reply_is.at.found) unfits passed) reply reply-so

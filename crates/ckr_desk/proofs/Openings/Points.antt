@@ -19,13 +19,11 @@ use Rattle.ckr_meaning.specs.EffectiveJob.{OwnedStep, names_of}
 use Rattle.ckr_meaning.specs.States.{first_of, second_of}
 use Rattle.ckr_points.specs.declared.run.Run.{Run}
 use Rattle.ckr_points.specs.declared.run.RunState.{RunState}
-use Rattle.ckr_points.specs.declared.run.RunState.TheVariants.{On}
-use Rattle.ckr_points.specs.Follows.{is_in_state, is_running, is_within, own_step}
+use Rattle.ckr_points.specs.Follows.{is_within, own_step}
 use Rattle.ckr_points.specs.Office.{is_holder}
 use Rattle.ckr_points.specs.Restart.{place_of, step_in}
 use Rattle.ckr_points.specs.Rows.{EffectPoint, RunRow, TableSet, TablesModel, run_of}
 use Rattle.ckr_points.specs.Statements.{kind_number}
-use Rattle.ckr_points_invariant.proofs.Steps.Events.{on-holds}
 use Rattle.ckr_desk_memory.specs.EventChanges.{is_point_of}
 use Rattle.ckr_desk_memory.specs.OwnSteps.{HasPoint, HavePoints}
 use Rattle.ckr_desk_memory.specs.Parts.{IsPointCounted}
@@ -233,12 +231,12 @@ module _ (told : Type 0) (layout : Layout) (tables : TablesModel) (image : List 
 
   -- ---- of the desk
 
-  -- a run on an initiator within its step has the point of its checkpoint in effect, with its step's program
+  -- a run within its step that holds its names has the point of its checkpoint in effect, with its step's program
   pub points-known : (points : List PointView) → ArePointsRead told layout tables image points → HavePoints tables points
   points-known points are number row owned at runs some found =
       is_some-true row.in_effect some
       (λ effect got.
-      let has : HasPointRead told layout tables image number row effect points = are number row effect at (on-holds row.state (and-first (is_in_state On row) (is_within (place_of row)) runs)) got in
+      let has : HasPointRead told layout tables image number row effect points = are number row effect at (and-first (is_holder row.state) (is_within (place_of row)) runs) got in
       record {
         point = has.point;
         found = has.found;
@@ -248,7 +246,7 @@ module _ (told : Type 0) (layout : Layout) (tables : TablesModel) (image : List 
   -- where the disk tells, the points are those of the entries
   pub points-read : told → (points : List PointView) → ArePointsRead told layout tables image points → AreRead layout tables image points
   points-read tells points are run row effect table entry at runs got there read =
-      let has : HasPointRead told layout tables image run row effect points = are run row effect at (on-holds row.state (and-first (is_in_state On row) (is_within (place_of row)) runs)) got in
+      let has : HasPointRead told layout tables image run row effect points = are run row effect at (and-first (is_holder row.state) (is_within (place_of row)) runs) got in
       let same : has.read.entry ≡ entry = ok-entry has.read.entry entry (sym (has.read.read tells table there) ∙ read) in
       record {
         point = has.point;

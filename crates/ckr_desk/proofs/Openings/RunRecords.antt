@@ -5,7 +5,7 @@ use Rattle.ckr_base.proofs.Bools.{and-first, and-second}
 use Rattle.ckr_base.proofs.Numbers.{equal-true}
 use Rattle.ckr_base.proofs.Options.{option-cases}
 use Rattle.ckr_events.specs.declared.event.Event.{Event}
-use Rattle.ckr_events.specs.declared.event.Event.TheVariants.{Cancelled, Ended, Purged, Restarted, Rewritten, Selected, Started, StepEnded, Submitted, Checkpointed}
+use Rattle.ckr_events.specs.declared.event.Event.TheVariants.{Cancelled, Ended, Held, Purged, Released, Restarted, Rewritten, Selected, Started, StepEnded, Submitted, Checkpointed}
 use Rattle.ckr_events.specs.Event.{event_of}
 use Rattle.ckr_desk_memory.specs.Replay.{deck_of, goes_on, is_run_as, is_run_by, replayed}
 use Rattle.ckr_desk_turn.specs.RunEvents.{AreRunEvents, IsRunDeck, IsRunEvent}
@@ -36,6 +36,8 @@ run-event (Checkpointed job id taken writes lengths place bytes) plain runs = tt
 run-event (Cancelled job) plain runs = tt
 run-event (StepEnded job step rc writes lengths) plain runs = tt
 run-event (Restarted job initiator code checkpoint) plain runs = tt
+run-event (Held job code writes lengths) plain runs = tt
+run-event (Released job) plain runs = tt
 run-event (Ended job ending) plain runs = tt
 run-event (Purged job) plain runs = tt
 run-event _ plain runs = absurd (false≢true plain)

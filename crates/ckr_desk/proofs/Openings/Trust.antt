@@ -28,6 +28,7 @@ use Rattle.ckr_desk_refines.specs.Standing.{StandsForDesk, step_on}
 use Rattle.ckr_desk_store.specs.OpenImages.{event_records}
 use Rattle.ckr_desk_store.specs.State.{IsSound, StoreView}
 use Rattle.ckr_desk_turn.specs.Desk.{opened as opened_desk}
+use Rattle.ckr_desk_turn.specs.declared.failed_run.FailedRun.{FailedRun}
 use Rattle.ckr_volumes.specs.declared.header.HeaderError.{HeaderError}
 use Rattle.ckr_volumes.specs.declared.header.HeaderError.TheVariants as HeaderErrors
 use Rattle.ckr_volumes.specs.declared.layout.Layout.{Layout}
@@ -113,7 +114,7 @@ last-same layout old new same = ap (λ records. last_event (events_in records)) 
 abbrev gate_or : ℕ → Opened → Bool → Result Opened OpenError
 gate_or end opened is_open = cond is_open (Err (BadBook end)) (Ok opened)
 
-abbrev state_with : Layout → Office → List RunningStepView → List ℕ → ℕ → RoomyDesk
+abbrev state_with : Layout → Office → List RunningStepView → List FailedRun → ℕ → RoomyDesk
 state_with layout office running failed room = record { desk = record { layout = layout; office = office; running = map step_on running; failed = failed }; room = room }
 
 -- what a sound image has that opens to this layout and these tables
@@ -413,7 +414,7 @@ module _ {D : Type 0} (told : Type 0) (content : D → List ℕ) (may_leave : D 
     pub written : IsWrittenAgain mid.store.layout mid.jobs.tables.desk last (content mid.store.disk) (content new.store.disk)
     pub same_size : size new.store.disk ≡ size mid.store.disk
 
-  abbrev opened_with : Layout → TablesModel → List ℕ → OpenBook → Opened
+  abbrev opened_with : Layout → TablesModel → List FailedRun → OpenBook → Opened
   opened_with layout tables failed book = record { layout = layout; tables = tables; failed = failed; room = room_of book }
 
   pub opened-by : (disk : D) (mid new : DeskView D) (last : Option Event) → IsRead disk mid last → WritesAgain mid new last → IsSound content may_leave size new.store → IsOpened disk new last
@@ -424,7 +425,7 @@ module _ {D : Type 0} (told : Type 0) (content : D → List ℕ) (may_leave : D 
         opens = read.reads.opens
             ∙ ap (λ (l : Layout). Ok (opened_with l mid.jobs.tables.desk mid.jobs.failed mid.store.book)) (sym layout)
             ∙ ap (λ (t : TablesModel). Ok (opened_with new.store.layout t mid.jobs.failed mid.store.book)) (sym wrote.jobs.tables)
-            ∙ ap (λ (f : List ℕ). Ok (opened_with new.store.layout new.jobs.tables.desk f mid.store.book)) (sym wrote.jobs.failed)
+            ∙ ap (λ (f : List FailedRun). Ok (opened_with new.store.layout new.jobs.tables.desk f mid.store.book)) (sym wrote.jobs.failed)
             ∙ ap (λ (b : OpenBook). Ok (opened_with new.store.layout new.jobs.tables.desk new.jobs.failed b)) (sym book);
         failed = wrote.jobs.failed ∙ read.failed ∙ ap failed_in (sym wrote.jobs.tables);
         running = wrote.jobs.running ∙ read.running;

@@ -4,6 +4,7 @@ use Rattle.ckr_book.specs.Book.{room_of}
 use Rattle.ckr_desk_memory.specs.View.{JobsView, RunningStepView}
 use Rattle.ckr_desk_refines.specs.Commits.{HasCommitted}
 use Rattle.ckr_desk_refines.specs.Entries.{HasEntries}
+use Rattle.ckr_desk_turn.specs.declared.failed_run.FailedRun.{FailedRun}
 use Rattle.ckr_points.specs.Events.{AreSound}
 use Rattle.ckr_points.specs.Rows.{no_tables}
 use Rattle.ckr_desk_refines.specs.RewriteRecord.{HasLast}
@@ -52,7 +53,7 @@ module _ {D : Type 0} (told : Type 0) (content : D → List ℕ) (may_leave : D 
         ∙ ap (λ failed. state_with old.store.layout (content old.store.disk) old.jobs.running failed (room_of new.store.book)) is.jobs.failed
         ∙ ap (state_with old.store.layout (content old.store.disk) old.jobs.running old.jobs.failed) is.room
       where
-        state_with : Layout → List ℕ → List RunningStepView → List ℕ → ℕ → RoomyDesk
+        state_with : Layout → List ℕ → List RunningStepView → List FailedRun → ℕ → RoomyDesk
         state_with layout bytes running failed room = record { desk = record { layout = layout; office = office_on layout bytes; running = map step_on running; failed = failed }; room = room }
 
     entries-same : (image : List ℕ) → HasEntries old.store.layout (office_on old.store.layout (content old.store.disk)) image → HasEntries new.store.layout (office_on new.store.layout (content new.store.disk)) image

@@ -1,8 +1,9 @@
--- A turn that tells an event without a unit: the desk behind it, and what a stop leaves.
+-- A turn that tells an event without a unit, with the operator's answer if he is asked: the desk behind it, and what a stop leaves.
 use Rattle.std.proofs.Common.{◌≡◌, ◌+◌, ◌-◌, ℕ, List, [], ◌∷◌, Bool, true, false, length, refl, ap, sym, ◌∙◌, subst, ⊎_elim, arith, Some, None}
 use Rattle.std.proofs.lemmas.Bool.{and_from, false≢true, le-leb}
 use Rattle.ckr_base.proofs.Options.{some-not-none}
 use Rattle.ckr_book.specs.Book.{IsBeforeOrAfter, room_of}
+use Rattle.ckr_console.specs.declared.question.Answer.{Answer}
 use Rattle.ckr_events.specs.declared.event.Event.{Event}
 use Rattle.ckr_events.specs.declared.event.Event.TheVariants.{Checkpointed, Submitted, Rewritten}
 use Rattle.ckr_events.specs.Event.{IsSmall, spelling}
@@ -23,10 +24,11 @@ use Rattle.ckr_desk_store.specs.OpenImages.{Opens, event_records}
 use Rattle.ckr_desk_memory.specs.ForwardEvents.{is_forward_event}
 use Rattle.ckr_desk_refines.proofs.Events.Turns.{told-committed, told-stands}
 use Rattle.ckr_desk_turn.specs.declared.plan.Plan.{Plan}
-use Rattle.ckr_desk_turn.specs.declared.plan.Plan.TheVariants.{Tell}
+use Rattle.ckr_desk_turn.specs.declared.plan.Plan.TheVariants.{Rest, Tell, Work, Pass, Take, Ask, Wait}
 use Rattle.ckr_desk_turn.specs.declared.reply.Reply.{Reply}
 use Rattle.ckr_desk_turn.specs.declared.reply.Turn.{Turn}
-use Rattle.ckr_desk_turn.specs.Desk.{DeskModel, TurnDone, behind, jobs_of as jobs_of_desk}
+use Rattle.ckr_desk_turn.specs.Desk.{DeskModel, TurnDone, behind, done_by, jobs_of as jobs_of_desk}
+use Rattle.ckr_desk_turn.specs.Inquiries.{decide, is_ask}
 use Rattle.ckr_desk_turn.specs.Turns.{carried_out, turn_of}
 use Rattle.ckr_desk_turn.specs.Plans.{plan_of}
 use Rattle.ckr_desk_turn.specs.Spelling.{IsSpelled}
@@ -35,15 +37,28 @@ use Rattle.ckr_desk.proofs.Images.NextEvent.{deck-none}
 use Rattle.ckr_desk.proofs.Images.Entries.{HasNewOne, behind-same}
 use Rattle.ckr_desk.proofs.Images.Soundness.{again-so, kept-behind, kept-left, kept-same}
 use Rattle.ckr_desk.proofs.Images.WrittenRecord.{TellsRecord}
-use Rattle.ckr_desk.proofs.Turns.PlainEvents.{IsQuietPlan, is_quiet, plan-quiet, quiet-plain}
+use Rattle.ckr_desk.proofs.Turns.PlainEvents.{IsQuietPlan, decided-quiet, is_quiet, plan-quiet, quiet-plain}
 use Rattle.ckr_desk.proofs.Trust.Events.{IsBehind, IsComing, desk-behind}
 use Rattle.ckr_desk.specs.Requests.{has_room, room_behind}
 use Rattle.ckr_desk.specs.Calls.{HasGoneOn, IsLeftBy, IsSettledBehind, may_keep}
 use Rattle.ckr_desk.specs.Rewrite.{IsWrittenBy, LacksAtMost, OpensSame}
 use Rattle.ckr_desk.specs.Turn.{behind_turn, event_of_turn, turn_fits}
-use Rattle.ckr_desk.specs.Units.{HasGoneBehind, HasWrittenBehind, IsLeftBehind}
+use Rattle.ckr_desk.specs.Units.{HasGoneBehind, HasWrittenBehind, IsLeftBehind, IsPlainTold}
 use Rattle.ckr_desk.specs.Soundness.{HasKept, IsTrusted, office_on, state_of}
 use Rattle.ckr_desk.specs.State.{RoomyDesk, DeskView, need_of}
+
+-- what is done by a plan that is settled, and whether the operator was asked
+abbrev pub done_so : Plan → Bool → DeskModel → TurnDone
+done_so plan asked desk = record (done_by plan desk) { asked = asked }
+
+settled-done : (answer : Answer) (plan : Plan) (desk : DeskModel) → IsPlainTold (decide answer plan) → carried_out answer plan desk ≡ done_so (decide answer plan) (is_ask plan) desk
+settled-done answer (Rest reply) desk plain = refl
+settled-done answer (Tell reply event) desk plain = refl
+settled-done answer (Work job) desk plain = absurd plain
+settled-done answer (Pass job reply) desk plain = absurd plain
+settled-done answer (Take job) desk plain = absurd plain
+settled-done answer (Ask inquiry) desk plain = refl
+settled-done answer (Wait job code) desk plain = refl
 
 -- an event that isn't Rewritten tells no record, and is no submission
 pub quiet-rewrites : (event : Event) → is_quiet event ≡ true → (tables : _) → rewrite_of tables event ≡ None
@@ -83,13 +98,24 @@ module _ {D : Type 0} (told : Type 0) (content : D → List ℕ) (may_leave : D 
   pub plans-desk : plan_of layout (jobs_of old.jobs) turn ≡ plan_of desk.layout (jobs_of_desk desk) turn
   plans-desk = plans-so layout old.jobs (content old.store.disk) desk turn trusted.stands
 
-  pub turned : (plan : Plan) → plan_of layout (jobs_of old.jobs) turn ≡ plan → turn_of desk turn ≡ carried_out plan desk
+  pub turned : (answer : Answer) (plan : Plan) → plan_of layout (jobs_of old.jobs) turn ≡ plan → turn_of desk turn answer ≡ carried_out answer plan desk
   unfolding turn_of
-  turned plan is = ap (λ p. carried_out p desk) (sym plans-desk ∙ is)
+  turned answer plan is = ap (λ p. carried_out answer p desk) (sym plans-desk ∙ is)
 
-  module _ (reply : Reply) (event : Event) (planned : plan_of layout (jobs_of old.jobs) turn ≡ Tell reply event) (shape : IsSpelled event) where
+  -- a turn whose plan is settled by the answer comes to that
+  pub turned-settled : (answer : Answer) (plan : Plan) → decide answer (plan_of layout (jobs_of old.jobs) turn) ≡ plan → IsPlainTold plan
+      → turn_of desk turn answer ≡ done_so plan (is_ask (plan_of layout (jobs_of old.jobs) turn)) desk
+  turned-settled answer plan is plain =
+      turned answer (plan_of layout (jobs_of old.jobs) turn) refl
+      ∙ settled-done answer (plan_of layout (jobs_of old.jobs) turn) desk (subst IsPlainTold (sym is) plain)
+      ∙ ap (λ p. done_so p (is_ask (plan_of layout (jobs_of old.jobs) turn)) desk) is
+
+  module _ (answer : Answer) (reply : Reply) (event : Event) (planned : decide answer (plan_of layout (jobs_of old.jobs) turn) ≡ Tell reply event) (shape : IsSpelled event) where
     pub quiet-so : is_quiet event ≡ true
-    quiet-so = subst IsQuietPlan planned (plan-quiet layout (jobs_of old.jobs) turn)
+    quiet-so = subst IsQuietPlan planned (decided-quiet answer (plan_of layout (jobs_of old.jobs) turn) (plan-quiet layout (jobs_of old.jobs) turn))
+
+    pub told-so : turn_of desk turn answer ≡ done_so (Tell reply event) (is_ask (plan_of layout (jobs_of old.jobs) turn)) desk
+    told-so = turned-settled answer (Tell reply event) planned (quiet-plain event quiet-so)
 
     none : deck_of event ≡ None
     none = deck-none event shape.small
@@ -97,14 +123,14 @@ module _ {D : Type 0} (told : Type 0) (content : D → List ℕ) (may_leave : D 
     rewrites-none : (tables : _) (rewrite : RewriteRecord) → rewrite_of tables event ≡ Some rewrite → ⊥
     rewrites-none tables rewrite is = some-not-none rewrite (sym is ∙ quiet-rewrites event quiet-so tables)
 
-    at-desk : plan_of desk.layout (jobs_of_desk desk) turn ≡ Tell reply event
-    at-desk = sym plans-desk ∙ planned
+    at-desk : decide answer (plan_of desk.layout (jobs_of_desk desk) turn) ≡ Tell reply event
+    at-desk = ap (decide answer) (sym plans-desk) ∙ planned
 
     kept-so : IsDesk (behind event None desk)
-    kept-so = subst (λ (done : TurnDone). IsDesk done.desk) (turned (Tell reply event) planned) (turn-keeps desk turn trusted.stands.is_desk its.above its.below).kept
+    kept-so = subst (λ (done : TurnDone). IsDesk done.desk) told-so (turn-keeps desk turn answer trusted.stands.is_desk its.above its.below).kept
 
     comes : EventComes desk (Some event)
-    comes = subst (λ (done : TurnDone). EventComes desk done.event) (turned (Tell reply event) planned) (turn-keeps desk turn trusted.stands.is_desk its.above its.below).comes
+    comes = subst (λ (done : TurnDone). EventComes desk done.event) told-so (turn-keeps desk turn answer trusted.stands.is_desk its.above its.below).comes
 
     pub coming-turn : may_keep event None old ≡ true → IsComing told content may_leave event old (behind event None desk)
     coming-turn might = record {
@@ -125,7 +151,7 @@ module _ {D : Type 0} (told : Type 0) (content : D → List ℕ) (may_leave : D 
         behind-same told content may_leave old trusted event (behind event None desk) (coming-turn might) (content old.store.disk) image
         (quiet-takes event quiet-so layout desk.office (content old.store.disk)) trusted.entries same
 
-    pub behind-turn-so : (new : DeskView D) → new.store.layout ≡ layout → told → HasGoneBehind told content (Some event) old new → IsSettledBehind content may_leave (Some event) new
+    pub behind-turn-so : (new : DeskView D) → new.store.layout ≡ layout → told → HasGoneBehind told content (Tell reply event) old new → IsSettledBehind content may_leave (Some event) new
         → IsBehind told content may_leave event old new (behind event None desk)
     behind-turn-so new same tells gone settled =
         let written : HasWrittenBehind content event old new = gone.1 tells in
@@ -135,7 +161,7 @@ module _ {D : Type 0} (told : Type 0) (content : D → List ℕ) (may_leave : D 
           layout = same;
           events = written.events;
           tables = gone.0.moved.tables ∙ ap (λ d. after_event event d old.jobs.tables.desk) (sym none);
-          stands = told-stands layout old.jobs new.jobs (content old.store.disk) (content new.store.disk) desk turn reply event trusted.stands its at-desk gone.0.moved same_records;
+          stands = told-stands layout old.jobs new.jobs (content old.store.disk) (content new.store.disk) desk turn answer reply event trusted.stands its at-desk gone.0.moved same_records;
           entries = entries-so gone.0.might (content new.store.disk) same_records;
           settled = settled;
         }
@@ -143,21 +169,21 @@ module _ {D : Type 0} (told : Type 0) (content : D → List ℕ) (may_leave : D 
     fits-so : (new : DeskView D) → HasGoneOn event None old new → has_room (room_of old.store.book) (Some event) ≡ true
     fits-so new gone = le-leb (need_of event) (room_of old.store.book) gone.fits
 
-    pub event-so : event_of_turn (state_of content old) turn ≡ Some event
+    pub event-so : event_of_turn (state_of content old) turn answer ≡ Some event
     unfolding event_of_turn
-    event-so = ap (λ (done : TurnDone). done.event) (turned (Tell reply event) planned)
+    event-so = ap (λ (done : TurnDone). done.event) told-so
 
-    pub turn-fits-so : (new : DeskView D) → HasGoneOn event None old new → turn_fits (state_of content old) turn ≡ true
+    pub turn-fits-so : (new : DeskView D) → HasGoneOn event None old new → turn_fits (state_of content old) turn answer ≡ true
     unfolding turn_fits
     turn-fits-so new gone = ap (has_room (room_of old.store.book)) event-so ∙ fits-so new gone
 
-    pub state-behind : (new : DeskView D) → may_keep event None old ≡ true → HasGoneOn event None old new → IsBehind told content may_leave event old new (behind event None desk) → state_of content new ≡ behind_turn (state_of content old) turn
+    pub state-behind : (new : DeskView D) → may_keep event None old ≡ true → HasGoneOn event None old new → IsBehind told content may_leave event old new (behind event None desk) → state_of content new ≡ behind_turn (state_of content old) turn answer
     unfolding behind_turn
     state-behind new might gone is =
         ap (λ (d : DeskModel). state_as d (room_of new.store.book)) (sym (desk-behind told content may_leave event old new (behind event None desk) (coming-turn might) is))
         ∙ ap (state_as (behind event None desk)) (let e : room_of new.store.book ≡ room_of old.store.book - (length (spelling event) + 5) = omega (arith, gone.room) in e)
         ∙ ap (λ e. state_as (behind event None desk) (room_behind (room_of old.store.book) e)) (sym event-so)
-        ∙ ap (λ (done : TurnDone). state_as done.desk (room_behind (room_of old.store.book) (event_of_turn (state_of content old) turn))) (sym (turned (Tell reply event) planned))
+        ∙ ap (λ (done : TurnDone). state_as done.desk (room_behind (room_of old.store.book) (event_of_turn (state_of content old) turn answer))) (sym told-so)
       where
         state_as : DeskModel → ℕ → RoomyDesk
         state_as d room = record { desk = d; room = room }
@@ -174,7 +200,7 @@ module _ {D : Type 0} (told : Type 0) (content : D → List ℕ) (may_leave : D 
         (λ same. kept-same told content may_leave size old trusted (spelling event ∷ []) image (record { head = now.1.head; list = same; closed = now.1.closed }) now.2)
         (λ more. kept-behind told content may_leave size old trusted event (behind event None desk) (coming-turn now.0) image (record { head = now.1.head; list = more; closed = now.1.closed })
         (again-so layout (behind event None desk).office (Some event) image (coming-turn now.0).last
-        (told-committed layout old.jobs (content old.store.disk) desk turn reply event trusted.stands its at-desk image now.2)) (entries-so now.0 image now.2))
+        (told-committed layout old.jobs (content old.store.disk) desk turn answer reply event trusted.stands its at-desk image now.2)) (entries-so now.0 image now.2))
         now.1.list)
         by)
         (λ lacks. absurd (quiet-lacks event quiet-so layout _ lacks.told_on image lacks.lacks))

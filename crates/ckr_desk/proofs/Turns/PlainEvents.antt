@@ -4,6 +4,7 @@ use Rattle.std.proofs.lemmas.Bool.{false≢true}
 use Rattle.std.specs.Option.{option_map_or}
 use Rattle.ckr_desk_memory.specs.Model.Refusal.{Refusal}
 use Rattle.ckr_base.specs.declared.code.Code.{Code}
+use Rattle.ckr_console.specs.declared.question.Answer.{Answer}
 use Rattle.ckr_base.specs.declared.programs.NextDue.{NextDue}
 use Rattle.ckr_base.specs.declared.programs.NextDue.TheVariants.{Unit as OneUnit, Checkpoint, Cancel, Finished}
 use Rattle.ckr_events.specs.declared.event.Event.{Event}
@@ -23,13 +24,15 @@ use Rattle.ckr_desk_memory.specs.ForwardEvents.{is_forward_event}
 use Rattle.ckr_desk_turn.proofs.Codes.{by-verdict}
 use Rattle.ckr_desk_turn.specs.Codes.{CodePlaceModel, code_plan, initiator_of, reached_by, running_reached}
 use Rattle.ckr_desk_turn.specs.declared.plan.Plan.{Plan}
-use Rattle.ckr_desk_turn.specs.declared.plan.Plan.TheVariants.{Rest, Tell, Work, Pass, Take}
+use Rattle.ckr_desk_turn.specs.declared.plan.Plan.TheVariants.{Rest, Tell, Work, Pass, Take, Ask, Wait}
 use Rattle.ckr_desk_turn.specs.declared.reply.Turn.{Turn}
 use Rattle.ckr_desk_turn.specs.Allocation.{allocation_of}
 use Rattle.ckr_desk_turn.specs.Select.{next_run, run_on_initiator}
-use Rattle.ckr_desk_turn.specs.Jobs.{TurnJobs, TurnStep, is_failed, running_in}
-use Rattle.ckr_desk_turn.specs.Plans.{between_plan, chosen_plan, due_plan, fail_plan, free_plan, is_within, placed_plan, plan_of, run_plan, running_plan, start_plan, suppressed_plan, system_failure}
+use Rattle.ckr_desk_turn.specs.Inquiries.{decide}
+use Rattle.ckr_desk_turn.specs.Jobs.{TurnJobs, TurnStep, is_failed, running_in, waiting_code}
+use Rattle.ckr_desk_turn.specs.Plans.{between_plan, chosen_plan, due_plan, fail_plan, free_plan, is_within, placed_plan, plan_of, run_plan, running_plan, start_plan, suppressed_plan, system_failure, unmarked_plan, waiting_plan}
 use Rattle.ckr_volumes.specs.declared.layout.Layout.{Layout}
+use Rattle.ckr_desk.proofs.Turns.Decided.{by-answer, by-decide}
 use Rattle.ckr_desk.specs.Units.{IsPlainPlan}
 
 -- the event of a plan, if it has one, is plain, rewrites nothing and takes no checkpoint
@@ -45,6 +48,8 @@ IsQuietPlan (Tell reply event) = is_quiet event ≡ true
 IsQuietPlan (Work job) = Unit {0}
 IsQuietPlan (Pass job reply) = Unit {0}
 IsQuietPlan (Take job) = Unit {0}
+IsQuietPlan (Ask inquiry) = Unit {0}
+IsQuietPlan (Wait job code) = Unit {0}
 
 either-quiet : (r : Result (List Made) Refusal) (f : Refusal → Plan) (g : List Made → Plan) → ((x : Refusal) → IsQuietPlan (f x)) → ((x : List Made) → IsQuietPlan (g x))
     → IsQuietPlan (elim r as (λ _. Plan) [ Err refusal ↦ f refusal | Ok items ↦ g items ])
@@ -67,9 +72,9 @@ cond-quiet : (b : Bool) (one two : Plan) → IsQuietPlan one → IsQuietPlan two
 cond-quiet true one two first second = first
 cond-quiet false one two first second = second
 
--- a run with a code ends, or is restarted
-code-quiet : (layout : Layout) (tables : TablesModel) (row : RunRow) (initiator : ℕ) (code : Code) (reached : CodePlaceModel) → IsQuietPlan (code_plan layout tables row initiator code reached)
-code-quiet layout tables row initiator code reached = by-verdict IsQuietPlan layout tables row initiator code reached (λ rule ends. refl) (λ judged. refl) (λ entry judged found. refl)
+-- a run with a code ends, or the operator is asked
+code-quiet : (layout : Layout) (tables : TablesModel) (row : RunRow) (initiator : ℕ) (lodged : Bool) (code : Code) (reached : CodePlaceModel) → IsQuietPlan (code_plan layout tables row initiator lodged code reached)
+code-quiet layout tables row initiator lodged code reached = by-verdict IsQuietPlan layout tables row initiator lodged code reached (λ rule ends. refl) (λ judged. tt) (λ entry judged found. tt)
 
 module _ (layout : Layout) (jobs : TurnJobs) where
   start-quiet : (row : RunRow) (owned : OwnedStep) (number : ℕ) → IsQuietPlan (start_plan layout jobs row owned number)
@@ -94,13 +99,22 @@ module _ (layout : Layout) (jobs : TurnJobs) where
 
   fail-quiet : (row : RunRow) (fail : Option Code) → IsQuietPlan (fail_plan layout jobs row fail)
   fail-quiet row None = placed-quiet row (place_of row)
-  fail-quiet row (Some code) = if-quiet (is_within (place_of row)) _ _ (code-quiet layout jobs.tables row (initiator_of row) code (reached_by jobs row)) tt
+  fail-quiet row (Some code) = if-quiet (is_within (place_of row)) _ _ (code-quiet layout jobs.tables row (initiator_of row) true code (reached_by jobs row)) tt
+
+  waiting-quiet : (row : RunRow) (code : Code) (fail : Option Code) → IsQuietPlan (waiting_plan layout jobs row code fail)
+  waiting-quiet row code None = code-quiet layout jobs.tables row (initiator_of row) true code (reached_by jobs row)
+  waiting-quiet row code (Some given) = tt
+
+  unmarked-quiet : (row : RunRow) (fail waits : Option Code) → IsQuietPlan (unmarked_plan layout jobs row fail waits)
+  unmarked-quiet row fail None = fail-quiet row fail
+  unmarked-quiet row fail (Some code) = waiting-quiet row code fail
 
   run-quiet : (fail : Option Code) (row : RunRow) → IsQuietPlan (run_plan layout jobs fail row)
-  run-quiet fail row = if-quiet (is_failed jobs row.number) _ _ (code-quiet layout jobs.tables row (initiator_of row) system_failure (reached_by jobs row)) (fail-quiet row fail)
+  run-quiet fail row =
+      if-quiet (is_failed jobs row.number) _ _ (code-quiet layout jobs.tables row (initiator_of row) true system_failure (reached_by jobs row)) (unmarked-quiet row fail (waiting_code jobs row.number))
 
   chosen-quiet : (initiator : ℕ) (row : RunRow) → IsQuietPlan (chosen_plan layout jobs initiator row)
-  chosen-quiet initiator row = some-quiet row.code _ _ refl (λ code. code-quiet layout jobs.tables row initiator code (reached_by jobs row))
+  chosen-quiet initiator row = some-quiet row.code _ _ refl (λ code. code-quiet layout jobs.tables row initiator false code (reached_by jobs row))
 
   free-quiet : (initiator : ℕ) (fail : Option Code) → IsQuietPlan (free_plan layout jobs initiator fail)
   free-quiet initiator (Some code) = tt
@@ -123,12 +137,23 @@ plain-by (Tell reply event) quiet = quiet-plain event quiet
 plain-by (Work job) quiet = tt
 plain-by (Pass job reply) quiet = tt
 plain-by (Take job) quiet = tt
+plain-by (Ask inquiry) quiet = tt
+plain-by (Wait job code) quiet = tt
 
 pub plan-plain : (layout : Layout) (jobs : TurnJobs) (turn : Turn) (plan : Plan) → plan ≡ plan_of layout jobs turn → IsPlainPlan plan
 plan-plain layout jobs turn plan is = plain-by plan (subst IsQuietPlan (sym is) (plan-quiet layout jobs turn))
+
+-- ---- what the operator's answer comes to
+
+-- it tells no other events than those of its run
+pub decided-quiet : (answer : Answer) (plan : Plan) → IsQuietPlan plan → IsQuietPlan (decide answer plan)
+decided-quiet answer plan quiet = by-decide IsQuietPlan answer plan (λ inquiry is. by-answer IsQuietPlan answer inquiry refl refl refl tt tt) (λ other. quiet)
+
+pub decided-plain : (answer : Answer) (plan : Plan) → IsPlainPlan plan → IsPlainPlan (decide answer plan)
+decided-plain answer plan plain = by-decide IsPlainPlan answer plan (λ inquiry is. by-answer IsPlainPlan answer inquiry refl refl refl tt tt) (λ other. plain)
 
 -- so is what it tells of a unit
 pub told-plain : (layout : Layout) (tables : TablesModel) (row : RunRow) (step : TurnStep) (worked : Worked) → IsPlainPlan (told_by layout tables row step worked)
 told-plain layout tables row step (Went taken) = tt
 told-plain layout tables row step (Rewrite place image taken) = refl
-told-plain layout tables row step (Abend code) = by-verdict IsPlainPlan layout tables row (initiator_of row) code (running_reached step) (λ rule ends. refl) (λ judged. refl) (λ entry judged found. refl)
+told-plain layout tables row step (Abend code) = by-verdict IsPlainPlan layout tables row (initiator_of row) true code (running_reached step) (λ rule ends. refl) (λ judged. tt) (λ entry judged found. tt)

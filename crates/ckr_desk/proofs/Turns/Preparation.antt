@@ -1,7 +1,9 @@
 -- A turn that begins where the disk was only read, and the jobs took memory, from the desk as it stood.
 use Rattle.std.proofs.Common.{◌≡◌, ◌++◌, ℕ, List, true, refl, ap, sym, ◌∙◌, subst, Result, Ok, Err, IfErr, IfOk, OnOk, map}
 use Rattle.ckr_book.specs.Book.{room_of}
+use Rattle.ckr_console.specs.declared.question.Answer.{Answer}
 use Rattle.ckr_desk_memory.specs.View.{JobsView, RunningStepView, jobs_of, running_of}
+use Rattle.ckr_desk_turn.specs.declared.failed_run.FailedRun.{FailedRun}
 use Rattle.ckr_outside.specs.Disk.{EachSince, OnlyReads}
 use Rattle.ckr_outside.specs.Moments.{and_then, in_other_words}
 use Rattle.ckr_points.specs.Rows.{TablesModel}
@@ -24,7 +26,7 @@ use Rattle.ckr_desk.specs.Rewrite.{OpensSame}
 use Rattle.ckr_desk.specs.Soundness.{HasKept, IsTrusted, KeepsWithin, state_of}
 use Rattle.ckr_desk.specs.State.{DeskView, RoomyDesk}
 use Rattle.ckr_desk.specs.NoChange.{IsOfDisk, IsUnchanged}
-use Rattle.ckr_desk.specs.Turn.{behind_turn, event_of_turn, reply_of, turn_fits}
+use Rattle.ckr_desk.specs.Turn.{asks, behind_turn, event_of_turn, reply_of, turn_fits}
 use Rattle.ckr_desk.specs.Units.{HasTurned, IsPlanned, TakesBy}
 
 -- a turn sees the same of the jobs
@@ -35,7 +37,7 @@ jobs-same old new same =
     ∙ ap (λ running. jobs_with old.tables.desk running new.failed) same.running
     ∙ ap (jobs_with old.tables.desk old.running) same.failed
   where
-    jobs_with : TablesModel → List RunningStepView → List ℕ → TurnJobs
+    jobs_with : TablesModel → List RunningStepView → List FailedRun → TurnJobs
     jobs_with tables running failed = record { tables = tables; running = map (running_of tables) running; failed = failed }
 
 pub seen-alike : {D : Type 0} (old new : DeskView D) → HasSameJobs old new → AreSame old.jobs new.jobs
@@ -93,12 +95,12 @@ module _ {D : Type 0} (told : Type 0) (content : D → List ℕ) (may_leave : D 
     planned = ap (λ (l : Layout). plan_of l (jobs_of mid.jobs) turn) is.layout ∙ ap (λ jobs. plan_of old.store.layout jobs turn) (jobs-same old.jobs mid.jobs is.jobs) ∙ p.planned;
   }
 
-  module _ (turn : Turn) (trusted : IsTrusted told content may_leave old) where
+  module _ (turn : Turn) (answer : Answer) (trusted : IsTrusted told content may_leave old) where
     abbrev before : List (List ℕ)
     before = event_records old.store.layout (content old.store.disk)
 
     abbrev came : List (List ℕ)
-    came = spelled (event_of_turn (state_of content old) turn)
+    came = spelled (event_of_turn (state_of content old) turn answer)
 
     same : state_of content mid ≡ state_of content old
     same = state-same told content may_leave old mid is
@@ -107,28 +109,28 @@ module _ {D : Type 0} (told : Type 0) (content : D → List ℕ) (may_leave : D 
     read-kept its image left = kept-left told content may_leave size old trusted its image left.0 left.1
 
     later-kept : (result : Result Reply DeskError) (image : List ℕ)
-        → HasKept mid.store.layout (size mid.store.disk) (event_records mid.store.layout (content mid.store.disk)) (came_by result (spelled (event_of_turn (state_of content mid) turn))) image
+        → HasKept mid.store.layout (size mid.store.disk) (event_records mid.store.layout (content mid.store.disk)) (came_by result (spelled (event_of_turn (state_of content mid) turn answer))) image
         → HasKept old.store.layout (size old.store.disk) before (came_by result came) image
     later-kept result image kept =
-        subst (λ (s : RoomyDesk). HasKept old.store.layout (size old.store.disk) before (came_by result (spelled (event_of_turn s turn))) image) same
-        (subst (λ (bytes : List ℕ). HasKept old.store.layout (size old.store.disk) (event_records old.store.layout bytes) (came_by result (spelled (event_of_turn (state_of content mid) turn))) image) is.reads
-        (subst (λ (n : ℕ). HasKept old.store.layout n (event_records old.store.layout (content mid.store.disk)) (came_by result (spelled (event_of_turn (state_of content mid) turn))) image) sized
-        (subst (λ (l : Layout). HasKept l (size mid.store.disk) (event_records l (content mid.store.disk)) (came_by result (spelled (event_of_turn (state_of content mid) turn))) image) is.layout kept)))
+        subst (λ (s : RoomyDesk). HasKept old.store.layout (size old.store.disk) before (came_by result (spelled (event_of_turn s turn answer))) image) same
+        (subst (λ (bytes : List ℕ). HasKept old.store.layout (size old.store.disk) (event_records old.store.layout bytes) (came_by result (spelled (event_of_turn (state_of content mid) turn answer))) image) is.reads
+        (subst (λ (n : ℕ). HasKept old.store.layout n (event_records old.store.layout (content mid.store.disk)) (came_by result (spelled (event_of_turn (state_of content mid) turn answer))) image) sized
+        (subst (λ (l : Layout). HasKept l (size mid.store.disk) (event_records l (content mid.store.disk)) (came_by result (spelled (event_of_turn (state_of content mid) turn answer))) image) is.layout kept)))
 
     -- it was done then
-    pub turned-before : (new : DeskView D) (result : Result Reply DeskError) → HasTurned told content may_leave moment left_since size turn mid new result → HasTurned told content may_leave moment left_since size turn old new result
+    pub turned-before : (new : DeskView D) (result : Result Reply DeskError) → HasTurned told content may_leave moment left_since size turn answer mid new result → HasTurned told content may_leave moment left_since size turn answer old new result
     turned-before new result done = record {
-      reply = subst (λ (s : RoomyDesk). IfOk result (λ reply. reply ≡ reply_of s turn)) same done.reply;
-      fits = subst (λ (s : RoomyDesk). OnOk result (turn_fits s turn ≡ true)) same done.fits;
-      after = subst (λ (s : RoomyDesk). OnOk result (state_of content new ≡ behind_turn s turn)) same done.after;
+      reply = subst (λ (s : RoomyDesk). IfOk result (λ reply. reply ≡ reply_of s turn answer)) same done.reply;
+      fits = subst (λ (s : RoomyDesk). OnOk result (turn_fits s turn answer ≡ true)) same done.fits;
+      after = subst (λ (s : RoomyDesk). OnOk result (state_of content new ≡ behind_turn s turn answer)) same done.after;
       trusted = done.trusted;
-      events = subst (λ (s : RoomyDesk). OnOk result (event_records old.store.layout (content new.store.disk) ≡ before ++ spelled (event_of_turn s turn))) same
-          (subst (λ (bytes : List ℕ). OnOk result (event_records old.store.layout (content new.store.disk) ≡ event_records old.store.layout bytes ++ spelled (event_of_turn (state_of content mid) turn))) is.reads
-          (subst (λ (l : Layout). OnOk result (event_records l (content new.store.disk) ≡ event_records l (content mid.store.disk) ++ spelled (event_of_turn (state_of content mid) turn))) is.layout done.events));
-      cause = subst (λ (s : RoomyDesk). IfErr result (FailsBy s.room (event_of_turn s turn))) same done.cause;
-      takes = subst (λ (s : RoomyDesk). IfErr result (TakesBy (reply_of s turn) (event_of_turn s turn))) same done.takes;
+      events = subst (λ (s : RoomyDesk). OnOk result (event_records old.store.layout (content new.store.disk) ≡ before ++ spelled (event_of_turn s turn answer))) same
+          (subst (λ (bytes : List ℕ). OnOk result (event_records old.store.layout (content new.store.disk) ≡ event_records old.store.layout bytes ++ spelled (event_of_turn (state_of content mid) turn answer))) is.reads
+          (subst (λ (l : Layout). OnOk result (event_records l (content new.store.disk) ≡ event_records l (content mid.store.disk) ++ spelled (event_of_turn (state_of content mid) turn answer))) is.layout done.events));
+      cause = subst (λ (s : RoomyDesk). IfErr result (FailsBy s.room (event_of_turn s turn answer))) same done.cause;
+      takes = subst (λ (s : RoomyDesk). IfErr result (TakesBy (reply_of s turn answer) (event_of_turn s turn answer) (asks s turn answer))) same done.takes;
       kept = and_then moment left_since old.store.disk mid.store.disk new.store.disk (λ image. OpensSame content size old image × may_leave old.store.disk image)
-          (HasKept mid.store.layout (size mid.store.disk) (event_records mid.store.layout (content mid.store.disk)) (came_by result (spelled (event_of_turn (state_of content mid) turn))))
+          (HasKept mid.store.layout (size mid.store.disk) (event_records mid.store.layout (content mid.store.disk)) (came_by result (spelled (event_of_turn (state_of content mid) turn answer))))
           (HasKept old.store.layout (size old.store.disk) before (came_by result came)) since done.kept (read-kept (came_by result came)) (later-kept result);
     }
 
@@ -136,8 +138,8 @@ module _ {D : Type 0} (told : Type 0) (content : D → List ℕ) (may_leave : D 
     its_came error = came_by {T = Reply} (Err error) came
 
     -- it wasn't
-    pub turned-not : (error : DeskError) → FailsBy (state_of content old).room (event_of_turn (state_of content old) turn) error → TakesBy (reply_of (state_of content old) turn) (event_of_turn (state_of content old) turn) error
-        → HasTurned told content may_leave moment left_since size turn old mid (Err error)
+    pub turned-not : (error : DeskError) → FailsBy (state_of content old).room (event_of_turn (state_of content old) turn answer) error → TakesBy (reply_of (state_of content old) turn answer) (event_of_turn (state_of content old) turn answer) (asks (state_of content old) turn answer) error
+        → HasTurned told content may_leave moment left_since size turn answer old mid (Err error)
     turned-not error cause takes = record {
       reply = tt;
       fits = tt;

@@ -1,4 +1,4 @@
--- What the event of a unit brings about, where its step ends with a code, and its run ends or is restarted, and where it rewrites a record.
+-- What the event of a unit brings about, where its step ends with a code, and its run ends, is held or is restarted, and where it rewrites a record.
 use Rattle.std.proofs.Common.{◌≡◌, ◌≤◌, ◌<◌, ℕ, Bool, true, false, List, cond, refl, ap, sym, ◌∙◌, subst, slice_set, Option, Some, None}
 use Rattle.std.specs.Prelude.{IsTrue}
 use Rattle.std.specs.Option.{option_map, option_map_or}
@@ -6,9 +6,10 @@ use Rattle.std.proofs.lemmas.Option.{same_Some}
 use Rattle.arrayvec.specs.ArrayVec.{ArrayVec}
 use Rattle.ckr_base.specs.declared.code.Code.{Code}
 use Rattle.ckr_base.proofs.Options.{some-not-none}
+use Rattle.ckr_console.specs.declared.question.Answer.{Answer}
 use Rattle.ckr_events.specs.declared.event.Ending.TheVariants.{Coded}
 use Rattle.ckr_events.specs.declared.event.Event.{Event}
-use Rattle.ckr_events.specs.declared.event.Event.TheVariants.{Ended, Restarted}
+use Rattle.ckr_events.specs.declared.event.Event.TheVariants.{Ended, Held, Restarted}
 use Rattle.ckr_desk_memory.specs.View.{JobsView, RunningStepView}
 use Rattle.ckr_desk_memory.specs.Rewrite.{updated_by, updated_in}
 use Rattle.ckr_desk_turn.proofs.Units.AnyUnit.{work-keeps}
@@ -46,7 +47,7 @@ use Rattle.ckr_steps.specs.declared.files.RecordSource.TheVariants.{InSet}
 use Rattle.ckr_steps.specs.declared.step_run.Worked.{Worked}
 use Rattle.ckr_steps.specs.declared.step_run.Worked.TheVariants.{Abend, Rewrite}
 use Rattle.ckr_steps.specs.Writes.{IsShown}
-use Rattle.ckr_desk_refines.proofs.Events.Turns.{code-committed, code-stands, restart-committed, restarted-stands}
+use Rattle.ckr_desk_refines.proofs.Events.Turns.{code-committed, code-stands, held-stands, hold-committed, restart-committed, restarted-stands}
 use Rattle.ckr_desk_turn.specs.declared.reply.Turn.{Turn}
 use Rattle.ckr_desk_turn.specs.Desk.{DeskModel, TurnDone, behind, work_of}
 use Rattle.ckr_volumes.specs.declared.layout.Layout.{Layout}
@@ -66,19 +67,19 @@ use Rattle.ckr_desk.proofs.Turns.PlainEvents.{is_quiet}
 use Rattle.ckr_desk.specs.Rewrite.{IsWrittenBy, LacksAtMost}
 
 -- the event of a unit may come; the desk behind it, the jobs in memory that stand for it, and what an image of a stop has
-pub record Ensues (put : JobsView) (after : List ℕ) (desk : DeskModel) (run : ℕ) (event : Event) : Type 0 where
+pub record Ensues (put : JobsView) (after : List ℕ) (desk : DeskModel) (run : ℕ) (answer : Answer) (event : Event) : Type 0 where
   pub comes : Comes desk event
-  pub is_desk : IsDesk (work_of run desk).desk
-  pub layout_is : (work_of run desk).desk.layout ≡ desk.layout
-  pub office : (work_of run desk).desk.office ≡ office_after (event, None) desk.office
-  pub last : HasLast (work_of run desk).desk.office (Some event)
+  pub is_desk : IsDesk (work_of answer run desk).desk
+  pub layout_is : (work_of answer run desk).desk.layout ≡ desk.layout
+  pub office : (work_of answer run desk).desk.office ≡ office_after (event, None) desk.office
+  pub last : HasLast (work_of answer run desk).desk.office (Some event)
   pub takes : (layout : Layout) (now : Office) (image : List ℕ) → HasNewOne layout now event image
   pub record_told : TellsRecord (after_event event None desk.office.tables) event
   pub stands : (later : JobsView) → HaveMoved event None put later → (told written : List ℕ) → HasSameRecords desk.layout after told
-      → IsWrittenBy desk.layout (after_event event None desk.office.tables) event told written → StandsForDesk desk.layout later written (work_of run desk).desk
-  pub same : (stopped : List ℕ) → HasSameRecords desk.layout after stopped → HasCommittedAgain desk.layout (work_of run desk).desk.office (Some event) stopped
+      → IsWrittenBy desk.layout (after_event event None desk.office.tables) event told written → StandsForDesk desk.layout later written (work_of answer run desk).desk
+  pub same : (stopped : List ℕ) → HasSameRecords desk.layout after stopped → HasCommittedAgain desk.layout (work_of answer run desk).desk.office (Some event) stopped
   pub lacking : (told stopped : List ℕ) → HasSameRecords desk.layout after told → LacksAtMost desk.layout (after_event event None desk.office.tables) event told stopped
-      → HasCommittedAgain desk.layout (work_of run desk).desk.office (Some event) stopped
+      → HasCommittedAgain desk.layout (work_of answer run desk).desk.office (Some event) stopped
 
 -- ---- data sets in the same places
 
@@ -120,38 +121,38 @@ differs-nowhere layout set place image = record { records = λ at less apart. re
 
 -- ---- the unit's event comes
 
-module _ (old : JobsView) (before after : List ℕ) (desk : DeskModel) (turn : Turn) (run : ℕ) (on moved : RunningStepView) (worked : Worked) (unit : StandsBehindUnit desk.layout old before after desk turn run on moved worked) where
-  comes-so : (event : Event) → (work_of run desk).event ≡ Some event → Comes desk event
+module _ (old : JobsView) (before after : List ℕ) (desk : DeskModel) (turn : Turn) (run : ℕ) (on moved : RunningStepView) (worked : Worked) (unit : StandsBehindUnit desk.layout old before after desk turn run on moved worked) (answer : Answer) where
+  comes-so : (event : Event) → (work_of answer run desk).event ≡ Some event → Comes desk event
   comes-so event is =
       subst (EventComes desk) is
-      (work-keeps desk unit.stands.is_desk run (pair desk.layout old before after desk turn run on moved worked unit).step.progress
+      (work-keeps answer desk unit.stands.is_desk run (pair desk.layout old before after desk turn run on moved worked unit).step.progress
       (progress-at desk.layout old before after desk turn run on moved worked unit) (unclosed desk.layout old before after desk turn run on moved worked unit)).comes
 
 -- ---- the step ends with a code
 
 module _ (old : JobsView) (before after : List ℕ) (desk : DeskModel) (turn : Turn) (run : ℕ) (on moved : RunningStepView) (code : Code) (unit : StandsBehindUnit desk.layout old before after desk turn run on moved (Abend code))
-    (put : JobsView) (back : IsPutBack run moved old put) where
+    (put : JobsView) (back : IsPutBack run moved old put) (answer : Answer) where
   but : StandsBut run desk.layout put after desk
   but = coded-but desk.layout old before after desk turn run on moved code unit put back
 
   -- whatever is told of it
-  module _ (event : Event) (is : (work_of run desk).event ≡ Some event) where
-    desk-then : (work_of run desk).desk ≡ behind event None desk
-    desk-then = coded-behind desk.layout old before after desk turn run on moved code unit event is
+  module _ (event : Event) (is : (work_of answer run desk).event ≡ Some event) where
+    desk-then : (work_of answer run desk).desk ≡ behind event None desk
+    desk-then = coded-behind desk.layout old before after desk turn run on moved code unit answer event is
 
     kept-then : IsDesk (behind event None desk)
-    kept-then = subst IsDesk desk-then (work-kept desk.layout old before after desk turn run on moved (Abend code) unit)
+    kept-then = subst IsDesk desk-then (work-kept desk.layout old before after desk turn run on moved (Abend code) unit answer)
 
     comes-then : Comes desk event
-    comes-then = comes-so old before after desk turn run on moved (Abend code) unit event is
+    comes-then = comes-so old before after desk turn run on moved (Abend code) unit answer event is
 
     module _ (quiet : is_quiet event ≡ true) where
-      last-then : HasLast (work_of run desk).desk.office (Some event)
-      last-then rewrite told = absurd (some-not-none rewrite (sym told ∙ quiet-rewrites event quiet (work_of run desk).desk.office.tables))
+      last-then : HasLast (work_of answer run desk).desk.office (Some event)
+      last-then rewrite told = absurd (some-not-none rewrite (sym told ∙ quiet-rewrites event quiet (work_of answer run desk).desk.office.tables))
 
       quiet-ensues : ((later : JobsView) → HaveMoved event None put later → (written : List ℕ) → HasSameRecords desk.layout after written → StandsForDesk desk.layout later written (behind event None desk))
           → ((stopped : List ℕ) → HasSameRecords desk.layout after stopped → HasCommitted desk.layout (behind event None desk).office stopped)
-          → Ensues put after desk run event
+          → Ensues put after desk run answer event
       quiet-ensues stands committed = record {
         comes = comes-then;
         is_desk = subst IsDesk (sym desk-then) kept-then;
@@ -165,13 +166,16 @@ module _ (old : JobsView) (before after : List ℕ) (desk : DeskModel) (turn : T
             (stands later goes written
             (subst (HasSameRecords desk.layout after) (sym (quiet-written event quiet desk.layout (after_event event None desk.office.tables) told written wrote)) same));
         same = λ stopped same.
-            again-so desk.layout (work_of run desk).desk.office (Some event) stopped last-then
+            again-so desk.layout (work_of answer run desk).desk.office (Some event) stopped last-then
             (subst (λ (d : DeskModel). HasCommitted desk.layout d.office stopped) (sym desk-then) (committed stopped same));
         lacking = λ told stopped same lacks. absurd (quiet-lacks event quiet desk.layout (after_event event None desk.office.tables) told stopped lacks);
       }
 
+  within : HasWithinRun desk.layout desk.office run moved.step.writes after
+  within = coded-within desk.layout old before after desk turn run on moved code unit
+
   -- its run ends
-  pub ended-ensues : (rule : ℕ) (lengths : ArrayVec ℕ) → (work_of run desk).event ≡ Some (Ended run (Coded code rule moved.step.writes lengths)) → Ensues put after desk run (Ended run (Coded code rule moved.step.writes lengths))
+  pub ended-ensues : (rule : ℕ) (lengths : ArrayVec ℕ) → (work_of answer run desk).event ≡ Some (Ended run (Coded code rule moved.step.writes lengths)) → Ensues put after desk run answer (Ended run (Coded code rule moved.step.writes lengths))
   ended-ensues rule lengths is =
       quiet-ensues ended is refl
       (λ later goes written same. code-stands desk.layout put later after written desk run rule moved.step.writes code lengths but (comes-then ended is) (kept-then ended is) within goes same)
@@ -180,11 +184,18 @@ module _ (old : JobsView) (before after : List ℕ) (desk : DeskModel) (turn : T
       ended : Event
       ended = Ended run (Coded code rule moved.step.writes lengths)
 
-      within : HasWithinRun desk.layout desk.office run moved.step.writes after
-      within = coded-within desk.layout old before after desk turn run on moved code unit
+  -- it is held
+  pub held-ensues : (lengths : ArrayVec ℕ) → (work_of answer run desk).event ≡ Some (Held run code moved.step.writes lengths) → Ensues put after desk run answer (Held run code moved.step.writes lengths)
+  held-ensues lengths is =
+      quiet-ensues held is refl
+      (λ later goes written same. held-stands desk.layout put later after written desk run moved.step.writes code lengths but (comes-then held is) (kept-then held is) within goes same)
+      (hold-committed desk.layout put after desk run moved.step.writes code lengths but (comes-then held is) (kept-then held is) within)
+    where
+      held : Event
+      held = Held run code moved.step.writes lengths
 
   -- it is restarted, at the start of the step or at its checkpoint in effect
-  pub restarted-ensues : (initiator : ℕ) (checkpoint : Bool) → (work_of run desk).event ≡ Some (Restarted run initiator code checkpoint) → Ensues put after desk run (Restarted run initiator code checkpoint)
+  pub restarted-ensues : (initiator : ℕ) (checkpoint : Bool) → (work_of answer run desk).event ≡ Some (Restarted run initiator code checkpoint) → Ensues put after desk run answer (Restarted run initiator code checkpoint)
   restarted-ensues initiator checkpoint is =
       quiet-ensues restarted is refl
       (λ later goes written same. restarted-stands desk.layout put later after written desk run initiator code checkpoint but (comes-then restarted is) (kept-then restarted is) goes same)
@@ -197,7 +208,7 @@ module _ (old : JobsView) (before after : List ℕ) (desk : DeskModel) (turn : T
 
 module _ (old : JobsView) (before after : List ℕ) (desk : DeskModel) (turn : Turn) (run : ℕ) (on moved : RunningStepView) (place : ℕ) (image : List ℕ) (taken : ℕ) (unit : StandsBehindUnit desk.layout old before after desk turn run on moved (Rewrite place image taken)) where
   asks : AsksToRewrite desk.layout old before after desk turn run on moved place image taken
-  asks = record { stands = unit.stands; planned = unit.planned; found = unit.found; run = unit.same_run; did = unit.did; goes = unit.goes; keeps = unit.keeps }
+  asks = record { stands = unit.stands; planned = unit.planned; found = unit.found; run = unit.same_run; code = unit.same_code; did = unit.did; goes = unit.goes; keeps = unit.keeps }
 
   is_desk : IsDesk desk
   is_desk = unit.stands.is_desk
@@ -288,9 +299,9 @@ module _ (old : JobsView) (before after : List ℕ) (desk : DeskModel) (turn : T
   differs-then told stopped lacks =
       differs-there desk.layout table.set shown.set place told stopped table-there.2.lies.places table-there.2.lies.space (lacks row_then name table row-at updates-so table-there.1)
 
-  module _ (put : JobsView) (back : IsPutBack run moved old put) (event : Event) (is : (work_of run desk).event ≡ Some event) where
+  module _ (put : JobsView) (back : IsPutBack run moved old put) (answer : Answer) (event : Event) (is : (work_of answer run desk).event ≡ Some event) where
     event-so : event_then ≡ event
-    event-so = event-is before after desk is_desk run on moved place image taken asked event is
+    event-so = event-is before after desk is_desk run on moved place image taken asked answer event is
 
     tables-so : after_event event_then None desk.office.tables ≡ office_then.tables
     tables-so = ap (λ (office : Office). office.tables) (office-is before after desk is_desk run on moved place image taken asked)
@@ -302,23 +313,23 @@ module _ (old : JobsView) (before after : List ℕ) (desk : DeskModel) (turn : T
     of-event : (P : Event → TablesModel → Type 0) → P event_then office_then.tables → P event (after_event event None desk.office.tables)
     of-event P holds = subst (λ (e : Event). P e (after_event e None desk.office.tables)) event-so (subst (P event_then) (sym tables-so) holds)
 
-    pub rewrite-ensues : Ensues put after desk run event
+    pub rewrite-ensues : Ensues put after desk run answer event
     rewrite-ensues = record {
-      comes = comes-so old before after desk turn run on moved (Rewrite place image taken) unit event is;
-      is_desk = work-kept desk.layout old before after desk turn run on moved (Rewrite place image taken) unit;
-      layout_is = ap (λ (d : TurnDone). d.desk.layout) (work-is before after desk is_desk run on moved place image taken asked);
-      office = ap (λ (d : TurnDone). d.desk.office) (work-is before after desk is_desk run on moved place image taken asked) ∙ ap (λ (e : Event). office_after (e, None) desk.office) event-so;
-      last = λ rewrite told. record-then old before after desk turn run on moved place image taken asks event is rewrite told;
+      comes = comes-so old before after desk turn run on moved (Rewrite place image taken) unit answer event is;
+      is_desk = work-kept desk.layout old before after desk turn run on moved (Rewrite place image taken) unit answer;
+      layout_is = ap (λ (d : TurnDone). d.desk.layout) (work-is before after desk is_desk run on moved place image taken asked answer);
+      office = ap (λ (d : TurnDone). d.desk.office) (work-is before after desk is_desk run on moved place image taken asked answer) ∙ ap (λ (e : Event). office_after (e, None) desk.office) event-so;
+      last = λ rewrite told. record-then old before after desk turn run on moved place image taken asks answer event is rewrite told;
       takes = λ layout now left. subst (λ (e : Event). HasNewOne layout now e left) event-so tt;
       record_told = of-event (λ e tables. TellsRecord tables e) due-then;
       stands = λ later goes told written same wrote.
-          stands-then desk.layout old before after desk turn run on moved place image taken asks put later
+          stands-then desk.layout old before after desk turn run on moved place image taken answer asks put later
           (record { tables = back.tables; failed = back.failed; running = back.running; points = back.points }) event is goes told written same name shown.set first-is shown.is
           (written-then told written (by-event (λ e tables. IsWrittenBy desk.layout tables e told written) wrote));
       same = λ stopped same.
-          again-then old before after desk turn run on moved place image taken asks event is stopped stopped same name shown.set first-is shown.is
+          again-then old before after desk turn run on moved place image taken asks answer event is stopped stopped same name shown.set first-is shown.is
           (differs-nowhere desk.layout shown.set place stopped);
       lacking = λ told stopped same lacks.
-          again-then old before after desk turn run on moved place image taken asks event is told stopped same name shown.set first-is shown.is
+          again-then old before after desk turn run on moved place image taken asks answer event is told stopped same name shown.set first-is shown.is
           (differs-then told stopped (by-event (λ e tables. LacksAtMost desk.layout tables e told stopped) lacks));
     }

@@ -2,8 +2,9 @@
 use Rattle.std.proofs.Common.{◌≡◌, ◌<◌, ℕ, List, length, true, false, refl, ap, sym, ◌∙◌, subst, arith, Option, Some, None}
 use Rattle.std.proofs.lemmas.Bool.{false≢true}
 use Rattle.ckr_book.specs.Book.{room_of}
+use Rattle.ckr_console.specs.declared.question.Answer.{Answer}
 use Rattle.ckr_events.specs.declared.event.Event.{Event}
-use Rattle.ckr_events.specs.declared.event.Event.TheVariants.{Ended, Restarted, Rewritten}
+use Rattle.ckr_events.specs.declared.event.Event.TheVariants.{Ended, Held, Restarted, Rewritten}
 use Rattle.ckr_events.specs.Event.{spelling}
 use Rattle.ckr_desk_memory.specs.Plans.{behind_unit, told_by}
 use Rattle.ckr_desk_memory.specs.Preparation.{needs_room}
@@ -19,21 +20,22 @@ use Rattle.ckr_desk_turn.specs.declared.plan.Plan.{Plan}
 use Rattle.ckr_desk_turn.specs.declared.plan.Plan.TheVariants.{Work}
 use Rattle.ckr_desk_turn.specs.declared.reply.Turn.{Turn}
 use Rattle.ckr_desk_turn.specs.Desk.{DeskModel, TurnDone, jobs_of as jobs_of_desk}
+use Rattle.ckr_desk_turn.specs.Inquiries.{decide}
 use Rattle.ckr_desk_turn.specs.Plans.{plan_of}
 use Rattle.ckr_volumes.specs.declared.layout.Layout.{Layout}
 use Rattle.ckr_desk_refines.proofs.Units.Forecasts.{BothTell, as-many, both-tell, foretold-so}
 use Rattle.ckr_desk_refines.proofs.Units.RunningStep.{pair-found}
 use Rattle.ckr_desk_refines.proofs.Units.StepLists.{IsPair}
-use Rattle.ckr_desk_refines.specs.Forecast.{IsTold, is_end_of, is_like, is_restart_of, is_rewrite_of}
+use Rattle.ckr_desk_refines.specs.Forecast.{IsTold, is_end_of, is_hold_of, is_like, is_restart_of, is_rewrite_of}
 use Rattle.ckr_desk.proofs.Units.Turn.{at-desk, row-within, turned}
 use Rattle.ckr_desk.specs.Requests.{IsFull}
-use Rattle.ckr_desk.specs.Preparation.{IsLookedAhead}
+use Rattle.ckr_desk.specs.Preparation.{IsWorkedOut}
 use Rattle.ckr_desk.specs.Soundness.{IsTrusted, office_on, state_of}
 use Rattle.ckr_desk.specs.State.{DeskView, need_of}
 use Rattle.ckr_desk.specs.Turn.{event_of_turn}
-use Rattle.ckr_desk.specs.Units.{needs_some}
+use Rattle.ckr_desk.specs.Units.{IsToldOf, needs_some}
 
--- an event that is like one that was foretold needs memory where that one does: an end or a restart of a run, and no rewrite
+-- an event that is like one that was foretold needs memory where that one does: an end or a restart of a run, and no rewrite and no hold
 rewrite-needs : (run : ℕ) (event : Event) → is_rewrite_of run event ≡ true → needs_room event ≡ false
 rewrite-needs run (Rewritten job taken writes lengths place image) is = refl
 rewrite-needs run _ is = absurd (false≢true is)
@@ -46,15 +48,21 @@ restart-needs : (run : ℕ) (event : Event) → is_restart_of run event ≡ true
 restart-needs run (Restarted job initiator code checkpoint) is = refl
 restart-needs run _ is = absurd (false≢true is)
 
+hold-needs : (run : ℕ) (event : Event) → is_hold_of run event ≡ true → needs_room event ≡ false
+hold-needs run (Held job code writes lengths) is = refl
+hold-needs run _ is = absurd (false≢true is)
+
 like-needs : (foretold event : Event) → is_like foretold event ≡ true → needs_room event ≡ needs_room foretold
 like-needs (Rewritten job taken writes lengths place image) event is = rewrite-needs job event is
 like-needs (Restarted job initiator code checkpoint) event is = restart-needs job event is
+like-needs (Held job code writes lengths) event is = hold-needs job event is
 like-needs (Ended job ending) event is = end-needs job event is
 like-needs _ event is = absurd (false≢true is)
 
 module _ {D : Type 0} (told : Type 0) (content : D → List ℕ) (may_leave : D → List ℕ → Type 0) (moment : D → ℕ) (left_since : D → ℕ → List ℕ → Type 0) (size : D → ℕ)
     (old : DeskView D) (trusted : IsTrusted told content may_leave old) (turn : Turn) (run : ℕ)
-    (planned : plan_of old.store.layout (jobs_of old.jobs) turn ≡ Work run) (unit : UnitAhead) (plan : Plan) (looked : IsLookedAhead told content run old unit plan) where
+    (planned : plan_of old.store.layout (jobs_of old.jobs) turn ≡ Work run) (unit : UnitAhead) (of : IsWorkedOut told content run old unit) (answer : Answer) (plan : Plan)
+    (told_so : IsToldOf old.store.layout old.jobs.tables.desk (behind_unit of.on unit) unit.worked answer plan) where
   abbrev layout : Layout
   layout = old.store.layout
 
@@ -68,66 +76,66 @@ module _ {D : Type 0} (told : Type 0) (content : D → List ℕ) (may_leave : D 
   desk = (state_of content old).desk
 
   worked-at : plan_of desk.layout (jobs_of_desk desk) turn ≡ Work run
-  worked-at = at-desk told content may_leave moment left_since size old trusted turn run planned
+  worked-at = at-desk told content may_leave moment left_since size old trusted turn run planned answer
 
   abbrev on : RunningStepView
-  on = looked.of.on
+  on = of.on
 
   looked-out : HasLooked (Unit {0}) image layout on.step on.sets unit.worked
-  looked-out = record { heads = looked.of.out.heads; read = λ is. looked.of.out.read trusted.tells; answer = looked.of.out.unit.answer }
+  looked-out = record { heads = of.out.heads; read = λ is. of.out.read trusted.tells; answer = of.out.unit.answer }
 
   abbrev within : (row : RunRow) × (own : OwnedStep) × (run_of office.tables run ≡ Some row) × (step_of_run row (step_in (place_of row)) ≡ Some own) × (row.number ≡ run)
-  within = row-within told content may_leave moment left_since size old trusted turn run planned
+  within = row-within told content may_leave moment left_since size old trusted turn run planned answer
 
   abbrev row : RunRow
   row = within.0
 
   run-on : on.run ≡ run
   run-on =
-      let pair : IsPair desk.layout desk.office image run on desk.running = pair-found layout old.jobs image desk turn run on trusted.stands worked-at looked.of.found in
+      let pair : IsPair desk.layout desk.office image run on desk.running = pair-found layout old.jobs image desk turn run on trusted.stands worked-at of.found in
       pair.stands.run ∙ pair.same
 
   abbrev told-with : RunningStepView → Option Event
-  told-with step = event_in (told_by layout office.tables row (running_of office.tables step) unit.worked)
+  told-with step = event_in (decide answer (told_by layout office.tables row (running_of office.tables step) unit.worked))
 
   told-is : event_in plan ≡ told-with (behind_unit on unit)
   told-is =
       ap event_in
-      (looked.planned row within.1
+      (told_so row within.1
       (ap (λ (tables : TablesModel). run_of tables on.run) trusted.stands.tables ∙ ap (run_of office.tables) run-on ∙ within.2) within.3
-      ∙ ap (λ (tables : TablesModel). told_by layout tables row (running_of tables (behind_unit on unit)) unit.worked) trusted.stands.tables)
+      ∙ ap (λ (tables : TablesModel). decide answer (told_by layout tables row (running_of tables (behind_unit on unit)) unit.worked)) trusted.stands.tables)
 
   -- as the step stands before the unit, the turn would tell as much
   both : BothTell (told-with on) (event_in plan)
   both =
       subst (BothTell (told-with on)) (sym told-is)
-      (both-tell layout office.tables row (running_of office.tables on) (running_of office.tables (behind_unit on unit)) unit.worked (as-many (run_of office.tables on.run) on (behind_unit on unit)))
+      (both-tell answer layout office.tables row (running_of office.tables on) (running_of office.tables (behind_unit on unit)) unit.worked (as-many office.tables on (behind_unit on unit) refl))
 
-  told-before : (event : Event) → told-with on ≡ Some event → IsTold event (event_of_turn (state_of content old) turn)
+  told-before : (event : Event) → told-with on ≡ Some event → IsTold event (event_of_turn (state_of content old) turn answer)
   unfolding event_of_turn
   told-before event is =
-      subst (λ (done : TurnDone). IsTold event done.event) (sym (turned told content may_leave moment left_since size old trusted turn run planned))
-      (foretold-so layout old.jobs image desk turn run on unit.worked trusted.stands worked-at looked.of.found looked.of.there looked-out row within.2 event is)
+      subst (λ (done : TurnDone). IsTold event done.event) (sym (turned told content may_leave moment left_since size old trusted turn run planned answer))
+      (foretold-so layout old.jobs image desk turn run on unit.worked answer trusted.stands worked-at of.found of.there looked-out row within.2 event is)
 
   -- where the unit tells an event that needs memory, the turn tells one
-  pub needs-ahead : (event : Event) → event_in plan ≡ Some event → needs_room event ≡ true → needs_some (event_of_turn (state_of content old) turn) ≡ true
+  pub needs-ahead : (event : Event) → event_in plan ≡ Some event → needs_room event ≡ true → needs_some (event_of_turn (state_of content old) turn answer) ≡ true
   needs-ahead event is needs = by (told-with on) refl (subst (BothTell (told-with on)) is both)
     where
-      by : (before : Option Event) → told-with on ≡ before → BothTell before (Some event) → needs_some (event_of_turn (state_of content old) turn) ≡ true
+      by : (before : Option Event) → told-with on ≡ before → BothTell before (Some event) → needs_some (event_of_turn (state_of content old) turn answer) ≡ true
       by None at tells = absurd tells
       by (Some foretold) at tells =
-          let its : IsTold foretold (event_of_turn (state_of content old) turn) = told-before foretold at in
+          let its : IsTold foretold (event_of_turn (state_of content old) turn answer) = told-before foretold at in
           ap needs_some its.is ∙ like-needs foretold its.told its.so.like ∙ sym (like-needs foretold event tells.like) ∙ needs
 
   -- the book has no room for what the unit tells, so it has none for what the turn tells, which needs as much
   pub full-ahead : (event : Event) → event_in plan ≡ Some event → (need room : ℕ) → need ≡ need_of event → room ≡ room_of old.store.book → room_of old.store.book < need_of event
-      → IsFull (room_of old.store.book) (event_of_turn (state_of content old) turn) need room
+      → IsFull (room_of old.store.book) (event_of_turn (state_of content old) turn answer) need room
   full-ahead event is need room needed left full = by (told-with on) refl (subst (BothTell (told-with on)) is both)
     where
-      by : (before : Option Event) → told-with on ≡ before → BothTell before (Some event) → IsFull (room_of old.store.book) (event_of_turn (state_of content old) turn) need room
+      by : (before : Option Event) → told-with on ≡ before → BothTell before (Some event) → IsFull (room_of old.store.book) (event_of_turn (state_of content old) turn answer) need room
       by None at tells = absurd tells
       by (Some foretold) at tells =
-          let its : IsTold foretold (event_of_turn (state_of content old) turn) = told-before foretold at in
+          let its : IsTold foretold (event_of_turn (state_of content old) turn answer) = told-before foretold at in
           let one : length (spelling its.told) ≡ length (spelling foretold) = its.so.long in
           let other : length (spelling event) ≡ length (spelling foretold) = tells.long in
           subst (λ (e : Option Event). IsFull (room_of old.store.book) e need room) (sym its.is) (omega (arith, one, other, needed), left, omega (arith, needed, left, full))

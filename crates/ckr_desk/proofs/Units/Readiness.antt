@@ -1,10 +1,10 @@
 -- What is ready for the event of a unit is ready behind the unit too.
 use Rattle.std.proofs.Common.{◌≡◌, ◌≤◌, ◌<◌, ℕ, true, false, find, List, [], ◌∷◌, refl, ap, sym, ◌∙◌, subst, Option, Some, None}
 use Rattle.std.specs.List.{AllByRecursion}
-use Rattle.std.proofs.lemmas.Bool.{false≢true}
+use Rattle.std.proofs.lemmas.Bool.{false≢true, true≢false}
 use Rattle.ckr_book.specs.Book.{room_of}
 use Rattle.ckr_events.specs.declared.event.Event.{Event}
-use Rattle.ckr_events.specs.declared.event.Event.TheVariants.{Rewritten, Restarted, Ended}
+use Rattle.ckr_events.specs.declared.event.Event.TheVariants.{Rewritten, Restarted, Held, Ended}
 use Rattle.ckr_desk_memory.specs.Model.RewriteCounts.{may_count}
 use Rattle.ckr_desk_memory.specs.declared.preparation.Prepared.{Prepared}
 use Rattle.ckr_desk_memory.specs.EventChanges.{is_point_of}
@@ -18,8 +18,10 @@ use Rattle.ckr_points_tables.specs.Invariant.{HasRoom}
 use Rattle.ckr_desk_memory.specs.ForwardEvents.{is_forward_event}
 use Rattle.ckr_points_tables.specs.View.{RoomyTables}
 use Rattle.ckr_desk_refines.specs.Moves.{event_in}
+use Rattle.ckr_desk_turn.specs.Inquiries.{is_ask}
+use Rattle.ckr_desk_turn.specs.declared.failed_run.FailedRun.{FailedRun}
 use Rattle.ckr_desk_turn.specs.declared.plan.Plan.{Plan}
-use Rattle.ckr_desk_turn.specs.declared.plan.Plan.TheVariants.{Rest, Tell, Work, Pass, Take}
+use Rattle.ckr_desk_turn.specs.declared.plan.Plan.TheVariants.{Rest, Tell, Work, Pass, Take, Ask, Wait}
 use Rattle.ckr_desk.specs.declared.preparation.Ready.{Ready}
 use Rattle.ckr_desk.specs.Preparation.{IsReady, IsReadyFor}
 use Rattle.ckr_desk.specs.State.{DeskView, need_of}
@@ -29,29 +31,35 @@ use Rattle.ckr_desk.specs.Units.{IsPlainTold}
 plain-event : (event : Event) → is_unit_event event ≡ true → is_forward_event event ≡ true
 plain-event (Rewritten job taken writes lengths place image) its = refl
 plain-event (Restarted job initiator code checkpoint) its = refl
+plain-event (Held job code writes lengths) its = refl
 plain-event (Ended job ending) its = refl
 plain-event _ its = absurd (false≢true its)
 
-pub plain-so : (plan : Plan) → IsUnitPlan plan → IsPlainTold plan
-plain-so (Rest reply) shape = tt
-plain-so (Tell reply event) shape = plain-event event shape
-plain-so (Work job) shape = absurd shape
-plain-so (Pass job reply) shape = absurd shape
-plain-so (Take job) shape = absurd shape
+pub plain-so : (plan : Plan) → IsUnitPlan plan → is_ask plan ≡ false → IsPlainTold plan
+plain-so (Rest reply) shape settled = tt
+plain-so (Tell reply event) shape settled = plain-event event shape
+plain-so (Work job) shape settled = absurd shape
+plain-so (Pass job reply) shape settled = absurd shape
+plain-so (Take job) shape settled = absurd shape
+plain-so (Ask inquiry) shape settled = absurd (true≢false settled)
+plain-so (Wait job code) shape settled = tt
 
 -- and it ends no step of a run that was running when the system failed
-leaves-so : (failed : List ℕ) (event : Event) → is_unit_event event ≡ true → LeavesLeft event failed
+leaves-so : (failed : List FailedRun) (event : Event) → is_unit_event event ≡ true → LeavesLeft event failed
 leaves-so failed (Rewritten job taken writes lengths place image) its = tt
 leaves-so failed (Restarted job initiator code checkpoint) its = tt
+leaves-so failed (Held job code writes lengths) its = tt
 leaves-so failed (Ended job ending) its = tt
 leaves-so failed _ its = absurd (false≢true its)
 
-pub unit-leaves : (failed : List ℕ) (plan : Plan) → IsUnitPlan plan → PlanLeaves failed plan
+pub unit-leaves : (failed : List FailedRun) (plan : Plan) → IsUnitPlan plan → PlanLeaves failed plan
 unit-leaves failed (Rest reply) shape = tt
 unit-leaves failed (Tell reply event) shape = leaves-so failed event shape
 unit-leaves failed (Work job) shape = tt
 unit-leaves failed (Pass job reply) shape = tt
 unit-leaves failed (Take job) shape = tt
+unit-leaves failed (Ask inquiry) shape = tt
+unit-leaves failed (Wait job code) shape = tt
 
 -- what the unit's step commits, it commits behind the unit with steps of other runs beside it
 pub commits-beside : (tables : TablesModel) (run : ℕ) (plan : Plan) (seen moved : RunningStepView) (others : List RunningStepView) → PlanIsOf run plan → moved.run ≡ seen.run → moved.sets.sets ≡ seen.sets.sets
@@ -62,6 +70,8 @@ commits-beside tables run (Tell reply event) seen moved others of_run same sets 
 commits-beside tables run (Work job) seen moved others of_run same sets apart commits = tt
 commits-beside tables run (Pass job reply) seen moved others of_run same sets apart commits = tt
 commits-beside tables run (Take job) seen moved others of_run same sets apart commits = tt
+commits-beside tables run (Ask inquiry) seen moved others of_run same sets apart commits = tt
+commits-beside tables run (Wait job code) seen moved others of_run same sets apart commits = tt
 
 module _ {D : Type 0} (old mid : DeskView D) (tables : mid.jobs.tables ≡ old.jobs.tables) (points : mid.jobs.points ≡ old.jobs.points) (place : mid.jobs.running_room ≡ old.jobs.running_room) (book : room_of mid.store.book ≡ room_of old.store.book) where
   still-prepared : (event : Event) → is_unit_event event ≡ true → (prepared : Prepared) → IsPrepared old.jobs event None prepared → IsPrepared mid.jobs event None prepared
@@ -91,6 +101,13 @@ module _ {D : Type 0} (old mid : DeskView D) (tables : mid.jobs.tables ≡ old.j
     };
     points = tt;
   }
+  still-prepared (Held job code writes lengths) its prepared is = record {
+    tables = subst (λ (t : RoomyTables). HasRoom t (Held job code writes lengths)) (sym tables) is.tables;
+    queue = tt;
+    uses = is.uses;
+    started = tt;
+    points = tt;
+  }
   still-prepared (Ended job ending) its prepared is = record {
     tables = subst (λ (t : RoomyTables). HasRoom t (Ended job ending)) (sym tables) is.tables;
     queue = tt;
@@ -116,3 +133,5 @@ module _ {D : Type 0} (old mid : DeskView D) (tables : mid.jobs.tables ≡ old.j
   ready-behind (Work job) shape ready is = absurd shape
   ready-behind (Pass job reply) shape ready is = absurd shape
   ready-behind (Take job) shape ready is = absurd shape
+  ready-behind (Ask inquiry) shape ready is = tt
+  ready-behind (Wait job code) shape ready is = tt

@@ -1,14 +1,17 @@
--- A turn that works: the unit of its running step, the desk behind it, and what a stop leaves.
-use Rattle.std.proofs.Common.{◌≡◌, ◌≤◌, ◌+◌, ◌-◌, ◌++◌, ◌&&◌, ℕ, Bool, List, [], ◌∷◌, true, false, length, take, find, refl, ap, sym, ◌∙◌, subst, ⊎_elim, arith, Option, Some, None, Ok}
+-- A turn that works, with the operator's answer if it asks him: the unit of its running step, the desk behind it, and what a stop leaves.
+use Rattle.std.proofs.Common.{◌≡◌, ◌≤◌, ◌+◌, ◌-◌, ◌++◌, ◌&&◌, ℕ, Bool, List, [], ◌∷◌, true, false, length, take, find, refl, ap, sym, ◌∙◌, subst, ◌⊎◌, ⊎_elim, inl, inr, arith, Option, Some, None, Ok}
 use Rattle.std.proofs.lemmas.Bool.{and_from, le-leb}
+use Rattle.std.specs.Option.{is_some, option_map_or}
 use Rattle.std.proofs.lemmas.Option.{same_Some}
 use Rattle.ckr_base.proofs.Options.{some-not-none}
 use Rattle.arrayvec.specs.ArrayVec.{ArrayVec}
 use Rattle.ckr_book.specs.Book.{IsBeforeOrAfter, ends_closed, room_of}
 use Rattle.ckr_base.specs.declared.code.Code.{Code}
+use Rattle.ckr_console.specs.declared.question.Answer.{Answer}
+use Rattle.ckr_console.specs.declared.question.Answer.TheVariants.{Yes, No, Hold, Silent}
 use Rattle.ckr_events.specs.declared.event.Ending.TheVariants.{Coded}
 use Rattle.ckr_events.specs.declared.event.Event.{Event}
-use Rattle.ckr_events.specs.declared.event.Event.TheVariants.{Ended, Restarted}
+use Rattle.ckr_events.specs.declared.event.Event.TheVariants.{Ended, Held, Restarted}
 use Rattle.ckr_events.specs.Event.{spelling}
 use Rattle.ckr_desk_memory.specs.Model.RewriteCounts.{may_count}
 use Rattle.ckr_jcl.specs.declared.deck.Job.{Job}
@@ -20,6 +23,7 @@ use Rattle.ckr_desk_refines.proofs.Durable.Units.{committed-kept}
 use Rattle.ckr_desk_refines.proofs.Entries.Images.{keeping-kept}
 use Rattle.ckr_desk_refines.specs.Commits.{HasCommitted}
 use Rattle.ckr_desk_refines.specs.Entries.{HasEntries, OnlyCheckSetsKeep, SameKept}
+use Rattle.ckr_library.specs.NameMaps.{Name}
 use Rattle.ckr_meaning.specs.EffectiveJob.{OwnedStep, names_of}
 use Rattle.ckr_outside.specs.Disk.{part}
 use Rattle.ckr_points.specs.Events.{AreSound, IsNext}
@@ -29,12 +33,14 @@ use Rattle.ckr_points.specs.Restart.{after_event, place_of, step_in}
 use Rattle.ckr_points.specs.Rows.{RunRow, TablesModel, no_tables, run_of, step_of_run}
 use Rattle.ckr_points.specs.Soundness.{AreLaidOut}
 use Rattle.ckr_rules.specs.RuleTables.{rule_number}
+use Rattle.ckr_rules.specs.declared.cases.Rule.{Rule}
+use Rattle.ckr_rules.specs.declared.cases.Rule.TheVariants.{A6}
 use Rattle.ckr_desk_refines.proofs.Standing.Plans.{plans-so}
 use Rattle.ckr_desk_refines.proofs.Standing.DeskView.{desk-so}
 use Rattle.ckr_desk_refines.specs.RewriteRecord.{HasCommittedAgain, HasLast, last_event}
 use Rattle.ckr_desk_refines.specs.Moves.{HasSameRecords, event_in, reply_in}
 use Rattle.ckr_desk_refines.specs.Standing.{StandsForDesk, desk_seen}
-use Rattle.ckr_steps.specs.declared.step_run.Worked.{Worked}
+use Rattle.ckr_steps.specs.declared.step_run.Worked.{Worked as Outcome}
 use Rattle.ckr_steps.specs.declared.step_run.Worked.TheVariants.{Abend, Rewrite, Went}
 use Rattle.ckr_steps.specs.Writes.{Keeps}
 use Rattle.ckr_desk_store.specs.OpenImages.{Opens, event_records}
@@ -42,38 +48,50 @@ use Rattle.ckr_desk_store.specs.State.{StoreView}
 use Rattle.ckr_desk_memory.specs.ForwardEvents.{is_forward_event}
 use Rattle.ckr_desk_refines.proofs.Events.Commits.{committed-moves}
 use Rattle.ckr_desk_turn.proofs.Codes.{by-verdict}
-use Rattle.ckr_desk_turn.specs.Codes.{initiator_of, running_reached}
+use Rattle.ckr_desk_turn.specs.Codes.{CodePlaceModel, initiator_of, inquiry_of, running_reached}
+use Rattle.ckr_desk_turn.specs.Inquiries.{decide, decided, is_ask}
+use Rattle.ckr_desk_turn.specs.Jobs.{TurnStep, as_stopped, step_name_of}
 use Rattle.ckr_desk_turn.specs.declared.plan.Plan.{Plan}
-use Rattle.ckr_desk_turn.specs.declared.plan.Plan.TheVariants.{Rest, Tell, Work, Pass, Take}
+use Rattle.ckr_desk_turn.specs.declared.plan.Plan.TheVariants.{Rest, Tell, Work, Pass, Take, Ask, Wait}
+use Rattle.ckr_desk_turn.specs.declared.reply.Reply.{Reply}
+use Rattle.ckr_desk_turn.specs.declared.reply.Reply.TheVariants.{Worked}
 use Rattle.ckr_desk_turn.specs.declared.reply.Turn.{Turn}
-use Rattle.ckr_desk_turn.specs.Desk.{DeskModel, TurnDone, work_of, jobs_of as jobs_of_desk}
+use Rattle.ckr_desk_turn.specs.Desk.{DeskModel, TurnDone, done_by, progress_of, start_of, with_progress, work_of, jobs_of as jobs_of_desk}
+use Rattle.ckr_desk_turn.specs.Units.{unit_end}
 use Rattle.ckr_desk_turn.specs.Turns.{carried_out, turn_of}
 use Rattle.ckr_desk_turn.specs.Plans.{plan_of}
 use Rattle.ckr_desk_turn.specs.Spelling.{IsSpelled}
 use Rattle.ckr_volumes.specs.declared.layout.Layout.{Layout}
 use Rattle.ckr_volumes.specs.Header.{header_of}
-use Rattle.ckr_desk_refines.proofs.Units.Desk.{committed-so, run-moved, went-done, went-stands}
+use Rattle.ckr_desk_refines.proofs.Units.Desk.{committed-so, run-moved, went-stands}
 use Rattle.ckr_desk_refines.proofs.Units.StepLists.{IsPair, pair-of}
 use Rattle.ckr_desk_refines.proofs.Units.AnyReply.{told-unit}
+use Rattle.ckr_desk_refines.proofs.Units.Replies.{TellsSo, plain_of}
+use Rattle.ckr_desk_refines.proofs.Units.Waits.{coded-waits}
 use Rattle.ckr_desk_refines.proofs.Units.Turns.{within-so}
 use Rattle.ckr_desk_refines.specs.Unit.{IsPutBack, StandsBehindUnit}
-use Rattle.ckr_desk.proofs.Units.Events.{Ensues, ended-ensues, restarted-ensues, rewrite-ensues}
+use Rattle.ckr_desk.proofs.Units.Events.{Ensues, ended-ensues, held-ensues, restarted-ensues, rewrite-ensues}
 use Rattle.ckr_desk.proofs.Images.NextEvent.{deck-none, office-same}
 use Rattle.ckr_desk.proofs.Images.Entries.{behind-kept as entries-behind, behind-same as entries-behind-same, checks-then, kept-has, laid-then, same-has, tables-behind}
 use Rattle.ckr_desk.proofs.Images.Soundness.{kept-before, kept-behind}
 use Rattle.ckr_desk.proofs.Images.WrittenRecord.{TellsRecord, told-lacking, told-written}
-use Rattle.ckr_desk.proofs.Turns.PlainEvents.{told-plain}
+use Rattle.ckr_desk.proofs.Turns.PlainEvents.{decided-plain, told-plain}
 use Rattle.ckr_desk.proofs.Trust.Events.{IsBehind, IsComing, desk-behind, trusted-behind}
 use Rattle.ckr_desk.proofs.Turns.Events.{small-runs}
 use Rattle.ckr_desk.proofs.Trust.Conditions.{goes-out, shows-in, worked-out}
 use Rattle.ckr_desk.specs.Requests.{has_room, room_behind}
 use Rattle.ckr_desk.specs.Calls.{HasGoneOn, IsLeftBy, IsSettledBehind, may_keep}
 use Rattle.ckr_desk.specs.Rewrite.{IsWrittenBy, LacksAtMost, OpensSame}
-use Rattle.ckr_desk.specs.Turn.{behind_turn, event_of_turn, reply_of, turn_fits}
+use Rattle.ckr_desk.specs.Turn.{asks, behind_turn, event_of_turn, reply_of, turn_fits}
 use Rattle.ckr_desk.specs.Units.{HasDoneUnit, HasGoneBehind, HasWrittenBehind, IsPlainPlan, IsLeftBehind, IsLeftByUnit, IsLeftRewriting, StemsFromUnit}
 use Rattle.ckr_desk.specs.Opening.{behind_records}
 use Rattle.ckr_desk.specs.Soundness.{HasKept, IsTrusted, events_in, last_on, office_on, state_of}
 use Rattle.ckr_desk.specs.State.{RoomyDesk, DeskView, need_of}
+
+-- a step that has stopped has made the same writes
+stopped-writes : (code : Option Code) (step : TurnStep) → (as_stopped code step).writes ≡ step.writes
+stopped-writes None step = refl
+stopped-writes (Some code) step = refl
 
 -- what is said of a plan with an event is said of the event
 plain-in : (plan : Plan) → IsPlainPlan plan → (event : Event) → event_in plan ≡ Some event → is_forward_event event ≡ true
@@ -82,6 +100,8 @@ plain-in (Tell reply told) plain event is = ap is_forward_event (sym (same_Some 
 plain-in (Work job) plain event is = absurd (some-not-none event (sym is))
 plain-in (Pass job reply) plain event is = absurd (some-not-none event (sym is))
 plain-in (Take job) plain event is = absurd (some-not-none event (sym is))
+plain-in (Ask inquiry) plain event is = absurd (some-not-none event (sym is))
+plain-in (Wait job code) plain event is = absurd (some-not-none event (sym is))
 
 spelled-in : (plan : Plan) → IsSpelledPlan plan → (event : Event) → event_in plan ≡ Some event → IsSpelled event
 spelled-in (Rest reply) shape event is = absurd (some-not-none event (sym is))
@@ -89,10 +109,44 @@ spelled-in (Tell reply told) shape event is = subst IsSpelled (same_Some told ev
 spelled-in (Work job) shape event is = absurd (some-not-none event (sym is))
 spelled-in (Pass job reply) shape event is = absurd (some-not-none event (sym is))
 spelled-in (Take job) shape event is = absurd (some-not-none event (sym is))
+spelled-in (Ask inquiry) shape event is = absurd (some-not-none event (sym is))
+spelled-in (Wait job code) shape event is = absurd (some-not-none event (sym is))
+
+-- ---- a unit that tells no event leaves what the events have brought about
+
+plan-office : (plan : Plan) (desk : DeskModel) → (done_by plan desk).event ≡ None → (done_by plan desk).desk.office ≡ desk.office
+plan-office (Rest reply) desk none = refl
+plan-office (Tell reply event) desk none = absurd (some-not-none event none)
+plan-office (Work job) desk none = refl
+plan-office (Pass job reply) desk none = refl
+plan-office (Take job) desk none = refl
+plan-office (Ask inquiry) desk none = refl
+plan-office (Wait job code) desk none = refl
+
+either-office : {X : Type 0} (office : Office) (o : Option X) (f : X → TurnDone) (none : TurnDone) → (none.event ≡ None → none.desk.office ≡ office) → ((x : X) → (f x).event ≡ None → (f x).desk.office ≡ office)
+    → (option_map_or f o none).event ≡ None → (option_map_or f o none).desk.office ≡ office
+either-office office None f none first second = first
+either-office office (Some x) f none first second = second x
+
+pub work-office : (answer : Answer) (run : ℕ) (desk : DeskModel) → (work_of answer run desk).event ≡ None → (work_of answer run desk).desk.office ≡ desk.office
+work-office answer run desk =
+    either-office desk.office (run_of desk.office.tables run) _ _ (λ none. refl)
+    (λ row. either-office desk.office (start_of desk.office row) _ _ (λ none. refl)
+    (λ start. either-office desk.office (progress_of desk run) _ _ (λ none. refl)
+    (λ progress. plan-office _ (with_progress row.number (unit_end start progress).progress desk))))
+
+-- ---- what is told of a code with the operator's answer, if it is no event
+
+waits-by : (answer : Answer) (row : RunRow) (initiator : ℕ) (code : Code) (reached : CodePlaceModel) (id : Option Name) (taken : ℕ) → event_in (decided answer (inquiry_of row initiator true code reached id taken)) ≡ None
+    → decided answer (inquiry_of row initiator true code reached id taken) ≡ Wait row.number code
+waits-by Yes row initiator code reached id taken none = absurd (some-not-none _ none)
+waits-by No row initiator code reached id taken none = absurd (some-not-none _ none)
+waits-by Hold row initiator code reached id taken none = absurd (some-not-none _ none)
+waits-by Silent row initiator code reached id taken none = refl
 
 module _ {D : Type 0} (told : Type 0) (content : D → List ℕ) (may_leave : D → List ℕ → Type 0) (moment : D → ℕ) (left_since : D → ℕ → List ℕ → Type 0) (size : D → ℕ)
     (old : DeskView D) (trusted : IsTrusted told content may_leave old) (turn : Turn) (run : ℕ)
-    (planned : plan_of old.store.layout (jobs_of old.jobs) turn ≡ Work run) where
+    (planned : plan_of old.store.layout (jobs_of old.jobs) turn ≡ Work run) (answer : Answer) where
   abbrev layout : Layout
   layout = old.store.layout
 
@@ -111,9 +165,9 @@ module _ {D : Type 0} (told : Type 0) (content : D → List ℕ) (may_leave : D 
   pub at-desk : plan_of desk.layout (jobs_of_desk desk) turn ≡ Work run
   at-desk = sym plans-desk ∙ planned
 
-  pub turned : turn_of desk turn ≡ work_of run desk
+  pub turned : turn_of desk turn answer ≡ work_of answer run desk
   unfolding turn_of
-  turned = ap (λ p. carried_out p desk) at-desk
+  turned = ap (λ p. carried_out answer p desk) at-desk
 
   -- the run is within a step of its deck
   pub row-within : (row : RunRow) × (own : OwnedStep) × (run_of office.tables run ≡ Some row) × (step_of_run row (step_in (place_of row)) ≡ Some own) × (row.number ≡ run)
@@ -150,7 +204,7 @@ module _ {D : Type 0} (told : Type 0) (content : D → List ℕ) (may_leave : D 
   pub unit-kept : (came : List (List ℕ)) (left : List ℕ) → IsLeftByUnit content may_leave size run old left → HasKept layout (size old.store.disk) (event_records layout image) came left
   unit-kept came left by = kept-before told content may_leave size old trusted came left by.0 (left-committed left by) (left-entries left by)
 
-  module _ (mid : DeskView D) (plan : Plan) (done : HasDoneUnit told content may_leave moment left_since run old mid plan)
+  module _ (mid : DeskView D) (plan : Plan) (done : HasDoneUnit told content may_leave moment left_since run old mid answer plan)
       (events : event_records old.store.layout (content mid.store.disk) ≡ event_records old.store.layout (content old.store.disk)) (shape : IsSpelledPlan plan)
       (stems : (image : List ℕ) → may_leave mid.store.disk image → IsLeftByUnit content may_leave size run old image) where
     abbrev after : List ℕ
@@ -169,6 +223,7 @@ module _ {D : Type 0} (told : Type 0) (content : D → List ℕ) (may_leave : D 
       planned = at-desk;
       found = done.found;
       same_run = done.same_run;
+      same_code = done.same_code;
       did = worked-out told trusted.tells image after layout on.step moved.step on.sets moved.sets done.worked done.did;
       goes = λ start taken stood shows.
           goes-out told trusted.tells after layout start taken on.step moved.step moved.sets done.worked
@@ -193,40 +248,70 @@ module _ {D : Type 0} (told : Type 0) (content : D → List ℕ) (may_leave : D 
     run-same : moved.run ≡ run
     run-same = run-moved layout old.jobs image after desk turn run on moved done.worked unit-done
 
-    pub plan-so : plan ≡ told_by layout office.tables row (running_of office.tables moved) done.worked
+    pub plan-so : plan ≡ decide answer (told_by layout office.tables row (running_of office.tables moved) done.worked)
     plan-so =
         done.planned row row-within.1 (ap (λ (tables : TablesModel). run_of tables moved.run) trusted.stands.tables ∙ ap (run_of office.tables) run-same ∙ row-within.2) row-within.3
-        ∙ ap (λ (tables : TablesModel). told_by layout tables row (running_of tables moved) done.worked) trusted.stands.tables
+        ∙ ap (λ (tables : TablesModel). decide answer (told_by layout tables row (running_of tables moved) done.worked)) trusted.stands.tables
 
-    told-so : (reply_in (told_by layout office.tables row (running_of office.tables moved) done.worked) ≡ (work_of run desk).reply) × (event_in (told_by layout office.tables row (running_of office.tables moved) done.worked) ≡ (work_of run desk).event)
-    told-so = told-unit layout old.jobs image after desk turn run on moved done.worked unit-done row row-within.2
+    told-so : TellsSo answer run desk (told_by layout office.tables row (running_of office.tables moved) done.worked)
+    told-so = told-unit layout old.jobs image after desk turn run on moved done.worked answer unit-done row row-within.2
 
-    pub reply-so : reply_in plan ≡ reply_of (state_of content old) turn
+    pub reply-so : reply_in plan ≡ reply_of (state_of content old) turn answer
     unfolding reply_of
     reply-so = ap reply_in plan-so ∙ told-so.0 ∙ sym (ap (λ (d : TurnDone). d.reply) turned)
 
-    work-event : event_in plan ≡ (work_of run desk).event
+    work-event : event_in plan ≡ (work_of answer run desk).event
     work-event = ap event_in plan-so ∙ told-so.1
 
-    pub event-so : event_in plan ≡ event_of_turn (state_of content old) turn
+    pub event-so : event_in plan ≡ event_of_turn (state_of content old) turn answer
     unfolding event_of_turn
     event-so = work-event ∙ sym (ap (λ (d : TurnDone). d.event) turned)
 
     -- ---- where no event comes
 
-    -- a code is told, whatever the rules say of it
-    tells-code : (code : Code) → event_in (told_by layout office.tables row (running_of office.tables moved) (Abend code)) ≡ None → ⊥
-    tells-code code =
-        by-verdict (λ its. event_in its ≡ None → ⊥) layout office.tables row (initiator_of row) code (running_reached (running_of office.tables moved)) (λ rule ends none. some-not-none _ none) (λ judged none. some-not-none _ none)
-        (λ entry judged found none. some-not-none _ none)
+    -- a code is told, or the run waits with it, whatever the rules say
+    coded-waits-so : (code : Code) → event_in (decide answer (told_by layout office.tables row (running_of office.tables moved) (Abend code))) ≡ None
+        → decide answer (told_by layout office.tables row (running_of office.tables moved) (Abend code)) ≡ Wait run code
+    coded-waits-so code =
+        by-verdict (λ its. event_in (decide answer its) ≡ None → decide answer its ≡ Wait run code) layout office.tables row (initiator_of row) true code (running_reached (running_of office.tables moved))
+        (λ rule ends none. absurd (some-not-none _ none))
+        (λ judged none. waits-by answer row (initiator_of row) code (running_reached (running_of office.tables moved)) None 0 none ∙ ap (λ n. let waits : Plan = Wait n code in waits) row-within.4)
+        (λ entry judged found none.
+        waits-by answer row (initiator_of row) code (running_reached (running_of office.tables moved)) (Some entry.kept.id) entry.point.taken none ∙ ap (λ n. let waits : Plan = Wait n code in waits) row-within.4)
 
-    is-went : event_in plan ≡ None → (taken : ℕ) × (done.worked ≡ Went taken)
-    is-went none = by done.worked refl
+    -- the step went on
+    pub record HasGone : Type 0 where
+      pub taken : ℕ
+      pub worked : done.worked ≡ Went taken
+
+    -- it ended with a code, and the operator doesn't answer
+    pub record HasStopped : Type 0 where
+      pub code : Code
+      pub worked : done.worked ≡ Abend code
+      pub waits : decide answer (told_by layout office.tables row (running_of office.tables moved) (Abend code)) ≡ Wait run code
+
+    gone-or-stopped : event_in plan ≡ None → HasGone ⊎ HasStopped
+    gone-or-stopped none = by done.worked refl
       where
-        by : (worked : Worked) → done.worked ≡ worked → (taken : ℕ) × (done.worked ≡ Went taken)
-        by (Went taken) is = (taken, is)
-        by (Rewrite place bytes taken) is = absurd (some-not-none _ (sym (sym none ∙ ap event_in plan-so ∙ ap (λ (w : Worked). event_in (told_by layout office.tables row (running_of office.tables moved) w)) is)))
-        by (Abend code) is = absurd (tells-code code (sym (ap (λ (w : Worked). event_in (told_by layout office.tables row (running_of office.tables moved) w)) is) ∙ sym (ap event_in plan-so) ∙ none))
+        at : (worked : Outcome) → done.worked ≡ worked → event_in (decide answer (told_by layout office.tables row (running_of office.tables moved) worked)) ≡ None
+        at worked is = sym (ap (λ (w : Outcome). event_in (decide answer (told_by layout office.tables row (running_of office.tables moved) w))) is) ∙ sym (ap event_in plan-so) ∙ none
+
+        by : (worked : Outcome) → done.worked ≡ worked → HasGone ⊎ HasStopped
+        by (Went taken) is = inl (record { taken = taken; worked = is })
+        by (Rewrite place bytes taken) is = absurd (some-not-none _ (at (Rewrite place bytes taken) is))
+        by (Abend code) is = inr (record { code = code; worked = is; waits = coded-waits-so code (at (Abend code) is) })
+
+    plan-by : (worked : Outcome) → done.worked ≡ worked → plan ≡ decide answer (told_by layout office.tables row (running_of office.tables moved) worked)
+    plan-by worked is = plan-so ∙ ap (λ (w : Outcome). decide answer (told_by layout office.tables row (running_of office.tables moved) w)) is
+
+    -- the operator isn't asked where the step went on
+    pub went-asks : (reply : Reply) → plan ≡ Rest reply → asks (state_of content old) turn answer ≡ false
+    unfolding asks
+    went-asks reply is = ap (λ (d : TurnDone). d.asked) turned ∙ sym told-so.2 ∙ by (gone-or-stopped (ap event_in is))
+      where
+        by : HasGone ⊎ HasStopped → is_ask (told_by layout office.tables row (running_of office.tables moved) done.worked) ≡ false
+        by (inl gone) = ap (λ (w : Outcome). is_ask (told_by layout office.tables row (running_of office.tables moved) w)) gone.worked
+        by (inr stopped) = let differs : Rest reply ≡ Wait run stopped.code = sym is ∙ plan-by (Abend stopped.code) stopped.worked ∙ stopped.waits in cc
 
     office-after : office_on layout after ≡ office
     office-after = office-same layout image after events
@@ -235,54 +320,89 @@ module _ {D : Type 0} (told : Type 0) (content : D → List ℕ) (may_leave : D 
     unfolding last_on
     last-after = ap (λ records. last_event (events_in records)) events
 
-    module _ (none : event_in plan ≡ None) where
-      abbrev taken : ℕ
-      taken = (is-went none).0
+    -- the unit is done, and its run waits if it has stopped
+    module _ (new : DeskView D) (gone : HasGoneBehind told content plan mid new) (none : event_in plan ≡ None) where
+      gone-by : (other : Plan) → plan ≡ other → HasGoneBehind told content other mid new
+      gone-by other is = subst (λ (p : Plan). HasGoneBehind told content p mid new) is gone
 
-      went : StandsBehindUnit layout old.jobs image after desk turn run on moved (Went taken)
-      went = subst (StandsBehindUnit layout old.jobs image after desk turn run on moved) (is-went none).1 unit-done
+      abbrev IsRested : Type 0
+      IsRested = StandsForDesk layout new.jobs after (work_of answer run desk).desk × (new.jobs.tables.desk ≡ mid.jobs.tables.desk) × (new.store ≡ mid.store)
 
-      went-so : StandsForDesk layout mid.jobs after (work_of run desk).desk
-      went-so = went-stands layout old.jobs image after desk turn run on moved taken went mid.jobs put-back
+      rested : IsRested
+      rested = by (gone-or-stopped none)
+        where
+          by : HasGone ⊎ HasStopped → IsRested
+          by (inl on_it) =
+              let went : StandsBehindUnit layout old.jobs image after desk turn run on moved (Went on_it.taken) = subst (StandsBehindUnit layout old.jobs image after desk turn run on moved) on_it.worked unit-done in
+              let same : new ≡ mid = gone-by (Rest (Worked row.number (step_name_of row) (running_of office.tables moved).taken)) (plan-by (Went on_it.taken) on_it.worked) in (
+                subst (λ (s : DeskView D). StandsForDesk layout s.jobs after (work_of answer run desk).desk) (sym same)
+                    (went-stands layout old.jobs image after desk turn run on moved on_it.taken went answer mid.jobs put-back),
+                ap (λ (s : DeskView D). s.jobs.tables.desk) same,
+                ap (λ (s : DeskView D). s.store) same,
+              )
+          by (inr stopped) =
+              let ended : StandsBehindUnit layout old.jobs image after desk turn run on moved (Abend stopped.code) = subst (StandsBehindUnit layout old.jobs image after desk turn run on moved) stopped.worked unit-done in
+              let its : HasGoneBehind told content (Wait run stopped.code) mid new = gone-by (Wait run stopped.code) (plan-by (Abend stopped.code) stopped.worked ∙ stopped.waits) in (
+                coded-waits layout old.jobs image after desk turn run on moved stopped.code answer ended mid.jobs put-back row row-within.2 stopped.waits new.jobs its.0,
+                its.0.tables,
+                its.1,
+              )
 
-      rest-office : (work_of run desk).desk.office ≡ office
-      rest-office = ap (λ (d : TurnDone). d.desk.office) (went-done layout old.jobs image after desk turn run on moved taken went)
+      rest-office : (work_of answer run desk).desk.office ≡ office
+      rest-office = work-office answer run desk (sym work-event ∙ none)
 
-      rest-desk : (work_of run desk).desk ≡ (state_of content mid).desk
+      layout-then : new.store.layout ≡ layout
+      layout-then = ap (λ (store : StoreView D). store.layout) rested.2 ∙ layout-same
+
+      reads-then : content new.store.disk ≡ after
+      reads-then = ap (λ (store : StoreView D). content store.disk) rested.2
+
+      office-then : office_on layout (content new.store.disk) ≡ office
+      office-then = ap (office_on layout) reads-then ∙ office-after
+
+      rest-desk : (work_of answer run desk).desk ≡ (state_of content new).desk
       rest-desk =
-          desk-so layout mid.jobs after (work_of run desk).desk went-so
-          ∙ ap (λ (o : Office). desk_seen layout o mid.jobs) (rest-office ∙ sym office-after)
-          ∙ ap (λ (l : Layout). desk_seen l (office_on l after) mid.jobs) (sym layout-same)
+          desk-so layout new.jobs after (work_of answer run desk).desk rested.0
+          ∙ ap (λ (o : Office). desk_seen layout o new.jobs) (rest-office ∙ sym office-then)
+          ∙ ap (λ (l : Layout). desk_seen l (office_on l (content new.store.disk)) new.jobs) (sym layout-then)
 
-      entries-rest : (left : List ℕ) → HasEntries layout office left → HasEntries mid.store.layout (office_on mid.store.layout after) left
+      entries-rest : (left : List ℕ) → HasEntries layout office left → HasEntries new.store.layout (office_on new.store.layout (content new.store.disk)) left
       entries-rest left has =
-          subst (λ (l : Layout). HasEntries l (office_on l after) left) (sym layout-same)
-          (subst (λ (o : Office). HasEntries layout o left) (sym office-after) has)
+          subst (λ (l : Layout). HasEntries l (office_on l (content new.store.disk)) left) (sym layout-then)
+          (subst (λ (o : Office). HasEntries layout o left) (sym office-then) has)
 
-      pub rest-trusted : IsTrusted told content may_leave mid
+      stems-then : (left : List ℕ) → may_leave new.store.disk left → IsLeftByUnit content may_leave size run old left
+      stems-then left may = stems left (subst (λ (store : StoreView D). may_leave store.disk left) rested.2 may)
+
+      pub rest-trusted : IsTrusted told content may_leave new
       rest-trusted = record {
         tells = trusted.tells;
-        opens = subst (λ (l : Layout). behind_records l no_tables 0 (event_records l after) ≡ Ok mid.jobs.tables.desk) (sym layout-same)
-            (ap (λ records. behind_records layout no_tables 0 records) events ∙ trusted.opens ∙ ap Ok (sym done.tables));
-        events = subst (λ (l : Layout). AreSound l (events_in (event_records l after))) (sym layout-same)
-            (subst (λ records. AreSound layout (events_in records)) (sym events) trusted.events);
-        stands = subst (λ (d : DeskModel). StandsForDesk mid.store.layout mid.jobs after d) rest-desk (subst (λ (l : Layout). StandsForDesk l mid.jobs after (work_of run desk).desk) (sym layout-same) went-so);
-        last = subst (λ (l : Layout). HasLast (office_on l after) (last_on l after)) (sym layout-same)
-            (subst (λ (o : Office). HasLast o (last_on layout after)) (sym office-after) (subst (HasLast office) (sym last-after) trusted.last));
+        opens = subst (λ (l : Layout). behind_records l no_tables 0 (event_records l (content new.store.disk)) ≡ Ok new.jobs.tables.desk) (sym layout-then)
+            (ap (λ bytes. behind_records layout no_tables 0 (event_records layout bytes)) reads-then
+            ∙ ap (λ records. behind_records layout no_tables 0 records) events ∙ trusted.opens ∙ ap Ok (sym done.tables) ∙ ap Ok (sym rested.1));
+        events = subst (λ (l : Layout). AreSound l (events_in (event_records l (content new.store.disk)))) (sym layout-then)
+            (subst (λ bytes. AreSound layout (events_in (event_records layout bytes))) (sym reads-then)
+            (subst (λ records. AreSound layout (events_in records)) (sym events) trusted.events));
+        stands = subst (λ (d : DeskModel). StandsForDesk new.store.layout new.jobs (content new.store.disk) d) rest-desk
+            (subst (λ (l : Layout). StandsForDesk l new.jobs (content new.store.disk) (work_of answer run desk).desk) (sym layout-then)
+            (subst (λ bytes. StandsForDesk layout new.jobs bytes (work_of answer run desk).desk) (sym reads-then) rested.0));
+        last = subst (λ (l : Layout). HasLast (office_on l (content new.store.disk)) (last_on l (content new.store.disk))) (sym layout-then)
+            (subst (λ bytes. HasLast (office_on layout bytes) (last_on layout bytes)) (sym reads-then)
+            (subst (λ (o : Office). HasLast o (last_on layout after)) (sym office-after) (subst (HasLast office) (sym last-after) trusted.last)));
         committed = λ left may.
-            subst (λ (l : Layout). HasCommitted l (office_on l after) left) (sym layout-same)
-            (subst (λ (o : Office). HasCommitted layout o left) (sym office-after) (left-committed left (stems left may)));
-        entries = entries-rest after entries-after;
-        entries_left = λ left may. entries-rest left (left-entries left (stems left may));
+            subst (λ (l : Layout). HasCommitted l (office_on l (content new.store.disk)) left) (sym layout-then)
+            (subst (λ (o : Office). HasCommitted layout o left) (sym office-then) (left-committed left (stems-then left may)));
+        entries = entries-rest (content new.store.disk) (subst (HasEntries layout office) (sym reads-then) entries-after);
+        entries_left = λ left may. entries-rest left (left-entries left (stems-then left may));
       }
 
-      pub rest-state : state_of content mid ≡ behind_turn (state_of content old) turn
+      pub rest-state : state_of content new ≡ behind_turn (state_of content old) turn answer
       unfolding behind_turn
       rest-state =
-          ap (λ (d : DeskModel). state_as d (room_of mid.store.book)) (sym rest-desk)
-          ∙ ap (state_as (work_of run desk).desk) room-same
-          ∙ ap (λ (e : Option Event). state_as (work_of run desk).desk (room_behind (room_of old.store.book) e)) (sym none ∙ event-so)
-          ∙ ap (λ (d : TurnDone). state_as d.desk (room_behind (room_of old.store.book) (event_of_turn (state_of content old) turn))) (sym turned)
+          ap (λ (d : DeskModel). state_as d (room_of new.store.book)) (sym rest-desk)
+          ∙ ap (state_as (work_of answer run desk).desk) (ap (λ (store : StoreView D). room_of store.book) rested.2 ∙ room-same)
+          ∙ ap (λ (e : Option Event). state_as (work_of answer run desk).desk (room_behind (room_of old.store.book) e)) (sym none ∙ event-so)
+          ∙ ap (λ (d : TurnDone). state_as d.desk (room_behind (room_of old.store.book) (event_of_turn (state_of content old) turn answer))) (sym turned)
         where
           state_as : DeskModel → ℕ → RoomyDesk
           state_as d room = record { desk = d; room = room }
@@ -291,10 +411,12 @@ module _ {D : Type 0} (told : Type 0) (content : D → List ℕ) (may_leave : D 
 
     module _ (event : Event) (is : event_in plan ≡ Some event) where
       abbrev then : DeskModel
-      then = (work_of run desk).desk
+      then = (work_of answer run desk).desk
 
       unit-plain : is_forward_event event ≡ true
-      unit-plain = plain-in plan (subst IsPlainPlan (sym plan-so) (told-plain layout office.tables row (running_of office.tables moved) done.worked)) event is
+      unit-plain =
+          plain-in plan (subst IsPlainPlan (sym plan-so)
+          (decided-plain answer (told_by layout office.tables row (running_of office.tables moved) done.worked) (told-plain layout office.tables row (running_of office.tables moved) done.worked))) event is
 
       spelled-so : IsSpelled event
       spelled-so = spelled-in plan shape event is
@@ -302,54 +424,75 @@ module _ {D : Type 0} (told : Type 0) (content : D → List ℕ) (may_leave : D 
       none-decked : deck_of event ≡ None
       none-decked = deck-none event spelled-so.small
 
-      event-then : (work_of run desk).event ≡ Some event
+      event-then : (work_of answer run desk).event ≡ Some event
       event-then = sym work-event ∙ is
 
-      abbrev event_by : Worked → Option Event
-      event_by worked = event_in (told_by layout office.tables row (running_of office.tables moved) worked)
+      abbrev event_by : Outcome → Option Event
+      event_by worked = event_in (decide answer (told_by layout office.tables row (running_of office.tables moved) worked))
 
       abbrev lengths : ArrayVec ℕ
       lengths = record { items = (running_of office.tables moved).lengths }
 
-      -- the step ends with a code: its run ends by a rule, or is restarted
-      code-ensues : (code : Code) → done.worked ≡ Abend code → event_by (Abend code) ≡ Some event → Ensues mid.jobs after desk run event
-      code-ensues code same =
-          by-verdict (λ its. event_in its ≡ Some event → Ensues mid.jobs after desk run event) layout office.tables row (initiator_of row) code (running_reached (running_of office.tables moved))
-          (λ rule ends tells.
-          let told_is : Ended run (Coded code (rule_number rule) moved.step.writes lengths) ≡ event =
-          ap (λ n. Ended n (Coded code (rule_number rule) moved.step.writes lengths)) (sym row-within.4) ∙ same_Some _ event tells in
-          subst (Ensues mid.jobs after desk run) told_is
-          (ended-ensues old.jobs image after desk turn run on moved code unit-coded mid.jobs put-back (rule_number rule) lengths (event-then ∙ ap Some (sym told_is))))
-          (λ judged tells. restart-ensues false tells)
-          (λ entry judged found tells. restart-ensues true tells)
-        where
-          unit-coded : StandsBehindUnit layout old.jobs image after desk turn run on moved (Abend code)
-          unit-coded = subst (StandsBehindUnit layout old.jobs image after desk turn run on moved) same unit-done
+      -- the step ends with a code: its run ends by a rule, or the operator decides
+      module _ (code : Code) (unit-coded : StandsBehindUnit layout old.jobs image after desk turn run on moved (Abend code)) where
+        abbrev reached : CodePlaceModel
+        reached = running_reached (running_of office.tables moved)
 
-          restart-ensues : (checkpoint : Bool) → Some (Restarted row.number (initiator_of row) code checkpoint) ≡ Some event → Ensues mid.jobs after desk run event
-          restart-ensues checkpoint tells =
-              let told_is : Restarted run (initiator_of row) code checkpoint ≡ event = ap (λ n. Restarted n (initiator_of row) code checkpoint) (sym row-within.4) ∙ same_Some _ event tells in
-              subst (Ensues mid.jobs after desk run) told_is
-              (restarted-ensues old.jobs image after desk turn run on moved code unit-coded mid.jobs put-back (initiator_of row) checkpoint (event-then ∙ ap Some (sym told_is)))
+        writes-so : reached.writes ≡ moved.step.writes
+        writes-so = stopped-writes moved.code (plain_of office.tables moved)
 
-      ensues : Ensues mid.jobs after desk run event
+        end-ensues : (rule : Rule) → Some (Ended row.number (Coded code (rule_number rule) reached.writes lengths)) ≡ Some event → Ensues mid.jobs after desk run answer event
+        end-ensues rule tells =
+            let told_is : Ended run (Coded code (rule_number rule) moved.step.writes lengths) ≡ event =
+            ap (λ n. Ended run (Coded code (rule_number rule) n lengths)) (sym writes-so)
+            ∙ ap (λ n. Ended n (Coded code (rule_number rule) reached.writes lengths)) (sym row-within.4) ∙ same_Some _ event tells in
+            subst (Ensues mid.jobs after desk run answer) told_is
+            (ended-ensues old.jobs image after desk turn run on moved code unit-coded mid.jobs put-back answer (rule_number rule) lengths (event-then ∙ ap Some (sym told_is)))
+
+        hold-ensues : Some (Held row.number code reached.writes lengths) ≡ Some event → Ensues mid.jobs after desk run answer event
+        hold-ensues tells =
+            let told_is : Held run code moved.step.writes lengths ≡ event =
+            ap (λ n. Held run code n lengths) (sym writes-so) ∙ ap (λ n. Held n code reached.writes lengths) (sym row-within.4) ∙ same_Some _ event tells in
+            subst (Ensues mid.jobs after desk run answer) told_is
+            (held-ensues old.jobs image after desk turn run on moved code unit-coded mid.jobs put-back answer lengths (event-then ∙ ap Some (sym told_is)))
+
+        restart-ensues : (checkpoint : Bool) → Some (Restarted row.number (initiator_of row) code checkpoint) ≡ Some event → Ensues mid.jobs after desk run answer event
+        restart-ensues checkpoint tells =
+            let told_is : Restarted run (initiator_of row) code checkpoint ≡ event = ap (λ n. Restarted n (initiator_of row) code checkpoint) (sym row-within.4) ∙ same_Some _ event tells in
+            subst (Ensues mid.jobs after desk run answer) told_is
+            (restarted-ensues old.jobs image after desk turn run on moved code unit-coded mid.jobs put-back answer (initiator_of row) checkpoint (event-then ∙ ap Some (sym told_is)))
+
+        answer-ensues : (its : Answer) (id : Option Name) (count : ℕ) → event_in (decided its (inquiry_of row (initiator_of row) true code reached id count)) ≡ Some event → Ensues mid.jobs after desk run answer event
+        answer-ensues Yes id count tells = restart-ensues (is_some id) tells
+        answer-ensues No id count tells = end-ensues A6 tells
+        answer-ensues Hold id count tells = hold-ensues tells
+        answer-ensues Silent id count tells = absurd (some-not-none event (sym tells))
+
+        code-ensues : event_by (Abend code) ≡ Some event → Ensues mid.jobs after desk run answer event
+        code-ensues =
+            by-verdict (λ its. event_in (decide answer its) ≡ Some event → Ensues mid.jobs after desk run answer event) layout office.tables row (initiator_of row) true code reached
+            (λ rule ends tells. end-ensues rule tells)
+            (λ judged tells. answer-ensues answer None 0 tells)
+            (λ entry judged found tells. answer-ensues answer (Some entry.kept.id) entry.point.taken tells)
+
+      ensues : Ensues mid.jobs after desk run answer event
       ensues = by done.worked refl
         where
-          by : (worked : Worked) → done.worked ≡ worked → Ensues mid.jobs after desk run event
+          by : (worked : Outcome) → done.worked ≡ worked → Ensues mid.jobs after desk run answer event
           by (Went count) same = absurd (some-not-none event (sym is ∙ ap event_in plan-so ∙ ap event_by same))
           by (Rewrite place bytes count) same =
-              rewrite-ensues old.jobs image after desk turn run on moved place bytes count (subst (StandsBehindUnit layout old.jobs image after desk turn run on moved) same unit-done) mid.jobs put-back event event-then
-          by (Abend code) same = code-ensues code same (sym (ap event_by same) ∙ sym (ap event_in plan-so) ∙ is)
+              rewrite-ensues old.jobs image after desk turn run on moved place bytes count (subst (StandsBehindUnit layout old.jobs image after desk turn run on moved) same unit-done) mid.jobs put-back answer event event-then
+          by (Abend code) same =
+              code-ensues code (subst (StandsBehindUnit layout old.jobs image after desk turn run on moved) same unit-done) (sym (ap event_by same) ∙ sym (ap event_in plan-so) ∙ is)
 
       tables-mid : mid.jobs.tables.desk ≡ office.tables
       tables-mid = done.tables ∙ trusted.stands.tables
 
-      event-is : event_of_turn (state_of content old) turn ≡ Some event
+      event-is : event_of_turn (state_of content old) turn answer ≡ Some event
       event-is = sym event-so ∙ is
 
-      pub unit-fits : (new : DeskView D) → HasGoneOn event None mid new → turn_fits (state_of content old) turn ≡ true
-      unfolding turn_fits
-      unit-fits new gone =
+      pub unit-has_room : (new : DeskView D) → HasGoneOn event None mid new → has_room (room_of old.store.book) (event_of_turn (state_of content old) turn answer) ≡ true
+      unit-has_room new gone =
           ap (has_room (room_of old.store.book)) event-is
           ∙ le-leb (need_of event) (room_of old.store.book) (subst (λ room. need_of event ≤ room) room-same gone.fits)
 
@@ -400,7 +543,7 @@ module _ {D : Type 0} (told : Type 0) (content : D → List ℕ) (may_leave : D 
           (λ tables laid checks is.
           told-lacking layout tables laid checks event (subst (λ (t : TablesModel). TellsRecord t event) is ensues.record_told) told_on left (subst (λ (t : TablesModel). LacksAtMost layout t event told_on left) is lacks))
 
-      module _ (new : DeskView D) (same : new.store.layout ≡ old.store.layout) (gone : HasGoneBehind told content (Some event) mid new) (settled : IsSettledBehind content may_leave (Some event) new) where
+      module _ (new : DeskView D) (same : new.store.layout ≡ old.store.layout) (reply : Reply) (gone : HasGoneBehind told content (Tell reply event) mid new) (settled : IsSettledBehind content may_leave (Some event) new) where
         behind-so : IsBehind told content may_leave event old new then
         behind-so =
             let written : HasWrittenBehind content event mid new = gone.1 trusted.tells in
@@ -420,13 +563,13 @@ module _ {D : Type 0} (told : Type 0) (content : D → List ℕ) (may_leave : D 
         pub unit-trusted : IsTrusted told content may_leave new
         unit-trusted = trusted-behind told content may_leave event old new then (coming gone.0.might) behind-so trusted
 
-        pub unit-state : state_of content new ≡ behind_turn (state_of content old) turn
+        pub unit-state : state_of content new ≡ behind_turn (state_of content old) turn answer
         unfolding behind_turn
         unit-state =
             ap (λ (d : DeskModel). state_as d (room_of new.store.book)) (sym (desk-behind told content may_leave event old new then (coming gone.0.might) behind-so))
             ∙ ap (state_as then) (let e : room_of new.store.book ≡ room_of old.store.book - (length (spelling event) + 5) = omega (arith, gone.0.room, room-same) in e)
             ∙ ap (λ (e : Option Event). state_as then (room_behind (room_of old.store.book) e)) (sym event-is)
-            ∙ ap (λ (d : TurnDone). state_as d.desk (room_behind (room_of old.store.book) (event_of_turn (state_of content old) turn))) (sym turned)
+            ∙ ap (λ (d : TurnDone). state_as d.desk (room_behind (room_of old.store.book) (event_of_turn (state_of content old) turn answer))) (sym turned)
           where
             state_as : DeskModel → ℕ → RoomyDesk
             state_as d room = record { desk = d; room = room }

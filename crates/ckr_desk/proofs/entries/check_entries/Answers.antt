@@ -1,7 +1,6 @@
-use Rattle.std.proofs.Common.{◌≡◌, ◌∙◌, ◌+◌, ℕ, List, None, Some, Ok, Err, ap, arith, refl, subst, sym, length}
+use Rattle.std.proofs.Common.{◌≡◌, ◌∙◌, ◌+◌, None, Some, Ok, Err, ap, arith, refl, subst, sym, length}
 use Rattle.std.proofs.lemmas.List.{length-map}
 use Rattle.ckr_base.proofs.Sequences.{get-from}
-use Rattle.ckr_desk_memory.specs.View.{PointView}
 use Rattle.ckr_points_tables.specs.View.{line_of}
 use Rattle.ckr_desk.proofs.Openings.EntryReads.{bad-all, bad-end, bad-here, bad_from}
 use Rattle.ckr_desk.proofs.Openings.NextPoints.{AreSoFar, next-none, next-some, none-refused, refused-as}

@@ -1,17 +1,22 @@
 use Rattle.std.proofs.Common.{◌≡◌, ◌≤◌, ◌∙◌, arith, ap, subst, sym, ℕ, List, None, IfErr, IfOk, OnOk}
 use Rattle.ckr_desk_memory.specs.Plans.{HasDue, IsSpelledPlan, IsToldReply}
 use Rattle.ckr_desk_memory.specs.OwnSteps.{PlanCommits, PlanFollows, PlanLeaves}
-use Rattle.ckr_desk_memory.specs.View.{RunningStepView}
+use Rattle.ckr_desk_memory.specs.View.{RunningStepView, jobs_of}
 use Rattle.ckr_points.specs.Rows.{TablesModel}
 use Rattle.ckr_volumes.specs.declared.layout.Layout.{Layout}
-use Rattle.ckr_desk_refines.specs.Moves.{event_in}
+use Rattle.ckr_console.specs.Answering.{restart_answer}
+use Rattle.ckr_desk_turn.specs.declared.failed_run.FailedRun.{FailedRun}
+use Rattle.ckr_desk_turn.specs.Inquiries.{decide, is_ask}
+use Rattle.ckr_desk_turn.specs.Plans.{plan_of}
 use Rattle.ckr_desk_store.specs.State.{IsSound, StoreView}
 use Rattle.ckr_book.specs.Book.{room_of}
-use Rattle.ckr_desk.proofs.Calls.FullBooks.{of-disk-numbers, unready-numbers}
+use Rattle.ckr_desk.proofs.Calls.FullBooks.{of-disk-numbers, unsettled-numbers}
 use Rattle.ckr_desk.proofs.Calls.Requests.{if-err, if-err-both, on-ok, on-ok-both}
 use Rattle.ckr_desk.proofs.Turns.Checkpoints.{turned-past}
 use Rattle.ckr_desk.proofs.Turns.Preparation.{as-before, came-of-disk, planned-before, same-unchanged, turned-before, turned-not}
-use Rattle.ckr_desk.proofs.Turns.Plans.{behind-takes, go-after, go-cause, go-fits, go-kept, go-may-fail, go-of-disk, go-reply, go-told, go-trusted, go-unready, if-ok, of-disk-stays, plain-told, rests-so, unready-stays, unready-takes}
+use Rattle.ckr_desk.proofs.Turns.Answers.{given-stands, pass-quiet, stands-as, take-quiet, unasked, unasked-stands}
+use Rattle.ckr_desk.proofs.Turns.Decided.{decided-commits, decided-follows, decided-leaves}
+use Rattle.ckr_desk.proofs.Turns.Plans.{behind-takes, go-after, go-asks, go-cause, go-fits, go-kept, go-may-fail, go-of-disk, go-reply, go-told, go-trusted, go-unsettled, if-ok, of-disk-stays, plain-told, rests-so, unsettled-stays, unsettled-takes}
 use Rattle.ckr_desk.proofs.Calls.Stops.{now-left, opens-so, same-left}
 use Rattle.ckr_desk.proofs.Trust.Counts.{book-short}
 use Rattle.ckr_desk.proofs.Units.Preparation.{err-is}
@@ -19,9 +24,9 @@ use Rattle.ckr_desk.specs.Requests.{MayFail, TellsNumbers}
 use Rattle.ckr_desk.specs.Rewrite.{OpensSame}
 use Rattle.ckr_desk.specs.Soundness.{state_of}
 use Rattle.ckr_desk.specs.State.{DeskView}
-use Rattle.ckr_desk.specs.Turn.{event_of_turn, reply_of}
+use Rattle.ckr_desk.specs.Turn.{AnswerStands, AnswerStandsBy, asks}
 use Rattle.ckr_desk.specs.NoChange.{StaysBy}
-use Rattle.ckr_desk.specs.Units.{HasTurned, IsPlanned}
+use Rattle.ckr_desk.specs.Units.{HasTurned, IsPlainTold, IsPlanned}
 use Rattle.ckr_desk.proofs.desk.Desk.carry_out.Goals as goal
 
 pub work-requires-clause-due : goal.work-requires-clause-due
@@ -31,69 +36,91 @@ pub checkpoint-requires-clause-due : goal.checkpoint-requires-clause-due
 checkpoint-requires-clause-due g c κs within = subst (HasDue c.args.self.now.jobs) c.in-Take.is c.requires.due
 
 pub go_on-requires-clause-plain : goal.go_on-requires-clause-plain
-go_on-requires-clause-plain g c κs within = plain-told c.args.plan c.requires.plain (rests-so c.args.plan c.in_default.not-Work c.in_default.not-Pass c.in_default.not-Take)
+go_on-requires-clause-plain g c κs within =
+    subst IsPlainTold (sym c.in_ok-plan-in_default.ensures.decided)
+    (plain-told (restart_answer c.args.self.now.operator) c.args.plan c.requires.plain (rests-so c.args.plan c.in_default.not-Work c.in_default.not-Pass c.in_default.not-Take))
 
 pub go_on-requires-clause-follows : goal.go_on-requires-clause-follows
 go_on-requires-clause-follows g c κs within =
-    subst (λ (l : Layout). PlanFollows l c.ready_for.new.self.jobs.tables.desk c.args.plan) (sym (ap (λ (s : StoreView g.row.D.Denot). s.layout) c.ready_for.ensures.store))
-    (subst (λ (tables : TablesModel). PlanFollows c.args.self.now.store.layout tables c.args.plan) (sym c.ready_for.ensures.jobs.tables) c.requires.follows)
+    let now = c.args.self.now in
+    subst (PlanFollows c.settle.new.self.store.layout c.settle.new.self.jobs.tables.desk) (sym c.in_ok-plan-in_default.ensures.decided)
+    (decided-follows c.settle.new.self.store.layout c.settle.new.self.jobs.tables.desk (restart_answer now.operator) c.args.plan
+    (subst (λ (l : Layout). PlanFollows l c.settle.new.self.jobs.tables.desk c.args.plan) (sym (ap (λ (s : StoreView g.row.D.Denot). s.layout) c.settle.ensures.store))
+    (subst (λ (tables : TablesModel). PlanFollows now.store.layout tables c.args.plan) (sym c.settle.ensures.jobs.tables) c.requires.follows)))
 
 pub go_on-requires-clause-commits : goal.go_on-requires-clause-commits
 go_on-requires-clause-commits g c κs within =
-    subst (λ (tables : TablesModel). PlanCommits tables c.ready_for.new.self.jobs.running c.args.plan) (sym c.ready_for.ensures.jobs.tables)
-    (subst (λ (running : List RunningStepView). PlanCommits c.args.self.now.jobs.tables.desk running c.args.plan) (sym c.ready_for.ensures.jobs.running) c.requires.commits)
+    let now = c.args.self.now in
+    let mid = c.settle.new.self in
+    subst (PlanCommits mid.jobs.tables.desk mid.jobs.running) (sym c.in_ok-plan-in_default.ensures.decided)
+    (decided-commits mid.jobs.tables.desk mid.jobs.running (restart_answer now.operator) c.args.plan
+    (subst (λ (tables : TablesModel). PlanCommits tables mid.jobs.running c.args.plan) (sym c.settle.ensures.jobs.tables)
+    (subst (λ (running : List RunningStepView). PlanCommits now.jobs.tables.desk running c.args.plan) (sym c.settle.ensures.jobs.running) c.requires.commits)))
 
 pub go_on-requires-clause-leaves : goal.go_on-requires-clause-leaves
-go_on-requires-clause-leaves g c κs within = subst (λ (failed : List ℕ). PlanLeaves failed c.args.plan) (sym c.ready_for.ensures.jobs.failed) c.requires.leaves
+go_on-requires-clause-leaves g c κs within =
+    let mid = c.settle.new.self in
+    subst (PlanLeaves mid.jobs.failed) (sym c.in_ok-plan-in_default.ensures.decided)
+    (decided-leaves mid.jobs.failed (restart_answer c.args.self.now.operator) c.args.plan (subst (λ (failed : List FailedRun). PlanLeaves failed c.args.plan) (sym c.settle.ensures.jobs.failed) c.requires.leaves))
 
 pub go_on-requires-clause-ready : goal.go_on-requires-clause-ready
-go_on-requires-clause-ready g c κs within = c.in_ok-ready-in_default.ensures.ready
+go_on-requires-clause-ready g c κs within = c.in_ok-plan-in_default.ensures.ready
 
-pub returns-in_err-ready-in_default : goal.returns-in_err-ready-in_default
-returns-in_err-ready-in_default g c =
+pub returns-in_err-plan-in_default : goal.returns-in_err-plan-in_default
+returns-in_err-plan-in_default g c =
     let d = g.D.Disk in
     let now = c.args.self.now in
-    let mid = c.ready_for.new.self in
+    let mid = c.settle.new.self in
     let plan = c.args.plan in
-    let shape = c.requires.spelled in
-    let rests = rests-so plan c.in_default.not-Work c.in_default.not-Pass c.in_default.not-Take in
-    let store = c.ready_for.ensures.store in
-    let before = as-before d.content d.may_leave now mid d.told (same-unchanged d.content d.may_leave now mid c.ready_for.ensures.jobs store) in
+    let answer = restart_answer now.operator in
+    let plain = plain-told answer plan c.requires.plain (rests-so plan c.in_default.not-Work c.in_default.not-Pass c.in_default.not-Take) in
+    let store = c.settle.ensures.store in
+    let before = as-before d.content d.may_leave now mid d.told (same-unchanged d.content d.may_leave now mid c.settle.ensures.jobs store) in
     let sized = ap (λ (s : StoreView g.row.D.Denot). d.size s.disk) store in
     let laws = g.met.D.Disk g.world.𝓛 g.world.𝓜 g.world.𝓡 ((λ s x. x), (λ x. x), (λ x. x), λ x. x) in
     let sound = subst (λ (s : DeskView g.row.D.Denot). IsSound d.content d.may_leave d.size s.store) c.self.view_is c.layout-layout.ensures.sound in
     let since = same-left d.moment d.left_since now.store mid.store (λ image. OpensSame d.content d.size now image × d.may_leave now.store.disk image) store
     (now-left d.told d.content d.may_leave d.moment d.left_since d.size now sound c.requires.is_open (laws.only_now now.store.disk)) in
-    let error = c.in_err-ready-in_default.field-0.0 in
-    let cause = c.in_err-ready-in_default.ensures.cause in
-    let is = err-is c.from_residual.result error c.from_residual.ensures.1 in
-    let stays = unready-stays d.content d.may_leave d.faults now mid (event_in plan) error cause in
+    let error = c.in_err-plan-in_default.field-0.0 in
+    let cause = c.in_err-plan-in_default.ensures.cause in
+    let result = c.from_residual.result in
+    let is = err-is result error c.from_residual.ensures.1 in
+    let stays = unsettled-stays d.content d.may_leave d.faults now mid answer plan error cause in
     record {
       turned = λ turn p.
-          subst (HasTurned d.told d.content d.may_leave d.moment d.left_since d.size turn now mid) (sym is)
-          (turned-not d.told d.content d.may_leave d.moment d.left_since d.size now mid before sized since turn p.trusted error
-          (go-unready d.told d.content d.may_leave d.moment d.left_since d.size d.faults now p.trusted turn p.its plan mid error p.planned shape rests cause)
-          (unready-takes d.told d.content d.may_leave d.moment d.left_since d.size d.faults now p.trusted turn p.its plan mid error (book-short now.store.layout (d.size now.store.disk) sound.header) p.planned cause));
+          subst (HasTurned d.told d.content d.may_leave d.moment d.left_since d.size turn answer now mid) (sym is)
+          (turned-not d.told d.content d.may_leave d.moment d.left_since d.size now mid before sized since turn answer p.trusted error
+          (go-unsettled d.told d.content d.may_leave d.moment d.left_since d.size d.faults now p.trusted turn p.its answer plan mid error p.planned plain cause)
+          (unsettled-takes d.told d.content d.may_leave d.moment d.left_since d.size d.faults now p.trusted turn p.its answer plan mid error (book-short now.store.layout (d.size now.store.disk) sound.header) p.planned plain cause));
+      answered = λ turn p.
+          subst (AnswerStands (asks (state_of d.content now) turn answer) now.operator mid.operator) (sym is)
+          (subst (λ b. AnswerStandsBy b now.operator mid.operator error)
+          (sym (go-asks d.told d.content d.may_leave d.moment d.left_since d.size d.faults now p.trusted turn p.its answer (decide answer plan) (ap (decide answer) p.planned, plain) ∙ ap is_ask p.planned))
+          c.in_err-plan-in_default.ensures.answered);
       spelled = subst (λ r. IfOk r IsToldReply) (sym is) tt;
       is_open = subst (λ r. OnOk r (mid.store.fault ≡ None)) (sym is) tt;
       layout = ap (λ (s : StoreView g.row.D.Denot). s.layout) store;
       size = sized;
       faults = subst (λ (s : StoreView g.row.D.Denot). d.faults now.store.disk ≤ d.faults s.disk) (sym store) (omega arith);
       may_fail = subst (λ r. IfErr r (MayFail (d.faults now.store.disk) (d.faults mid.store.disk) now.store.fault)) (sym is) stays.1;
-      full = subst (λ r. IfErr r (TellsNumbers (room_of now.store.book))) (sym is) (unready-numbers now mid (event_in plan) error cause);
+      full = subst (λ r. IfErr r (TellsNumbers (room_of now.store.book))) (sym is) (unsettled-numbers now mid answer plan error cause);
       stays = subst (λ r. IfErr r (StaysBy d.content d.may_leave d.faults now mid)) (sym is) stays.0;
     }
 
-pub returns-in_ok-ready-in_default : goal.returns-in_ok-ready-in_default
-returns-in_ok-ready-in_default g c =
+pub returns-in_ok-plan-in_default : goal.returns-in_ok-plan-in_default
+returns-in_ok-plan-in_default g c =
     let d = g.D.Disk in
     let now = c.args.self.now in
-    let mid = c.ready_for.new.self in
+    let mid = c.settle.new.self in
     let plan = c.args.plan in
-    let shape = c.requires.spelled in
-    let rests = rests-so plan c.in_default.not-Work c.in_default.not-Pass c.in_default.not-Take in
-    let store = c.ready_for.ensures.store in
-    let before = as-before d.content d.may_leave now mid d.told (same-unchanged d.content d.may_leave now mid c.ready_for.ensures.jobs store) in
+    let answer = restart_answer now.operator in
+    let its = c.in_ok-plan-in_default.plan in
+    let shape = c.in_ok-plan-in_default.ensures.spelled in
+    let decided_so = c.in_ok-plan-in_default.ensures.decided in
+    let plain = plain-told answer plan c.requires.plain (rests-so plan c.in_default.not-Work c.in_default.not-Pass c.in_default.not-Take) in
+    let plain_its = subst IsPlainTold (sym decided_so) plain in
+    let store = c.settle.ensures.store in
+    let before = as-before d.content d.may_leave now mid d.told (same-unchanged d.content d.may_leave now mid c.settle.ensures.jobs store) in
     let sized = ap (λ (s : StoreView g.row.D.Denot). d.size s.disk) store in
     let laws = g.met.D.Disk g.world.𝓛 g.world.𝓜 g.world.𝓡 ((λ s x. x), (λ x. x), (λ x. x), λ x. x) in
     let sound = subst (λ (s : DeskView g.row.D.Denot). IsSound d.content d.may_leave d.size s.store) c.self.view_is c.layout-layout.ensures.sound in
@@ -102,30 +129,36 @@ returns-in_ok-ready-in_default g c =
     let new = c.go_on.new.self in
     let sound_then = subst (λ (s : StoreView g.row.D.Denot). IsSound d.content d.may_leave d.size s) (sym store) sound in
     let opens = opens-so d.told d.content d.may_leave d.moment d.left_since d.size mid sound_then (ap (λ (s : StoreView g.row.D.Denot). s.fault) store ∙ c.requires.is_open) in
+    let of_disk = if-err (go-of-disk d.faults mid new its) c.go_on.result c.go_on.ensures.cause in
     record {
       turned = λ turn p.
           let q = planned-before d.told d.content d.may_leave d.moment d.left_since d.size now mid before sized since turn plan p in
-          turned-before d.told d.content d.may_leave d.moment d.left_since d.size now mid before sized since turn p.trusted new c.go_on.result
+          let comes : (decide answer (plan_of mid.store.layout (jobs_of mid.jobs) turn) ≡ its) × IsPlainTold its = (ap (decide answer) q.planned ∙ sym decided_so, plain_its) in
+          turned-before d.told d.content d.may_leave d.moment d.left_since d.size now mid before sized since turn answer p.trusted new c.go_on.result
           (record {
-            reply = if-ok (λ reply is. is ∙ go-reply d.told d.content d.may_leave d.moment d.left_since d.size d.faults mid q.trusted turn q.its plan q.planned rests) c.go_on.result c.go_on.ensures.reply;
-            fits = on-ok (go-fits d.told d.content d.may_leave d.moment d.left_since d.size d.faults mid q.trusted turn q.its plan new q.planned shape rests) c.go_on.result c.go_on.ensures.gone;
-            after = on-ok-both (go-after d.told d.content d.may_leave d.moment d.left_since d.size d.faults mid q.trusted turn q.its plan new q.planned shape rests c.go_on.ensures.layout) c.go_on.result c.go_on.ensures.gone c.go_on.ensures.settled;
-            events = on-ok (go-told d.told d.content d.may_leave d.moment d.left_since d.size d.faults mid q.trusted turn q.its plan new q.planned shape rests) c.go_on.result c.go_on.ensures.gone;
-            trusted = on-ok-both (go-trusted d.told d.content d.may_leave d.moment d.left_since d.size d.faults mid q.trusted turn q.its plan new q.planned shape rests c.go_on.ensures.layout) c.go_on.result c.go_on.ensures.gone c.go_on.ensures.settled;
-            cause = if-err (λ error not. go-cause d.told d.content d.may_leave d.moment d.left_since d.size d.faults mid q.trusted turn q.its plan new error q.planned shape rests not) c.go_on.result c.go_on.ensures.cause;
-            takes = if-err (λ error not. behind-takes d.faults mid new plan (reply_of (state_of d.content mid) turn) (event_of_turn (state_of d.content mid) turn) error not) c.go_on.result c.go_on.ensures.cause;
-            kept = came-of-disk d.content d.moment d.left_since d.size mid new _ c.go_on.result (if-err (go-of-disk d.faults mid new plan) c.go_on.result c.go_on.ensures.cause)
-                (go-kept d.told d.content d.may_leave d.moment d.left_since d.size d.faults mid q.trusted turn q.its plan new q.planned shape rests opens (c.go_on.ensures.left p.trusted.tells));
+            reply = if-ok (λ reply is. is ∙ go-reply d.told d.content d.may_leave d.moment d.left_since d.size d.faults mid q.trusted turn q.its answer its comes) c.go_on.result c.go_on.ensures.reply;
+            fits = on-ok (go-fits d.told d.content d.may_leave d.moment d.left_since d.size d.faults mid q.trusted turn q.its answer its new comes shape) c.go_on.result c.go_on.ensures.gone;
+            after = on-ok-both (go-after d.told d.content d.may_leave d.moment d.left_since d.size d.faults mid q.trusted turn q.its answer its new comes shape c.go_on.ensures.layout) c.go_on.result c.go_on.ensures.gone c.go_on.ensures.settled;
+            events = on-ok (go-told d.told d.content d.may_leave d.moment d.left_since d.size d.faults mid q.trusted turn q.its answer its new comes) c.go_on.result c.go_on.ensures.gone;
+            trusted = on-ok-both (go-trusted d.told d.content d.may_leave d.moment d.left_since d.size d.faults mid q.trusted turn q.its answer its new comes shape c.go_on.ensures.layout) c.go_on.result c.go_on.ensures.gone c.go_on.ensures.settled;
+            cause = if-err (λ error not. go-cause d.told d.content d.may_leave d.moment d.left_since d.size d.faults mid q.trusted turn q.its answer its new error not) c.go_on.result c.go_on.ensures.cause;
+            takes = if-err (λ error not. behind-takes d.faults mid new its _ _ _ error not) c.go_on.result c.go_on.ensures.cause;
+            kept = came-of-disk d.content d.moment d.left_since d.size mid new _ c.go_on.result of_disk
+                (go-kept d.told d.content d.may_leave d.moment d.left_since d.size d.faults mid q.trusted turn q.its answer its new comes shape opens (c.go_on.ensures.left p.trusted.tells));
           });
+      answered = λ turn p.
+          stands-as (is_ask plan) (asks (state_of d.content now) turn answer) now.operator new.operator c.go_on.result
+          (go-asks d.told d.content d.may_leave d.moment d.left_since d.size d.faults now p.trusted turn p.its answer (decide answer plan) (ap (decide answer) p.planned, plain) ∙ ap is_ask p.planned)
+          (given-stands (is_ask plan) now.operator new.operator (c.go_on.ensures.operator ∙ c.in_ok-plan-in_default.ensures.answered) c.go_on.result of_disk);
       spelled = c.go_on.ensures.spelled;
       is_open = c.go_on.ensures.is_open;
       layout = c.go_on.ensures.layout ∙ ap (λ (s : StoreView g.row.D.Denot). s.layout) store;
       size = c.go_on.ensures.size ∙ sized;
       faults = subst (λ (s : StoreView g.row.D.Denot). d.faults s.disk ≤ d.faults new.store.disk) store c.go_on.ensures.faults;
       may_fail = subst (λ (s : StoreView g.row.D.Denot). IfErr c.go_on.result (MayFail (d.faults s.disk) (d.faults new.store.disk) s.fault)) store
-          (if-err (go-may-fail d.faults mid new plan) c.go_on.result c.go_on.ensures.cause);
-      full = if-err (λ error not. of-disk-numbers (room_of now.store.book) error (go-of-disk d.faults mid new plan error not)) c.go_on.result c.go_on.ensures.cause;
-      stays = if-err-both (λ error not halted. of-disk-stays d.content d.may_leave d.faults now new error (go-of-disk d.faults mid new plan error not) halted) c.go_on.result c.go_on.ensures.cause c.go_on.ensures.halted;
+          (if-err (go-may-fail d.faults mid new its) c.go_on.result c.go_on.ensures.cause);
+      full = if-err (λ error not. of-disk-numbers (room_of now.store.book) error (go-of-disk d.faults mid new its error not)) c.go_on.result c.go_on.ensures.cause;
+      stays = if-err-both (λ error not halted. of-disk-stays d.content d.may_leave d.faults now new error (go-of-disk d.faults mid new its error not) halted) c.go_on.result c.go_on.ensures.cause c.go_on.ensures.halted;
     }
 
 pub returns-in-Pass : goal.returns-in-Pass
@@ -139,8 +172,11 @@ returns-in-Pass g c =
     let since = now-left d.told d.content d.may_leave d.moment d.left_since d.size now sound c.requires.is_open (laws.only_now now.store.disk) in
     record {
       turned = λ turn p.
-          turned-past d.told d.content d.may_leave d.moment d.left_since d.size now p.trusted turn c.in-Pass.job c.in-Pass.reply new.jobs c.pass.ensures.passed
+          turned-past d.told d.content d.may_leave d.moment d.left_since d.size now turn (restart_answer now.operator) c.in-Pass.job c.in-Pass.reply new.jobs new.operator c.pass.ensures.passed
           (subst (IsPlanned d.told d.content d.may_leave now turn) c.in-Pass.is p) new.store store since;
+      answered = λ turn p.
+          unasked (asks (state_of d.content now) turn (restart_answer now.operator)) now.operator new.operator
+          (pass-quiet d.told d.content d.may_leave d.size now p.trusted turn p.its (restart_answer now.operator) c.in-Pass.job c.in-Pass.reply (p.planned ∙ c.in-Pass.is)) c.pass.ensures.operator;
       spelled = subst IsSpelledPlan c.in-Pass.is c.requires.spelled;
       is_open = ap (λ (s : StoreView g.row.D.Denot). s.fault) store ∙ c.requires.is_open;
       layout = ap (λ (s : StoreView g.row.D.Denot). s.layout) store;
@@ -150,3 +186,22 @@ returns-in-Pass g c =
       full = tt;
       stays = tt;
     }
+
+-- ---- a unit or a checkpoint
+
+pub returns-in-Work-clause-turned : goal.returns-in-Work-clause-turned
+returns-in-Work-clause-turned g c = λ turn p. c.work.ensures.turned turn (subst (IsPlanned g.D.Disk.told g.D.Disk.content g.D.Disk.may_leave c.args.self.now turn) c.in-Work.is p)
+
+pub returns-in-Work-clause-answered : goal.returns-in-Work-clause-answered
+returns-in-Work-clause-answered g c = λ turn p. c.work.ensures.answered turn (subst (IsPlanned g.D.Disk.told g.D.Disk.content g.D.Disk.may_leave c.args.self.now turn) c.in-Work.is p)
+
+pub returns-in-Take-clause-turned : goal.returns-in-Take-clause-turned
+returns-in-Take-clause-turned g c = λ turn p.
+    c.checkpoint.ensures.turned turn (restart_answer c.args.self.now.operator) (subst (IsPlanned g.D.Disk.told g.D.Disk.content g.D.Disk.may_leave c.args.self.now turn) c.in-Take.is p)
+
+pub returns-in-Take-clause-answered : goal.returns-in-Take-clause-answered
+returns-in-Take-clause-answered g c = λ turn p.
+    let d = g.D.Disk in
+    let now = c.args.self.now in
+    unasked-stands (asks (state_of d.content now) turn (restart_answer now.operator)) now.operator c.checkpoint.new.self.operator
+    (take-quiet d.told d.content d.may_leave d.size now p.trusted turn p.its (restart_answer now.operator) c.in-Take.job (p.planned ∙ c.in-Take.is)) c.checkpoint.ensures.operator c.checkpoint.result

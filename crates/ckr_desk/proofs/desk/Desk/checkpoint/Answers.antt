@@ -36,12 +36,13 @@ returns-in_err-attempt g c =
     let is = err-is c.from_residual.result error c.from_residual.ensures.1 in
     let stays = attempt-stays d.content d.may_leave d.faults c.args.run now mid error cause in
     record {
-      turned = λ turn p.
-          subst (HasTurned d.told d.content d.may_leave d.moment d.left_since d.size turn now mid) (sym is)
-          (turned-not d.told d.content d.may_leave d.moment d.left_since d.size now mid before sized since turn p.trusted error
-          (attempt-cause d.told d.content d.may_leave d.moment d.left_since d.size now p.trusted turn p.its c.args.run p.planned mid error cause)
-          (attempt-takes d.told d.content d.may_leave d.moment d.left_since d.size now p.trusted turn p.its c.args.run p.planned mid error c.requires.due cause));
+      turned = λ turn answer p.
+          subst (HasTurned d.told d.content d.may_leave d.moment d.left_since d.size turn answer now mid) (sym is)
+          (turned-not d.told d.content d.may_leave d.moment d.left_since d.size now mid before sized since turn answer p.trusted error
+          (attempt-cause d.told d.content d.may_leave d.moment d.left_since d.size now p.trusted turn p.its c.args.run p.planned answer mid error cause)
+          (attempt-takes d.told d.content d.may_leave d.moment d.left_since d.size now p.trusted turn p.its c.args.run p.planned answer mid error c.requires.due cause));
       spelled = subst (λ r. IfOk r IsToldReply) (sym is) tt;
+      operator = c.attempt.ensures.operator;
       is_open = subst (λ r. OnOk r (mid.store.fault ≡ None)) (sym is) tt;
       layout = ap (λ (s : StoreView g.row.D.Denot). s.layout) store;
       size = sized;
@@ -69,11 +70,12 @@ returns-in-Unfit g c =
     let sound_then = subst (λ (s : StoreView g.row.D.Denot). IsSound d.content d.may_leave d.size s) (sym first) sound in
     let at_mid = now-left d.told d.content d.may_leave d.moment d.left_since d.size mid sound_then (ap (λ (s : StoreView g.row.D.Denot). s.fault) first ∙ c.requires.is_open) (laws.only_now mid.store.disk) in
     record {
-      turned = λ turn p.
+      turned = λ turn answer p.
           let q = planned-before d.told d.content d.may_leave d.moment d.left_since d.size now mid before sized since turn (Take c.args.run) p in
-          turned-before d.told d.content d.may_leave d.moment d.left_since d.size now mid before sized since turn p.trusted new _
-          (turned-unfit d.told d.content d.may_leave d.moment d.left_since d.size mid q.trusted turn q.its c.args.run q.planned c.in-Unfit.reply unfit new.jobs c.pass.ensures.passed new.store c.pass.ensures.store at_mid);
+          turned-before d.told d.content d.may_leave d.moment d.left_since d.size now mid before sized since turn answer p.trusted new _
+          (turned-unfit d.told d.content d.may_leave d.moment d.left_since d.size mid q.trusted turn q.its c.args.run q.planned c.in-Unfit.reply unfit answer new.jobs new.operator c.pass.ensures.passed new.store c.pass.ensures.store at_mid);
       spelled = subst IsToldReply (sym unfit.reply_is.is) tt;
+      operator = c.pass.ensures.operator ∙ c.attempt.ensures.operator;
       is_open = ap (λ (s : StoreView g.row.D.Denot). s.fault) store ∙ c.requires.is_open;
       layout = ap (λ (s : StoreView g.row.D.Denot). s.layout) store;
       size = ap (λ (s : StoreView g.row.D.Denot). d.size s.disk) store;
@@ -97,10 +99,11 @@ returns-in-Fit g c =
     let since = same-left d.moment d.left_since now.store mid.store (λ image. OpensSame d.content d.size now image × d.may_leave now.store.disk image) store
     (now-left d.told d.content d.may_leave d.moment d.left_since d.size now sound c.requires.is_open (laws.only_now now.store.disk)) in
     record {
-      turned = λ turn p.
-          turned-before d.told d.content d.may_leave d.moment d.left_since d.size now mid before sized since turn p.trusted new c.take.result
-          (c.take.ensures.turned turn (planned-before d.told d.content d.may_leave d.moment d.left_since d.size now mid before sized since turn (Take c.args.run) p));
+      turned = λ turn answer p.
+          turned-before d.told d.content d.may_leave d.moment d.left_since d.size now mid before sized since turn answer p.trusted new c.take.result
+          (c.take.ensures.turned turn answer (planned-before d.told d.content d.may_leave d.moment d.left_since d.size now mid before sized since turn (Take c.args.run) p));
       spelled = c.take.ensures.spelled;
+      operator = c.take.ensures.operator ∙ c.attempt.ensures.operator;
       is_open = c.take.ensures.is_open;
       layout = c.take.ensures.layout ∙ ap (λ (s : StoreView g.row.D.Denot). s.layout) store;
       size = c.take.ensures.size ∙ sized;

@@ -1,4 +1,4 @@
-use Rattle.std.proofs.Common.{◌≡◌, List, [], ◌∷◌, ap, inr, sym, subst, ◌∙◌}
+use Rattle.std.proofs.Common.{◌≡◌, List, [], ◌∷◌, None, ap, inr, sym, subst, ◌∙◌}
 use Rattle.std.specs.List.{AllByRecursion}
 use Rattle.std.specs.Option.{option_map}
 use Rattle.ckr_base.proofs.Numbers.{equal-true}
@@ -31,7 +31,7 @@ do_unit-requires-clause-runnable g c κs within = c.in-Some.ensures.runnable c.s
 pub do_unit-requires-clause-unit : goal.do_unit-requires-clause-unit
 do_unit-requires-clause-unit g c κs within =
     let d = g.D.Disk in
-    let old : DeskView g.row.D.Denot = record { store = c.self.inside.store; jobs = c.self.inside.jobs } in
+    let old : DeskView g.row.D.Denot = record { store = c.self.inside.store; jobs = c.self.inside.jobs; operator = c.self.inside.console } in
     let unit = c.args.unit in
     let of = subst (λ (s : DeskView g.row.D.Denot). IsWorkedOut d.told d.content c.args.run s unit) (sym c.self.view_is) c.requires.unit in
     subst (λ (on : RunningStepView). HasWorkedOut d.told (d.content old.store.disk) old.store.layout on.step on.sets unit)
@@ -48,7 +48,7 @@ invariant_of-self g c =
 pub returns-in_err-do_unit-clause-left : goal.returns-in_err-do_unit-clause-left
 returns-in_err-do_unit-clause-left g c =
     let d = g.D.Disk in
-    let old : DeskView g.row.D.Denot = record { store = c.self.inside.store; jobs = c.self.inside.jobs } in
+    let old : DeskView g.row.D.Denot = record { store = c.self.inside.store; jobs = c.self.inside.jobs; operator = c.self.inside.console } in
     let on = step_seen c.in-Some.on in
     rw (← c.self.view_is)
     (in_other_words d.moment d.left_since old.store.disk c.do_unit.new.store.disk
@@ -80,7 +80,7 @@ invariant_of-self-2 g c =
 pub returns-clause-commits : goal.returns-clause-commits
 returns-clause-commits g c =
     let d = g.D.Disk in
-    let old : DeskView g.row.D.Denot = record { store = c.self.inside.store; jobs = c.self.inside.jobs } in
+    let old : DeskView g.row.D.Denot = record { store = c.self.inside.store; jobs = c.self.inside.jobs; operator = c.self.inside.console } in
     let run = c.args.run in
     let on = step_seen c.in-Some.on in
     let moved = step_seen c.do_unit.new.on in
@@ -88,7 +88,7 @@ returns-clause-commits g c =
     let tables = old.jobs.tables.desk in
     let found = sym c.take_step.ensures.step ∙ ap (option_map step_seen) c.in-Some.is in
     rw (← c.self.view_is)
-    (λ plan looked.
+    (λ answer plan looked.
     let same : looked.of.on ≡ on = same-on d.told d.content run old unit looked.of on found in
     subst (λ (t : TablesModel). PlanCommits t c.put_step.new.self.running plan) (sym (ap (λ (t : RoomyTables). t.desk) c.put_step.ensures.tables ∙ ap (λ (t : RoomyTables). t.desk) c.take_step.ensures.tables))
     (subst (λ (running : List RunningStepView). PlanCommits tables running plan) (sym c.put_step.ensures.running)
@@ -100,20 +100,21 @@ returns-clause-commits g c =
 pub returns-clause-done : goal.returns-clause-done
 returns-clause-done g c =
     let d = g.D.Disk in
-    let old : DeskView g.row.D.Denot = record { store = c.self.inside.store; jobs = c.self.inside.jobs } in
+    let old : DeskView g.row.D.Denot = record { store = c.self.inside.store; jobs = c.self.inside.jobs; operator = c.self.inside.console } in
     let on = step_seen c.in-Some.on in
     let moved = step_seen c.do_unit.new.on in
     let unit = c.args.unit in
     let did = c.in_ok-do_unit.ensures in
     let found = sym c.take_step.ensures.step ∙ ap (option_map step_seen) c.in-Some.is in
     rw (← c.self.view_is)
-    (λ plan looked.
+    (λ answer plan looked.
     record {
       on = on;
       moved = moved;
       worked = c.in_ok-do_unit.field-0;
       found = found;
       same_run = c.do_unit.ensures.run;
+      same_code = c.do_unit.ensures.code;
       did = did.worked;
       goes = λ told. did.goes_on told;
       keeps = c.do_unit.ensures.keeps;
@@ -122,15 +123,16 @@ returns-clause-done g c =
       running = c.put_step.ensures.running ∙ ap (λ rest. moved ∷ rest) c.take_step.ensures.running;
       points = c.put_step.ensures.points ∙ c.take_step.ensures.points;
       store = did.kept;
-      planned = told-moved old.store.layout old.jobs.tables.desk on moved unit c.in_ok-do_unit.field-0 plan c.do_unit.ensures.run did.behind did.lengths did.answer
-          (subst (λ (its : RunningStepView). IsToldOf old.store.layout old.jobs.tables.desk (behind_unit its unit) unit.worked plan)
+      planned = told-moved old.store.layout old.jobs.tables.desk on moved unit c.in_ok-do_unit.field-0 answer plan c.do_unit.ensures.run
+          (c.do_unit.ensures.code ∙ subst (λ (its : RunningStepView). its.code ≡ None) (same-on d.told d.content c.args.run old unit looked.of on found) looked.of.uncoded) did.behind did.lengths did.answer
+          (subst (λ (its : RunningStepView). IsToldOf old.store.layout old.jobs.tables.desk (behind_unit its unit) unit.worked answer plan)
           (same-on d.told d.content c.args.run old unit looked.of on found) looked.planned);
     })
 
 pub returns-clause-left : goal.returns-clause-left
 returns-clause-left g c =
     let d = g.D.Disk in
-    let old : DeskView g.row.D.Denot = record { store = c.self.inside.store; jobs = c.self.inside.jobs } in
+    let old : DeskView g.row.D.Denot = record { store = c.self.inside.store; jobs = c.self.inside.jobs; operator = c.self.inside.console } in
     let on = step_seen c.in-Some.on in
     rw (← c.self.view_is)
     (in_other_words d.moment d.left_since old.store.disk c.do_unit.new.store.disk

@@ -1,5 +1,6 @@
 use Rattle.std.proofs.Common.{subst}
 use Rattle.ckr_desk_memory.specs.OwnSteps.{PlanCommits, PlanFollows, PlanLeaves}
+use Rattle.ckr_desk.proofs.Layouts.{kept-waiting}
 use Rattle.ckr_desk.proofs.Turns.Stops.{rewritten-left, told-left}
 use Rattle.ckr_desk.proofs.desk.Desk.go_on.Goals as goal
 
@@ -37,3 +38,18 @@ returns-in_ok-rewrite-in-Tell-clause-left g c =
     rewritten-left d.told d.content d.may_leave d.moment d.left_since d.size c.in-Tell.event c.args.self.now c.enter.new.self c.rewrite.new.self.store.disk
     c.in_ok-enter-in-Tell.ensures.ok c.enter.ensures.size (c.in_ok-enter-in-Tell.ensures.told told) (c.in_ok-enter-in-Tell.ensures.records told) c.enter.ensures.left
     (c.rewrite.ensures.left c.in_ok-enter-in-Tell.ensures.settled))
+
+pub invariant_of-self : goal.invariant_of-self
+invariant_of-self g c =
+    let kept = c.self.invariant in
+    kept-waiting c.self.inside.store.layout c.self.inside.jobs c.wait.new.self c.wait.ensures.tables (c.wait.ensures.jobs c.self.inside.store.layout kept.are) (c.wait.ensures.own kept.own) (c.wait.ensures.left kept.left) kept
+
+pub invariant_of-self-in-Wait-2 : goal.invariant_of-self-in-Wait-2
+invariant_of-self-in-Wait-2 g c =
+    let kept = c.self.invariant in
+    kept-waiting c.self.inside.store.layout c.self.inside.jobs c.wait.new.self c.wait.ensures.tables (c.wait.ensures.jobs c.self.inside.store.layout kept.are) (c.wait.ensures.own kept.own) (c.wait.ensures.left kept.left) kept
+
+pub invariant_of-self-in-Wait-3 : goal.invariant_of-self-in-Wait-3
+invariant_of-self-in-Wait-3 g c =
+    let kept = c.self.invariant in
+    kept-waiting c.self.inside.store.layout c.self.inside.jobs c.wait.new.self c.wait.ensures.tables (c.wait.ensures.jobs c.self.inside.store.layout kept.are) (c.wait.ensures.own kept.own) (c.wait.ensures.left kept.left) kept

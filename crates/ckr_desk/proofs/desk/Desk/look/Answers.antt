@@ -1,4 +1,4 @@
-use Rattle.std.proofs.Common.{IfErr, ap, refl, sym, ◌∙◌, subst}
+use Rattle.std.proofs.Common.{◌≡◌, IfErr, ap, sym, ◌∙◌, subst}
 use Rattle.ckr_desk_memory.proofs.Holders.Rooms.{stored-fit}
 use Rattle.ckr_desk_memory.specs.OwnSteps.{PlanFollows}
 use Rattle.ckr_desk_memory.specs.Parts.{step_seen}
@@ -6,17 +6,19 @@ use Rattle.ckr_desk_memory.specs.Plans.{behind_unit, told_by}
 use Rattle.ckr_desk_memory.specs.View.{running_of}
 use Rattle.ckr_volumes.specs.declared.layout.Layout.{Layout}
 use Rattle.ckr_desk.proofs.Units.Codes.{so-coded}
-use Rattle.ckr_desk.proofs.Units.Preparation.{err-is, is-ahead, not-ready, out-of, short-so}
-use Rattle.ckr_desk_refines.specs.Moves.{event_in}
+use Rattle.ckr_desk.proofs.Units.Preparation.{asks-old, err-is, is-ahead, not-settled, out-of, short-so, uncoded-of}
+use Rattle.ckr_console.specs.Answering.{restart_answer}
+use Rattle.ckr_desk_turn.specs.Inquiries.{decide, is_ask}
 use Rattle.ckr_desk.specs.Calls.{HasSameJobs}
-use Rattle.ckr_desk.specs.Preparation.{IsWorkedOut, NotLooked, NotReadyFor}
+use Rattle.ckr_desk.specs.Preparation.{IsWorkedOut, NotLooked, NotSettled, asks_behind}
 use Rattle.ckr_desk.specs.State.{DeskView}
+use Rattle.ckr_desk.specs.Turn.{AnswerStands, AnswerStandsBy, operator_behind}
 use Rattle.ckr_desk.proofs.desk.Desk.look.Goals as goal
 
 pub told-plan-requires-clause-counted : goal.told-plan-requires-clause-counted
 told-plan-requires-clause-counted g c =
     let d = g.D.Disk in
-    let old : DeskView g.row.D.Denot = record { store = c.self.inside.store; jobs = c.self.inside.jobs } in
+    let old : DeskView g.row.D.Denot = record { store = c.self.inside.store; jobs = c.self.inside.jobs; operator = c.self.inside.console } in
     let of = subst (λ (s : DeskView g.row.D.Denot). IsWorkedOut d.told d.content c.args.run s c.args.unit) (sym c.self.view_is) c.requires.unit in
     let out = out-of d.told d.content c.args.run old c.args.unit of (step_seen c.in-Some.on.now) (sym c.in-Some.ensures.step) in
     out.unit.counted
@@ -27,7 +29,7 @@ told-plan-requires-clause-short g c name set is = short-so _ _ (c.in-Some.ensure
 pub told-plan-requires-clause-code : goal.told-plan-requires-clause-code
 told-plan-requires-clause-code g c =
     let d = g.D.Disk in
-    let old : DeskView g.row.D.Denot = record { store = c.self.inside.store; jobs = c.self.inside.jobs } in
+    let old : DeskView g.row.D.Denot = record { store = c.self.inside.store; jobs = c.self.inside.jobs; operator = c.self.inside.console } in
     let of = subst (λ (s : DeskView g.row.D.Denot). IsWorkedOut d.told d.content c.args.run s c.args.unit) (sym c.self.view_is) c.requires.unit in
     let out = out-of d.told d.content c.args.run old c.args.unit of (step_seen c.in-Some.on.now) (sym c.in-Some.ensures.step) in
     so-coded c.in-Some.on.now.sets c.in-Some.on.now.step out.heads c.args.unit.worked out.unit.answer
@@ -35,46 +37,92 @@ told-plan-requires-clause-code g c =
 pub returns-clause-ahead : goal.returns-clause-ahead
 returns-clause-ahead g c =
     let d = g.D.Disk in
-    let old : DeskView g.row.D.Denot = record { store = c.self.inside.store; jobs = c.self.inside.jobs } in
+    let old : DeskView g.row.D.Denot = record { store = c.self.inside.store; jobs = c.self.inside.jobs; operator = c.self.inside.console } in
     let of = subst (λ (s : DeskView g.row.D.Denot). IsWorkedOut d.told d.content c.args.run s c.args.unit) (sym c.self.view_is) c.requires.unit in
     let out = out-of d.told d.content c.args.run old c.args.unit of (step_seen c.in-Some.on.now) (sym c.in-Some.ensures.step) in
     let on = step_seen c.in-Some.on.now in
     let unit = c.args.unit in
-    is-ahead d.told d.content d.faults c.args.run old old c.ready_for.new.self on unit c.told-plan.result
-    refl refl refl refl (c.ready_for.ensures.store ∙ ap (λ (s : DeskView g.row.D.Denot). s.store) (sym c.self.view_is))
-    (subst (λ (s : DeskView g.row.D.Denot). HasSameJobs s c.ready_for.new.self) (sym c.self.view_is) c.ready_for.ensures.jobs)
-    (sym c.in-Some.ensures.step) (c.in-Some.ensures.runnable c.self.inside.store.layout c.self.invariant.are).there out
-    (λ row own at within.
-    c.told-plan.ensures.plan row own at within
-    ∙ ap (λ (l : Layout). told_by l c.self.inside.jobs.tables.desk row (running_of c.self.inside.jobs.tables.desk (behind_unit on unit)) unit.worked) c.layout.ensures.layout)
-    c.told-plan.ensures.unit c.told-plan.ensures.spelled
-    (subst (λ (l : Layout). PlanFollows l c.self.inside.jobs.tables.desk c.told-plan.result) c.layout.ensures.layout
-    (c.told-plan.ensures.own out.heads c.self.invariant.are.placed (c.in-Some.ensures.own c.self.invariant.own) (stored-fit c.self.inside.store.layout on.sets (c.in-Some.ensures.runnable c.self.inside.store.layout c.self.invariant.are).stored)
-    (c.in-Some.ensures.runnable c.self.inside.store.layout c.self.invariant.are).there out.unit))
-    (c.told-plan.ensures.commits (c.in-Some.ensures.own c.self.invariant.own)) (c.told-plan.ensures.of_run (c.in-Some.ensures.own c.self.invariant.own))
-    c.in_ok-ready.ready c.in_ok-ready.ensures.ready
-
-pub returns-in_err-ready-clause-cause : goal.returns-in_err-ready-clause-cause
-returns-in_err-ready-clause-cause g c =
-    let d = g.D.Disk in
-    let old : DeskView g.row.D.Denot = record { store = c.self.inside.store; jobs = c.self.inside.jobs } in
-    let of = subst (λ (s : DeskView g.row.D.Denot). IsWorkedOut d.told d.content c.args.run s c.args.unit) (sym c.self.view_is) c.requires.unit in
-    let out = out-of d.told d.content c.args.run old c.args.unit of (step_seen c.in-Some.on.now) (sym c.in-Some.ensures.step) in
-    let on = step_seen c.in-Some.on.now in
-    let unit = c.args.unit in
-    let error = c.in_err-ready.field-0.0 in
+    let runnable = c.in-Some.ensures.runnable c.self.inside.store.layout c.self.invariant.are in
     rw (← c.self.view_is)
-    (subst (λ r. IfErr r (NotLooked d.told d.content d.faults c.args.run old c.ready_for.new.self)) (sym (err-is c.from_residual.result error c.from_residual.ensures.1))
-    (not-ready d.told d.content d.faults c.args.run old old c.ready_for.new.self on unit c.told-plan.result
-    refl refl refl refl (c.ready_for.ensures.store ∙ ap (λ (s : DeskView g.row.D.Denot). s.store) (sym c.self.view_is))
-    (subst (λ (s : DeskView g.row.D.Denot). HasSameJobs s c.ready_for.new.self) (sym c.self.view_is) c.ready_for.ensures.jobs)
-    (sym c.in-Some.ensures.step) (c.in-Some.ensures.runnable c.self.inside.store.layout c.self.invariant.are).there out
+    (is-ahead d.told d.content c.args.run old c.settle.new.self on unit c.told-plan.result (restart_answer old.operator)
+    (c.settle.ensures.store ∙ ap (λ (s : DeskView g.row.D.Denot). s.store) (sym c.self.view_is))
+    (subst (λ (s : DeskView g.row.D.Denot). HasSameJobs s c.settle.new.self) (sym c.self.view_is) c.settle.ensures.jobs)
+    (sym c.in-Some.ensures.step) (uncoded-of d.told d.content c.args.run old unit of on (sym c.in-Some.ensures.step)) runnable.there out
     (λ row own at within.
     c.told-plan.ensures.plan row own at within
     ∙ ap (λ (l : Layout). told_by l c.self.inside.jobs.tables.desk row (running_of c.self.inside.jobs.tables.desk (behind_unit on unit)) unit.worked) c.layout.ensures.layout)
-    c.told-plan.ensures.unit c.told-plan.ensures.spelled
+    c.in_ok-plan.plan
+    (c.in_ok-plan.ensures.decided ∙ ap (λ (s : DeskView g.row.D.Denot). decide (restart_answer s.operator) c.told-plan.result) (sym c.self.view_is))
+    c.told-plan.ensures.unit c.in_ok-plan.ensures.spelled
     (subst (λ (l : Layout). PlanFollows l c.self.inside.jobs.tables.desk c.told-plan.result) c.layout.ensures.layout
-    (c.told-plan.ensures.own out.heads c.self.invariant.are.placed (c.in-Some.ensures.own c.self.invariant.own) (stored-fit c.self.inside.store.layout on.sets (c.in-Some.ensures.runnable c.self.inside.store.layout c.self.invariant.are).stored)
-    (c.in-Some.ensures.runnable c.self.inside.store.layout c.self.invariant.are).there out.unit))
+    (c.told-plan.ensures.own out.heads c.self.invariant.are.placed (c.in-Some.ensures.own c.self.invariant.own) (stored-fit c.self.inside.store.layout on.sets runnable.stored) runnable.there out.unit))
     (c.told-plan.ensures.commits (c.in-Some.ensures.own c.self.invariant.own)) (c.told-plan.ensures.of_run (c.in-Some.ensures.own c.self.invariant.own))
-    error (subst (λ (s : DeskView g.row.D.Denot). NotReadyFor (event_in c.told-plan.result) s c.ready_for.new.self error) (sym c.self.view_is) c.in_err-ready.ensures.cause)))
+    c.in_ok-plan.ready c.in_ok-plan.ensures.ready)
+
+pub returns-in_err-plan-clause-cause : goal.returns-in_err-plan-clause-cause
+returns-in_err-plan-clause-cause g c =
+    let d = g.D.Disk in
+    let old : DeskView g.row.D.Denot = record { store = c.self.inside.store; jobs = c.self.inside.jobs; operator = c.self.inside.console } in
+    let of = subst (λ (s : DeskView g.row.D.Denot). IsWorkedOut d.told d.content c.args.run s c.args.unit) (sym c.self.view_is) c.requires.unit in
+    let out = out-of d.told d.content c.args.run old c.args.unit of (step_seen c.in-Some.on.now) (sym c.in-Some.ensures.step) in
+    let on = step_seen c.in-Some.on.now in
+    let unit = c.args.unit in
+    let error = c.in_err-plan.field-0.0 in
+    rw (← c.self.view_is)
+    (subst (λ r. IfErr r (NotLooked d.told d.content c.args.run (restart_answer old.operator) old c.settle.new.self)) (sym (err-is c.from_residual.result error c.from_residual.ensures.1))
+    (not-settled d.told d.content c.args.run old c.settle.new.self on unit c.told-plan.result (restart_answer old.operator)
+    (c.settle.ensures.store ∙ ap (λ (s : DeskView g.row.D.Denot). s.store) (sym c.self.view_is))
+    (subst (λ (s : DeskView g.row.D.Denot). HasSameJobs s c.settle.new.self) (sym c.self.view_is) c.settle.ensures.jobs)
+    (sym c.in-Some.ensures.step) (uncoded-of d.told d.content c.args.run old unit of on (sym c.in-Some.ensures.step)) (c.in-Some.ensures.runnable c.self.inside.store.layout c.self.invariant.are).there out
+    (λ row own at within.
+    c.told-plan.ensures.plan row own at within
+    ∙ ap (λ (l : Layout). told_by l c.self.inside.jobs.tables.desk row (running_of c.self.inside.jobs.tables.desk (behind_unit on unit)) unit.worked) c.layout.ensures.layout)
+    error (subst (λ (s : DeskView g.row.D.Denot). NotSettled (restart_answer s.operator) c.told-plan.result s c.settle.new.self error) (sym c.self.view_is) c.in_err-plan.ensures.cause)))
+
+pub returns-clause-answered : goal.returns-clause-answered
+returns-clause-answered g c =
+    let d = g.D.Disk in
+    let old : DeskView g.row.D.Denot = record { store = c.self.inside.store; jobs = c.self.inside.jobs; operator = c.self.inside.console } in
+    let new = c.settle.new.self in
+    let of = subst (λ (s : DeskView g.row.D.Denot). IsWorkedOut d.told d.content c.args.run s c.args.unit) (sym c.self.view_is) c.requires.unit in
+    let out = out-of d.told d.content c.args.run old c.args.unit of (step_seen c.in-Some.on.now) (sym c.in-Some.ensures.step) in
+    let on = step_seen c.in-Some.on.now in
+    let unit = c.args.unit in
+    let said = c.told-plan.result in
+    rw (← c.self.view_is)
+    (λ other row own at.
+    let seen = asks-old d.told d.content c.args.run old new on unit said (restart_answer old.operator)
+    (c.settle.ensures.store ∙ ap (λ (s : DeskView g.row.D.Denot). s.store) (sym c.self.view_is))
+    (subst (λ (s : DeskView g.row.D.Denot). HasSameJobs s new) (sym c.self.view_is) c.settle.ensures.jobs)
+    (sym c.in-Some.ensures.step) (uncoded-of d.told d.content c.args.run old unit of on (sym c.in-Some.ensures.step)) (c.in-Some.ensures.runnable c.self.inside.store.layout c.self.invariant.are).there out
+    (λ row own at within.
+    c.told-plan.ensures.plan row own at within
+    ∙ ap (λ (l : Layout). told_by l c.self.inside.jobs.tables.desk row (running_of c.self.inside.jobs.tables.desk (behind_unit on unit)) unit.worked) c.layout.ensures.layout)
+    other row own at in
+    subst (λ b. new.operator ≡ operator_behind b old.operator) seen
+    (c.in_ok-plan.ensures.answered ∙ ap (λ (s : DeskView g.row.D.Denot). operator_behind (is_ask said) s.operator) (sym c.self.view_is)))
+
+pub returns-in_err-plan-clause-answered : goal.returns-in_err-plan-clause-answered
+returns-in_err-plan-clause-answered g c =
+    let d = g.D.Disk in
+    let old : DeskView g.row.D.Denot = record { store = c.self.inside.store; jobs = c.self.inside.jobs; operator = c.self.inside.console } in
+    let new = c.settle.new.self in
+    let of = subst (λ (s : DeskView g.row.D.Denot). IsWorkedOut d.told d.content c.args.run s c.args.unit) (sym c.self.view_is) c.requires.unit in
+    let out = out-of d.told d.content c.args.run old c.args.unit of (step_seen c.in-Some.on.now) (sym c.in-Some.ensures.step) in
+    let on = step_seen c.in-Some.on.now in
+    let unit = c.args.unit in
+    let said = c.told-plan.result in
+    rw (← c.self.view_is)
+    (λ other row own at.
+    let seen = asks-old d.told d.content c.args.run old new on unit said (restart_answer old.operator)
+    (c.settle.ensures.store ∙ ap (λ (s : DeskView g.row.D.Denot). s.store) (sym c.self.view_is))
+    (subst (λ (s : DeskView g.row.D.Denot). HasSameJobs s new) (sym c.self.view_is) c.settle.ensures.jobs)
+    (sym c.in-Some.ensures.step) (uncoded-of d.told d.content c.args.run old unit of on (sym c.in-Some.ensures.step)) (c.in-Some.ensures.runnable c.self.inside.store.layout c.self.invariant.are).there out
+    (λ row own at within.
+    c.told-plan.ensures.plan row own at within
+    ∙ ap (λ (l : Layout). told_by l c.self.inside.jobs.tables.desk row (running_of c.self.inside.jobs.tables.desk (behind_unit on unit)) unit.worked) c.layout.ensures.layout)
+    other row own at in
+    let error = c.in_err-plan.field-0.0 in
+    subst (AnswerStands (asks_behind old row other unit) old.operator new.operator) (sym (err-is c.from_residual.result error c.from_residual.ensures.1))
+    (subst (λ b. AnswerStandsBy b old.operator new.operator error) seen
+    (subst (λ (s : DeskView g.row.D.Denot). AnswerStandsBy (is_ask said) s.operator new.operator error) (sym c.self.view_is) c.in_err-plan.ensures.answered)))

@@ -22,3 +22,13 @@ returns-in-Some-clause-turned g c = λ trusted.
       planned = subst (λ (s : DeskView g.row.D.Denot). plan_of c.args.self.now.store.layout (jobs_of s.jobs) c.args.turn ≡ Work c.in-Some.job) c.self.view_is
           (c.in-Some.ensures.plan c.args.self.now.store.layout);
     })
+
+pub returns-in-Some-clause-answered : goal.returns-in-Some-clause-answered
+returns-in-Some-clause-answered g c = λ trusted.
+    c.work.ensures.answered c.args.turn
+    (record {
+      trusted = trusted;
+      its = c.requires.initiator;
+      planned = subst (λ (s : DeskView g.row.D.Denot). plan_of c.args.self.now.store.layout (jobs_of s.jobs) c.args.turn ≡ Work c.in-Some.job) c.self.view_is
+          (c.in-Some.ensures.plan c.args.self.now.store.layout);
+    })

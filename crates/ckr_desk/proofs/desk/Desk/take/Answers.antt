@@ -61,27 +61,27 @@ pub returns-clause-spelled : goal.returns-clause-spelled
 returns-clause-spelled g c = subst IsToldReply (sym c.requires.attempt.reply_is.is) tt
 
 pub returns-in_err-write_entry-clause-turned : goal.returns-in_err-write_entry-clause-turned
-returns-in_err-write_entry-clause-turned g c turn p =
+returns-in_err-write_entry-clause-turned g c turn answer p =
     let d = g.D.Disk in
     let now = c.args.self.now in
-    subst (HasTurned d.told d.content d.may_leave d.moment d.left_since d.size turn now c.write_entry.new.self) (sym (err-is c.from_residual.result c.in_err-write_entry.field-0.0 c.from_residual.ensures.1))
-    (unwritten-turned d.told d.content d.may_leave d.moment d.left_since d.size now p.trusted turn p.its c.args.run p.planned c.args.made c.requires.attempt.its
+    subst (HasTurned d.told d.content d.may_leave d.moment d.left_since d.size turn answer now c.write_entry.new.self) (sym (err-is c.from_residual.result c.in_err-write_entry.field-0.0 c.from_residual.ensures.1))
+    (unwritten-turned d.told d.content d.may_leave d.moment d.left_since d.size now p.trusted turn p.its c.args.run p.planned c.args.made c.requires.attempt.its answer
     c.write_entry.new.self _ _ c.in_err-write_entry.field-0.0 c.in_err-write_entry.ensures.cause c.write_entry.ensures.left)
 
 pub returns-in_err-enter-clause-turned : goal.returns-in_err-enter-clause-turned
-returns-in_err-enter-clause-turned g c turn p =
+returns-in_err-enter-clause-turned g c turn answer p =
     let d = g.D.Disk in
     let now = c.args.self.now in
-    subst (HasTurned d.told d.content d.may_leave d.moment d.left_since d.size turn now c.enter.new.self) (sym (err-is c.from_residual-in_err-enter.result c.in_err-enter.field-0.0 c.from_residual-in_err-enter.ensures.1))
-    (untold-turned d.told d.content d.may_leave d.moment d.left_since d.size now p.trusted turn p.its c.args.run p.planned c.args.made c.requires.attempt.its
+    subst (HasTurned d.told d.content d.may_leave d.moment d.left_since d.size turn answer now c.enter.new.self) (sym (err-is c.from_residual-in_err-enter.result c.in_err-enter.field-0.0 c.from_residual-in_err-enter.ensures.1))
+    (untold-turned d.told d.content d.may_leave d.moment d.left_since d.size now p.trusted turn p.its c.args.run p.planned c.args.made c.requires.attempt.its answer
     c.write_entry.new.self c.in_ok-write_entry.ensures.written c.write_entry.ensures.size c.write_entry.ensures.left c.enter.new.self c.enter.ensures.left d.faults c.in_err-enter.field-0.0 c.in_err-enter.ensures.cause)
 
 pub returns-clause-turned : goal.returns-clause-turned
-returns-clause-turned g c turn p =
+returns-clause-turned g c turn answer p =
     let d = g.D.Disk in
     let now = c.args.self.now in
-    taken-turned d.told d.content d.may_leave d.moment d.left_since d.size now p.trusted turn p.its c.args.run p.planned c.args.made c.requires.attempt.its
+    taken-turned d.told d.content d.may_leave d.moment d.left_since d.size now p.trusted turn p.its c.args.run p.planned c.args.made c.requires.attempt.its answer
     c.write_entry.new.self c.in_ok-write_entry.ensures.written c.write_entry.ensures.size c.write_entry.ensures.left c.enter.new.self c.enter.ensures.left
     c.args.reply
-    (done-reply d.told d.content d.may_leave d.moment d.left_since d.size now p.trusted turn p.its c.args.run p.planned c.args.made c.requires.attempt.its c.args.reply c.requires.attempt.reply_is)
+    (done-reply d.told d.content d.may_leave d.moment d.left_since d.size now p.trusted turn p.its c.args.run p.planned c.args.made c.requires.attempt.its answer c.args.reply c.requires.attempt.reply_is)
     c.in_ok-enter.ensures.ok (c.in_ok-enter.ensures.told p.trusted.tells) (c.in_ok-enter.ensures.records p.trusted.tells) c.in_ok-enter.ensures.settled

@@ -1,4 +1,4 @@
-use Rattle.std.proofs.Common.{◌≡◌, List, ℕ, ap, sym, ◌∙◌, subst}
+use Rattle.std.proofs.Common.{◌≡◌, List, ℕ, None, ap, sym, ◌∙◌, subst}
 use Rattle.std.proofs.lemmas.Option.{same_Some}
 use Rattle.ckr_base.specs.declared.programs.NextDue.TheVariants.{Unit as OneUnit}
 use Rattle.ckr_steps.specs.Units.{due_of}
@@ -35,6 +35,8 @@ returns-clause-unit g c =
     record {
       on = on;
       found = sym c.in-Some.ensures.step;
+      uncoded = (let its = subst (λ (s : DeskView g.row.D.Denot). HasDue s.jobs (Work c.args.run)) (sym c.self.view_is) c.requires.due in
+          subst (λ (on : RunningStepView). on.code ≡ None) (same_Some its.0 (step_seen c.in-Some.on.now) (sym its.1 ∙ sym c.in-Some.ensures.step)) its.3);
       there = (c.in-Some.ensures.runnable c.self.inside.store.layout c.self.invariant.are).there;
       out = subst (λ (l : Layout). HasWorkedOut d.told (d.content c.ahead.new.self.disk) l on.step on.sets unit) (sym (ap (λ (s : StoreView g.row.D.Denot). s.layout) c.in_ok-unit.ensures.kept))
           (subst (λ (bytes : List ℕ). HasWorkedOut d.told bytes c.self.inside.store.layout on.step on.sets unit) (sym c.ahead.ensures.only_reads.same) c.in_ok-unit.ensures.ahead);

@@ -1,0 +1,21 @@
+use Rattle.std.proofs.Common.{◌≡◌, ◌∙◌, None, ap, subst, sym, true}
+use Rattle.ckr_desk_memory.specs.OwnSets.{CommitsItsOwn}
+use Rattle.ckr_desk_memory.specs.OwnSteps.{LeavesLeft}
+use Rattle.ckr_points_tables.specs.View.{RoomyTables}
+use Rattle.ckr_desk.specs.Calls.{may_follow}
+use Rattle.ckr_desk.specs.State.{DeskView}
+use Rattle.ckr_desk.specs.Submit.{is_held_run}
+use Rattle.ckr_desk.proofs.desk.Desk.end_hold.Goals as goal
+
+pub tell-requires-clause-follows : goal.tell-requires-clause-follows
+tell-requires-clause-follows g c κs within =
+    subst (λ event. may_follow event None c.args.self.now ≡ true) (sym c.released_event.ensures.event)
+    (sym (ap (λ (s : DeskView g.row.D.Denot). is_held_run s.jobs.tables.desk c.args.job) c.self.view_is)
+    ∙ sym (ap (λ (t : RoomyTables). is_held_run t.desk c.args.job) c.tables.ensures) ∙ sym c.released_follows.ensures ∙ c.if-not-released_follows.false)
+
+pub tell-requires-clause-commits : goal.tell-requires-clause-commits
+tell-requires-clause-commits g c κs within =
+    subst (λ event. CommitsItsOwn event c.args.self.now.jobs.tables.desk c.args.self.now.jobs.running) (sym c.released_event.ensures.event) tt
+
+pub tell-requires-clause-leaves : goal.tell-requires-clause-leaves
+tell-requires-clause-leaves g c κs within = subst (λ event. LeavesLeft event c.args.self.now.jobs.failed) (sym c.released_event.ensures.event) tt

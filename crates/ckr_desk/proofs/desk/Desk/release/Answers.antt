@@ -1,0 +1,53 @@
+use Rattle.std.proofs.Common.{subst}
+use Rattle.ckr_desk_store.specs.State.{IsSound}
+use Rattle.ckr_desk.proofs.Calls.Requests.{call-cause, call-fits, call-full, call-kept-by, call-may-fail, call-open, call-state, call-stays, call-told, call-trusted, if-err, on-ok, on-ok-all, on-ok-both, release-called}
+use Rattle.ckr_desk.specs.Submit.{release_call}
+use Rattle.ckr_desk.proofs.desk.Desk.release.Goals as goal
+
+pub returns-clause-comes : goal.returns-clause-comes
+returns-clause-comes g c trusted =
+    let d = g.D.Disk in
+    let now = c.args.self.now in
+    let new = c.end_hold.new.self in
+    let call = release_call now.jobs.tables.desk c.args.job in
+    let its = release-called d.told d.content d.may_leave d.size now trusted c.args.job c.ranges.job.fits in
+    record {
+      fits = on-ok (call-fits d.told d.content d.may_leave d.size now trusted new c.end_hold.ensures.layout call its) c.end_hold.result c.end_hold.ensures.done;
+      after = on-ok-all (call-state d.told d.content d.may_leave d.size now trusted new c.end_hold.ensures.layout call its) c.end_hold.result c.end_hold.ensures.done (c.end_hold.ensures.told trusted.tells) (c.end_hold.ensures.records trusted.tells) c.end_hold.ensures.settled;
+      events = on-ok (call-told _ _ call) c.end_hold.result (c.end_hold.ensures.told trusted.tells);
+      trusted = on-ok-all (call-trusted d.told d.content d.may_leave d.size now trusted new c.end_hold.ensures.layout call its) c.end_hold.result c.end_hold.ensures.done (c.end_hold.ensures.told trusted.tells) (c.end_hold.ensures.records trusted.tells) c.end_hold.ensures.settled;
+      cause = if-err (call-cause d.told d.content d.may_leave d.size now trusted d.faults new call its) c.end_hold.result c.end_hold.ensures.cause;
+    }
+
+pub returns-clause-keeps : goal.returns-clause-keeps
+returns-clause-keeps g c =
+    let d = g.D.Disk in
+    let now = c.args.self.now in
+    let new = c.end_hold.new.self in
+    let call = release_call now.jobs.tables.desk c.args.job in
+    record {
+      is_open = on-ok-both (call-open d.faults now new call) c.end_hold.result c.end_hold.ensures.done c.end_hold.ensures.is_open;
+      same_layout = c.end_hold.ensures.layout;
+      same_size = c.end_hold.ensures.size;
+      never_falls = c.end_hold.ensures.faults;
+      stopped = c.end_hold.ensures.stopped;
+      may_fail = if-err (call-may-fail d.faults now new call) c.end_hold.result c.end_hold.ensures.cause;
+      stays = if-err (call-stays d.faults now new d.content d.may_leave call) c.end_hold.result c.end_hold.ensures.cause;
+    }
+
+pub returns-clause-kept : goal.returns-clause-kept
+returns-clause-kept g c is_open trusted =
+    let d = g.D.Disk in
+    let now = c.args.self.now in
+    let call = release_call now.jobs.tables.desk c.args.job in
+    let its = release-called d.told d.content d.may_leave d.size now trusted c.args.job c.ranges.job.fits in
+    let laws = g.met.D.Disk g.world.𝓛 g.world.𝓜 g.world.𝓡 ((λ s x. x), (λ x. x), (λ x. x), λ x. x) in
+    call-kept-by d.told d.content d.may_leave d.size now trusted d.moment d.left_since
+    (subst (λ s. IsSound d.content d.may_leave d.size s.store) c.self.view_is c.layout-layout.ensures.sound) is_open d.faults c.end_hold.new.self call c.end_hold.result its (laws.only_now now.store.disk)
+    (c.end_hold.ensures.left is_open) c.end_hold.ensures.cause
+
+pub returns-clause-told : goal.returns-clause-told
+returns-clause-told g c tells = on-ok (call-told _ _ (release_call c.args.self.now.jobs.tables.desk c.args.job)) c.end_hold.result (c.end_hold.ensures.told tells)
+
+pub returns-clause-full : goal.returns-clause-full
+returns-clause-full g c = if-err (call-full g.D.Disk.faults c.args.self.now c.end_hold.new.self (release_call c.args.self.now.jobs.tables.desk c.args.job)) c.end_hold.result c.end_hold.ensures.cause
