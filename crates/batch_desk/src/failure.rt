@@ -12,7 +12,10 @@ pub struct Failure<'a> {
 pub fn failure_at(status: u8, path: &str, is_open: bool) -> Option<Failure<'_>> {
     let (of, how) = match status {
         0 | 8 => return None,
-        1 => ("usage", "batch_desk format DISK, or batch_desk run DISK"),
+        1 => (
+            "usage",
+            "batch_desk format DISK, or batch_desk run DISK [--reply T]",
+        ),
         2 => (path, "isn't a formatted disk, or what it holds is damaged"),
         3 => (path, "the book has no room for what comes next"),
         4 => ("standard input", "can't be read"),

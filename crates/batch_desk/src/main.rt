@@ -4,8 +4,10 @@
 mod failure;
 
 use crate::failure::{Failure, failure_at};
+use ckr_console::{Answer, Cautious, Operator, Script, Scripted, Scripts, Standing};
 use ckr_outside::{FileDisk, StdSink, StdSource};
-use ckr_service::{batch_desk, disk_place};
+use ckr_service::{Command, batch_desk, disk_place, read_words};
+use std::alloc::Global;
 use std::fs::{File, OpenOptions};
 use std::process::ExitCode;
 use std::{env, io};
@@ -14,6 +16,14 @@ use std::{env, io};
 fn disk_path(words: &[String]) -> Option<&str> {
     let place = disk_place(words)? as usize;
     Some(words.get(place)?.as_str())
+}
+
+/// The operators that the words name. None where the words are no run, and where there is no memory for them: nobody is in office then.
+fn named_operators(alloc: Global, words: &[String]) -> Scripts {
+    match read_words(alloc, words) {
+        Ok(Command::Run { operators }) => operators,
+        Ok(Command::Format) | Err(_) => Scripts::new(alloc),
+    }
 }
 
 /// The file of this path, which is made where it isn't there, and which is this program's alone until it ends. None where it can't be opened
@@ -43,6 +53,17 @@ fn main(rt: HostRuntime) -> io::Result<ExitCode> {
     let path = disk_path(&words).unwrap_or("");
     let file = disk_file(&rt, path);
     let is_open = file.is_some();
+    let mut operators: Vec<Box<dyn Operator>> = Vec::new(rt.alloc());
+    for script in named_operators(rt.alloc(), &words).as_slice() {
+        operators.push(match script {
+            Script::Standing => Box::new(rt.alloc(), Standing(Answer::Yes))?,
+            Script::Cautious => Box::new(rt.alloc(), Cautious)?,
+            Script::Answers(letters) => {
+                let answers = letters.as_slice().to_vec(rt.alloc())?;
+                Box::new(rt.alloc(), Scripted::new(answers))?
+            }
+        })?;
+    }
     let mut source = StdSource::new(rt.reader());
     let mut sink = StdSink::new(io::writer(&rt));
     let closed = batch_desk(
@@ -51,6 +72,7 @@ fn main(rt: HostRuntime) -> io::Result<ExitCode> {
         &mut source,
         &mut sink,
         FileDisk::new(file),
+        operators,
     );
     if let Some(Failure { of, how }) = failure_at(closed.status, path, is_open) {
         // Where standard error is closed too, the status alone tells.

@@ -3,5 +3,6 @@ pub mod Answers
 pub mod Ends
 pub mod Halts
 pub mod Order
+pub mod Staff
 pub mod Tellings
 pub mod Turns

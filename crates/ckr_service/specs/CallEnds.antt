@@ -1,6 +1,7 @@
 -- How a call ends.
 use Rattle.std.specs.Prelude.{◌≡◌, ◌≤◌, ℕ, Bool, true, false, List, length, Option, Result, Ok, Err}
 use Rattle.std.specs.Io.KnownBytes.{Consumes, Keeps}
+use Rattle.ckr_console.specs.Answering.{Answering}
 use Rattle.ckr_outside.specs.Faults.{Rose}
 use Rattle.ckr_desk.specs.Model.Layout.{Layout}
 use Rattle.ckr_desk_format.specs.declared.command.FormatOutcome.{FormatOutcome}
@@ -13,6 +14,7 @@ use Rattle.ckr_desk.specs.State.{RoomyDesk}
 use Rattle.ckr_service.specs.declared.stop.Stop.{Stop}
 use Rattle.ckr_service.specs.declared.stop.Stop.TheVariants as Stops
 use Rattle.ckr_service.specs.Feeds.{Faults, Serving}
+use Rattle.ckr_service.specs.Staff.{staffed_with}
 
 -- ---- a stream
 
@@ -47,17 +49,18 @@ pub record IsNotOpened (told : Type 0) (opening : Result RoomyDesk OpenError) (l
   pub takes_nothing : Keeps source rest
   pub writes_nothing : Keeps old new
 
--- The disk is opened, where it is trusted in this state of the desk, and from there the stream is served. `each` says what a stop leaves, by the
--- layout and the events that came, and `has` what the disk has in the end, by those that were kept.
-pub record IsOpened (told trusted : Type 0) (opening : Result RoomyDesk OpenError) (each has : Layout → List (List ℕ) → Type 0) (outcome : Result Bool Stop) (faults : Faults) (source rest old new : Option (List ℕ)) : Type 0 where
+-- The disk is opened, where it is trusted in this state of the desk, and from there the stream is served, by the answers of these operators, who
+-- take office in order. `each` says what a stop leaves, by the layout and the events that came, and `has` what the disk has in the end, by those
+-- that were kept.
+pub record IsOpened (told trusted : Type 0) (opening : Result RoomyDesk OpenError) (operators : List Answering) (each has : Layout → List (List ℕ) → Type 0) (outcome : Result Bool Stop) (faults : Faults) (source rest old new : Option (List ℕ)) : Type 0 where
   pub state : RoomyDesk
   pub opens : told → (desk : RoomyDesk) × (opening ≡ Ok desk)
   pub opened : trusted → opening ≡ Ok state
-  pub serving : Serving trusted (each state.desk.layout) (has state.desk.layout) state outcome faults source rest old new
+  pub serving : Serving trusted (each state.desk.layout) (has state.desk.layout) (staffed_with operators state) outcome faults source rest old new
 
-abbrev pub EndsSo : Type 0 → Type 0 → Result RoomyDesk OpenError → (OpenError → Type 0) → (Layout → List (List ℕ) → Type 0) → (Layout → List (List ℕ) → Type 0) → RunEnd → Faults → Option (List ℕ) → Option (List ℕ) → Option (List ℕ) → Option (List ℕ) → Type 0
-EndsSo told trusted opening leaves each has (NotOpened error) faults source rest old new = IsNotOpened told opening leaves error faults source rest old new
-EndsSo told trusted opening leaves each has (Ended outcome) faults source rest old new = IsOpened told trusted opening each has outcome faults source rest old new
+abbrev pub EndsSo : Type 0 → Type 0 → Result RoomyDesk OpenError → List Answering → (OpenError → Type 0) → (Layout → List (List ℕ) → Type 0) → (Layout → List (List ℕ) → Type 0) → RunEnd → Faults → Option (List ℕ) → Option (List ℕ) → Option (List ℕ) → Option (List ℕ) → Type 0
+EndsSo told trusted opening operators leaves each has (NotOpened error) faults source rest old new = IsNotOpened told opening leaves error faults source rest old new
+EndsSo told trusted opening operators leaves each has (Ended outcome) faults source rest old new = IsOpened told trusted opening operators each has outcome faults source rest old new
 
 -- at most so many bytes are taken
 pub record TakesAtMost (most : ℕ) (source rest : Option (List ℕ)) : Type 0 where
@@ -65,12 +68,12 @@ pub record TakesAtMost (most : ℕ) (source rest : Option (List ℕ)) : Type 0 w
   pub given : Consumes source rest taken
   pub few : length taken ≤ most
 
--- how a run ended with a status
-pub record HasRun (told trusted : Type 0) (opening : Result RoomyDesk OpenError) (leaves : OpenError → Type 0) (each has : Layout → List (List ℕ) → Type 0) (status : ℕ) (faults : Faults) (source rest old new : Option (List ℕ)) : Type 0 where
+-- how a run ended with a status, where these operators took office in order
+pub record HasRun (told trusted : Type 0) (opening : Result RoomyDesk OpenError) (operators : List Answering) (leaves : OpenError → Type 0) (each has : Layout → List (List ℕ) → Type 0) (status : ℕ) (faults : Faults) (source rest old new : Option (List ℕ)) : Type 0 where
   pub end : RunEnd
   pub is : status ≡ status_of end
   pub takes : TakesAtMost 16_777_217 source rest
-  pub so : EndsSo told trusted opening leaves each has end faults source rest old new
+  pub so : EndsSo told trusted opening operators leaves each has end faults source rest old new
 
 -- ---- formatting
 

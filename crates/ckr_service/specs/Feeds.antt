@@ -2,7 +2,6 @@
 use Rattle.std.specs.Prelude.{◌≡◌, ℕ, ◌≤◌, Bool, true, List, [], ◌++◌, length, take, Option, Result, Ok, Err, unwrap_or}
 use Rattle.std.specs.Io.KnownBytes.{Appends, Consumes, IsAtEnd}
 use Rattle.ckr_outside.specs.Faults.{Rose}
-use Rattle.ckr_desk.specs.State.{RoomyDesk}
 use Rattle.ckr_service.specs.declared.stop.Stop.{Stop}
 use Rattle.ckr_service.specs.declared.stop.Stop.TheVariants as Stops
 use Rattle.ckr_service.specs.declared.flow.Flow.{Flow}
@@ -11,17 +10,18 @@ use Rattle.ckr_service.specs.Events.{events_told}
 use Rattle.ckr_service.specs.Stops.{Comes}
 use Rattle.ckr_service.specs.Service.{View, StopsWithin, Caused}
 use Rattle.ckr_service.specs.Flows.{StreamProgress}
+use Rattle.ckr_service.specs.Staff.{StaffedDesk}
 use Rattle.ckr_service.specs.Stream.{requests_of, text_of, has_refusal, ended_requests, ended_text}
 
 -- these are all of the text for the bytes of a stream, and whether a line or a deck of it is refused
-pub record IsAnswered (state : RoomyDesk) (refused : Bool) (all : List ℕ) (old new : Option (List ℕ)) : Type 0 where
+pub record IsAnswered (state : StaffedDesk) (refused : Bool) (all : List ℕ) (old new : Option (List ℕ)) : Type 0 where
   pub fits : all_fit state (requests_of all) ≡ true
   pub written : Appends old new (text_of state all)
   pub refusals : refused ≡ has_refusal state all
 
 -- The stream was read to its end: these are all of its bytes. Where the disk is trusted, all of the text for them is written, and their events
 -- came and were kept. `each` says what a stop leaves, by the events that came, and `has` what the disk has, by those that were kept.
-pub record IsServed (trusted : Type 0) (each has : List (List ℕ) → Type 0) (state : RoomyDesk) (refused : Bool) (left rest old new : Option (List ℕ)) : Type 0 where
+pub record IsServed (trusted : Type 0) (each has : List (List ℕ) → Type 0) (state : StaffedDesk) (refused : Bool) (left rest old new : Option (List ℕ)) : Type 0 where
   pub all : List ℕ
   pub given : Consumes left rest all
   pub end : IsAtEnd rest
@@ -48,14 +48,14 @@ StopCause trusted Stops.Book faults taken = Caused trusted Stops.Book faults.sin
 StopCause trusted Stops.Disk faults taken = Caused trusted Stops.Disk faults.sink_before faults.sink_now faults.disk_before faults.disk_now
 
 -- the items that end within the bytes were served: their text is written, and their events came and were kept
-pub record HasServed (state : RoomyDesk) (bytes : List ℕ) (old new : Option (List ℕ)) (came kept : List (List ℕ)) : Type 0 where
+pub record HasServed (state : StaffedDesk) (bytes : List ℕ) (old new : Option (List ℕ)) (came kept : List (List ℕ)) : Type 0 where
   pub fits : all_fit state (ended_requests bytes) ≡ true
   pub written : Appends old new (ended_text state bytes)
   pub came_is : came ≡ events_told state (ended_requests bytes)
   pub kept_is : kept ≡ came
 
 -- what is written then, where all the bytes of the stream are these, and which events came and were kept
-abbrev pub StopsAt : Stop → Faults → RoomyDesk → List ℕ → List ℕ → Option (List ℕ) → Option (List ℕ) → List (List ℕ) → List (List ℕ) → Type 0
+abbrev pub StopsAt : Stop → Faults → StaffedDesk → List ℕ → List ℕ → Option (List ℕ) → Option (List ℕ) → List (List ℕ) → List (List ℕ) → Type 0
 StopsAt Stops.Source faults state taken all old new came kept = HasServed state taken old new came kept
 StopsAt Stops.Limit faults state taken all old new came kept = HasServed state (take 16_777_216 taken) old new came kept
 StopsAt Stops.Sink faults state taken all old new came kept = StopsWithin Stops.Sink faults.sink_before faults.sink_now state (requests_of all) old new came kept
@@ -65,7 +65,7 @@ StopsAt Stops.Disk faults state taken all old new came kept = StopsWithin Stops.
 
 -- The serving stopped: these bytes were taken. Where the disk is trusted, this is written of the text for the whole stream, and of its events
 -- these came, and these were kept.
-pub record IsStopped (trusted : Type 0) (each has : List (List ℕ) → Type 0) (state : RoomyDesk) (stop : Stop) (faults : Faults) (left rest old new : Option (List ℕ)) : Type 0 where
+pub record IsStopped (trusted : Type 0) (each has : List (List ℕ) → Type 0) (state : StaffedDesk) (stop : Stop) (faults : Faults) (left rest old new : Option (List ℕ)) : Type 0 where
   pub taken : List ℕ
   pub given : Consumes left rest taken
   pub few : length taken ≤ 16_777_217
@@ -76,20 +76,20 @@ abbrev pub faults_of : ℕ → ℕ → ℕ → ℕ → ℕ → ℕ → Faults
 faults_of a b c d e f = record { source_before = a; source_now = b; sink_before = c; sink_now = d; disk_before = e; disk_now = f }
 
 -- how the serving of a stream ended that began in this state of the desk
-abbrev pub Serving : Type 0 → (List (List ℕ) → Type 0) → (List (List ℕ) → Type 0) → RoomyDesk → Result Bool Stop → Faults → Option (List ℕ) → Option (List ℕ) → Option (List ℕ) → Option (List ℕ) → Type 0
+abbrev pub Serving : Type 0 → (List (List ℕ) → Type 0) → (List (List ℕ) → Type 0) → StaffedDesk → Result Bool Stop → Faults → Option (List ℕ) → Option (List ℕ) → Option (List ℕ) → Option (List ℕ) → Type 0
 Serving trusted each has state (Ok refused) faults left rest old new = IsServed trusted each has state refused left rest old new
 Serving trusted each has state (Err stop) faults left rest old new = IsStopped trusted each has state stop faults left rest old new
 
-module _ {D : Type 0} (content : D → List ℕ) where
+module _ {D O : Type 0} (content : D → List ℕ) where
   -- so many bytes were given, and where the disk is trusted, they were served up to the line that waits
-  pub record Feeding (trusted : Type 0) (first : View) (f : Flow D) (count : ℕ) (left rest old now : Option (List ℕ)) : Type 0 where
+  pub record Feeding (trusted : Type 0) (first : View) (f : Flow D O) (count : ℕ) (left rest old now : Option (List ℕ)) : Type 0 where
     pub taken : List ℕ
     pub given : Consumes left rest taken
     pub counted : length taken ≡ count
     pub progress : trusted → StreamProgress content first taken f old now
 
   -- all bytes were given
-  pub record FedAll (trusted : Type 0) (first : View) (f : Flow D) (left rest old now : Option (List ℕ)) : Type 0 where
+  pub record FedAll (trusted : Type 0) (first : View) (f : Flow D O) (left rest old now : Option (List ℕ)) : Type 0 where
     pub all : List ℕ
     pub given : Consumes left rest all
     pub end : IsAtEnd rest

@@ -1,3 +1,4 @@
+pub mod Staff
 pub mod Orders
 pub mod Calls
 pub mod Events

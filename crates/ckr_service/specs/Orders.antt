@@ -7,7 +7,9 @@ use Rattle.ckr_base.specs.declared.code.Code.{Code}
 use Rattle.ckr_desk.specs.Model.Plans.{IsAnyCode}
 use Rattle.ckr_base.specs.Words.{is_blank, trimmed, plain_number}
 use Rattle.ckr_service.specs.declared.orders.Order.{Order}
-use Rattle.ckr_service.specs.declared.orders.Order.TheVariants.{Turns, ListOf, Sets, Jobs, Purge, Unknown}
+use Rattle.ckr_service.specs.declared.orders.JobChange.{JobChange}
+use Rattle.ckr_service.specs.declared.orders.JobChange.TheVariants.{Purge, Release}
+use Rattle.ckr_service.specs.declared.orders.Order.TheVariants.{Turns, ListOf, Sets, Jobs, Change, Shift, Unknown}
 
 -- an initiator is one of so many, from 1
 abbrev pub is_one_of : ℕ → ℕ → Bool
@@ -38,21 +40,26 @@ failure_in initiators text = failure_of initiators (plain_number (before_first i
 abbrev pub list_of : List ℕ → Order
 list_of name = if is_ds_name name then ListOf name else Unknown
 
-abbrev pub purge_of : Option ℕ → Order
-purge_of None = Unknown
-purge_of (Some job) = Purge job
+abbrev pub change_of : JobChange → Option ℕ → Order
+change_of change None = Unknown
+change_of change (Some job) = Change change job
 
 -- a command without words behind it
 abbrev pub order_alone : List ℕ → Order
-order_alone text = if bytes_eq text (codes "$O") then Sets else if bytes_eq text (codes "$Q") then Jobs else Unknown
+order_alone text =
+    if bytes_eq text (codes "$O") then Sets
+    else if bytes_eq text (codes "$Q") then Jobs
+    else if bytes_eq text (codes "$S") then Shift
+    else Unknown
 
--- `$T i n`, `$F i code`, `$R name`, `$D n`, `$O`, `$Q`, each word parted from the next by one blank; blanks behind it say nothing
+-- `$T i n`, `$F i code`, `$R name`, `$D n`, `$L n`, `$O`, `$Q`, `$S`, each word parted from the next by one blank; blanks behind it say nothing
 abbrev pub order_by_words : ℕ → List ℕ → Order
 order_by_words initiators text =
     if bytes_eq (before_first is_blank text) (codes "$T") then turns_in initiators (after_first is_blank text)
     else if bytes_eq (before_first is_blank text) (codes "$F") then failure_in initiators (after_first is_blank text)
     else if bytes_eq (before_first is_blank text) (codes "$R") then list_of (after_first is_blank text)
-    else if bytes_eq (before_first is_blank text) (codes "$D") then purge_of (plain_number (after_first is_blank text))
+    else if bytes_eq (before_first is_blank text) (codes "$D") then change_of Purge (plain_number (after_first is_blank text))
+    else if bytes_eq (before_first is_blank text) (codes "$L") then change_of Release (plain_number (after_first is_blank text))
     else order_alone text
 
 abbrev pub order_of : ℕ → List ℕ → Order
@@ -61,8 +68,4 @@ order_of initiators line = order_by_words initiators (trimmed line)
 -- what is known of an order besides: its initiator, its turns and its code are within their limits
 abbrev pub HasFewTurns : ℕ → Order → Type 0
 HasFewTurns initiators (Turns turn n) = (1 ≤ turn.initiator) × (turn.initiator ≤ initiators) × IsAnyCode turn.fail × (n ≤ 1_000_000)
-HasFewTurns initiators (ListOf name) = Unit {0}
-HasFewTurns initiators Sets = Unit {0}
-HasFewTurns initiators Jobs = Unit {0}
-HasFewTurns initiators (Purge job) = Unit {0}
-HasFewTurns initiators Unknown = Unit {0}
+HasFewTurns initiators _ = Unit {0}

@@ -5,7 +5,7 @@ use Rattle.std.specs.Io.KnownBytes.{Appends}
 use Rattle.ckr_outside.specs.Faults.{Rose}
 use Rattle.ckr_outside.specs.Front.{AppendsFront}
 use Rattle.ckr_desk.specs.Soundness.{state_of}
-use Rattle.ckr_desk.specs.State.{RoomyDesk, disk_of, layout_of}
+use Rattle.ckr_desk.specs.State.{DeskView, disk_of, layout_of, operator_of}
 use Rattle.ckr_desk.specs.Model.OpenImages.{event_records}
 use Rattle.ckr_desk.specs.Model.Reply.{Reply}
 use Rattle.ckr_cards.specs.Session.{Handed}
@@ -17,23 +17,35 @@ use Rattle.ckr_service.specs.declared.stop.Stop.TheVariants as Stops
 use Rattle.ckr_service.specs.Calls.{calls, after_all, all_fit, replies_of, is_refusal, broken_off}
 use Rattle.ckr_service.specs.Events.{events_told, events_before, event_at}
 use Rattle.ckr_service.specs.Lines.{HaltsTold, Telling, TellsSo}
+use Rattle.ckr_service.specs.Staff.{AttendedDesk, RosterView, StaffedDesk}
 use Rattle.ckr_service.specs.Texts.{answer_text}
+
+-- the desk with its operator in office
+abbrev pub attended_of : {D : Type 0} → (D → List ℕ) → DeskView D → AttendedDesk
+attended_of content desk = record { state = state_of content desk; operator = operator_of desk }
+
+-- and with those who take office later
+abbrev pub staffed_by : {D : Type 0} → (D → List ℕ) → DeskView D → RosterView → StaffedDesk
+staffed_by content desk roster = record { attended = attended_of content desk; roster = roster }
+
+abbrev pub staffed_of : {D O : Type 0} → (D → List ℕ) → Clerk D O → StaffedDesk
+staffed_of content clerk = staffed_by content clerk.desk clerk.roster
 
 -- the desk between two calls, whether a line or a deck was refused, and the events on the disk
 pub record View : Type 0 where
-  pub state : RoomyDesk
+  pub state : StaffedDesk
   pub refused : Bool
   pub events : List (List ℕ)
 
-abbrev pub seen : {D : Type 0} → (D → List ℕ) → Clerk D → View
+abbrev pub seen : {D O : Type 0} → (D → List ℕ) → Clerk D O → View
 seen content clerk = record {
-  state = state_of content clerk.desk;
+  state = staffed_of content clerk;
   refused = clerk.refused;
   events = event_records (layout_of clerk.desk) (content (disk_of clerk.desk));
 }
 
 -- the text of what is answered to requests
-abbrev pub text_to : RoomyDesk → List Handed → List ℕ
+abbrev pub text_to : StaffedDesk → List Handed → List ℕ
 text_to state requests = flat_map answer_text (calls state requests)
 
 -- from old to new the requests were served, all of them: their events came, and the text grew by what is answered
@@ -46,7 +58,7 @@ pub record Serves (old new : View) (requests : List Handed) (before now : List �
 
 -- One of the requests was broken off. The text is that of what was answered before: to the requests before it all, and of its own replies
 -- the first ones. `came` are the events up to the call that was broken off; of these were kept all, or all but that call's.
-pub record BreaksOff (state : RoomyDesk) (requests : List Handed) (text : List ℕ) (came kept : List (List ℕ)) : Type 0 where
+pub record BreaksOff (state : StaffedDesk) (requests : List Handed) (text : List ℕ) (came kept : List (List ℕ)) : Type 0 where
   pub served : List Handed
   pub broken : Handed
   pub more : List Handed
@@ -70,7 +82,7 @@ pub record ComesTo (events came kept : List (List ℕ)) : Type 0 where
   pub kept_is : (kept ≡ came) ⊎ (kept ≡ done)
 
 -- Serving requests stopped, and this is what the text grew by; it isn't told where memory ran out. These events came, and these were kept.
-abbrev pub HaltsSo : Halt → RoomyDesk → List Handed → List ℕ → List ℕ → List (List ℕ) → List (List ℕ) → Type 0
+abbrev pub HaltsSo : Halt → StaffedDesk → List Handed → List ℕ → List ℕ → List (List ℕ) → List (List ℕ) → Type 0
 HaltsSo Halts.Memory state requests before now came kept = ComesTo (events_told state requests) came kept
 HaltsSo Halts.Book state requests before now came kept =
     (all_fit state requests ≡ false) × (now ≡ before ++ text_to state requests) × (came ≡ events_told state requests) × (kept ≡ came)
@@ -88,11 +100,11 @@ ListHalt Halts.Memory before now came kept = (came ≡ []) × (kept ≡ [])
 ListHalt Halts.Book before now came kept = ⊥
 ListHalt Halts.Disk before now came kept = (now ≡ before) × (came ≡ []) × (kept ≡ [])
 
--- nor of a job that wasn't taken from the queue: whether the book has room for the event
-abbrev pub PurgeHalt : Halt → Bool → List (List ℕ) → List ℕ → List ℕ → List (List ℕ) → List (List ℕ) → Type 0
-PurgeHalt Halts.Memory fits event before now came kept = ComesTo (if fits then event else []) came kept
-PurgeHalt Halts.Book fits event before now came kept = (fits ≡ false) × (now ≡ before) × (came ≡ []) × (kept ≡ [])
-PurgeHalt Halts.Disk fits event before now came kept = (now ≡ before) × (came ≡ event) × ((kept ≡ came) ⊎ (kept ≡ []))
+-- nor of a job that wasn't changed: whether the book has room for the event
+abbrev pub ChangeHalt : Halt → Bool → List (List ℕ) → List ℕ → List ℕ → List (List ℕ) → List (List ℕ) → Type 0
+ChangeHalt Halts.Memory fits event before now came kept = ComesTo (if fits then event else []) came kept
+ChangeHalt Halts.Book fits event before now came kept = (fits ≡ false) × (now ≡ before) × (came ≡ []) × (kept ≡ [])
+ChangeHalt Halts.Disk fits event before now came kept = (now ≡ before) × (came ≡ event) × ((kept ≡ came) ⊎ (kept ≡ []))
 
 -- ---- the same where lines go out meanwhile
 
@@ -101,7 +113,7 @@ abbrev pub ServesTelling : View → View → List Handed → Telling → Telling
 ServesTelling old new requests from to = TellsSo (Serves old new requests from.waits) from to
 
 -- serving requests stopped, and this was told by then
-abbrev pub HaltsTelling : Halt → RoomyDesk → List Handed → Telling → Telling → List (List ℕ) → List (List ℕ) → Type 0
+abbrev pub HaltsTelling : Halt → StaffedDesk → List Handed → Telling → Telling → List (List ℕ) → List (List ℕ) → Type 0
 HaltsTelling halt state requests from to came kept =
     HaltsTold halt (HaltsSo halt state requests from.waits) (from.waits ++ text_to state requests) from to came kept
 
@@ -112,7 +124,7 @@ abbrev pub WritesSo : ℕ → ℕ → Option (List ℕ) → Option (List ℕ) �
 WritesSo before now old new text = Appends old new text ⊎ (Rose before now × AppendsFront old new text)
 
 -- the first requests were served, and a front of their text is written
-pub record ServesFront (state : RoomyDesk) (requests : List Handed) (old new : Option (List ℕ)) (came kept : List (List ℕ)) : Type 0 where
+pub record ServesFront (state : StaffedDesk) (requests : List Handed) (old new : Option (List ℕ)) (came kept : List (List ℕ)) : Type 0 where
   pub served : List Handed
   pub more : List Handed
   pub split : requests ≡ served ++ more
@@ -123,7 +135,7 @@ pub record ServesFront (state : RoomyDesk) (requests : List Handed) (old new : O
 
 -- Serving requests stopped, and this is written of their text; the sink's faults are counted before and now. These events came, and these
 -- were kept.
-abbrev pub StopsWithin : Stop → ℕ → ℕ → RoomyDesk → List Handed → Option (List ℕ) → Option (List ℕ) → List (List ℕ) → List (List ℕ) → Type 0
+abbrev pub StopsWithin : Stop → ℕ → ℕ → StaffedDesk → List Handed → Option (List ℕ) → Option (List ℕ) → List (List ℕ) → List (List ℕ) → Type 0
 StopsWithin Stops.Source before now state requests old new came kept = ⊥
 StopsWithin Stops.Limit before now state requests old new came kept = ⊥
 StopsWithin Stops.Sink before now state requests old new came kept = ServesFront state requests old new came kept

@@ -7,11 +7,11 @@ use Rattle.ckr_cards.specs.Session.{SessionModel as Standing}
 use Rattle.ckr_service.specs.declared.session.Session.{Session}
 
 -- where the cutting stands
-abbrev pub standing_of : {D : Type 0} → Session D → Standing
+abbrev pub standing_of : {D O : Type 0} → Session D O → Standing
 standing_of s = record { state = s.cutter; cards = s.deck.items; number = s.number + 1 }
 
 -- the open deck has whole cards, and no more of them than lines
-pub record HasWholeCards {D : Type 0} (s : Session D) : Type 0 where
+pub record HasWholeCards {D O : Type 0} (s : Session D O) : Type 0 where
   pub whole : length s.deck.items % 81 ≡ 0
   pub few : length s.deck.items ≤ 81 * s.number
 

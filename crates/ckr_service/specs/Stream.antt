@@ -2,11 +2,11 @@
 use Rattle.std.specs.Prelude.{ℕ, Bool, ◌==◌, List, [], ◌∷◌}
 use Rattle.std.specs.List.{slice_split, list_any}
 use Rattle.std.specs.Str.Lines.{strip_carriage_return}
-use Rattle.ckr_desk.specs.State.{RoomyDesk}
 use Rattle.ckr_cards.specs.Cut.{items_of}
 use Rattle.ckr_cards.specs.Session.{Handed, handed_of, first_session, handed_within}
 use Rattle.ckr_service.specs.Calls.{calls, is_refusal}
 use Rattle.ckr_service.specs.Service.{text_to}
+use Rattle.ckr_service.specs.Staff.{StaffedDesk}
 
 abbrev pub is_line_end : ℕ → Bool
 is_line_end b = b == 10
@@ -16,11 +16,11 @@ abbrev pub requests_of : List ℕ → List Handed
 requests_of bytes = handed_of (items_of bytes)
 
 -- what is written for it, up to the call that the book has no room for
-abbrev pub text_of : RoomyDesk → List ℕ → List ℕ
+abbrev pub text_of : StaffedDesk → List ℕ → List ℕ
 text_of state bytes = text_to state (requests_of bytes)
 
 -- whether a line or a deck of it is refused
-abbrev pub has_refusal : RoomyDesk → List ℕ → Bool
+abbrev pub has_refusal : StaffedDesk → List ℕ → Bool
 has_refusal state bytes = list_any is_refusal (calls state (requests_of bytes))
 
 -- the lines that end before these parts' last one
@@ -38,5 +38,5 @@ abbrev pub ended_requests : List ℕ → List Handed
 ended_requests bytes = handed_within first_session (ended_lines bytes)
 
 -- what is written for them
-abbrev pub ended_text : RoomyDesk → List ℕ → List ℕ
+abbrev pub ended_text : StaffedDesk → List ℕ → List ℕ
 ended_text state bytes = text_to state (ended_requests bytes)

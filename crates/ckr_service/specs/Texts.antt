@@ -17,7 +17,9 @@ use Rattle.ckr_desk.specs.Model.How.TheVariants.{Completed, Abended, Allocation}
 use Rattle.ckr_desk.specs.Model.Reply.{Reply}
 use Rattle.ckr_desk.specs.Model.Reply.TheVariants.{Idle, NothingToFail, AwaitingReply, WaitingUnits, Selected, DeniedRestart, Started, Worked, Checkpointed, Cancelled, StepEnded, Restarted, JobHeld, JobEnded}
 use Rattle.ckr_desk.specs.Model.Layout.{Layout}
-use Rattle.ckr_service.specs.Calls.{Answer, Accepted, DeckRefused, LineRefused, Turned, Listed, SetsListed, JobsListed, Purged, BrokenOff}
+use Rattle.ckr_service.specs.declared.orders.JobChange.{JobChange}
+use Rattle.ckr_service.specs.declared.orders.JobChange.TheVariants.{Purge, Release}
+use Rattle.ckr_service.specs.Calls.{Answer, Accepted, DeckRefused, LineRefused, Turned, Listed, SetsListed, JobsListed, Changed, Shifted, BrokenOff}
 use Rattle.ckr_service.specs.Listings.{job_text, initiator_text, serial_of, stamp_text, sets_text, jobs_text}
 
 -- a number below 100 in two digits
@@ -163,6 +165,10 @@ shown b = if nat_le 32 b && nat_le b 126 then b else 63
 abbrev pub record_text : List ℕ → List ℕ
 record_text bytes = 61 ∷ (map shown (trimmed bytes) ++ 10 ∷ [])
 
+abbrev pub change_text : JobChange → List ℕ
+change_text Purge = codes " PURGED"
+change_text Release = codes " RELEASED"
+
 abbrev pub answer_text : Answer → List ℕ
 answer_text (Accepted number name) = job_text number ++ codes " " ++ name ++ codes " SUBMITTED" ++ 10 ∷ []
 answer_text (DeckRefused number card) = codes "DECK REFUSED J" ++ two_digits number ++ codes " CARD " ++ decimal card ++ 10 ∷ []
@@ -171,7 +177,8 @@ answer_text (Turned layout initiator replies) = flat_map (run_text layout initia
 answer_text (Listed records) = flat_map record_text records
 answer_text (SetsListed layout sets) = sets_text layout sets
 answer_text (JobsListed runs) = jobs_text runs
-answer_text (Purged job) = job_text job ++ codes " PURGED" ++ 10 ∷ []
+answer_text (Changed change job) = job_text job ++ change_text change ++ 10 ∷ []
+answer_text (Shifted place) = codes "OPERATOR " ++ decimal place ++ 10 ∷ []
 answer_text (BrokenOff layout initiator replies) = flat_map (run_text layout initiator) (told_runs (runs_of replies))
 
 -- the replies that wait to be told in one line, and how many they are

@@ -2,9 +2,6 @@
 use Rattle.std.specs.Prelude.{◌≡◌, ◌⊎◌, ℕ, true, false, if◌then◌else◌, List, [], ◌++◌, length, Option, None, Some}
 use Rattle.std.specs.List.{flat_map}
 use Rattle.ckr_desk.specs.Model.Plans.{IsToldReply}
-use Rattle.ckr_desk.specs.Requests.{spelled}
-use Rattle.ckr_desk.specs.Turn.{event_of_turn, turn_fits}
-use Rattle.ckr_desk.specs.State.{RoomyDesk}
 use Rattle.ckr_desk.specs.Model.Reply.{Reply}
 use Rattle.ckr_desk.specs.Model.Turn.{Turn}
 use Rattle.ckr_desk.specs.Model.Layout.{Layout}
@@ -13,6 +10,7 @@ use Rattle.ckr_service.specs.declared.stop.Halt.TheVariants as Halts
 use Rattle.ckr_service.specs.Calls.{BrokenOff, Turned, turns, turns_fit, after_turns}
 use Rattle.ckr_service.specs.Events.{behind_turns, turn_event, turns_events}
 use Rattle.ckr_service.specs.Lines.{HaltsTold, Telling}
+use Rattle.ckr_service.specs.Staff.{AttendedDesk, attended_event, attended_fits}
 use Rattle.ckr_service.specs.Service.{ComesTo}
 use Rattle.ckr_service.specs.Texts.{answer_text, run_text, before_runs, is_work, runs_of, told_runs, with_waiting}
 
@@ -33,7 +31,7 @@ module _ (layout : Layout) (initiator : ℕ) where
 
 module _ (layout : Layout) (turn : Turn) where
   -- From one state to another, with so many turns left, some were made: the replies to them, the runs that have ended, and their events.
-  pub record Turns (n m : ℕ) (first state : RoomyDesk) (waiting : Option (Reply × ℕ)) (before now : List ℕ) (had have : List (List ℕ)) : Type 0 where
+  pub record Turns (n m : ℕ) (first state : AttendedDesk) (waiting : Option (Reply × ℕ)) (before now : List ℕ) (had have : List (List ℕ)) : Type 0 where
     pub made : List Reply
     pub ended : List (Reply × ℕ)
     pub replies : turns turn n first ≡ made ++ turns turn m state
@@ -47,7 +45,7 @@ module _ (layout : Layout) (turn : Turn) where
 
   -- Of so many turns the first ones were made, and their replies are told. `came` are their events and the one of the next; of these were kept
   -- all, or all but the last.
-  pub record FirstTurns (count : ℕ) (state : RoomyDesk) (before now : List ℕ) (came kept : List (List ℕ)) : Type 0 where
+  pub record FirstTurns (count : ℕ) (state : AttendedDesk) (before now : List ℕ) (came kept : List (List ℕ)) : Type 0 where
     pub replies : List Reply
     pub later : List Reply
     pub given : turns turn count state ≡ replies ++ later
@@ -56,7 +54,7 @@ module _ (layout : Layout) (turn : Turn) where
     pub kept_is : (kept ≡ came) ⊎ (kept ≡ turns_events turn (length replies) state)
 
   -- what is told where not all of so many turns were made, and which events came and were kept
-  abbrev pub TurnsHalt : Halt → ℕ → RoomyDesk → List ℕ → List ℕ → List (List ℕ) → List (List ℕ) → Type 0
+  abbrev pub TurnsHalt : Halt → ℕ → AttendedDesk → List ℕ → List ℕ → List (List ℕ) → List (List ℕ) → Type 0
   TurnsHalt Halts.Memory count state before now came kept = ComesTo (turns_events turn (length (turns turn count state)) state) came kept
   TurnsHalt Halts.Book count state before now came kept =
       (turns_fit turn count state ≡ false) × (now ≡ before ++ answer_text (BrokenOff layout turn.initiator (turns turn count state)))
@@ -64,15 +62,15 @@ module _ (layout : Layout) (turn : Turn) where
   TurnsHalt Halts.Disk count state before now came kept = FirstTurns count state before now came kept
 
   -- what is told of so many turns, or of those that the book has room for
-  abbrev pub turns_text : ℕ → RoomyDesk → List ℕ
+  abbrev pub turns_text : ℕ → AttendedDesk → List ℕ
   turns_text count state = answer_text (if turns_fit turn count state then Turned layout turn.initiator (turns turn count state) else BrokenOff layout turn.initiator (turns turn count state))
 
   -- the same where lines go out meanwhile
-  abbrev pub TurnsHaltTelling : Halt → ℕ → RoomyDesk → Telling → Telling → List (List ℕ) → List (List ℕ) → Type 0
+  abbrev pub TurnsHaltTelling : Halt → ℕ → AttendedDesk → Telling → Telling → List (List ℕ) → List (List ℕ) → Type 0
   TurnsHaltTelling halt count state from to came kept = HaltsTold halt (TurnsHalt halt count state from.waits) (from.waits ++ turns_text count state) from to came kept
 
 -- a turn that wasn't made: whether the book has room for its event, and whether that came
-abbrev pub TurnHalt : Halt → Turn → RoomyDesk → List (List ℕ) → List (List ℕ) → Type 0
+abbrev pub TurnHalt : Halt → Turn → AttendedDesk → List (List ℕ) → List (List ℕ) → Type 0
 TurnHalt Halts.Memory turn state came kept = (came ≡ []) × (kept ≡ [])
-TurnHalt Halts.Book turn state came kept = (turn_fits state turn ≡ false) × (came ≡ []) × (kept ≡ [])
-TurnHalt Halts.Disk turn state came kept = (came ≡ spelled (event_of_turn state turn)) × ((kept ≡ came) ⊎ (kept ≡ []))
+TurnHalt Halts.Book turn state came kept = (attended_fits state turn ≡ false) × (came ≡ []) × (kept ≡ [])
+TurnHalt Halts.Disk turn state came kept = (came ≡ attended_event state turn) × ((kept ≡ came) ⊎ (kept ≡ []))

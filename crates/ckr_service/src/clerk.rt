@@ -1,35 +1,40 @@
 //! The requests of a stream, one after another.
-ghost use Rattle.std.specs.Prelude.{◌≡◌, ◌<◌, ◌≤◌, ◌%◌, ◌*◌, ◌||◌, length, [], ◌∷◌, ◌++◌, OnOk, IfErr, false, true};
+ghost use Rattle.std.specs.Prelude.{◌≡◌, ◌<◌, ◌≤◌, ◌%◌, ◌*◌, ◌||◌, length, [], ◌∷◌, ◌++◌, OnOk, IfErr, IfOk, false, true};
 ghost use Rattle.ckr_outside.specs.Faults.{Rose};
 ghost use Rattle.ckr_desk.specs.Model.Listing.{listed, records_of};
-ghost use Rattle.ckr_desk.specs.Requests.{behind_call, call_fits, event_in, spelled};
-ghost use Rattle.ckr_desk.specs.Soundness.{IsTrusted, state_of};
-ghost use Rattle.ckr_desk.specs.Submit.{is_queued, purge_call};
-ghost use Rattle.ckr_desk.specs.State.{IsOpen, disk_of, layout_of, tables_in_memory};
+ghost use Rattle.ckr_desk.specs.Model.OpenImages.{event_records};
+ghost use Rattle.ckr_desk.specs.CallOutcomes.{HasComeTo, KeepsDesk};
+ghost use Rattle.ckr_desk.specs.Requests.{behind_call, call_fits, came_by, event_in, spelled};
+ghost use Rattle.ckr_desk.specs.Soundness.{IsTrusted, KeepsWithin, state_of};
+ghost use Rattle.ckr_desk.specs.State.{IsOpen, disk_of, layout_of, operator_of, tables_in_memory};
 ghost use Rattle.ckr_service.specs.Stops.{Goes, Has, Stopped};
 ghost use Rattle.ckr_cards.specs.Session.Handed.{Deck, Order as Command, Refusal};
-ghost use Rattle.ckr_service.specs.Calls.{Accepted, DeckRefused, JobsListed, LineRefused, Listed, Purged, SetsListed, lines_of, name_in, list_answer, purge_answer, is_refusal};
+ghost use Rattle.ckr_service.specs.Calls.{Accepted, Changed, DeckRefused, JobsListed, LineRefused, Listed, SetsListed, call_for, change_answer, is_refusal, lines_of, list_answer, may_change, name_in, shift_answer};
 ghost use Rattle.ckr_service.specs.Texts.{answer_text};
 ghost use Rattle.ckr_service.specs.Lines.{telling};
-ghost use Rattle.ckr_service.specs.Service.{HaltsSo, HaltsTelling, HaltCause, ListHalt, PurgeHalt, Serves, ServesTelling, seen};
+ghost use Rattle.ckr_service.specs.Service.{ChangeHalt, HaltsSo, HaltsTelling, HaltCause, ListHalt, Serves, ServesTelling, seen, staffed_of};
+ghost use Rattle.ckr_service.specs.Staff.{shifted, with_call};
 
 use crate::lines::Lines;
 use crate::listing_lines::{jobs, sets};
-use crate::orders::{Order, read_order};
-use crate::report::{accepted, deck_refused, line_refused, listed, purged};
+use crate::orders::{JobChange, Order, read_order};
+use crate::report::{accepted, changed, deck_refused, line_refused, listed, shifted};
+use crate::roster::Roster;
 use crate::stop::Halt;
 use crate::text::Text;
 use crate::turns::turned;
 use ckr_base::{DsName, NoMemory, Rec};
+use ckr_console::Operator;
 use ckr_desk::{Desk, DeskError, Run, Submitted};
 use ckr_outside::{Disk, Sink};
 use std::alloc::Global;
 
-/// The desk, and whether a line or a deck was refused.
+/// The desk, the operators who take office later, and whether a line or a deck was refused.
 #[derive(Drop)]
-pub struct Clerk<D: Disk> {
+pub struct Clerk<D: Disk, O: Operator> {
     pub alloc: Global,
-    pub desk: Desk<D>,
+    pub desk: Desk<D, O>,
+    pub roster: Roster<O>,
     pub refused: bool,
 }
 
@@ -59,25 +64,50 @@ fn tell(records: &[Rec], out: &mut Text) -> Result<(), Halt>
     }
 }
 
-/// A job is told that was taken from the queue.
-fn tell_purged(job: u32, out: &mut Text) -> Result<(), Halt>
-    ensures text { OnOk result (out.new ≡ out.old ++ answer_text (Purged job)) }
+/// A job is told that was changed.
+fn tell_changed(change: JobChange, job: u32, out: &mut Text) -> Result<(), Halt>
+    ensures text { OnOk result (out.new ≡ out.old ++ answer_text (Changed change job)) }
     ensures halt { IfErr result (λ halt. halt ≡ Halt.Memory) }
 {
-    match purged(job, out) {
+    match changed(change, job, out) {
         Ok(()) => Ok(()),
         Err(NoMemory) => Err(Halt::Memory),
     }
 }
 
-impl<D: Disk> Clerk<D> {
-    pub fn new(alloc: Global, desk: Desk<D>) -> Clerk<D>
+/// Changes a job of the desk. False exactly where there is no such job, or it can't be changed so; nothing changes then.
+fn change_job<D: Disk, O: Operator>(
+    desk: &mut Desk<D, O>,
+    change: JobChange,
+    job: u32,
+) -> Result<bool, DeskError>
+    ensures answer { IfOk result (λ done. done ≡ may_change change (tables_in_memory desk.old) job) }
+    ensures comes { IsTrusted D.told D.content D.may_leave desk.old → HasComeTo D.told D.content D.may_leave (event_in (call_for change (tables_in_memory desk.old) job))
+        (behind_call (state_of D.content desk.old) (call_for change (tables_in_memory desk.old) job)) desk.old desk.new result }
+    ensures told { D.told → OnOk result (event_records (layout_of desk.old) (D.content (disk_of desk.new))
+        ≡ event_records (layout_of desk.old) (D.content (disk_of desk.old)) ++ spelled (event_in (call_for change (tables_in_memory desk.old) job))) }
+    ensures operator { operator_of desk.new ≡ operator_of desk.old }
+    ensures keeps { KeepsDesk D.content D.may_leave D.faults D.size desk.old desk.new result }
+    ensures kept { IsOpen desk.old → IsTrusted D.told D.content D.may_leave desk.old
+        → KeepsWithin D.content D.moment D.left_since D.size desk.old desk.new (came_by result (spelled (event_in (call_for change (tables_in_memory desk.old) job)))) }
+{
+    let _layout = desk.layout();
+    match change {
+        JobChange::Purge => desk.purge(job),
+        JobChange::Release => desk.release(job),
+    }
+}
+
+impl<D: Disk, O: Operator> Clerk<D, O> {
+    pub fn new(alloc: Global, desk: Desk<D, O>, roster: Roster<O>) -> Clerk<D, O>
         ensures desk { result.desk ≡ desk }
+        ensures roster { result.roster ≡ roster }
         ensures refused { result.refused ≡ false }
     {
         Clerk {
             alloc,
             desk,
+            roster,
             refused: false,
         }
     }
@@ -94,7 +124,7 @@ impl<D: Disk> Clerk<D> {
         ensures is_open { OnOk result (IsOpen self.new.desk) }
         ensures later { D.faults (disk_of self.old.desk) ≤ D.faults (disk_of self.new.desk) }
         ensures size { D.size (disk_of self.new.desk) ≡ D.size (disk_of self.old.desk) }
-        ensures halt { IsTrusted D.told D.content D.may_leave self.old.desk → IfErr result (λ halt. Stopped D.content D.moment D.left_since D.size self.old.desk (disk_of self.new.desk) (HaltsSo halt (state_of D.content self.old.desk) (Deck cards.now ∷ []) out.old out.new)) }
+        ensures halt { IsTrusted D.told D.content D.may_leave self.old.desk → IfErr result (λ halt. Stopped D.content D.moment D.left_since D.size self.old.desk (disk_of self.new.desk) (HaltsSo halt (staffed_of D.content self.old) (Deck cards.now ∷ []) out.old out.new)) }
         ensures cause { IfErr result (λ halt. HaltCause (IsTrusted D.told D.content D.may_leave self.old.desk) halt (D.faults (disk_of self.old.desk)) (D.faults (disk_of self.new.desk))) }
     {
         match self.desk.submit(cards) {
@@ -120,6 +150,7 @@ impl<D: Disk> Clerk<D> {
 
     fn refuse_deck(&mut self, number: u8, card: u32, out: &mut Text) -> Result<(), Halt>
         ensures desk { self.new.desk ≡ self.old.desk }
+        ensures roster { self.new.roster ≡ self.old.roster }
         ensures refused { self.new.refused ≡ true }
         ensures text { OnOk result (out.new ≡ out.old ++ answer_text (DeckRefused number card)) }
         ensures halt { IfErr result (λ halt. halt ≡ Halt.Memory) }
@@ -148,7 +179,7 @@ impl<D: Disk> Clerk<D> {
         ensures is_open { OnOk result (IsOpen self.new.desk) }
         ensures later { D.faults (disk_of self.old.desk) ≤ D.faults (disk_of self.new.desk) }
         ensures size { D.size (disk_of self.new.desk) ≡ D.size (disk_of self.old.desk) }
-        ensures halt { IsTrusted D.told D.content D.may_leave self.old.desk → IfErr result (λ halt. Stopped D.content D.moment D.left_since D.size self.old.desk (disk_of self.new.desk) (HaltsTelling halt (state_of D.content self.old.desk) (Command number text.now ∷ [])
+        ensures halt { IsTrusted D.told D.content D.may_leave self.old.desk → IfErr result (λ halt. Stopped D.content D.moment D.left_since D.size self.old.desk (disk_of self.new.desk) (HaltsTelling halt (staffed_of D.content self.old) (Command number text.now ∷ [])
             (telling lines.old (K.written sink.old) (K.faults sink.old)) (telling lines.new (K.written sink.new) (K.faults sink.new)))) }
         ensures cause { IfErr result (λ halt. HaltCause (IsTrusted D.told D.content D.may_leave self.old.desk) halt (D.faults (disk_of self.old.desk)) (D.faults (disk_of self.new.desk))) }
         ensures sink_later { K.faults sink.old ≤ K.faults sink.new }
@@ -160,13 +191,15 @@ impl<D: Disk> Clerk<D> {
             Order::ListOf(name) => self.list(number, &name, &mut lines.text),
             Order::Sets => self.list_sets(&mut lines.text),
             Order::Jobs => self.list_jobs(&mut lines.text),
-            Order::Purge(job) => self.purge(number, job, &mut lines.text),
+            Order::Change { change, job } => self.change(number, change, job, &mut lines.text),
+            Order::Shift => self.shift(number, &mut lines.text),
             Order::Unknown => self.refuse_line(number, &mut lines.text),
         }
     }
 
     fn refuse_line(&mut self, number: u32, out: &mut Text) -> Result<(), Halt>
         ensures desk { self.new.desk ≡ self.old.desk }
+        ensures roster { self.new.roster ≡ self.old.roster }
         ensures refused { self.new.refused ≡ true }
         ensures text { OnOk result (out.new ≡ out.old ++ answer_text (LineRefused number)) }
         ensures halt { IfErr result (λ halt. halt ≡ Halt.Memory) }
@@ -202,25 +235,31 @@ impl<D: Disk> Clerk<D> {
         }
     }
 
-    /// A job is taken from the queue.
-    fn purge(&mut self, number: u32, job: u32, out: &mut Text) -> Result<(), Halt>
+    /// A job is changed.
+    fn change(
+        &mut self,
+        number: u32,
+        change: JobChange,
+        job: u32,
+        out: &mut Text,
+    ) -> Result<(), Halt>
         requires is_open { IsOpen self.old.desk }
-        ensures fits { IsTrusted D.told D.content D.may_leave self.old.desk → OnOk result (call_fits (state_of D.content self.old.desk) (purge_call (tables_in_memory self.old.desk) job) ≡ true) }
-        ensures after { IsTrusted D.told D.content D.may_leave self.old.desk → OnOk result (state_of D.content self.new.desk ≡ behind_call (state_of D.content self.old.desk) (purge_call (tables_in_memory self.old.desk) job)) }
-        ensures refused { OnOk result (self.new.refused ≡ (self.old.refused || is_refusal (purge_answer number job (is_queued (tables_in_memory self.old.desk) job)))) }
-        ensures text { OnOk result (out.new ≡ out.old ++ answer_text (purge_answer number job (is_queued (tables_in_memory self.old.desk) job))) }
-        ensures events { IsTrusted D.told D.content D.may_leave self.old.desk → OnOk result (Has D.content D.moment D.left_since D.size self.old.desk (disk_of self.new.desk) (spelled (event_in (purge_call (tables_in_memory self.old.desk) job)))) }
+        ensures fits { IsTrusted D.told D.content D.may_leave self.old.desk → OnOk result (call_fits (state_of D.content self.old.desk) (call_for change (tables_in_memory self.old.desk) job) ≡ true) }
+        ensures after { IsTrusted D.told D.content D.may_leave self.old.desk → OnOk result (staffed_of D.content self.new ≡ with_call (staffed_of D.content self.old) (call_for change (tables_in_memory self.old.desk) job)) }
+        ensures refused { OnOk result (self.new.refused ≡ (self.old.refused || is_refusal (change_answer change number job (may_change change (tables_in_memory self.old.desk) job)))) }
+        ensures text { OnOk result (out.new ≡ out.old ++ answer_text (change_answer change number job (may_change change (tables_in_memory self.old.desk) job))) }
+        ensures events { IsTrusted D.told D.content D.may_leave self.old.desk → OnOk result (Has D.content D.moment D.left_since D.size self.old.desk (disk_of self.new.desk) (spelled (event_in (call_for change (tables_in_memory self.old.desk) job)))) }
         ensures layout { OnOk result (layout_of self.new.desk ≡ layout_of self.old.desk) }
         ensures trusted { OnOk result (IsTrusted D.told D.content D.may_leave self.old.desk → IsTrusted D.told D.content D.may_leave self.new.desk) }
         ensures goes { IsTrusted D.told D.content D.may_leave self.old.desk → OnOk result (Goes D.content D.moment D.left_since D.size self.old.desk self.new.desk) }
         ensures is_open { OnOk result (IsOpen self.new.desk) }
         ensures later { D.faults (disk_of self.old.desk) ≤ D.faults (disk_of self.new.desk) }
         ensures size { D.size (disk_of self.new.desk) ≡ D.size (disk_of self.old.desk) }
-        ensures halt { IsTrusted D.told D.content D.may_leave self.old.desk → IfErr result (λ halt. Stopped D.content D.moment D.left_since D.size self.old.desk (disk_of self.new.desk) (PurgeHalt halt (call_fits (state_of D.content self.old.desk) (purge_call (tables_in_memory self.old.desk) job)) (spelled (event_in (purge_call (tables_in_memory self.old.desk) job))) out.old out.new)) }
+        ensures halt { IsTrusted D.told D.content D.may_leave self.old.desk → IfErr result (λ halt. Stopped D.content D.moment D.left_since D.size self.old.desk (disk_of self.new.desk) (ChangeHalt halt (call_fits (state_of D.content self.old.desk) (call_for change (tables_in_memory self.old.desk) job)) (spelled (event_in (call_for change (tables_in_memory self.old.desk) job))) out.old out.new)) }
         ensures cause { IfErr result (λ halt. HaltCause (IsTrusted D.told D.content D.may_leave self.old.desk) halt (D.faults (disk_of self.old.desk)) (D.faults (disk_of self.new.desk))) }
     {
-        match self.desk.purge(job) {
-            Ok(true) => tell_purged(job, out),
+        match change_job(&mut self.desk, change, job) {
+            Ok(true) => tell_changed(change, job, out),
             Ok(false) => self.refuse_line(number, out),
             Err(DeskError::NoMemory) => Err(Halt::Memory),
             Err(DeskError::BookFull { .. }) => Err(Halt::Book),
@@ -229,9 +268,27 @@ impl<D: Disk> Clerk<D> {
         }
     }
 
+    /// The next operator takes office, unless there is none.
+    fn shift(&mut self, number: u32, out: &mut Text) -> Result<(), Halt>
+        ensures after { staffed_of D.content self.new ≡ shifted (staffed_of D.content self.old) }
+        ensures refused { OnOk result (self.new.refused ≡ (self.old.refused || is_refusal (shift_answer number self.old.roster.place self.old.roster.later))) }
+        ensures text { OnOk result (out.new ≡ out.old ++ answer_text (shift_answer number self.old.roster.place self.old.roster.later)) }
+        ensures desk { self.new.desk ≡ record self.old.desk { operator = operator_of self.new.desk } }
+        ensures halt { IfErr result (λ halt. halt ≡ Halt.Memory) }
+    {
+        let Some(operator) = self.roster.next() else {
+            return self.refuse_line(number, out);
+        };
+        self.desk.shift(operator);
+        match shifted(self.roster.place(), out) {
+            Ok(()) => Ok(()),
+            Err(NoMemory) => Err(Halt::Memory),
+        }
+    }
+
     fn list(&mut self, number: u32, name: &DsName, out: &mut Text) -> Result<(), Halt>
         requires is_open { IsOpen self.old.desk }
-        ensures state { IsTrusted D.told D.content D.may_leave self.old.desk → OnOk result (state_of D.content self.new.desk ≡ state_of D.content self.old.desk) }
+        ensures state { IsTrusted D.told D.content D.may_leave self.old.desk → OnOk result (staffed_of D.content self.new ≡ staffed_of D.content self.old) }
         ensures refused { IsTrusted D.told D.content D.may_leave self.old.desk → OnOk result (self.new.refused ≡ (self.old.refused || is_refusal (list_answer number (records_of (state_of D.content self.old.desk).desk name.now)))) }
         ensures text { IsTrusted D.told D.content D.may_leave self.old.desk → OnOk result (out.new ≡ out.old ++ answer_text (list_answer number (records_of (state_of D.content self.old.desk).desk name.now))) }
         ensures events { IsTrusted D.told D.content D.may_leave self.old.desk → OnOk result (Has D.content D.moment D.left_since D.size self.old.desk (disk_of self.new.desk) []) }
@@ -260,7 +317,7 @@ impl<D: Disk> Clerk<D> {
         ensures serves { OnOk result (Serves (seen D.content self.old) (seen D.content self.new) (Refusal number ∷ []) out.old out.new) }
         ensures desk { self.new.desk ≡ self.old.desk }
         ensures goes { IsTrusted D.told D.content D.may_leave self.old.desk → OnOk result (Goes D.content D.moment D.left_since D.size self.old.desk self.new.desk) }
-        ensures halt { IsTrusted D.told D.content D.may_leave self.old.desk → IfErr result (λ halt. Stopped D.content D.moment D.left_since D.size self.old.desk (disk_of self.new.desk) (HaltsSo halt (state_of D.content self.old.desk) (Refusal number ∷ []) out.old out.new)) }
+        ensures halt { IsTrusted D.told D.content D.may_leave self.old.desk → IfErr result (λ halt. Stopped D.content D.moment D.left_since D.size self.old.desk (disk_of self.new.desk) (HaltsSo halt (staffed_of D.content self.old) (Refusal number ∷ []) out.old out.new)) }
         ensures memory { IfErr result (λ halt. halt ≡ Halt.Memory) }
     {
         let _layout = self.desk.layout();

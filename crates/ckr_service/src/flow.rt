@@ -4,17 +4,18 @@ ghost use Rattle.ckr_outside.specs.Faults.{Rose};
 ghost use Rattle.ckr_cards.specs.Session.{first_session};
 ghost use Rattle.ckr_desk.specs.Soundness.{IsTrusted};
 ghost use Rattle.ckr_service.specs.Stops.{Goes, Stopped};
-ghost use Rattle.ckr_desk.specs.Soundness.{state_of};
 ghost use Rattle.ckr_desk.specs.State.{IsOpen, disk_of};
 ghost use Rattle.ckr_service.specs.Lines.{EndsTold, FailsBy, Telling, WritesAll, WritesFront, telling};
-ghost use Rattle.ckr_service.specs.Service.{ServesTelling, HaltsTelling, HaltCause, StopsWithin, RestWritten, Caused, seen, stop_of};
+ghost use Rattle.ckr_service.specs.Service.{ServesTelling, HaltsTelling, HaltCause, StopsWithin, RestWritten, Caused, seen, staffed_of, stop_of};
 ghost use Rattle.ckr_service.specs.Sessions.{HasWholeCards, standing_of};
 ghost use Rattle.ckr_service.specs.Flows.{CutsLine, EndsLine, Carries, Breaks, Finishes, FinishBreaks, IsBegun, end_requests, line_requests};
 
 use crate::lines::Lines;
+use crate::roster::Roster;
 use crate::session::Session;
 use crate::stop::{Halt, Stop};
 use ckr_base::without_return;
+use ckr_console::Operator;
 use ckr_desk::Desk;
 use ckr_outside::{Disk, Sink};
 use std::alloc::Global;
@@ -55,18 +56,19 @@ fn write_rest<K: Sink>(halt: Halt, lines: &mut Lines, sink: &mut K) -> Stop
 
 /// The session, and the bytes behind the last line's end.
 #[derive(Drop)]
-pub struct Flow<D: Disk> {
-    pub session: Session<D>,
+pub struct Flow<D: Disk, O: Operator> {
+    pub session: Session<D, O>,
     pub partial: Vec<u8>,
 }
 
-impl<D: Disk> Flow<D> {
-    pub fn new(alloc: Global, desk: Desk<D>) -> Flow<D>
+impl<D: Disk, O: Operator> Flow<D, O> {
+    pub fn new(alloc: Global, desk: Desk<D, O>, roster: Roster<O>) -> Flow<D, O>
         ensures desk { result.session.clerk.desk ≡ desk }
+        ensures roster { result.session.clerk.roster ≡ roster }
         ensures begun { IsBegun result }
     {
         Flow {
-            session: Session::new(alloc, desk),
+            session: Session::new(alloc, desk, roster),
             partial: Vec::new(alloc),
         }
     }
@@ -80,7 +82,7 @@ impl<D: Disk> Flow<D> {
         ensures trusted { OnOk result (IsTrusted D.told D.content D.may_leave self.old.session.clerk.desk → IsTrusted D.told D.content D.may_leave self.new.session.clerk.desk) }
         ensures goes { IsTrusted D.told D.content D.may_leave self.old.session.clerk.desk → OnOk result (Goes D.content D.moment D.left_since D.size self.old.session.clerk.desk self.new.session.clerk.desk) }
         ensures is_open { OnOk result (IsOpen self.new.session.clerk.desk) }
-        ensures err { IsTrusted D.told D.content D.may_leave self.old.session.clerk.desk → IfErr result (λ stop. Stopped D.content D.moment D.left_since D.size self.old.session.clerk.desk (disk_of self.new.session.clerk.desk) (StopsWithin stop (K.faults sink.old) (K.faults sink.new) (state_of D.content self.old.session.clerk.desk) (line_requests self.old) (K.written sink.old) (K.written sink.new))) }
+        ensures err { IsTrusted D.told D.content D.may_leave self.old.session.clerk.desk → IfErr result (λ stop. Stopped D.content D.moment D.left_since D.size self.old.session.clerk.desk (disk_of self.new.session.clerk.desk) (StopsWithin stop (K.faults sink.old) (K.faults sink.new) (staffed_of D.content self.old.session.clerk) (line_requests self.old) (K.written sink.old) (K.written sink.new))) }
         ensures sink_later { K.faults sink.old ≤ K.faults sink.new }
         ensures disk_later { D.faults (disk_of self.old.session.clerk.desk) ≤ D.faults (disk_of self.new.session.clerk.desk) }
         ensures size { D.size (disk_of self.new.session.clerk.desk) ≡ D.size (disk_of self.old.session.clerk.desk) }
@@ -189,7 +191,7 @@ impl<D: Disk> Flow<D> {
         ensures is_open { OnOk result (IsOpen self.new.session.clerk.desk) }
         ensures later { D.faults (disk_of self.old.session.clerk.desk) ≤ D.faults (disk_of self.new.session.clerk.desk) }
         ensures size { D.size (disk_of self.new.session.clerk.desk) ≡ D.size (disk_of self.old.session.clerk.desk) }
-        ensures halt { IsTrusted D.told D.content D.may_leave self.old.session.clerk.desk → IfErr result (λ halt. Stopped D.content D.moment D.left_since D.size self.old.session.clerk.desk (disk_of self.new.session.clerk.desk) (HaltsTelling halt (state_of D.content self.old.session.clerk.desk) (end_requests self.old)
+        ensures halt { IsTrusted D.told D.content D.may_leave self.old.session.clerk.desk → IfErr result (λ halt. Stopped D.content D.moment D.left_since D.size self.old.session.clerk.desk (disk_of self.new.session.clerk.desk) (HaltsTelling halt (staffed_of D.content self.old.session.clerk) (end_requests self.old)
             (telling lines.old (K.written sink.old) (K.faults sink.old)) (telling lines.new (K.written sink.new) (K.faults sink.new)))) }
         ensures cause { IfErr result (λ halt. HaltCause (IsTrusted D.told D.content D.may_leave self.old.session.clerk.desk) halt (D.faults (disk_of self.old.session.clerk.desk)) (D.faults (disk_of self.new.session.clerk.desk))) }
         ensures sink_later { K.faults sink.old ≤ K.faults sink.new }

@@ -7,6 +7,7 @@ mod lines;
 mod listing_lines;
 mod orders;
 mod report;
+mod roster;
 mod session;
 mod stop;
 mod stream;

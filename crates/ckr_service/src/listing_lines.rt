@@ -10,6 +10,7 @@ ghost use Rattle.ckr_desk.specs.State.{layout_of};
 
 use crate::text::Text;
 use ckr_base::{DsName, NoMemory};
+use ckr_console::Operator;
 use ckr_desk::{Desk, Layout, Listed, Run, RunState};
 use ckr_library::{DataSet, Part, Stamp};
 use ckr_outside::Disk;
@@ -85,7 +86,7 @@ fn set_line(layout: &Layout, line: &Listed, out: &mut Text) -> Result<(), NoMemo
 }
 
 /// The lines of the data sets, of which there is one.
-fn set_lines<D: Disk>(desk: &Desk<D>, out: &mut Text) -> Result<(), NoMemory>
+fn set_lines<D: Disk, O: Operator>(desk: &Desk<D, O>, out: &mut Text) -> Result<(), NoMemory>
     ensures { IsTrusted D.told D.content D.may_leave desk.now → OnOk result (out.new ≡ out.old ++ flat_map (set_text (layout_of desk.now)) (listed (state_of D.content desk.now).desk)) }
 {
     let mut place = 0u32;
@@ -102,7 +103,7 @@ fn set_lines<D: Disk>(desk: &Desk<D>, out: &mut Text) -> Result<(), NoMemory>
 }
 
 /// The data sets, in the order of their names.
-pub fn sets<D: Disk>(desk: &Desk<D>, out: &mut Text) -> Result<(), NoMemory>
+pub fn sets<D: Disk, O: Operator>(desk: &Desk<D, O>, out: &mut Text) -> Result<(), NoMemory>
     ensures { IsTrusted D.told D.content D.may_leave desk.now → OnOk result (out.new ≡ out.old ++ answer_text (SetsListed (layout_of desk.now) (listed (state_of D.content desk.now).desk))) }
 {
     if desk.set_at(0).is_none() {

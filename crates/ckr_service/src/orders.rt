@@ -1,13 +1,22 @@
 //! The commands.
 ghost use Rattle.std.specs.Prelude.{◌≡◌, ℕ};
 ghost use Rattle.ckr_desk.specs.Model.Plans.{IsAnyCode};
-ghost use Rattle.ckr_service.specs.Orders.{HasFewTurns, failure_in, failure_of, is_one_of, order_of, order_by_words, order_alone, list_of, purge_of, turns_in, turns_of};
+ghost use Rattle.ckr_service.specs.Orders.{HasFewTurns, change_of, failure_in, failure_of, is_one_of, order_of, order_by_words, order_alone, list_of, turns_in, turns_of};
 
 use ckr_base::{Code, DsName, behind_word, first_word, plain_number, trimmed};
 use ckr_desk::Turn;
 
 /// The most turns of one command.
 const MOST_TURNS: u32 = 1_000_000;
+
+/// What a command does to a job.
+#[derive(Clone, Copy)]
+pub enum JobChange {
+    /// It is taken from the queue.
+    Purge,
+    /// It is held no more.
+    Release,
+}
 
 /// What a command asks for.
 #[derive(Drop)]
@@ -20,8 +29,10 @@ pub enum Order {
     Sets,
     /// The jobs.
     Jobs,
-    /// To take a job from the queue.
-    Purge(u32),
+    /// A change of the job of this number.
+    Change { change: JobChange, job: u32 },
+    /// The next operator takes office.
+    Shift,
     Unknown,
 }
 
@@ -42,7 +53,8 @@ fn order_by_words(initiators: u8, text: &[u8]) -> Order
         b"$T" => turns_in(initiators, behind_word(text)),
         b"$F" => failure_in(initiators, behind_word(text)),
         b"$R" => list_of(behind_word(text)),
-        b"$D" => purge_of(plain_number(behind_word(text))),
+        b"$D" => change_of(JobChange::Purge, plain_number(behind_word(text))),
+        b"$L" => change_of(JobChange::Release, plain_number(behind_word(text))),
         _ => order_alone(text),
     }
 }
@@ -57,6 +69,9 @@ fn order_alone(text: &[u8]) -> Order
     }
     if text == b"$Q".as_slice() {
         return Order::Jobs;
+    }
+    if text == b"$S".as_slice() {
+        return Order::Shift;
     }
     Order::Unknown
 }
@@ -138,12 +153,12 @@ fn list_of(name: &[u8]) -> Order
     }
 }
 
-fn purge_of(job: Option<u32>) -> Order
-    ensures value { result ≡ purge_of job }
+fn change_of(change: JobChange, job: Option<u32>) -> Order
+    ensures value { result ≡ change_of change job }
     ensures few { (initiators : ℕ) → HasFewTurns initiators result }
 {
     match job {
-        Some(job) => Order::Purge(job),
+        Some(job) => Order::Change { change, job },
         None => Order::Unknown,
     }
 }

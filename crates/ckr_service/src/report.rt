@@ -3,11 +3,12 @@ ghost use Rattle.std.specs.Prelude.{◌≡◌, ◌≤◌, [], ◌∷◌, ◌++�
 ghost use Rattle.std.specs.Fmt.{decimal};
 ghost use Rattle.ckr_base.specs.CodeText.{code_text, number_of};
 ghost use Rattle.ckr_desk.specs.Model.Plans.{HasCode, IsToldReply};
-ghost use Rattle.ckr_service.specs.Calls.{Accepted, DeckRefused, LineRefused, Listed, Purged};
+ghost use Rattle.ckr_service.specs.Calls.{Accepted, Changed, DeckRefused, LineRefused, Listed, Shifted};
 ghost use Rattle.ckr_service.specs.Listings.{job_text, serial_of};
-ghost use Rattle.ckr_service.specs.Texts.{answer_text, two_digits, reply_part, reply_text, job_part, step_part, end_text, rule_text, cause_text, name_text, seen_text, denial_text, chkpt_code, entry_text, restart_text, record_text, shown};
+ghost use Rattle.ckr_service.specs.Texts.{answer_text, change_text, two_digits, reply_part, reply_text, job_part, step_part, end_text, rule_text, cause_text, name_text, seen_text, denial_text, chkpt_code, entry_text, restart_text, record_text, shown};
 
 use crate::listing_lines::{serial, stamp};
+use crate::orders::JobChange;
 use crate::text::Text;
 use ckr_base::{CheckId, Code, DsName, Name8, NoMemory, Rec, trimmed};
 use ckr_desk::{Cause, Chkpt, Denial, How, Layout, Reply, Rule, Seen};
@@ -46,12 +47,31 @@ pub fn line_refused(number: u32, out: &mut Text) -> Result<(), NoMemory>
     out.push(b" REFUSED\n")
 }
 
-/// The line for a job that was taken from the queue.
-pub fn purged(job: u32, out: &mut Text) -> Result<(), NoMemory>
-    ensures { OnOk result (out.new ≡ out.old ++ answer_text (Purged job)) }
+fn change_text(change: JobChange) -> &'static [u8]
+    ensures { result.now ≡ change_text change }
+{
+    match change {
+        JobChange::Purge => b" PURGED",
+        JobChange::Release => b" RELEASED",
+    }
+}
+
+/// The line for a job that was changed.
+pub fn changed(change: JobChange, job: u32, out: &mut Text) -> Result<(), NoMemory>
+    ensures { OnOk result (out.new ≡ out.old ++ answer_text (Changed change job)) }
 {
     out.job(job)?;
-    out.push(b" PURGED\n")
+    out.push(change_text(change))?;
+    out.push(b"\n")
+}
+
+/// The line for an operator who has taken office, by his place among all.
+pub fn shifted(place: u64, out: &mut Text) -> Result<(), NoMemory>
+    ensures { OnOk result (out.new ≡ out.old ++ answer_text (Shifted place)) }
+{
+    out.push(b"OPERATOR ")?;
+    out.long_number(place)?;
+    out.push(b"\n")
 }
 
 /// The line for so many replies of an initiator in a row, of which this is the last.

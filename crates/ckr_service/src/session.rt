@@ -4,26 +4,27 @@ ghost use Rattle.ckr_outside.specs.Faults.{Rose};
 ghost use Rattle.ckr_cards.specs.Session.{first_session, handed_deck, handed_before, handed_alone, handed_with, session_behind};
 ghost use Rattle.ckr_desk.specs.Soundness.{IsTrusted};
 ghost use Rattle.ckr_service.specs.Stops.{Goes, Stopped};
-ghost use Rattle.ckr_desk.specs.Soundness.{state_of};
 ghost use Rattle.ckr_desk.specs.State.{IsOpen, disk_of};
 ghost use Rattle.ckr_service.specs.Lines.{telling};
-ghost use Rattle.ckr_service.specs.Service.{HaltsSo, HaltsTelling, HaltCause, Serves, ServesTelling, seen};
+ghost use Rattle.ckr_service.specs.Service.{HaltsSo, HaltsTelling, HaltCause, Serves, ServesTelling, seen, staffed_of};
 ghost use Rattle.ckr_service.specs.Sessions.{standing_of, HasWholeCards, cards_left, cards_with};
 
 use crate::clerk::Clerk;
 use crate::lines::Lines;
+use crate::roster::Roster;
 use crate::stop::Halt;
 use crate::text::Text;
 use ckr_base::NoMemory;
 use ckr_cards::{Cutter, Line, stored_line};
+use ckr_console::Operator;
 use ckr_desk::Desk;
 use ckr_outside::{Disk, Sink};
 use std::alloc::Global;
 
 /// The clerk that serves what the stream hands over, the cutter, the cards of the open deck and the number of lines so far.
 #[derive(Drop)]
-pub struct Session<D: Disk> {
-    pub clerk: Clerk<D>,
+pub struct Session<D: Disk, O: Operator> {
+    pub clerk: Clerk<D, O>,
     pub cutter: Cutter,
     /// 81 bytes for each card: 80 columns, and 1 where the line was longer.
     pub deck: Vec<u8>,
@@ -31,7 +32,11 @@ pub struct Session<D: Disk> {
 }
 
 /// The deck ends that is open, if there is one.
-fn end_deck<D: Disk>(clerk: &mut Clerk<D>, deck: &mut Vec<u8>, out: &mut Text) -> Result<(), Halt>
+fn end_deck<D: Disk, O: Operator>(
+    clerk: &mut Clerk<D, O>,
+    deck: &mut Vec<u8>,
+    out: &mut Text,
+) -> Result<(), Halt>
     requires whole { length deck.old.items % 81 ≡ 0 }
     requires few { length deck.old.items < 81 * 4294967295 }
     requires is_open { IsOpen clerk.old.desk }
@@ -41,7 +46,7 @@ fn end_deck<D: Disk>(clerk: &mut Clerk<D>, deck: &mut Vec<u8>, out: &mut Text) -
     ensures is_open { OnOk result (IsOpen clerk.new.desk) }
     ensures later { D.faults (disk_of clerk.old.desk) ≤ D.faults (disk_of clerk.new.desk) }
     ensures size { D.size (disk_of clerk.new.desk) ≡ D.size (disk_of clerk.old.desk) }
-    ensures halt { IsTrusted D.told D.content D.may_leave clerk.old.desk → IfErr result (λ halt. Stopped D.content D.moment D.left_since D.size clerk.old.desk (disk_of clerk.new.desk) (HaltsSo halt (state_of D.content clerk.old.desk) (handed_deck deck.old.items) out.old out.new)) }
+    ensures halt { IsTrusted D.told D.content D.may_leave clerk.old.desk → IfErr result (λ halt. Stopped D.content D.moment D.left_since D.size clerk.old.desk (disk_of clerk.new.desk) (HaltsSo halt (staffed_of D.content clerk.old) (handed_deck deck.old.items) out.old out.new)) }
     ensures cause { IfErr result (λ halt. HaltCause (IsTrusted D.told D.content D.may_leave clerk.old.desk) halt (D.faults (disk_of clerk.old.desk)) (D.faults (disk_of clerk.new.desk))) }
     ensures deck { OnOk result (deck.new.items ≡ []) }
 {
@@ -55,9 +60,9 @@ fn end_deck<D: Disk>(clerk: &mut Clerk<D>, deck: &mut Vec<u8>, out: &mut Text) -
 }
 
 /// The open deck ends before each line that is no card of it.
-fn end_before<D: Disk>(
+fn end_before<D: Disk, O: Operator>(
     kind: Line,
-    clerk: &mut Clerk<D>,
+    clerk: &mut Clerk<D, O>,
     deck: &mut Vec<u8>,
     out: &mut Text,
 ) -> Result<(), Halt>
@@ -70,7 +75,7 @@ fn end_before<D: Disk>(
     ensures is_open { OnOk result (IsOpen clerk.new.desk) }
     ensures later { D.faults (disk_of clerk.old.desk) ≤ D.faults (disk_of clerk.new.desk) }
     ensures size { D.size (disk_of clerk.new.desk) ≡ D.size (disk_of clerk.old.desk) }
-    ensures halt { IsTrusted D.told D.content D.may_leave clerk.old.desk → IfErr result (λ halt. Stopped D.content D.moment D.left_since D.size clerk.old.desk (disk_of clerk.new.desk) (HaltsSo halt (state_of D.content clerk.old.desk) (handed_before kind deck.old.items) out.old out.new)) }
+    ensures halt { IsTrusted D.told D.content D.may_leave clerk.old.desk → IfErr result (λ halt. Stopped D.content D.moment D.left_since D.size clerk.old.desk (disk_of clerk.new.desk) (HaltsSo halt (staffed_of D.content clerk.old) (handed_before kind deck.old.items) out.old out.new)) }
     ensures cause { IfErr result (λ halt. HaltCause (IsTrusted D.told D.content D.may_leave clerk.old.desk) halt (D.faults (disk_of clerk.old.desk)) (D.faults (disk_of clerk.new.desk))) }
     ensures deck { OnOk result (deck.new.items ≡ cards_left kind deck.old.items) }
 {
@@ -97,9 +102,9 @@ fn keep_card(kind: Line, deck: &mut Vec<u8>, text: &[u8]) -> Result<(), NoMemory
 }
 
 /// What a line is by itself is served.
-fn serve_line<K: Sink, D: Disk>(
+fn serve_line<K: Sink, D: Disk, O: Operator>(
     kind: Line,
-    clerk: &mut Clerk<D>,
+    clerk: &mut Clerk<D, O>,
     number: u32,
     text: &[u8],
     lines: &mut Lines,
@@ -114,7 +119,7 @@ fn serve_line<K: Sink, D: Disk>(
     ensures is_open { OnOk result (IsOpen clerk.new.desk) }
     ensures later { D.faults (disk_of clerk.old.desk) ≤ D.faults (disk_of clerk.new.desk) }
     ensures size { D.size (disk_of clerk.new.desk) ≡ D.size (disk_of clerk.old.desk) }
-    ensures halt { IsTrusted D.told D.content D.may_leave clerk.old.desk → IfErr result (λ halt. Stopped D.content D.moment D.left_since D.size clerk.old.desk (disk_of clerk.new.desk) (HaltsTelling halt (state_of D.content clerk.old.desk) (handed_alone kind number text.now)
+    ensures halt { IsTrusted D.told D.content D.may_leave clerk.old.desk → IfErr result (λ halt. Stopped D.content D.moment D.left_since D.size clerk.old.desk (disk_of clerk.new.desk) (HaltsTelling halt (staffed_of D.content clerk.old) (handed_alone kind number text.now)
         (telling lines.old (K.written sink.old) (K.faults sink.old)) (telling lines.new (K.written sink.new) (K.faults sink.new)))) }
     ensures cause { IfErr result (λ halt. HaltCause (IsTrusted D.told D.content D.may_leave clerk.old.desk) halt (D.faults (disk_of clerk.old.desk)) (D.faults (disk_of clerk.new.desk))) }
     ensures sink_later { K.faults sink.old ≤ K.faults sink.new }
@@ -128,15 +133,16 @@ fn serve_line<K: Sink, D: Disk>(
     }
 }
 
-impl<D: Disk> Session<D> {
-    pub fn new(alloc: Global, desk: Desk<D>) -> Session<D>
+impl<D: Disk, O: Operator> Session<D, O> {
+    pub fn new(alloc: Global, desk: Desk<D, O>, roster: Roster<O>) -> Session<D, O>
         ensures standing { standing_of result ≡ first_session }
         ensures desk { result.clerk.desk ≡ desk }
+        ensures roster { result.clerk.roster ≡ roster }
         ensures refused { result.clerk.refused ≡ false }
         ensures whole { HasWholeCards result }
     {
         Session {
-            clerk: Clerk::new(alloc, desk),
+            clerk: Clerk::new(alloc, desk, roster),
             cutter: Cutter::new(),
             deck: Vec::new(alloc),
             number: 0,
@@ -170,7 +176,7 @@ impl<D: Disk> Session<D> {
         ensures is_open { OnOk result (IsOpen self.new.clerk.desk) }
         ensures later { D.faults (disk_of self.old.clerk.desk) ≤ D.faults (disk_of self.new.clerk.desk) }
         ensures size { D.size (disk_of self.new.clerk.desk) ≡ D.size (disk_of self.old.clerk.desk) }
-        ensures halt { IsTrusted D.told D.content D.may_leave self.old.clerk.desk → IfErr result (λ halt. Stopped D.content D.moment D.left_since D.size self.old.clerk.desk (disk_of self.new.clerk.desk) (HaltsTelling halt (state_of D.content self.old.clerk.desk) (handed_with (standing_of self.old) text.now)
+        ensures halt { IsTrusted D.told D.content D.may_leave self.old.clerk.desk → IfErr result (λ halt. Stopped D.content D.moment D.left_since D.size self.old.clerk.desk (disk_of self.new.clerk.desk) (HaltsTelling halt (staffed_of D.content self.old.clerk) (handed_with (standing_of self.old) text.now)
             (telling lines.old (K.written sink.old) (K.faults sink.old)) (telling lines.new (K.written sink.new) (K.faults sink.new)))) }
         ensures cause { IfErr result (λ halt. HaltCause (IsTrusted D.told D.content D.may_leave self.old.clerk.desk) halt (D.faults (disk_of self.old.clerk.desk)) (D.faults (disk_of self.new.clerk.desk))) }
         ensures sink_later { K.faults sink.old ≤ K.faults sink.new }
@@ -196,7 +202,7 @@ impl<D: Disk> Session<D> {
         ensures is_open { OnOk result (IsOpen self.new.clerk.desk) }
         ensures later { D.faults (disk_of self.old.clerk.desk) ≤ D.faults (disk_of self.new.clerk.desk) }
         ensures size { D.size (disk_of self.new.clerk.desk) ≡ D.size (disk_of self.old.clerk.desk) }
-        ensures halt { IsTrusted D.told D.content D.may_leave self.old.clerk.desk → IfErr result (λ halt. Stopped D.content D.moment D.left_since D.size self.old.clerk.desk (disk_of self.new.clerk.desk) (HaltsSo halt (state_of D.content self.old.clerk.desk) (handed_deck self.old.deck.items) out.old out.new)) }
+        ensures halt { IsTrusted D.told D.content D.may_leave self.old.clerk.desk → IfErr result (λ halt. Stopped D.content D.moment D.left_since D.size self.old.clerk.desk (disk_of self.new.clerk.desk) (HaltsSo halt (staffed_of D.content self.old.clerk) (handed_deck self.old.deck.items) out.old out.new)) }
         ensures cause { IfErr result (λ halt. HaltCause (IsTrusted D.told D.content D.may_leave self.old.clerk.desk) halt (D.faults (disk_of self.old.clerk.desk)) (D.faults (disk_of self.new.clerk.desk))) }
     {
         end_deck(&mut self.clerk, &mut self.deck, out)

@@ -4,15 +4,16 @@ ghost use Rattle.std.specs.Io.KnownBytes.{Consumes, Keeps, IsAtEnd};
 ghost use Rattle.ckr_outside.specs.Faults.{Rose};
 ghost use Rattle.ckr_desk.specs.Soundness.{IsTrusted};
 ghost use Rattle.ckr_service.specs.Stops.{Goes, Has, KeepsTo};
-ghost use Rattle.ckr_desk.specs.Soundness.{state_of};
 ghost use Rattle.ckr_desk.specs.State.{IsOpen, disk_of};
 ghost use Rattle.ckr_service.specs.Flows.{IsBegun};
-ghost use Rattle.ckr_service.specs.Service.{seen};
+ghost use Rattle.ckr_service.specs.Service.{seen, staffed_by, staffed_of};
 ghost use Rattle.ckr_service.specs.Sessions.{HasWholeCards};
 ghost use Rattle.ckr_service.specs.Feeds.{Serving, FedAll, IsStopped, faults_of};
 
 use crate::flow::Flow;
+use crate::roster::Roster;
 use crate::stop::Stop;
+use ckr_console::Operator;
 use ckr_desk::Desk;
 use ckr_outside::{Disk, Failed, PIECE_BYTES, STREAM_LIMIT, Sink, Source, take_piece};
 use std::alloc::Global;
@@ -35,8 +36,8 @@ fn next_piece<S: Source>(source: &mut S, buffer: &mut [u8], count: usize) -> Res
 }
 
 /// Takes all of the stream and serves it, up to a last line without an end.
-fn feed_all<S: Source, K: Sink, D: Disk>(
-    flow: &mut Flow<D>,
+fn feed_all<S: Source, K: Sink, D: Disk, O: Operator>(
+    flow: &mut Flow<D, O>,
     source: &mut S,
     sink: &mut K,
 ) -> Result<(), Stop>
@@ -49,7 +50,7 @@ fn feed_all<S: Source, K: Sink, D: Disk>(
     ensures few { OnOk result (flow.new.session.number < 2 ^ 25) }
     ensures whole { OnOk result (HasWholeCards flow.new.session) }
     ensures stop { IfErr result (λ stop. IsStopped (IsTrusted D.told D.content D.may_leave flow.old.session.clerk.desk)
-        (KeepsTo D.content D.moment D.left_since D.size flow.old.session.clerk.desk (disk_of flow.new.session.clerk.desk)) (Has D.content D.moment D.left_since D.size flow.old.session.clerk.desk (disk_of flow.new.session.clerk.desk)) (state_of D.content flow.old.session.clerk.desk) stop
+        (KeepsTo D.content D.moment D.left_since D.size flow.old.session.clerk.desk (disk_of flow.new.session.clerk.desk)) (Has D.content D.moment D.left_since D.size flow.old.session.clerk.desk (disk_of flow.new.session.clerk.desk)) (staffed_of D.content flow.old.session.clerk) stop
         (faults_of (S.faults source.old) (S.faults source.new) (K.faults sink.old) (K.faults sink.new) (D.faults (disk_of flow.old.session.clerk.desk)) (D.faults (disk_of flow.new.session.clerk.desk))) (S.left source.old) (S.left source.new) (K.written sink.old) (K.written sink.new)) }
     ensures source_later { S.faults source.old ≤ S.faults source.new }
     ensures sink_later { K.faults sink.old ≤ K.faults sink.new }
@@ -80,22 +81,23 @@ pub struct Served<D: Disk> {
 }
 
 /// Serves the whole stream.
-pub fn serve<S: Source, K: Sink, D: Disk>(
+pub fn serve<S: Source, K: Sink, D: Disk, O: Operator>(
     alloc: Global,
     source: &mut S,
     sink: &mut K,
-    desk: Desk<D>,
+    desk: Desk<D, O>,
+    roster: Roster<O>,
 ) -> Served<D>
     requires is_open { IsOpen desk }
     ensures served { Serving (IsTrusted D.told D.content D.may_leave desk)
-        (KeepsTo D.content D.moment D.left_since D.size desk result.disk) (Has D.content D.moment D.left_since D.size desk result.disk) (state_of D.content desk) result.outcome
+        (KeepsTo D.content D.moment D.left_since D.size desk result.disk) (Has D.content D.moment D.left_since D.size desk result.disk) (staffed_by D.content desk roster) result.outcome
         (faults_of (S.faults source.old) (S.faults source.new) (K.faults sink.old) (K.faults sink.new) (D.faults (disk_of desk)) (D.faults result.disk)) (S.left source.old) (S.left source.new) (K.written sink.old) (K.written sink.new) }
     ensures source_later { S.faults source.old ≤ S.faults source.new }
     ensures sink_later { K.faults sink.old ≤ K.faults sink.new }
     ensures disk_later { D.faults (disk_of desk) ≤ D.faults result.disk }
     ensures size { D.size result.disk ≡ D.size (disk_of desk) }
 {
-    let mut flow = Flow::new(alloc, desk);
+    let mut flow = Flow::new(alloc, desk, roster);
     let outcome = serve_on(&mut flow, source, sink);
     let Flow { session, .. } = flow;
     Served {
@@ -105,15 +107,15 @@ pub fn serve<S: Source, K: Sink, D: Disk>(
 }
 
 /// Serves the whole stream by a flow that nothing has come to.
-fn serve_on<S: Source, K: Sink, D: Disk>(
-    flow: &mut Flow<D>,
+fn serve_on<S: Source, K: Sink, D: Disk, O: Operator>(
+    flow: &mut Flow<D, O>,
     source: &mut S,
     sink: &mut K,
 ) -> Result<bool, Stop>
     requires begun { IsBegun flow.old }
     requires is_open { IsOpen flow.old.session.clerk.desk }
     ensures served { Serving (IsTrusted D.told D.content D.may_leave flow.old.session.clerk.desk)
-        (KeepsTo D.content D.moment D.left_since D.size flow.old.session.clerk.desk (disk_of flow.new.session.clerk.desk)) (Has D.content D.moment D.left_since D.size flow.old.session.clerk.desk (disk_of flow.new.session.clerk.desk)) (state_of D.content flow.old.session.clerk.desk) result
+        (KeepsTo D.content D.moment D.left_since D.size flow.old.session.clerk.desk (disk_of flow.new.session.clerk.desk)) (Has D.content D.moment D.left_since D.size flow.old.session.clerk.desk (disk_of flow.new.session.clerk.desk)) (staffed_of D.content flow.old.session.clerk) result
         (faults_of (S.faults source.old) (S.faults source.new) (K.faults sink.old) (K.faults sink.new) (D.faults (disk_of flow.old.session.clerk.desk)) (D.faults (disk_of flow.new.session.clerk.desk))) (S.left source.old) (S.left source.new) (K.written sink.old) (K.written sink.new) }
     ensures source_later { S.faults source.old ≤ S.faults source.new }
     ensures sink_later { K.faults sink.old ≤ K.faults sink.new }

@@ -56,6 +56,13 @@ impl Text {
     pub fn number(&mut self, number: u32) -> Result<(), NoMemory>
         ensures { OnOk result (self.new ≡ self.old ++ decimal number) }
     {
+        self.long_number(u64::from(number))
+    }
+
+    /// The same of one of 64 bits.
+    pub fn long_number(&mut self, number: u64) -> Result<(), NoMemory>
+        ensures { OnOk result (self.new ≡ self.old ++ decimal number) }
+    {
         let digits = number.to_string(self.alloc)?;
         self.push(digits.as_bytes())
     }

@@ -1,6 +1,7 @@
 //! The top call.
-ghost use Rattle.std.specs.Prelude.{◌≡◌, ◌≤◌, ◌↔◌, ◌++◌, Ok, map, string_bytes};
+ghost use Rattle.std.specs.Prelude.{◌≡◌, ◌≤◌, ◌++◌, List, None, Some, map, string_bytes};
 ghost use Rattle.std.specs.Io.KnownBytes.{Keeps};
+ghost use Rattle.ckr_console.specs.declared.scripts.Script.{Script};
 ghost use Rattle.ckr_desk.specs.FirstSync.{FromSync, IsLeft};
 ghost use Rattle.ckr_desk.specs.Model.OpenImages.{event_records};
 ghost use Rattle.ckr_desk.specs.Soundness.{AllSound, HasKept, Sound, desk_opening};
@@ -10,9 +11,11 @@ ghost use Rattle.ckr_service.specs.Feeds.{faults_of};
 ghost use Rattle.ckr_service.specs.Words.{command_of};
 ghost use Rattle.ckr_service.specs.CallEnds.{HasFormatted, HasRun, serving_status, opening_status, formatting_status};
 
+use crate::roster::Roster;
 use crate::stop::Stop;
 use crate::stream::{Served, serve};
-use crate::words::{Command, WordsError, read_words};
+use crate::words::{Command, Kind, kind_of_words};
+use ckr_console::Operator;
 use ckr_desk::{Desk, OpenError, Opening};
 use ckr_desk_format::{FormatOutcome, format_disk};
 use ckr_outside::{Disk, Sink, Source};
@@ -56,14 +59,15 @@ fn opening_status(error: OpenError) -> u8
     }
 }
 
-/// Serves the stream on the disk.
-fn run<S: Source, K: Sink, D: Disk>(
+/// Serves the stream on the disk. The first of the operators is in office at the opening.
+fn run<S: Source, K: Sink, D: Disk, O: Operator>(
     alloc: Global,
     source: &mut S,
     sink: &mut K,
     disk: D,
+    operators: Vec<O>,
 ) -> Closed<D>
-    ensures run { HasRun D.told (AllSound D.told D.may_leave D.size disk) (desk_opening (D.content disk) (D.size disk))
+    ensures run { HasRun D.told (AllSound D.told D.may_leave D.size disk) (desk_opening (D.content disk) (D.size disk)) (map O.answering operators.items)
         (λ error. IsLeft D.content D.may_leave D.moment D.left_since D.size D.told (AllSound D.told D.may_leave D.size disk) error disk result.disk)
         (λ layout came. FromSync D.content D.may_leave D.moment D.left_since disk result.disk (HasKept layout (D.size disk) (event_records layout (D.content disk)) came))
         (λ layout kept. event_records layout (D.content result.disk) ≡ event_records layout (D.content disk) ++ kept)
@@ -76,9 +80,11 @@ fn run<S: Source, K: Sink, D: Disk>(
     ensures safe { AllSound D.told D.may_leave D.size disk → EachSince D.moment D.left_since disk result.disk (Sound (D.size disk)) }
     ensures sound { AllSound D.told D.may_leave D.size disk → AllSound D.told D.may_leave D.size result.disk }
 {
-    match Desk::open_on(alloc, disk) {
+    let mut roster = Roster::new(operators);
+    let operator = roster.next();
+    match Desk::open_on(alloc, disk, operator) {
         Ok(desk) => {
-            let Served { outcome, disk } = serve(alloc, source, sink, desk);
+            let Served { outcome, disk } = serve(alloc, source, sink, desk, roster);
             Closed {
                 status: serving_status(outcome),
                 disk,
@@ -127,7 +133,8 @@ fn format<S: Source, K: Sink, D: Disk>(
     }
 }
 
-/// Does what the words ask for, and answers how that ended:
+/// Does what the words ask for, and answers how that ended. What the desk asks in a run, these operators answer: the first of them is in office
+/// first, and the others take office in their order, as the stream asks for the next one. Where there is none, every question stays unanswered.
 ///
 /// | Status | |
 /// |---|---|
@@ -139,24 +146,27 @@ fn format<S: Source, K: Sink, D: Disk>(
 /// | 7 | there is no memory |
 /// | 8 | the source was read to its end, and a line or a deck was refused |
 /// | 9 | the source gave more bytes than a stream may have |
-pub fn batch_desk<S: Source, K: Sink, D: Disk>(
+pub fn batch_desk<S: Source, K: Sink, D: Disk, O: Operator>(
     alloc: Global,
     words: &[String],
     source: &mut S,
     sink: &mut K,
     disk: D,
+    operators: Vec<O>,
 ) -> Closed<D>
     // The words alone decide on status 1, and nothing is taken, written or done on the disk then.
-    ensures words { command_of (map string_bytes words.now) ≡ Err WordsError.Refused → (result.status ≡ 1) × (result.disk ≡ disk)
+    ensures words { command_of (map string_bytes words.now) ≡ None → (result.status ≡ 1) × (result.disk ≡ disk)
         × Keeps (S.left source.old) (S.left source.new) × Keeps (K.written sink.old) (K.written sink.new) }
-    ensures formatted { command_of (map string_bytes words.now) ≡ Ok Command.Format →
+    ensures formatted { command_of (map string_bytes words.now) ≡ Some Command.Format →
         HasFormatted D.told (D.size disk) (IsFormatted D.told (D.content result.disk) (D.may_leave result.disk) (D.size result.disk))
         (FormatsBy D.told D.content D.may_leave D.moment D.left_since (D.size disk) disk result.disk) (result.disk ≡ disk)
         (AllSound D.told D.may_leave D.size result.disk) result.status
         (faults_of (S.faults source.old) (S.faults source.new) (K.faults sink.old) (K.faults sink.new) (D.faults disk) (D.faults result.disk))
         (S.left source.old) (S.left source.new) (K.written sink.old) (K.written sink.new) }
-    ensures run { command_of (map string_bytes words.now) ≡ Ok Command.Run →
-        HasRun D.told (AllSound D.told D.may_leave D.size disk) (desk_opening (D.content disk) (D.size disk))
+
+    // What is answered to the stream of a run, and so what is written and which events come, rests on the answers of these operators, in their order.
+    ensures run { (scripts : List Script) → command_of (map string_bytes words.now) ≡ Some (Command.Run scripts) →
+        HasRun D.told (AllSound D.told D.may_leave D.size disk) (desk_opening (D.content disk) (D.size disk)) (map O.answering operators.items)
         (λ error. IsLeft D.content D.may_leave D.moment D.left_since D.size D.told (AllSound D.told D.may_leave D.size disk) error disk result.disk)
         (λ layout came. FromSync D.content D.may_leave D.moment D.left_since disk result.disk (HasKept layout (D.size disk) (event_records layout (D.content disk)) came))
         (λ layout kept. event_records layout (D.content result.disk) ≡ event_records layout (D.content disk) ++ kept)
@@ -169,14 +179,14 @@ pub fn batch_desk<S: Source, K: Sink, D: Disk>(
 
     // Of a run: a stop at any moment leaves a sound image; and the disk that is handed back is sound as the one was that was handed in, so
     // that it may be run again, any number of times.
-    ensures safe { command_of (map string_bytes words.now) ≡ Ok Command.Run → AllSound D.told D.may_leave D.size disk →
+    ensures safe { (scripts : List Script) → command_of (map string_bytes words.now) ≡ Some (Command.Run scripts) → AllSound D.told D.may_leave D.size disk →
         EachSince D.moment D.left_since disk result.disk (Sound (D.size disk)) }
-    ensures sound { command_of (map string_bytes words.now) ≡ Ok Command.Run → AllSound D.told D.may_leave D.size disk →
+    ensures sound { (scripts : List Script) → command_of (map string_bytes words.now) ≡ Some (Command.Run scripts) → AllSound D.told D.may_leave D.size disk →
         AllSound D.told D.may_leave D.size result.disk }
 {
-    match read_words(words) {
-        Ok(Command::Run) => run(alloc, source, sink, disk),
-        Ok(Command::Format) => format(alloc, source, sink, disk),
-        Err(WordsError::Refused) => Closed { status: 1, disk },
+    match kind_of_words(words) {
+        Some(Kind::Run) => run(alloc, source, sink, disk, operators),
+        Some(Kind::Format) => format(alloc, source, sink, disk),
+        None => Closed { status: 1, disk },
     }
 }

@@ -2,15 +2,14 @@
 ghost use Rattle.std.specs.Prelude.{◌≡◌, ◌<◌, ◌≤◌, ◌+◌, ◌-◌, ◌^◌, ◌++◌, ◌∷◌, [], OnOk, IfOk, IfErr, Some, None, length, false, true};
 ghost use Rattle.std.specs.List.{flat_map};
 ghost use Rattle.ckr_desk.specs.Model.Plans.{IsAnyCode, IsToldReply};
-ghost use Rattle.ckr_desk.specs.Requests.{spelled};
-ghost use Rattle.ckr_desk.specs.Turn.{behind_turn, event_of_turn, reply_of, turn_fits};
-ghost use Rattle.ckr_desk.specs.Soundness.{IsTrusted, state_of};
+ghost use Rattle.ckr_desk.specs.Soundness.{IsTrusted};
 ghost use Rattle.ckr_desk.specs.State.{IsOpen, disk_of, layout_of};
 ghost use Rattle.ckr_service.specs.Stops.{Goes, Has, Stopped};
 ghost use Rattle.ckr_outside.specs.Faults.{Rose};
-ghost use Rattle.ckr_service.specs.Calls.{Turned, turns, turns_fit, after_turns, is_idle};
+ghost use Rattle.ckr_service.specs.Calls.{Turned, turns, turns_fit, after_turns, is_rest};
 ghost use Rattle.ckr_service.specs.Events.{turns_events};
-ghost use Rattle.ckr_service.specs.Service.{HaltCause};
+ghost use Rattle.ckr_service.specs.Service.{HaltCause, attended_of};
+ghost use Rattle.ckr_service.specs.Staff.{attended_event, attended_fits, attended_reply, behind_attended};
 ghost use Rattle.ckr_service.specs.Lines.{IsTold, telling};
 ghost use Rattle.ckr_service.specs.Texts.{answer_text, run_text, goes_on, is_same_work, is_work, work_in, before_runs, with_waiting, waiting_count};
 ghost use Rattle.ckr_service.specs.Turns.{Adds, IsToldWaiting, TurnHalt, TurnsHaltTelling};
@@ -20,6 +19,7 @@ use crate::report::reply_line;
 use crate::stop::Halt;
 use crate::text::Text;
 use ckr_base::{Name8, NoMemory};
+use ckr_console::Operator;
 use ckr_desk::{Desk, DeskError, Layout, Reply, Turn};
 use ckr_outside::{Disk, Sink};
 
@@ -29,10 +29,14 @@ fn is_work(reply: &Reply) -> bool
     matches!(reply, Reply::Worked { .. })
 }
 
-fn is_idle(reply: &Reply) -> bool
-    ensures { result ≡ is_idle reply.now }
+/// Whether the initiator rests behind a turn.
+fn is_rest(reply: &Reply) -> bool
+    ensures { result ≡ is_rest reply.now }
 {
-    matches!(reply, Reply::Idle)
+    matches!(
+        reply,
+        Reply::Idle | Reply::WaitingUnits { .. } | Reply::AwaitingReply
+    )
 }
 
 /// Whether a reply tells of work of this step of this job.
@@ -67,7 +71,7 @@ fn begin(layout: &Layout, initiator: u8, reply: Reply, out: &mut Text) -> Result
     requires reply { IsToldReply reply }
     ensures adds { IfOk result (λ now. Adds layout.now initiator None reply now out.old out.new) }
     ensures count { IfOk result (λ now. waiting_count now ≤ 1) }
-    ensures idle { IfOk result (λ now. is_idle reply ≡ true → now ≡ None) }
+    ensures rest { IfOk result (λ now. is_rest reply ≡ true → now ≡ None) }
     ensures told { IfOk result (λ now. IsToldWaiting now) }
 {
     if is_work(&reply) {
@@ -90,7 +94,7 @@ fn add(
     requires reply { IsToldReply reply }
     ensures adds { IfOk result (λ now. Adds layout.now initiator waiting reply now out.old out.new) }
     ensures count { IfOk result (λ now. waiting_count now ≤ waiting_count waiting + 1) }
-    ensures idle { IfOk result (λ now. is_idle reply ≡ true → now ≡ None) }
+    ensures rest { IfOk result (λ now. is_rest reply ≡ true → now ≡ None) }
     ensures told { IfOk result (λ now. IsToldWaiting now) }
 {
     let Some((last, times)) = waiting else {
@@ -115,23 +119,23 @@ fn finish(layout: &Layout, initiator: u8, waiting: Waiting, out: &mut Text) -> R
 }
 
 /// One turn of an initiator.
-fn one_turn<D: Disk>(desk: &mut Desk<D>, turn: Turn) -> Result<Reply, Halt>
+fn one_turn<D: Disk, O: Operator>(desk: &mut Desk<D, O>, turn: Turn) -> Result<Reply, Halt>
     requires above { 1 ≤ turn.initiator }
     requires below { turn.initiator ≤ (layout_of desk.old).initiators }
     requires code { IsAnyCode turn.fail }
     requires is_open { IsOpen desk.old }
-    ensures reply { IsTrusted D.told D.content D.may_leave desk.old → IfOk result (λ reply. reply ≡ reply_of (state_of D.content desk.old) turn) }
+    ensures reply { IsTrusted D.told D.content D.may_leave desk.old → IfOk result (λ reply. reply ≡ attended_reply (attended_of D.content desk.old) turn) }
     ensures told { IfOk result (λ reply. IsToldReply reply) }
-    ensures fits { IsTrusted D.told D.content D.may_leave desk.old → OnOk result (turn_fits (state_of D.content desk.old) turn ≡ true) }
-    ensures after { IsTrusted D.told D.content D.may_leave desk.old → OnOk result (state_of D.content desk.new ≡ behind_turn (state_of D.content desk.old) turn) }
+    ensures fits { IsTrusted D.told D.content D.may_leave desk.old → OnOk result (attended_fits (attended_of D.content desk.old) turn ≡ true) }
+    ensures after { IsTrusted D.told D.content D.may_leave desk.old → OnOk result (attended_of D.content desk.new ≡ behind_attended (attended_of D.content desk.old) turn) }
     ensures is_open { OnOk result (IsOpen desk.new) }
     ensures layout { layout_of desk.new ≡ layout_of desk.old }
-    ensures events { IsTrusted D.told D.content D.may_leave desk.old → OnOk result (Has D.content D.moment D.left_since D.size desk.old (disk_of desk.new) (spelled (event_of_turn (state_of D.content desk.old) turn))) }
+    ensures events { IsTrusted D.told D.content D.may_leave desk.old → OnOk result (Has D.content D.moment D.left_since D.size desk.old (disk_of desk.new) (attended_event (attended_of D.content desk.old) turn)) }
     ensures trusted { OnOk result (IsTrusted D.told D.content D.may_leave desk.old → IsTrusted D.told D.content D.may_leave desk.new) }
     ensures goes { IsTrusted D.told D.content D.may_leave desk.old → OnOk result (Goes D.content D.moment D.left_since D.size desk.old desk.new) }
     ensures later { D.faults (disk_of desk.old) ≤ D.faults (disk_of desk.new) }
     ensures size { D.size (disk_of desk.new) ≡ D.size (disk_of desk.old) }
-    ensures halt { IsTrusted D.told D.content D.may_leave desk.old → IfErr result (λ halt. Stopped D.content D.moment D.left_since D.size desk.old (disk_of desk.new) (TurnHalt halt turn (state_of D.content desk.old))) }
+    ensures halt { IsTrusted D.told D.content D.may_leave desk.old → IfErr result (λ halt. Stopped D.content D.moment D.left_since D.size desk.old (disk_of desk.new) (TurnHalt halt turn (attended_of D.content desk.old))) }
     ensures cause { IfErr result (λ halt. HaltCause (IsTrusted D.told D.content D.may_leave desk.old) halt (D.faults (disk_of desk.old)) (D.faults (disk_of desk.new))) }
 {
     match desk.turn(turn) {
@@ -143,10 +147,10 @@ fn one_turn<D: Disk>(desk: &mut Desk<D>, turn: Turn) -> Result<Reply, Halt>
     }
 }
 
-/// At most so many such turns of an initiator, up to the first Idle, and their lines, which go out before the next turn. Work that isn't known to
+/// At most so many such turns of an initiator, up to the first behind which it rests, and their lines, which go out before the next turn. Work that isn't known to
 /// have ended isn't told where a turn isn't made.
-pub fn turned<K: Sink, D: Disk>(
-    desk: &mut Desk<D>,
+pub fn turned<K: Sink, D: Disk, O: Operator>(
+    desk: &mut Desk<D, O>,
     turn: Turn,
     count: u32,
     lines: &mut Lines,
@@ -158,20 +162,20 @@ pub fn turned<K: Sink, D: Disk>(
     requires code { IsAnyCode turn.fail }
     requires is_open { IsOpen desk.old }
     requires fresh { lines.old.failed ≡ false }
-    ensures fits { IsTrusted D.told D.content D.may_leave desk.old → OnOk result (turns_fit turn count (state_of D.content desk.old) ≡ true) }
+    ensures fits { IsTrusted D.told D.content D.may_leave desk.old → OnOk result (turns_fit turn count (attended_of D.content desk.old) ≡ true) }
     ensures text { IsTrusted D.told D.content D.may_leave desk.old → OnOk result (IsTold (telling lines.old (K.written sink.old) (K.faults sink.old))
-        (lines.old.text ++ answer_text (Turned (layout_of desk.old) turn.initiator (turns turn count (state_of D.content desk.old)))) (telling lines.new (K.written sink.new) (K.faults sink.new))) }
-    ensures after { IsTrusted D.told D.content D.may_leave desk.old → OnOk result (state_of D.content desk.new ≡ after_turns turn count (state_of D.content desk.old)) }
+        (lines.old.text ++ answer_text (Turned (layout_of desk.old) turn.initiator (turns turn count (attended_of D.content desk.old)))) (telling lines.new (K.written sink.new) (K.faults sink.new))) }
+    ensures after { IsTrusted D.told D.content D.may_leave desk.old → OnOk result (attended_of D.content desk.new ≡ after_turns turn count (attended_of D.content desk.old)) }
     ensures is_open { OnOk result (IsOpen desk.new) }
     ensures layout { OnOk result (layout_of desk.new ≡ layout_of desk.old) }
     ensures events { IsTrusted D.told D.content D.may_leave desk.old → OnOk result (Has D.content D.moment D.left_since D.size desk.old (disk_of desk.new)
-        (turns_events turn (length (turns turn count (state_of D.content desk.old))) (state_of D.content desk.old))) }
+        (turns_events turn (length (turns turn count (attended_of D.content desk.old))) (attended_of D.content desk.old))) }
     ensures trusted { OnOk result (IsTrusted D.told D.content D.may_leave desk.old → IsTrusted D.told D.content D.may_leave desk.new) }
     ensures goes { IsTrusted D.told D.content D.may_leave desk.old → OnOk result (Goes D.content D.moment D.left_since D.size desk.old desk.new) }
     ensures later { D.faults (disk_of desk.old) ≤ D.faults (disk_of desk.new) }
     ensures size { D.size (disk_of desk.new) ≡ D.size (disk_of desk.old) }
     ensures halt { IsTrusted D.told D.content D.may_leave desk.old → IfErr result (λ halt. Stopped D.content D.moment D.left_since D.size desk.old (disk_of desk.new)
-        (TurnsHaltTelling (layout_of desk.old) turn halt count (state_of D.content desk.old) (telling lines.old (K.written sink.old) (K.faults sink.old)) (telling lines.new (K.written sink.new) (K.faults sink.new)))) }
+        (TurnsHaltTelling (layout_of desk.old) turn halt count (attended_of D.content desk.old) (telling lines.old (K.written sink.old) (K.faults sink.old)) (telling lines.new (K.written sink.new) (K.faults sink.new)))) }
     ensures cause { IfErr result (λ halt. HaltCause (IsTrusted D.told D.content D.may_leave desk.old) halt (D.faults (disk_of desk.old)) (D.faults (disk_of desk.new))) }
     ensures sink_later { K.faults sink.old ≤ K.faults sink.new }
     ensures failed { lines.new.failed ≡ true → Rose (K.faults sink.old) (K.faults sink.new) }
@@ -181,7 +185,7 @@ pub fn turned<K: Sink, D: Disk>(
     for _ in 0..count {
         lines.write(sink);
         let reply = one_turn(desk, turn)?;
-        let idle = is_idle(&reply);
+        let rests = is_rest(&reply);
         waiting = add(
             desk.layout(),
             turn.initiator,
@@ -189,7 +193,7 @@ pub fn turned<K: Sink, D: Disk>(
             reply,
             &mut lines.text,
         )?;
-        if idle {
+        if rests {
             return Ok(());
         }
     }

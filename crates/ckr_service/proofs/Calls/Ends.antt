@@ -2,6 +2,7 @@
 use Rattle.std.proofs.Common.{◌≡◌, ◌≤◌, ℕ, Bool, List, [], Option, None, Some, Result, Ok, Err, refl, ap, subst, arith}
 use Rattle.std.specs.Prelude.{IsOkAnd}
 use Rattle.std.specs.Io.KnownBytes.{Keeps}
+use Rattle.ckr_console.specs.Answering.{Answering}
 use Rattle.ckr_outside.specs.Faults.{Rose}
 use Rattle.ckr_desk.specs.Model.Layout.{Layout}
 use Rattle.ckr_desk_format.specs.declared.command.FormatOutcome.{FormatOutcome}
@@ -14,6 +15,7 @@ use Rattle.ckr_desk.specs.Soundness.{AllSound, desk_of_opened, desk_opening}
 use Rattle.ckr_desk.specs.State.{Opened, RoomyDesk}
 use Rattle.ckr_service.specs.declared.stop.Stop.{Stop}
 use Rattle.ckr_service.specs.Feeds.{Faults, Serving, faults_of}
+use Rattle.ckr_service.specs.Staff.{StaffedDesk, staffed_with}
 use Rattle.ckr_service.specs.CallEnds.{Ended, NotOpened, HasRun, TakesAtMost, HasFormatted, opening_status, serving_status, formatting_status}
 use Rattle.ckr_service.proofs.Streams.Feeds.{Consumes-nil}
 use Rattle.ckr_desk.proofs.Openings.FreshDisks.{fresh_image}
@@ -24,7 +26,7 @@ Keeps-refl (Some xs) = refl
 
 -- ---- a stream
 
-takes_served : (trusted : Type 0) (each has : List (List ℕ) → Type 0) (state : RoomyDesk) (outcome : Result Bool Stop) (faults : Faults) (source rest old new : Option (List ℕ))
+takes_served : (trusted : Type 0) (each has : List (List ℕ) → Type 0) (state : StaffedDesk) (outcome : Result Bool Stop) (faults : Faults) (source rest old new : Option (List ℕ))
     → Serving trusted each has state outcome faults source rest old new → TakesAtMost 16_777_217 source rest
 takes_served trusted each has state (Ok refused) faults source rest old new s = record { taken = s.all; given = s.given; few = omega (arith, s.few) }
 takes_served trusted each has state (Err stop) faults source rest old new s = record { taken = s.taken; given = s.given; few = s.few }
@@ -37,22 +39,22 @@ opens_told : (image : List ℕ) (size : ℕ) (opened : Opened) → opening_of im
 unfolding desk_opening
 opens_told image size opened is = (_, ap (desk_of_opened image) is)
 
-pub run_ended : (told trusted : Type 0) (image : List ℕ) (size : ℕ) (opened : Opened) (state : RoomyDesk) (leaves : OpenError → Type 0) (each has : Layout → List (List ℕ) → Type 0) (outcome : Result Bool Stop)
+pub run_ended : (told trusted : Type 0) (image : List ℕ) (size : ℕ) (opened : Opened) (state : RoomyDesk) (operators : List Answering) (leaves : OpenError → Type 0) (each has : Layout → List (List ℕ) → Type 0) (outcome : Result Bool Stop)
     (status : ℕ) (faults : Faults) (source rest old new : Option (List ℕ))
     → (told → opening_of image size ≡ Ok opened) → (trusted → desk_opening image size ≡ Ok state) → status ≡ serving_status outcome
-    → Serving trusted (each state.desk.layout) (has state.desk.layout) state outcome faults source rest old new
-    → HasRun told trusted (desk_opening image size) leaves each has status faults source rest old new
-run_ended told trusted image size opened state leaves each has outcome status faults source rest old new reads opens is s = record {
+    → Serving trusted (each state.desk.layout) (has state.desk.layout) (staffed_with operators state) outcome faults source rest old new
+    → HasRun told trusted (desk_opening image size) operators leaves each has status faults source rest old new
+run_ended told trusted image size opened state operators leaves each has outcome status faults source rest old new reads opens is s = record {
   end = Ended outcome;
   is = is;
-  takes = takes_served trusted (each state.desk.layout) (has state.desk.layout) state outcome faults source rest old new s;
+  takes = takes_served trusted (each state.desk.layout) (has state.desk.layout) (staffed_with operators state) outcome faults source rest old new s;
   so = record { state = state; opens = λ tells. opens_told image size opened (reads tells); opened = opens; serving = s };
 }
 
-pub run_not_opened : (told trusted : Type 0) (opening : Result RoomyDesk OpenError) (leaves : OpenError → Type 0) (each has : Layout → List (List ℕ) → Type 0) (error : OpenError) (status a c before now : ℕ)
+pub run_not_opened : (told trusted : Type 0) (opening : Result RoomyDesk OpenError) (operators : List Answering) (leaves : OpenError → Type 0) (each has : Layout → List (List ℕ) → Type 0) (error : OpenError) (status a c before now : ℕ)
     (source old : Option (List ℕ))
-    → status ≡ opening_status error → OpenCause (Rose before now) told opening error → leaves error → HasRun told trusted opening leaves each has status (faults_of a a c c before now) source source old old
-run_not_opened told trusted opening leaves each has error status a c before now source old is cause left = record {
+    → status ≡ opening_status error → OpenCause (Rose before now) told opening error → leaves error → HasRun told trusted opening operators leaves each has status (faults_of a a c c before now) source source old old
+run_not_opened told trusted opening operators leaves each has error status a c before now source old is cause left = record {
   end = NotOpened error;
   is = is;
   takes = takes_none source;

@@ -3,7 +3,7 @@ use Rattle.std.proofs.Common.{◌≡◌, ◌≤◌, ℕ, List, [], ◌++◌, Opt
 use Rattle.std.specs.Io.KnownBytes.{Appends}
 use Rattle.ckr_outside.specs.Front.{AppendsFront}
 use Rattle.ckr_cards.specs.Session.{Handed}
-use Rattle.ckr_desk.specs.State.{RoomyDesk}
+use Rattle.ckr_service.specs.Staff.{StaffedDesk}
 use Rattle.ckr_service.specs.declared.stop.Halt.{Halt}
 use Rattle.ckr_service.specs.declared.stop.Stop.{Stop}
 use Rattle.ckr_service.specs.declared.stop.Stop.TheVariants as Stops
@@ -33,7 +33,7 @@ unwritten a b xs from to stop now new s none later is front =
     })
 
 -- the serving stopped, and what was answered before is written
-pub halted : (halt : Halt) (stop : Stop) (now : ℕ) (s : RoomyDesk) (xs : List Handed) (from to : Telling) (new : Option (List ℕ)) (came kept : List (List ℕ)) → from.waits ≡ [] → HaltsTelling halt s xs from to came kept
+pub halted : (halt : Halt) (stop : Stop) (now : ℕ) (s : StaffedDesk) (xs : List Handed) (from to : Telling) (new : Option (List ℕ)) (came kept : List (List ℕ)) → from.waits ≡ [] → HaltsTelling halt s xs from to came kept
     → stop ≡ stop_of halt → ((whole told : List ℕ) → EndsTold halt from whole told to → RestWritten halt from.faults now from.written new whole told) → StopsWithin stop from.faults now s xs from.written new came kept
 halted halt stop now s xs from to new came kept none so is rest =
     rest_written halt stop from.faults now s xs so.told from.written new came kept (subst (λ (l : List ℕ). HaltsSo halt s xs l so.told came kept) none so.so) is

@@ -1,10 +1,12 @@
 -- How a call ends.
 use Rattle.std.proofs.Common.{◌≡◌, ◌≤◌, ℕ, Bool, List, [], ◌++◌, Option, Result, Ok, Err, unwrap_or, sym, subst}
-use Rattle.ckr_desk.specs.Soundness.{IsTrusted, state_of}
-use Rattle.ckr_desk.specs.State.{DeskView, RoomyDesk, disk_of}
+use Rattle.ckr_desk.specs.Soundness.{IsTrusted}
+use Rattle.ckr_desk.specs.State.{DeskView, disk_of}
 use Rattle.ckr_service.specs.declared.stop.Stop.{Stop}
 use Rattle.ckr_service.specs.declared.stop.Stop.TheVariants as Stops
 use Rattle.ckr_service.specs.Feeds.{Faults, StopCause, StopsAt, Serving, faults_of}
+use Rattle.ckr_service.specs.Service.{staffed_by}
+use Rattle.ckr_service.specs.Staff.{RosterView, StaffedDesk}
 use Rattle.ckr_service.specs.Stops.{Has, KeepsTo}
 use Rattle.ckr_service.proofs.Service.Halts.{rose_earlier}
 
@@ -18,14 +20,14 @@ cause_counted trusted trusted' Stops.Memory a b c d before between now taken lat
 cause_counted trusted trusted' Stops.Book a b c d before between now taken later holds cause = tt
 cause_counted trusted trusted' Stops.Disk a b c d before between now taken later holds cause = rose_earlier before between now later cause
 
-stops_counted : (stop : Stop) (a b c d before between now : ℕ) (state : RoomyDesk) (taken all : List ℕ) (old new : Option (List ℕ)) (came kept : List (List ℕ))
+stops_counted : (stop : Stop) (a b c d before between now : ℕ) (state : StaffedDesk) (taken all : List ℕ) (old new : Option (List ℕ)) (came kept : List (List ℕ))
     → StopsAt stop (faults_of a b c d between now) state taken all old new came kept → StopsAt stop (faults_of a b c d before now) state taken all old new came kept
 stops_counted Stops.Source a b c d before between now state taken all old new came kept so = so
 stops_counted _ a b c d before between now state taken all old new came kept so = so
 
 module _ (trusted trusted' : Type 0) (each has each' has' : List (List ℕ) → Type 0) (holds : trusted' → trusted) (each_so : trusted' → (came : List (List ℕ)) → each came → each' came) (has_so : trusted' → (kept : List (List ℕ)) → has kept → has' kept) where
   -- the same of a disk that was opened before
-  pub serving_from : (state : RoomyDesk) (outcome : Result Bool Stop) (a b c d before between now : ℕ) (left rest old new : Option (List ℕ)) → before ≤ between
+  serving_from : (state : StaffedDesk) (outcome : Result Bool Stop) (a b c d before between now : ℕ) (left rest old new : Option (List ℕ)) → before ≤ between
       → Serving trusted each has state outcome (faults_of a b c d between now) left rest old new → Serving trusted' each' has' state outcome (faults_of a b c d before now) left rest old new
   serving_from state (Ok refused) a b c d before between now left rest old new later s = record {
     all = s.all;
@@ -51,22 +53,31 @@ module _ (trusted trusted' : Type 0) (each has each' has' : List (List ℕ) → 
         });
   }
 
+  -- in other words for the desk that it began with
+  pub serving_so : (state state' : StaffedDesk) (outcome : Result Bool Stop) (a b c d before between now : ℕ) (left rest old new : Option (List ℕ)) → before ≤ between → state ≡ state'
+      → Serving trusted each has state outcome (faults_of a b c d between now) left rest old new → Serving trusted' each' has' state' outcome (faults_of a b c d before now) left rest old new
+  serving_so state state' outcome a b c d before between now left rest old new later same s =
+      serving_from state' outcome a b c d before between now left rest old new later
+      (subst (λ (w : StaffedDesk). Serving trusted each has w outcome (faults_of a b c d between now) left rest old new) same s)
+
 -- which events came
-pub some_came : (trusted : Type 0) (each has : List (List ℕ) → Type 0) (state : RoomyDesk) (outcome : Result Bool Stop) (faults : Faults) (left rest old new : Option (List ℕ))
+pub some_came : (trusted : Type 0) (each has : List (List ℕ) → Type 0) (state : StaffedDesk) (outcome : Result Bool Stop) (faults : Faults) (left rest old new : Option (List ℕ))
     → Serving trusted each has state outcome faults left rest old new → trusted → (came : List (List ℕ)) × each came
 some_came trusted each has state (Ok refused) faults left rest old new s holds = (_, (s.came holds).0)
 some_came trusted each has state (Err stop) faults left rest old new s holds = ((s.stops holds).came, (s.stops holds).each)
 
--- the same of the desk that was handed in, and of the disk that is handed back
-pub serving_by : {D : Type 0} (told : Type 0) (content : D → List ℕ) (may_leave : D → List ℕ → Type 0) (moment : D → ℕ) (left_since : D → ℕ → List ℕ → Type 0) (size faults : D → ℕ) (inside desk : DeskView D) (end disk : D)
+-- the same of the desk and the roster that were handed in, and of the disk that is handed back
+pub serving_by : {D : Type 0} (told : Type 0) (content : D → List ℕ) (may_leave : D → List ℕ → Type 0) (moment : D → ℕ) (left_since : D → ℕ → List ℕ → Type 0) (size faults : D → ℕ) (inside desk : DeskView D) (within roster : RosterView) (end disk : D)
     (outcome : Result Bool Stop) (a b c d : ℕ) (left rest old new : Option (List ℕ))
-    → inside ≡ desk → disk ≡ end
-    → Serving (IsTrusted told content may_leave inside) (KeepsTo content moment left_since size inside end) (Has content moment left_since size inside end) (state_of content inside) outcome
+    → inside ≡ desk → within ≡ roster → disk ≡ end
+    → Serving (IsTrusted told content may_leave inside) (KeepsTo content moment left_since size inside end) (Has content moment left_since size inside end) (staffed_by content inside within) outcome
     (faults_of a b c d (faults (disk_of inside)) (faults end)) left rest old new
-    → Serving (IsTrusted told content may_leave desk) (KeepsTo content moment left_since size desk disk) (Has content moment left_since size desk disk) (state_of content desk) outcome
+    → Serving (IsTrusted told content may_leave desk) (KeepsTo content moment left_since size desk disk) (Has content moment left_since size desk disk) (staffed_by content desk roster) outcome
     (faults_of a b c d (faults (disk_of desk)) (faults disk)) left rest old new
-serving_by {D = D} told content may_leave moment left_since size faults inside desk end disk outcome a b c d left rest old new is back s =
-    subst (λ (w : DeskView D). Serving (IsTrusted told content may_leave w) (KeepsTo content moment left_since size w disk) (Has content moment left_since size w disk) (state_of content w) outcome
+serving_by {D = D} told content may_leave moment left_since size faults inside desk within roster end disk outcome a b c d left rest old new is same back s =
+    subst (λ (w : RosterView). Serving (IsTrusted told content may_leave desk) (KeepsTo content moment left_since size desk disk) (Has content moment left_since size desk disk) (staffed_by content desk w) outcome
+    (faults_of a b c d (faults (disk_of desk)) (faults disk)) left rest old new) same
+    (subst (λ (w : DeskView D). Serving (IsTrusted told content may_leave w) (KeepsTo content moment left_since size w disk) (Has content moment left_since size w disk) (staffed_by content w within) outcome
     (faults_of a b c d (faults (disk_of w)) (faults disk)) left rest old new) is
-    (subst (λ (w : D). Serving (IsTrusted told content may_leave inside) (KeepsTo content moment left_since size inside w) (Has content moment left_since size inside w) (state_of content inside) outcome
-    (faults_of a b c d (faults (disk_of inside)) (faults w)) left rest old new) (sym back) s)
+    (subst (λ (w : D). Serving (IsTrusted told content may_leave inside) (KeepsTo content moment left_since size inside w) (Has content moment left_since size inside w) (staffed_by content inside within) outcome
+    (faults_of a b c d (faults (disk_of inside)) (faults w)) left rest old new) (sym back) s))

@@ -5,16 +5,14 @@ use Rattle.ckr_base.proofs.Bools.{and-first, and-second}
 use Rattle.ckr_cards.specs.Session.{Handed}
 use Rattle.ckr_desk.specs.Model.Reply.{Reply}
 use Rattle.ckr_desk.specs.Model.Turn.{Turn}
-use Rattle.ckr_desk.specs.Requests.{spelled}
-use Rattle.ckr_desk.specs.State.{RoomyDesk}
-use Rattle.ckr_desk.specs.Turn.{behind_turn, event_of_turn}
 use Rattle.ckr_service.specs.Calls.{after, fits, after_all, all_fit, turns}
 use Rattle.ckr_service.specs.Events.{behind_turns, turn_event, turns_events, request_events, events_told}
 use Rattle.ckr_service.specs.Service.{ComesTo}
+use Rattle.ckr_service.specs.Staff.{AttendedDesk, StaffedDesk, attended_event, behind_attended}
 
 -- ---- requests
 
-pub events_told-append : (s : RoomyDesk) (xs ys : List Handed) → all_fit s xs ≡ true → events_told s (xs ++ ys) ≡ events_told s xs ++ events_told (after_all s xs) ys
+pub events_told-append : (s : StaffedDesk) (xs ys : List Handed) → all_fit s xs ≡ true → events_told s (xs ++ ys) ≡ events_told s xs ++ events_told (after_all s xs) ys
 events_told-append s [] ys e = refl
 events_told-append s (x ∷ xs) ys e =
     let first : fits s x ≡ true = and-first (fits s x) (all_fit (after s x) xs) e in
@@ -25,7 +23,7 @@ events_told-append s (x ∷ xs) ys e =
     ∙ sym (ap (λ b. (request_events s x ++ cond b (events_told (after s x) xs) []) ++ events_told (after_all (after s x) xs) ys) first)
 
 -- nothing comes behind a request that the book has no room for
-pub events_told-full : (s : RoomyDesk) (xs ys : List Handed) → all_fit s xs ≡ false → events_told s (xs ++ ys) ≡ events_told s xs
+pub events_told-full : (s : StaffedDesk) (xs ys : List Handed) → all_fit s xs ≡ false → events_told s (xs ++ ys) ≡ events_told s xs
 events_told-full s [] ys e = absurd (false≢true (sym e))
 events_told-full s (x ∷ xs) ys e = by_first (λ rest. events_told-full (after s x) xs ys rest) (fits s x) refl
   where
@@ -39,14 +37,14 @@ events_told-full s (x ∷ xs) ys e = by_first (λ rest. events_told-full (after 
         ∙ sym (ap (λ b. request_events s x ++ cond b (events_told (after s x) xs) []) first)
 
 -- those of the first requests come first
-pub events_told-front : (s : RoomyDesk) (xs ys : List Handed) → (more : List (List ℕ)) × (events_told s (xs ++ ys) ≡ events_told s xs ++ more)
+pub events_told-front : (s : StaffedDesk) (xs ys : List Handed) → (more : List (List ℕ)) × (events_told s (xs ++ ys) ≡ events_told s xs ++ more)
 events_told-front s xs ys = by_rest (all_fit s xs) refl
   where
     by_rest : (b : Bool) → all_fit s xs ≡ b → (more : List (List ℕ)) × (events_told s (xs ++ ys) ≡ events_told s xs ++ more)
     by_rest true fit = (events_told (after_all s xs) ys, events_told-append s xs ys fit)
     by_rest false full = ([], events_told-full s xs ys full ∙ sym (append-nil (events_told s xs)))
 
-pub events_told-one : (s : RoomyDesk) (request : Handed) → events_told s (request ∷ []) ≡ request_events s request
+pub events_told-one : (s : StaffedDesk) (request : Handed) → events_told s (request ∷ []) ≡ request_events s request
 events_told-one s request = by (fits s request)
   where
     by : (b : Bool) → request_events s request ++ cond b [] [] ≡ request_events s request
@@ -58,7 +56,7 @@ events_told-one s request = by (fits s request)
 pub comes_all : (events more : List (List ℕ)) (done : List (List ℕ)) → events ≡ done ++ more → ComesTo events done done
 comes_all events more done front = record { done = done; more = more; front = front; next = []; few = omega arith; came_is = sym (append-nil done); kept_is = inl refl }
 
-pub comes_behind : (s s' : RoomyDesk) (xs ys : List Handed) (came kept : List (List ℕ)) → all_fit s xs ≡ true → s' ≡ after_all s xs → ComesTo (events_told s' ys) came kept
+pub comes_behind : (s s' : StaffedDesk) (xs ys : List Handed) (came kept : List (List ℕ)) → all_fit s xs ≡ true → s' ≡ after_all s xs → ComesTo (events_told s' ys) came kept
     → ComesTo (events_told s (xs ++ ys)) (events_told s xs ++ came) (events_told s xs ++ kept)
 comes_behind s s' xs ys came kept fit is c = record {
   done = events_told s xs ++ c.done;
@@ -73,7 +71,7 @@ comes_behind s s' xs ys came kept fit is c = record {
   kept_is = ⊎_elim (λ same. inl (ap (λ l. events_told s xs ++ l) same)) (λ less. inr (ap (λ l. events_told s xs ++ l) less)) c.kept_is;
 }
 
-pub comes_before : (s : RoomyDesk) (xs ys : List Handed) (came kept : List (List ℕ)) → ComesTo (events_told s xs) came kept → ComesTo (events_told s (xs ++ ys)) came kept
+pub comes_before : (s : StaffedDesk) (xs ys : List Handed) (came kept : List (List ℕ)) → ComesTo (events_told s xs) came kept → ComesTo (events_told s (xs ++ ys)) came kept
 comes_before s xs ys came kept c =
     let more = events_told-front s xs ys in
     record {
@@ -90,27 +88,27 @@ comes_before s xs ys came kept c =
 
 module _ (turn : Turn) where
   -- one turn more
-  pub behind_turns-more : (n : ℕ) (s : RoomyDesk) → behind_turns turn (suc n) s ≡ behind_turn (behind_turns turn n s) turn
+  pub behind_turns-more : (n : ℕ) (s : AttendedDesk) → behind_turns turn (suc n) s ≡ behind_attended (behind_turns turn n s) turn
   behind_turns-more zero s = refl
-  behind_turns-more (suc n) s = behind_turns-more n (behind_turn s turn)
+  behind_turns-more (suc n) s = behind_turns-more n (behind_attended s turn)
 
-  pub turns_events-more : (n : ℕ) (s : RoomyDesk) → turns_events turn (suc n) s ≡ turns_events turn n s ++ turn_event turn n s
+  pub turns_events-more : (n : ℕ) (s : AttendedDesk) → turns_events turn (suc n) s ≡ turns_events turn n s ++ turn_event turn n s
   turns_events-more zero s = append-nil (turn_event turn zero s)
   turns_events-more (suc n) s =
-      let first = spelled (event_of_turn s turn) in
-      let behind = behind_turn s turn in
+      let first = attended_event s turn in
+      let behind = behind_attended s turn in
       ap (λ l. first ++ l) (turns_events-more n behind) ∙ sym (append_assoc first (turns_events turn n behind) (turn_event turn n behind))
 
-  turns_events-split : (made rest : List Reply) (s : RoomyDesk) → turns_events turn (length (made ++ rest)) s ≡ turns_events turn (length made) s ++ turns_events turn (length rest) (behind_turns turn (length made) s)
+  turns_events-split : (made rest : List Reply) (s : AttendedDesk) → turns_events turn (length (made ++ rest)) s ≡ turns_events turn (length made) s ++ turns_events turn (length rest) (behind_turns turn (length made) s)
   turns_events-split [] rest s = refl
   turns_events-split (reply ∷ made) rest s =
-      let first = spelled (event_of_turn s turn) in
-      let behind = behind_turn s turn in
+      let first = attended_event s turn in
+      let behind = behind_attended s turn in
       ap (λ l. first ++ l) (turns_events-split made rest behind)
       ∙ sym (append_assoc first (turns_events turn (length made) behind) (turns_events turn (length rest) (behind_turns turn (length made) behind)))
 
   -- those of the first turns come first
-  pub turns_events-front : (n : ℕ) (s : RoomyDesk) (made rest : List Reply) → turns turn n s ≡ made ++ rest
+  pub turns_events-front : (n : ℕ) (s : AttendedDesk) (made rest : List Reply) → turns turn n s ≡ made ++ rest
       → turns_events turn (length (turns turn n s)) s ≡ turns_events turn (length made) s ++ turns_events turn (length rest) (behind_turns turn (length made) s)
   turns_events-front n s made rest is = ap (λ (rs : List Reply). turns_events turn (length rs) s) is ∙ turns_events-split made rest s
 

@@ -5,7 +5,7 @@ use Rattle.ckr_base.proofs.KnownBytes.{Appends-nil, Appends-trans}
 use Rattle.ckr_outside.specs.Faults.{Rose}
 use Rattle.ckr_outside.specs.Front.{AppendsFront}
 use Rattle.ckr_cards.specs.Session.{Handed}
-use Rattle.ckr_desk.specs.State.{RoomyDesk}
+use Rattle.ckr_service.specs.Staff.{StaffedDesk}
 use Rattle.ckr_service.specs.declared.stop.Halt.{Halt}
 use Rattle.ckr_service.specs.declared.stop.Halt.TheVariants as Halts
 use Rattle.ckr_service.specs.declared.stop.Stop.{Stop}
@@ -19,7 +19,7 @@ use Rattle.ckr_service.proofs.Service.Events.{events_told-append, events_told-fu
 
 -- ---- behind requests that were served, and before others
 
-pub breaks_off_behind : (s s' : RoomyDesk) (xs ys : List Handed) (text : List ℕ) (came kept : List (List ℕ)) → all_fit s xs ≡ true → s' ≡ after_all s xs → BreaksOff s' ys text came kept
+pub breaks_off_behind : (s s' : StaffedDesk) (xs ys : List Handed) (text : List ℕ) (came kept : List (List ℕ)) → all_fit s xs ≡ true → s' ≡ after_all s xs → BreaksOff s' ys text came kept
     → BreaksOff s (xs ++ ys) (text_to s xs ++ text) (events_told s xs ++ came) (events_told s xs ++ kept)
 breaks_off_behind s s' xs ys text came kept fit is off = record {
   served = xs ++ off.served;
@@ -48,7 +48,7 @@ breaks_off_behind s s' xs ys text came kept fit is off = record {
     given : ℕ
     given = length off.replies
 
-    end : RoomyDesk
+    end : StaffedDesk
     end = after_all s (xs ++ off.served)
 
     behind : after_all s' off.served ≡ end
@@ -59,7 +59,7 @@ breaks_off_behind s s' xs ys text came kept fit is off = record {
         sym (append_assoc (events_told s xs) (events_told s' off.served) (events_before end off.broken given))
         ∙ ap (λ l. l ++ events_before end off.broken given) (ap (λ st. events_told s xs ++ events_told st off.served) is ∙ sym (events_told-append s xs off.served fit))
 
-pub breaks_off_before : (s : RoomyDesk) (xs ys : List Handed) (text : List ℕ) (came kept : List (List ℕ)) → BreaksOff s xs text came kept → BreaksOff s (xs ++ ys) text came kept
+pub breaks_off_before : (s : StaffedDesk) (xs ys : List Handed) (text : List ℕ) (came kept : List (List ℕ)) → BreaksOff s xs text came kept → BreaksOff s (xs ++ ys) text came kept
 breaks_off_before s xs ys text came kept off = record {
   served = off.served;
   broken = off.broken;
@@ -74,15 +74,15 @@ breaks_off_before s xs ys text came kept off = record {
   kept_is = off.kept_is;
 }
 
-full_behind : (s s' : RoomyDesk) (xs ys : List Handed) → all_fit s xs ≡ true → s' ≡ after_all s xs → all_fit s' ys ≡ false → all_fit s (xs ++ ys) ≡ false
+full_behind : (s s' : StaffedDesk) (xs ys : List Handed) → all_fit s xs ≡ true → s' ≡ after_all s xs → all_fit s' ys ≡ false → all_fit s (xs ++ ys) ≡ false
 full_behind s s' xs ys fit is full =
     all_fit-append s xs ys ∙ ap (λ r. r && all_fit (after_all s xs) ys) fit ∙ ap (λ st. all_fit st ys) (sym is) ∙ full
 
-full_before : (s : RoomyDesk) (xs ys : List Handed) → all_fit s xs ≡ false → all_fit s (xs ++ ys) ≡ false
+full_before : (s : StaffedDesk) (xs ys : List Handed) → all_fit s xs ≡ false → all_fit s (xs ++ ys) ≡ false
 full_before s xs ys full = all_fit-append s xs ys ∙ ap (λ r. r && all_fit (after_all s xs) ys) full
 
 -- the events behind others that came
-came_behind : (s s' : RoomyDesk) (xs ys : List Handed) (came : List (List ℕ)) → all_fit s xs ≡ true → s' ≡ after_all s xs → came ≡ events_told s' ys → events_told s xs ++ came ≡ events_told s (xs ++ ys)
+came_behind : (s s' : StaffedDesk) (xs ys : List Handed) (came : List (List ℕ)) → all_fit s xs ≡ true → s' ≡ after_all s xs → came ≡ events_told s' ys → events_told s xs ++ came ≡ events_told s (xs ++ ys)
 came_behind s s' xs ys came fit is came_is =
     ap (λ l. events_told s xs ++ l) came_is ∙ ap (λ st. events_told s xs ++ events_told st ys) is ∙ sym (events_told-append s xs ys fit)
 
@@ -104,7 +104,7 @@ halts_behind Halts.Disk a b xs ys t u v came kept first so = (
   breaks_off_behind a.state b.state xs ys so.0 came kept first.fits first.state so.2,
 )
 
-pub halts_before : (halt : Halt) (s : RoomyDesk) (xs ys : List Handed) (t v : List ℕ) (came kept : List (List ℕ)) → HaltsSo halt s xs t v came kept → HaltsSo halt s (xs ++ ys) t v came kept
+pub halts_before : (halt : Halt) (s : StaffedDesk) (xs ys : List Handed) (t v : List ℕ) (came kept : List (List ℕ)) → HaltsSo halt s xs t v came kept → HaltsSo halt s (xs ++ ys) t v came kept
 halts_before Halts.Memory s xs ys t v came kept so = comes_before s xs ys came kept so
 halts_before Halts.Book s xs ys t v came kept so = (
   full_before s xs ys so.0,
@@ -142,7 +142,7 @@ writes_earlier before between now old new u later so = elim so [
 ]
 
 -- the sink's faults are counted from an earlier moment on
-pub stops_earlier : (stop : Stop) (before between now : ℕ) (s : RoomyDesk) (xs : List Handed) (old new : Option (List ℕ)) (came kept : List (List ℕ)) → before ≤ between
+pub stops_earlier : (stop : Stop) (before between now : ℕ) (s : StaffedDesk) (xs : List Handed) (old new : Option (List ℕ)) (came kept : List (List ℕ)) → before ≤ between
     → StopsWithin stop between now s xs old new came kept → StopsWithin stop before now s xs old new came kept
 stops_earlier Stops.Source before between now s xs old new came kept later so = so
 stops_earlier Stops.Limit before between now s xs old new came kept later so = so
@@ -162,7 +162,7 @@ cause_earlier trusted trusted' Stops.Book before between now before' between' no
 cause_earlier trusted trusted' Stops.Disk before between now before' between' now' later later' holds so = rose_earlier before' between' now' later' so
 
 -- The text of the whole is that of what was served, of what was asked then, and of more.
-stops_front : (s s' : RoomyDesk) (xs ys more : List Handed) (start old new : Option (List ℕ)) → all_fit s xs ≡ true → s' ≡ after_all s xs
+stops_front : (s s' : StaffedDesk) (xs ys more : List Handed) (start old new : Option (List ℕ)) → all_fit s xs ≡ true → s' ≡ after_all s xs
     → Appends start old (text_to s xs) → AppendsFront old new (text_to s' ys) → AppendsFront start new (text_to s ((xs ++ ys) ++ more))
 stops_front s s' xs ys more start old new fit is first front = by_rest (all_fit s' ys) refl
   where
@@ -218,7 +218,7 @@ stops_behind Stops.Disk before between now a b xs ys more t start old new came k
 
 -- ---- what is left of a text is written
 
-pub rest_written : (halt : Halt) (stop : Stop) (before now : ℕ) (s : RoomyDesk) (xs : List Handed) (out : List ℕ) (old new : Option (List ℕ)) (came kept : List (List ℕ))
+pub rest_written : (halt : Halt) (stop : Stop) (before now : ℕ) (s : StaffedDesk) (xs : List Handed) (out : List ℕ) (old new : Option (List ℕ)) (came kept : List (List ℕ))
     → HaltsSo halt s xs [] out came kept → stop ≡ stop_of halt → RestWritten halt before now old new (text_to s xs) out → StopsWithin stop before now s xs old new came kept
 rest_written Halts.Memory stop before now s xs out old new came kept so is rest = subst (λ (w : Stop). StopsWithin w before now s xs old new came kept) (sym is) (rest, so)
 rest_written Halts.Book stop before now s xs out old new came kept so is rest =

@@ -5,7 +5,7 @@ use Rattle.std.proofs.lemmas.Bool.{false≢true}
 use Rattle.std.proofs.lemmas.Grind.{flat_map-append}
 use Rattle.ckr_base.proofs.Bools.{and-first, and-second, or-assoc, or-false}
 use Rattle.ckr_cards.specs.Session.{Handed}
-use Rattle.ckr_desk.specs.State.{RoomyDesk}
+use Rattle.ckr_service.specs.Staff.{StaffedDesk}
 use Rattle.ckr_service.specs.Calls.{Answer, answer, after, fits, replies_of, calls, after_all, all_fit, is_refusal, broken_off}
 use Rattle.ckr_service.specs.Events.{events_told, request_events}
 use Rattle.ckr_service.specs.Texts.{answer_text}
@@ -18,22 +18,22 @@ and_assoc : (a b c : Bool) → (a && (b && c)) ≡ (a && b && c)
 and_assoc true b c = refl
 and_assoc false b c = refl
 
-pub all_fit-append : (s : RoomyDesk) (xs ys : List Handed) → all_fit s (xs ++ ys) ≡ (all_fit s xs && all_fit (after_all s xs) ys)
+pub all_fit-append : (s : StaffedDesk) (xs ys : List Handed) → all_fit s (xs ++ ys) ≡ (all_fit s xs && all_fit (after_all s xs) ys)
 all_fit-append s [] ys = refl
 all_fit-append s (x ∷ xs) ys =
     ap (λ b. fits s x && b) (all_fit-append (after s x) xs ys) ∙ and_assoc (fits s x) (all_fit (after s x) xs) (all_fit (after_all (after s x) xs) ys)
 
-pub after_all-append : (s : RoomyDesk) (xs ys : List Handed) → after_all s (xs ++ ys) ≡ after_all (after_all s xs) ys
+pub after_all-append : (s : StaffedDesk) (xs ys : List Handed) → after_all s (xs ++ ys) ≡ after_all (after_all s xs) ys
 after_all-append s [] ys = refl
 after_all-append s (x ∷ xs) ys = after_all-append (after s x) xs ys
 
 -- one call, and those behind it
-abbrev call_and : RoomyDesk → Handed → List Answer → Bool → List Answer
+abbrev call_and : StaffedDesk → Handed → List Answer → Bool → List Answer
 call_and s x rest b = cond b (answer s x ∷ rest) (broken_off s x (replies_of s x) ∷ [])
 
 -- ---- what is answered
 
-pub calls-append : (s : RoomyDesk) (xs ys : List Handed) → all_fit s xs ≡ true → calls s (xs ++ ys) ≡ calls s xs ++ calls (after_all s xs) ys
+pub calls-append : (s : StaffedDesk) (xs ys : List Handed) → all_fit s xs ≡ true → calls s (xs ++ ys) ≡ calls s xs ++ calls (after_all s xs) ys
 calls-append s [] ys e = refl
 calls-append s (x ∷ xs) ys e =
     let first : fits s x ≡ true = and-first (fits s x) (all_fit (after s x) xs) e in
@@ -43,7 +43,7 @@ calls-append s (x ∷ xs) ys e =
     ∙ sym (ap (λ b. call_and s x (calls (after s x) xs) b ++ calls (after_all (after s x) xs) ys) first)
 
 -- nothing is answered behind a request that the book has no room for
-pub calls-full : (s : RoomyDesk) (xs ys : List Handed) → all_fit s xs ≡ false → calls s (xs ++ ys) ≡ calls s xs
+pub calls-full : (s : StaffedDesk) (xs ys : List Handed) → all_fit s xs ≡ false → calls s (xs ++ ys) ≡ calls s xs
 calls-full s [] ys e = absurd (false≢true (sym e))
 calls-full s (x ∷ xs) ys e = by_first (λ rest. calls-full (after s x) xs ys rest) (fits s x) refl
   where
@@ -58,10 +58,10 @@ pub list_any-append : {X : Type 0} (p : X → Bool) (xs ys : List X) → list_an
 list_any-append p [] ys = refl
 list_any-append p (x ∷ xs) ys = ap (λ b. p x || b) (list_any-append p xs ys) ∙ sym (or-assoc (p x) (list_any p xs) (list_any p ys))
 
-pub text_to-append : (s : RoomyDesk) (xs ys : List Handed) → all_fit s xs ≡ true → text_to s (xs ++ ys) ≡ text_to s xs ++ text_to (after_all s xs) ys
+pub text_to-append : (s : StaffedDesk) (xs ys : List Handed) → all_fit s xs ≡ true → text_to s (xs ++ ys) ≡ text_to s xs ++ text_to (after_all s xs) ys
 text_to-append s xs ys e = ap (flat_map answer_text) (calls-append s xs ys e) ∙ flat_map-append answer_text (calls s xs) (calls (after_all s xs) ys)
 
-pub text_to-full : (s : RoomyDesk) (xs ys : List Handed) → all_fit s xs ≡ false → text_to s (xs ++ ys) ≡ text_to s xs
+pub text_to-full : (s : StaffedDesk) (xs ys : List Handed) → all_fit s xs ≡ false → text_to s (xs ++ ys) ≡ text_to s xs
 text_to-full s xs ys e = ap (flat_map answer_text) (calls-full s xs ys e)
 
 -- ---- what is served
@@ -120,5 +120,5 @@ serves_one (Ok x) a b request t u fit state refused came text =
     }
 
 -- where the book has no room for it
-pub text_to-one : (s : RoomyDesk) (request : Handed) → fits s request ≡ false → text_to s (request ∷ []) ≡ answer_text (broken_off s request (replies_of s request))
+pub text_to-one : (s : StaffedDesk) (request : Handed) → fits s request ≡ false → text_to s (request ∷ []) ≡ answer_text (broken_off s request (replies_of s request))
 text_to-one s request full = ap (λ b. flat_map answer_text (call_and s request [] b)) full ∙ append-nil (answer_text (broken_off s request (replies_of s request)))

@@ -2,7 +2,7 @@
 use Rattle.std.proofs.Common.{◌≡◌, ℕ, Bool, true, false, List, [], ◌++◌, Option, Result, Ok, Err, OnOk, refl, sym, ap, subst, ◌∙◌, append_assoc, append-nil}
 use Rattle.ckr_outside.specs.Front.{AppendsFront}
 use Rattle.ckr_cards.specs.Session.{Handed}
-use Rattle.ckr_desk.specs.State.{RoomyDesk}
+use Rattle.ckr_service.specs.Staff.{StaffedDesk}
 use Rattle.ckr_service.specs.declared.stop.Halt.{Halt}
 use Rattle.ckr_service.specs.declared.stop.Halt.TheVariants as Halts
 use Rattle.ckr_service.specs.Calls.{after_all, all_fit}
@@ -18,7 +18,7 @@ serves_behind_text : (a b : View) (xs : List Handed) (t u text : List ℕ) → S
 serves_behind_text a b xs t u text s = record { fits = s.fits; state = s.state; refused = s.refused; events = s.events; text = refl }
 
 -- the text of the first requests comes first
-text_to-front : (s : RoomyDesk) (xs ys : List Handed) → (more : List ℕ) × (text_to s (xs ++ ys) ≡ text_to s xs ++ more)
+text_to-front : (s : StaffedDesk) (xs ys : List Handed) → (more : List ℕ) × (text_to s (xs ++ ys) ≡ text_to s xs ++ more)
 text_to-front s xs ys = by_rest (all_fit s xs) refl
   where
     by_rest : (b : Bool) → all_fit s xs ≡ b → (more : List ℕ) × (text_to s (xs ++ ys) ≡ text_to s xs ++ more)
@@ -105,7 +105,7 @@ ends_longer Halts.Memory from to told whole more whole' is ends = front_longer f
 ends_longer Halts.Book from to told whole more whole' is ends = ends
 ends_longer Halts.Disk from to told whole more whole' is ends = ends
 
-pub halts_before_others : (halt : Halt) (s : RoomyDesk) (xs ys : List Handed) (from to : Telling) (came kept : List (List ℕ)) → HaltsTelling halt s xs from to came kept → HaltsTelling halt s (xs ++ ys) from to came kept
+pub halts_before_others : (halt : Halt) (s : StaffedDesk) (xs ys : List Handed) (from to : Telling) (came kept : List (List ℕ)) → HaltsTelling halt s xs from to came kept → HaltsTelling halt s (xs ++ ys) from to came kept
 halts_before_others halt s xs ys from to came kept halts =
     let more = text_to-front s xs ys in
     record {

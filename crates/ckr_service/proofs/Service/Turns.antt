@@ -6,19 +6,17 @@ use Rattle.std.proofs.lemmas.Bool.Decides.{Decides-eqb}
 use Rattle.std.proofs.lemmas.Grind.{flat_map-append}
 use Rattle.std.proofs.lemmas.Slice.Eq.{bytes_eq-Decides}
 use Rattle.ckr_base.proofs.Bools.{and-first, and-second}
-use Rattle.ckr_desk.specs.Requests.{spelled}
-use Rattle.ckr_desk.specs.Turn.{behind_turn, event_of_turn, reply_of, turn_fits}
-use Rattle.ckr_desk.specs.State.{RoomyDesk}
 use Rattle.ckr_desk.specs.Model.Reply.{Reply}
-use Rattle.ckr_desk.specs.Model.Reply.TheVariants.{Idle, Worked}
+use Rattle.ckr_desk.specs.Model.Reply.TheVariants.{AwaitingReply, Idle, WaitingUnits, Worked}
 use Rattle.ckr_desk.specs.Model.Turn.{Turn}
 use Rattle.ckr_desk.specs.Model.Layout.{Layout}
 use Rattle.ckr_service.specs.Texts.{goes_on, is_same_work, is_work, work_in, before_runs, run_text, reply_text, runs_of, with_waiting, told_runs, answer_text}
-use Rattle.ckr_service.specs.Calls.{Turned, BrokenOff, turns, after_turns, turns_fit, is_idle}
+use Rattle.ckr_service.specs.Calls.{Turned, BrokenOff, turns, after_turns, turns_fit, is_rest}
 use Rattle.ckr_service.specs.declared.stop.Halt.{Halt}
 use Rattle.ckr_service.specs.declared.stop.Halt.TheVariants as Halts
 use Rattle.ckr_service.specs.Events.{behind_turns, turns_events}
 use Rattle.ckr_service.specs.Service.{ComesTo}
+use Rattle.ckr_service.specs.Staff.{AttendedDesk, attended_event, attended_fits, attended_reply, behind_attended}
 use Rattle.ckr_service.proofs.Service.Events.{behind_turns-more, comes_all, length-more, turns_events-front, turns_events-more}
 use Rattle.ckr_service.specs.Turns.{Adds, IsToldWaiting, Turns, FirstTurns, TurnHalt, TurnsHalt, turns_text}
 
@@ -116,9 +114,11 @@ pub goes_on-work : (last reply : Reply) → goes_on last reply ≡ true → is_w
 goes_on-work last (Worked job step taken) both = refl
 goes_on-work last _ both = absurd (false≢true (sym (same_work-none (work_in last)) ∙ both))
 
-pub idle-no_work : (reply : Reply) → is_idle reply ≡ true → is_work reply ≡ false
-idle-no_work Idle idle = refl
-idle-no_work _ idle = absurd (false≢true idle)
+pub rest-no_work : (reply : Reply) → is_rest reply ≡ true → is_work reply ≡ false
+rest-no_work Idle rests = refl
+rest-no_work (WaitingUnits need free) rests = refl
+rest-no_work AwaitingReply rests = refl
+rest-no_work _ rests = absurd (false≢true rests)
 
 no_work-goes_on : (reply next : Reply) → is_work reply ≡ false → goes_on reply next ≡ false
 no_work-goes_on (Worked job step taken) next other = absurd (false≢true (sym other))
@@ -190,7 +190,7 @@ module _ (layout : Layout) (initiator : ℕ) where
 module _ (layout : Layout) (turn : Turn) where
   -- ---- turns
 
-  pub turns_begun : (n : ℕ) (s : RoomyDesk) (text : List ℕ) (had : List (List ℕ)) → Turns layout turn n n s s None text text had had
+  pub turns_begun : (n : ℕ) (s : AttendedDesk) (text : List ℕ) (had : List (List ℕ)) → Turns layout turn n n s s None text text had had
   turns_begun n s text had = record {
     made = [];
     ended = [];
@@ -205,13 +205,13 @@ module _ (layout : Layout) (turn : Turn) where
   }
 
   -- the events of one turn more
-  events_more : (made : List Reply) (reply : Reply) (first s : RoomyDesk) (had mid have : List (List ℕ)) → s ≡ behind_turns turn (length made) first
-      → mid ≡ had ++ turns_events turn (length made) first → have ≡ mid ++ spelled (event_of_turn s turn) → have ≡ had ++ turns_events turn (length (made ++ reply ∷ [])) first
+  events_more : (made : List Reply) (reply : Reply) (first s : AttendedDesk) (had mid have : List (List ℕ)) → s ≡ behind_turns turn (length made) first
+      → mid ≡ had ++ turns_events turn (length made) first → have ≡ mid ++ attended_event s turn → have ≡ had ++ turns_events turn (length (made ++ reply ∷ [])) first
   events_more made reply first s had mid have behind before came =
       came
-      ∙ ap (λ e. e ++ spelled (event_of_turn s turn)) before
-      ∙ append_assoc had (turns_events turn (length made) first) (spelled (event_of_turn s turn))
-      ∙ ap (λ st. had ++ (turns_events turn (length made) first ++ spelled (event_of_turn st turn))) behind
+      ∙ ap (λ e. e ++ attended_event s turn) before
+      ∙ append_assoc had (turns_events turn (length made) first) (attended_event s turn)
+      ∙ ap (λ st. had ++ (turns_events turn (length made) first ++ attended_event st turn)) behind
       ∙ ap (λ e. had ++ e) (sym (turns_events-more turn (length made) first))
       ∙ ap (λ n. had ++ turns_events turn n first) (sym (length-more turn made reply))
 
@@ -236,58 +236,58 @@ module _ (layout : Layout) (turn : Turn) where
       ∙ ap (λ t. before ++ t) (sym (flat_map-append (run_text layout turn.initiator) ended ended'))
 
   -- what the next of so many turns brings
-  module _ (s : RoomyDesk) (m : ℕ) where
-    turns-next : turn_fits s turn ≡ true → turns turn (suc m) s ≡ reply_of s turn ∷ cond (is_idle (reply_of s turn)) [] (turns turn m (behind_turn s turn))
-    turns-next fits = ap (λ b. cond b (reply_of s turn ∷ cond (is_idle (reply_of s turn)) [] (turns turn m (behind_turn s turn))) []) fits
+  module _ (s : AttendedDesk) (m : ℕ) where
+    turns-next : attended_fits s turn ≡ true → turns turn (suc m) s ≡ attended_reply s turn ∷ cond (is_rest (attended_reply s turn)) [] (turns turn m (behind_attended s turn))
+    turns-next fits = ap (λ b. cond b (attended_reply s turn ∷ cond (is_rest (attended_reply s turn)) [] (turns turn m (behind_attended s turn))) []) fits
 
-    after-next : turn_fits s turn ≡ true → after_turns turn (suc m) s ≡ cond (is_idle (reply_of s turn)) (behind_turn s turn) (after_turns turn m (behind_turn s turn))
-    after-next fits = ap (λ b. cond b (cond (is_idle (reply_of s turn)) (behind_turn s turn) (after_turns turn m (behind_turn s turn))) s) fits
+    after-next : attended_fits s turn ≡ true → after_turns turn (suc m) s ≡ cond (is_rest (attended_reply s turn)) (behind_attended s turn) (after_turns turn m (behind_attended s turn))
+    after-next fits = ap (λ b. cond b (cond (is_rest (attended_reply s turn)) (behind_attended s turn) (after_turns turn m (behind_attended s turn))) s) fits
 
-    fit-next : turn_fits s turn ≡ true → turns_fit turn (suc m) s ≡ cond (is_idle (reply_of s turn)) true (turns_fit turn m (behind_turn s turn))
-    fit-next fits = ap (λ b. cond b (cond (is_idle (reply_of s turn)) true (turns_fit turn m (behind_turn s turn))) false) fits
+    fit-next : attended_fits s turn ≡ true → turns_fit turn (suc m) s ≡ cond (is_rest (attended_reply s turn)) true (turns_fit turn m (behind_attended s turn))
+    fit-next fits = ap (λ b. cond b (cond (is_rest (attended_reply s turn)) true (turns_fit turn m (behind_attended s turn))) false) fits
 
-    turns-none : turn_fits s turn ≡ false → turns turn (suc m) s ≡ []
-    turns-none full = ap (λ b. cond b (reply_of s turn ∷ cond (is_idle (reply_of s turn)) [] (turns turn m (behind_turn s turn))) []) full
+    turns-none : attended_fits s turn ≡ false → turns turn (suc m) s ≡ []
+    turns-none full = ap (λ b. cond b (attended_reply s turn ∷ cond (is_rest (attended_reply s turn)) [] (turns turn m (behind_attended s turn))) []) full
 
-    fit-none : turn_fits s turn ≡ false → turns_fit turn (suc m) s ≡ false
-    fit-none full = ap (λ b. cond b (cond (is_idle (reply_of s turn)) true (turns_fit turn m (behind_turn s turn))) false) full
+    fit-none : attended_fits s turn ≡ false → turns_fit turn (suc m) s ≡ false
+    fit-none full = ap (λ b. cond b (cond (is_rest (attended_reply s turn)) true (turns_fit turn m (behind_attended s turn))) false) full
 
   -- one turn more, which isn't idle
-  pub turn_made : (n k m : ℕ) (first s s' : RoomyDesk) (reply : Reply) (waiting waiting' : Waiting) (before mid now : List ℕ) (had between have : List (List ℕ)) → k ≡ suc m
-      → turn_fits s turn ≡ true → reply ≡ reply_of s turn → s' ≡ behind_turn s turn → is_idle reply ≡ false
-      → have ≡ between ++ spelled (event_of_turn s turn)
+  pub turn_made : (n k m : ℕ) (first s s' : AttendedDesk) (reply : Reply) (waiting waiting' : Waiting) (before mid now : List ℕ) (had between have : List (List ℕ)) → k ≡ suc m
+      → attended_fits s turn ≡ true → reply ≡ attended_reply s turn → s' ≡ behind_attended s turn → is_rest reply ≡ false
+      → have ≡ between ++ attended_event s turn
       → Turns layout turn n k first s waiting before mid had between → Adds layout turn.initiator waiting reply waiting' mid now → Turns layout turn n m first s' waiting' before now had have
   turn_made n k m first s s' reply waiting waiting' before mid now had between have less fits is behind busy came h adds =
-      let idle : is_idle (reply_of s turn) ≡ false = ap is_idle (sym is) ∙ busy in
+      let idle : is_rest (attended_reply s turn) ≡ false = ap is_rest (sym is) ∙ busy in
       record {
         made = h.made ++ reply ∷ [];
         ended = h.ended ++ adds.ended;
         replies = h.replies
             ∙ ap (λ j. h.made ++ turns turn j s) less
             ∙ ap (λ l. h.made ++ l) (turns-next s m fits
-            ∙ ap (λ b. reply_of s turn ∷ cond b [] (turns turn m (behind_turn s turn))) idle
-            ∙ ap (λ r. r ∷ turns turn m (behind_turn s turn)) (sym is)
+            ∙ ap (λ b. attended_reply s turn ∷ cond b [] (turns turn m (behind_attended s turn))) idle
+            ∙ ap (λ r. r ∷ turns turn m (behind_attended s turn)) (sym is)
             ∙ ap (λ st. reply ∷ turns turn m st) (sym behind))
             ∙ one_more h.made (turns turn m s') reply;
         after = h.after ∙ ap (λ j. after_turns turn j s) less ∙ after-next s m fits
-            ∙ ap (λ b. cond b (behind_turn s turn) (after_turns turn m (behind_turn s turn))) idle ∙ ap (after_turns turn m) (sym behind);
+            ∙ ap (λ b. cond b (behind_attended s turn) (after_turns turn m (behind_attended s turn))) idle ∙ ap (after_turns turn m) (sym behind);
         fit = h.fit ∙ ap (λ j. turns_fit turn j s) less ∙ fit-next s m fits
-            ∙ ap (λ b. cond b true (turns_fit turn m (behind_turn s turn))) idle ∙ ap (turns_fit turn m) (sym behind);
+            ∙ ap (λ b. cond b true (turns_fit turn m (behind_attended s turn))) idle ∙ ap (turns_fit turn m) (sym behind);
         joins = joined_behind h.made h.ended adds.ended waiting waiting' reply h.joins adds.joins;
         written = written_behind h.ended adds.ended before mid now h.written adds.written;
         none = λ none. told_runs-behind h.ended adds.ended (adds.some none) ∙ ap (λ l. h.ended ++ l) (adds.none none);
-        behind = behind ∙ ap (λ st. behind_turn st turn) h.behind ∙ sym (behind_turns-more turn (length h.made) first)
+        behind = behind ∙ ap (λ st. behind_attended st turn) h.behind ∙ sym (behind_turns-more turn (length h.made) first)
             ∙ ap (λ j. behind_turns turn j first) (sym (length-more turn h.made reply));
         events = events_more h.made reply first s had between have h.behind h.events came;
       }
 
   -- the events up to one turn more, where its text isn't told
-  pub turn_counted : (n k m : ℕ) (first s : RoomyDesk) (reply : Reply) (waiting : Waiting) (before mid : List ℕ) (had between have : List (List ℕ)) → k ≡ suc m
-      → turn_fits s turn ≡ true → have ≡ between ++ spelled (event_of_turn s turn) → Turns layout turn n k first s waiting before mid had between
+  pub turn_counted : (n k m : ℕ) (first s : AttendedDesk) (reply : Reply) (waiting : Waiting) (before mid : List ℕ) (had between have : List (List ℕ)) → k ≡ suc m
+      → attended_fits s turn ≡ true → have ≡ between ++ attended_event s turn → Turns layout turn n k first s waiting before mid had between
       → (came : List (List ℕ)) × (have ≡ had ++ came) × ComesTo (turns_events turn (length (turns turn n first)) first) came came
   turn_counted n k m first s reply waiting before mid had between have less fits came h =
-      let next = reply_of s turn in
-      let rest = cond (is_idle next) [] (turns turn m (behind_turn s turn)) in
+      let next = attended_reply s turn in
+      let rest = cond (is_rest next) [] (turns turn m (behind_attended s turn)) in
       let replies : turns turn n first ≡ (h.made ++ next ∷ []) ++ rest =
       h.replies ∙ ap (λ j. h.made ++ turns turn j s) less ∙ ap (λ l. h.made ++ l) (turns-next s m fits) ∙ one_more h.made rest next in (
         turns_events turn (length (h.made ++ next ∷ [])) first,
@@ -296,12 +296,12 @@ module _ (layout : Layout) (turn : Turn) where
       )
 
   -- the events so far
-  pub turns_counted : (n k : ℕ) (first s : RoomyDesk) (waiting : Waiting) (before mid : List ℕ) (had between : List (List ℕ)) → (h : Turns layout turn n k first s waiting before mid had between)
+  pub turns_counted : (n k : ℕ) (first s : AttendedDesk) (waiting : Waiting) (before mid : List ℕ) (had between : List (List ℕ)) → (h : Turns layout turn n k first s waiting before mid had between)
       → ComesTo (turns_events turn (length (turns turn n first)) first) (turns_events turn (length h.made) first) (turns_events turn (length h.made) first)
   turns_counted n k first s waiting before mid had between h = comes_all _ _ _ (turns_events-front turn n first h.made (turns turn k s) h.replies)
 
   -- all turns are made whose replies are these
-  pub record AllMade (n : ℕ) (first s : RoomyDesk) (before now : List ℕ) (had have : List (List ℕ)) : Type 0 where
+  pub record AllMade (n : ℕ) (first s : AttendedDesk) (before now : List ℕ) (had have : List (List ℕ)) : Type 0 where
     pub fits : turns_fit turn n first ≡ true
     pub text : now ≡ before ++ answer_text (Turned layout turn.initiator (turns turn n first))
     pub after : s ≡ after_turns turn n first
@@ -315,30 +315,30 @@ module _ (layout : Layout) (turn : Turn) where
       ∙ ap (λ rs. before ++ flat_map (run_text layout turn.initiator) rs) (sym (joins []) ∙ ap runs_of (append-nil made))
 
   -- the last one, which is idle
-  pub turn_idle : (n k m : ℕ) (first s s' : RoomyDesk) (reply : Reply) (waiting waiting' : Waiting) (before mid now final : List ℕ) (had between have : List (List ℕ)) → k ≡ suc m
-      → turn_fits s turn ≡ true → reply ≡ reply_of s turn → s' ≡ behind_turn s turn → is_idle reply ≡ true
-      → have ≡ between ++ spelled (event_of_turn s turn)
+  pub turn_rests : (n k m : ℕ) (first s s' : AttendedDesk) (reply : Reply) (waiting waiting' : Waiting) (before mid now final : List ℕ) (had between have : List (List ℕ)) → k ≡ suc m
+      → attended_fits s turn ≡ true → reply ≡ attended_reply s turn → s' ≡ behind_attended s turn → is_rest reply ≡ true
+      → have ≡ between ++ attended_event s turn
       → Turns layout turn n k first s waiting before mid had between → Adds layout turn.initiator waiting reply waiting' mid now → final ≡ now ++ flat_map (run_text layout turn.initiator) (with_waiting waiting' [])
       → AllMade n first s' before final had have
-  turn_idle n k m first s s' reply waiting waiting' before mid now final had between have less fits is behind rests came h adds last =
-      let idle : is_idle (reply_of s turn) ≡ true = ap is_idle (sym is) ∙ rests in
+  turn_rests n k m first s s' reply waiting waiting' before mid now final had between have less fits is behind rests came h adds last =
+      let idle : is_rest (attended_reply s turn) ≡ true = ap is_rest (sym is) ∙ rests in
       let replies : turns turn n first ≡ h.made ++ reply ∷ [] =
       h.replies
       ∙ ap (λ j. h.made ++ turns turn j s) less
       ∙ ap (λ l. h.made ++ l) (turns-next s m fits
-      ∙ ap (λ b. reply_of s turn ∷ cond b [] (turns turn m (behind_turn s turn))) idle
+      ∙ ap (λ b. attended_reply s turn ∷ cond b [] (turns turn m (behind_attended s turn))) idle
       ∙ ap (λ r. r ∷ []) (sym is)) in
       record {
-        fits = h.fit ∙ ap (λ j. turns_fit turn j s) less ∙ fit-next s m fits ∙ ap (λ b. cond b true (turns_fit turn m (behind_turn s turn))) idle;
+        fits = h.fit ∙ ap (λ j. turns_fit turn j s) less ∙ fit-next s m fits ∙ ap (λ b. cond b true (turns_fit turn m (behind_attended s turn))) idle;
         text = text_of_all (h.made ++ reply ∷ []) (h.ended ++ adds.ended) waiting' before now final
             (joined_behind h.made h.ended adds.ended waiting waiting' reply h.joins adds.joins) (written_behind h.ended adds.ended before mid now h.written adds.written) last
             ∙ ap (λ rs. before ++ flat_map (run_text layout turn.initiator) (runs_of rs)) (sym replies);
-        after = behind ∙ sym (h.after ∙ ap (λ j. after_turns turn j s) less ∙ after-next s m fits ∙ ap (λ b. cond b (behind_turn s turn) (after_turns turn m (behind_turn s turn))) idle);
+        after = behind ∙ sym (h.after ∙ ap (λ j. after_turns turn j s) less ∙ after-next s m fits ∙ ap (λ b. cond b (behind_attended s turn) (after_turns turn m (behind_attended s turn))) idle);
         events = events_more h.made reply first s had between have h.behind h.events came ∙ ap (λ (rs : List Reply). had ++ turns_events turn (length rs) first) (sym replies);
       }
 
   -- as many as were asked for
-  pub turns_made : (n k : ℕ) (first s : RoomyDesk) (waiting : Waiting) (before now final : List ℕ) (had have : List (List ℕ)) → k ≡ zero
+  pub turns_made : (n k : ℕ) (first s : AttendedDesk) (waiting : Waiting) (before now final : List ℕ) (had have : List (List ℕ)) → k ≡ zero
       → Turns layout turn n k first s waiting before now had have → final ≡ now ++ flat_map (run_text layout turn.initiator) (with_waiting waiting []) → AllMade n first s before final had have
   turns_made n k first s waiting before now final had have none h last =
       let replies : turns turn n first ≡ h.made = h.replies ∙ ap (λ j. h.made ++ turns turn j s) none ∙ append-nil h.made in
@@ -357,7 +357,7 @@ module _ (layout : Layout) (turn : Turn) where
       ∙ ap (λ rs. before ++ flat_map (run_text layout turn.initiator) rs) (sym (told_behind ended waiting none) ∙ ap told_runs (sym (joins []) ∙ ap runs_of (append-nil made)))
 
   -- the book has no room for the next one
-  turns_full : (n k m : ℕ) (first s : RoomyDesk) (waiting : Waiting) (before now final : List ℕ) (had have came kept : List (List ℕ)) → k ≡ suc m → turn_fits s turn ≡ false
+  turns_full : (n k m : ℕ) (first s : AttendedDesk) (waiting : Waiting) (before now final : List ℕ) (had have came kept : List (List ℕ)) → k ≡ suc m → attended_fits s turn ≡ false
       → came ≡ [] → kept ≡ [] → (h : Turns layout turn n k first s waiting before now had have) → final ≡ now ++ flat_map (run_text layout turn.initiator) (told_runs (with_waiting waiting []))
       → TurnsHalt layout turn Halts.Book n first before final (turns_events turn (length h.made) first ++ came) (turns_events turn (length h.made) first ++ kept)
   turns_full n k m first s waiting before now final had have came kept less full came_none kept_none h last =
@@ -370,8 +370,8 @@ module _ (layout : Layout) (turn : Turn) where
       )
 
   -- the disk failed
-  turns_broken : (n k : ℕ) (first s : RoomyDesk) (waiting : Waiting) (before now final : List ℕ) (had have came kept : List (List ℕ))
-      → came ≡ spelled (event_of_turn s turn) → (kept ≡ came) ⊎ (kept ≡ [])
+  turns_broken : (n k : ℕ) (first s : AttendedDesk) (waiting : Waiting) (before now final : List ℕ) (had have came kept : List (List ℕ))
+      → came ≡ attended_event s turn → (kept ≡ came) ⊎ (kept ≡ [])
       → (h : Turns layout turn n k first s waiting before now had have) → final ≡ now ++ flat_map (run_text layout turn.initiator) (told_runs (with_waiting waiting []))
       → FirstTurns layout turn n first before final (turns_events turn (length h.made) first ++ came) (turns_events turn (length h.made) first ++ kept)
   turns_broken n k first s waiting before now final had have came kept came_is kept_is h last =
@@ -381,12 +381,12 @@ module _ (layout : Layout) (turn : Turn) where
         later = turns turn k s;
         given = h.replies;
         told = broken_text h.made h.ended waiting before now final h.joins h.none h.written last;
-        came_is = ap (λ c. events ++ c) came_is ∙ ap (λ st. events ++ spelled (event_of_turn st turn)) h.behind;
+        came_is = ap (λ c. events ++ c) came_is ∙ ap (λ st. events ++ attended_event st turn) h.behind;
         kept_is = ⊎_elim (λ same. inl (ap (λ c. events ++ c) same)) (λ none. inr (ap (λ c. events ++ c) none ∙ append-nil events)) kept_is;
       }
 
   -- memory ran out, perhaps behind another halt
-  turns_unsaid : (n k : ℕ) (first s : RoomyDesk) (waiting : Waiting) (before now : List ℕ) (had have came kept : List (List ℕ)) → length came ≤ 1 → (kept ≡ came) ⊎ (kept ≡ [])
+  turns_unsaid : (n k : ℕ) (first s : AttendedDesk) (waiting : Waiting) (before now : List ℕ) (had have came kept : List (List ℕ)) → length came ≤ 1 → (kept ≡ came) ⊎ (kept ≡ [])
       → (h : Turns layout turn n k first s waiting before now had have)
       → ComesTo (turns_events turn (length (turns turn n first)) first) (turns_events turn (length h.made) first ++ came) (turns_events turn (length h.made) first ++ kept)
   turns_unsaid n k first s waiting before now had have came kept few kept_is h =
@@ -405,7 +405,7 @@ module _ (layout : Layout) (turn : Turn) where
   none-few came none = (let long : length came ≡ 0 = ap length none in omega (arith, long))
 
   -- why not all turns were made
-  pub turns_halted : (halt : Halt) (n k m : ℕ) (first s : RoomyDesk) (waiting : Waiting) (before now final : List ℕ) (had have came kept : List (List ℕ)) → k ≡ suc m
+  pub turns_halted : (halt : Halt) (n k m : ℕ) (first s : AttendedDesk) (waiting : Waiting) (before now final : List ℕ) (had have came kept : List (List ℕ)) → k ≡ suc m
       → TurnHalt halt turn s came kept → (h : Turns layout turn n k first s waiting before now had have) → final ≡ now ++ flat_map (run_text layout turn.initiator) (told_runs (with_waiting waiting []))
       → TurnsHalt layout turn halt n first before final (turns_events turn (length h.made) first ++ came) (turns_events turn (length h.made) first ++ kept)
   turns_halted Halts.Memory n k m first s waiting before now final had have came kept less why h last =
@@ -418,7 +418,7 @@ module _ (layout : Layout) (turn : Turn) where
   no_more waiting now waits = sym (ap (λ (rs : List (Reply × ℕ)). now ++ flat_map (run_text layout turn.initiator) rs) (untold waiting waits) ∙ append-nil now)
 
   -- what is told so far is a front of what is told of all turns
-  pub turns_front : (n k : ℕ) (first s : RoomyDesk) (waiting : Waiting) (before now : List ℕ) (had have : List (List ℕ)) → Turns layout turn n k first s waiting before now had have
+  pub turns_front : (n k : ℕ) (first s : AttendedDesk) (waiting : Waiting) (before now : List ℕ) (had have : List (List ℕ)) → Turns layout turn n k first s waiting before now had have
       → (more : List ℕ) × (before ++ turns_text layout turn n first ≡ now ++ more)
   turns_front n k first s waiting before now had have h = by_fit (turns_fit turn n first) refl
     where

@@ -19,14 +19,14 @@ use Rattle.ckr_service.proofs.Service.Halts.{stops_behind}
 use Rattle.ckr_service.proofs.Service.Order.{Serves-from, Serves-append}
 use Rattle.ckr_service.proofs.Streams.Pieces.{lines_behind}
 
-module _ {D : Type 0} (content : D → List ℕ) where
-  lines_waiting : (first : View) (all : List ℕ) (f : Flow D) (start now : Option (List ℕ)) (p : StreamProgress content first all f start now) → lines all ≡ map strip_carriage_return p.parts ++ last_lines f.partial.items
+module _ {D O : Type 0} (content : D → List ℕ) where
+  lines_waiting : (first : View) (all : List ℕ) (f : Flow D O) (start now : Option (List ℕ)) (p : StreamProgress content first all f start now) → lines all ≡ map strip_carriage_return p.parts ++ last_lines f.partial.items
   lines_waiting first all f start now p =
       ap lines (sym (append-nil all)) ∙ ap lines_of_parts (p.split []) ∙ lines_behind p.parts (f.partial.items ++ [])
       ∙ ap (λ w. map strip_carriage_return p.parts ++ lines w) (append-nil f.partial.items)
       ∙ ap (λ w. map strip_carriage_return p.parts ++ lines_of_parts w) (slice_split_none is_line_end f.partial.items p.waits)
 
-  requests_of_all : (first : View) (all : List ℕ) (f : Flow D) (start now : Option (List ℕ)) (p : StreamProgress content first all f start now)
+  requests_of_all : (first : View) (all : List ℕ) (f : Flow D O) (start now : Option (List ℕ)) (p : StreamProgress content first all f start now)
       → handed_within first_session (map strip_carriage_return p.parts) ++ end_requests f ≡ requests_of all
   requests_of_all first all f start now p =
       ap (λ s. handed_within first_session (map strip_carriage_return p.parts) ++ handed_by s (last_lines f.partial.items)) p.standing
@@ -35,7 +35,7 @@ module _ {D : Type 0} (content : D → List ℕ) where
       ∙ sym (requests_of-lines all)
 
   -- all of the text is written, and all events came
-  pub finished : (f : Flow D) (g : View) (old new : Option (List ℕ)) (from text : List ℕ) → Serves (seen content f.session.clerk) g (end_requests f) from text → from ≡ [] → Appends old new text
+  pub finished : (f : Flow D O) (g : View) (old new : Option (List ℕ)) (from text : List ℕ) → Serves (seen content f.session.clerk) g (end_requests f) from text → from ≡ [] → Appends old new text
       → Finishes content f g g.refused old new
   finished f g old new from text s e w first all start clean p =
       let serves : Serves first g (requests_of all) [] (p.text ++ text) =
@@ -49,7 +49,7 @@ module _ {D : Type 0} (content : D → List ℕ) where
       )
 
   -- the serving stops within the last requests
-  pub finish_broken : (before now : ℕ) (f : Flow D) (old new : Option (List ℕ)) (stop : Stop) (came kept : List (List ℕ))
+  pub finish_broken : (before now : ℕ) (f : Flow D O) (old new : Option (List ℕ)) (stop : Stop) (came kept : List (List ℕ))
       → StopsWithin stop before now (seen content f.session.clerk).state (end_requests f) old new came kept → FinishBreaks content stop before now f old new came kept
   finish_broken before now f old new stop came kept so first all start p =
       let xs = handed_within first_session (map strip_carriage_return p.parts) in
@@ -58,7 +58,7 @@ module _ {D : Type 0} (content : D → List ℕ) where
       (stops_behind stop before before now first (seen content f.session.clerk) xs (end_requests f) [] p.text start old new came kept (omega arith) p.serves p.written so)
 
   -- what is asked at the end, where a line waits: it, and then the deck that is open
-  pub end_requests_of : (f : Flow D) (line cards : List ℕ) → line ≡ f.partial.items → (length f.partial.items == 0) ≡ false
+  pub end_requests_of : (f : Flow D O) (line cards : List ℕ) → line ≡ f.partial.items → (length f.partial.items == 0) ≡ false
       → cards ≡ (session_behind (standing_of f.session) line).cards → handed_with (standing_of f.session) line ++ handed_deck cards ≡ end_requests f
   end_requests_of f line cards is some left =
       let s = standing_of f.session in
@@ -67,5 +67,5 @@ module _ {D : Type 0} (content : D → List ℕ) where
       ∙ sym (ap (λ b. handed_by s (if b then [] else (f.partial.items ∷ []))) some)
 
   -- where no line waits, it is the deck that is open
-  pub end_requests_without : (f : Flow D) → (length f.partial.items == 0) ≡ true → handed_deck f.session.deck.items ≡ end_requests f
+  pub end_requests_without : (f : Flow D O) → (length f.partial.items == 0) ≡ true → handed_deck f.session.deck.items ≡ end_requests f
   end_requests_without f none = sym (ap (λ b. handed_by (standing_of f.session) (if b then [] else (f.partial.items ∷ []))) none)

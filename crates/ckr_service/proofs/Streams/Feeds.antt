@@ -6,7 +6,8 @@ use Rattle.std.proofs.lemmas.List.{take_at, take-take, length-take-le}
 use Rattle.std.proofs.lemmas.List.Elements.{All-nil}
 use Rattle.ckr_base.proofs.KnownBytes.{Appends-nil, Consumes-trans}
 use Rattle.ckr_outside.specs.Faults.{Rose}
-use Rattle.ckr_desk.specs.State.{RoomyDesk, disk_of}
+use Rattle.ckr_desk.specs.State.{disk_of}
+use Rattle.ckr_service.specs.Staff.{StaffedDesk}
 use Rattle.ckr_service.specs.declared.clerk.Clerk.{Clerk}
 use Rattle.ckr_service.specs.declared.flow.Flow.{Flow}
 use Rattle.ckr_service.specs.declared.stop.Stop.{Stop}
@@ -50,7 +51,7 @@ stop_cause trusted trusted' Stops.Book a b before between now before' between' n
 stop_cause trusted trusted' Stops.Disk a b before between now before' between' now' taken later later' holds c = cause_earlier trusted trusted' Stops.Disk before between now before' between' now' later later' holds c
 
 -- a stop within a piece is one at these bytes
-stops_at : (stop : Stop) (faults : Faults) (between : ℕ) (s : RoomyDesk) (taken all : List ℕ) (old new : Option (List ℕ)) (came kept : List (List ℕ)) → faults.sink_before ≤ between
+stops_at : (stop : Stop) (faults : Faults) (between : ℕ) (s : StaffedDesk) (taken all : List ℕ) (old new : Option (List ℕ)) (came kept : List (List ℕ)) → faults.sink_before ≤ between
     → StopsWithin stop between faults.sink_now s (requests_of all) old new came kept → StopsAt stop faults s taken all old new came kept
 stops_at Stops.Source faults between s taken all old new came kept later so = absurd so
 stops_at Stops.Limit faults between s taken all old new came kept later so = absurd so
@@ -71,10 +72,10 @@ pub handed_on : {T E : Type 0} (r : Result T E) (error : E) (P : E → Type 0) �
 handed_on (Ok x) error P h p = tt
 handed_on (Err e) error P h p = subst P (sym h) p
 
-module _ {D : Type 0} (content : D → List ℕ) where
+module _ {D O : Type 0} (content : D → List ℕ) where
   -- ---- the steps
 
-  pub begun : (trusted : Type 0) (f : Flow D) (left old : Option (List ℕ)) → IsBegun f → Feeding content trusted (seen content f.session.clerk) f 0 left left old old
+  pub begun : (trusted : Type 0) (f : Flow D O) (left old : Option (List ℕ)) → IsBegun f → Feeding content trusted (seen content f.session.clerk) f 0 left left old old
   begun trusted f left old b = record {
     taken = [];
     given = Consumes-nil left;
@@ -90,7 +91,7 @@ module _ {D : Type 0} (content : D → List ℕ) where
     };
   }
 
-  pub fed : (trusted : Type 0) (first : View) (f g : Flow D) (count : ℕ) (left mid rest old now new : Option (List ℕ)) (piece : List ℕ)
+  pub fed : (trusted : Type 0) (first : View) (f g : Flow D O) (count : ℕ) (left mid rest old now new : Option (List ℕ)) (piece : List ℕ)
       → Feeding content trusted first f count left mid old now → Consumes mid rest piece → (trusted → Carries content f g piece now new) → Feeding content trusted first g (count + length piece) left rest old new
   fed trusted first f g count left mid rest old now new piece h given carries = record {
     taken = h.taken ++ piece;
@@ -100,7 +101,7 @@ module _ {D : Type 0} (content : D → List ℕ) where
   }
 
   -- the source is at its end
-  pub fed_all : (trusted : Type 0) (first : View) (f : Flow D) (count : ℕ) (left mid rest old now : Option (List ℕ)) (piece : List ℕ)
+  pub fed_all : (trusted : Type 0) (first : View) (f : Flow D O) (count : ℕ) (left mid rest old now : Option (List ℕ)) (piece : List ℕ)
       → Feeding content trusted first f count left mid old now → count ≤ 16_777_216 → Consumes mid rest piece → piece ≡ [] → IsAtEnd rest → FedAll content trusted first f left rest old now
   fed_all trusted first f count left mid rest old now piece h few given e end = record {
     all = h.taken;
@@ -112,7 +113,7 @@ module _ {D : Type 0} (content : D → List ℕ) where
 
 -- ---- what is written, and which events came
 
-module _ {D : Type 0} (content : D → List ℕ) (moment : D → ℕ) (left_since : D → ℕ → List ℕ → Type 0) (size : D → ℕ) (trusted : Type 0) (a : Clerk D) where
+module _ {D O : Type 0} (content : D → List ℕ) (moment : D → ℕ) (left_since : D → ℕ → List ℕ → Type 0) (size : D → ℕ) (trusted : Type 0) (a : Clerk D O) where
   abbrev first : View
   first = seen content a
 
@@ -122,11 +123,11 @@ module _ {D : Type 0} (content : D → List ℕ) (moment : D → ℕ) (left_sinc
   abbrev HasTo : D → List (List ℕ) → Type 0
   HasTo = Has content moment left_since size a.desk
 
-  abbrev GoesTo : Flow D → Type 0
+  abbrev GoesTo : Flow D O → Type 0
   GoesTo f = Goes content moment left_since size a.desk f.session.clerk.desk
 
   -- the serving stopped within a piece
-  pub stopped_within : (here : Type 0) (f : Flow D) (end : D) (count : ℕ) (left mid rest old now new : Option (List ℕ)) (piece served more : List ℕ) (stop : Stop)
+  pub stopped_within : (here : Type 0) (f : Flow D O) (end : D) (count : ℕ) (left mid rest old now new : Option (List ℕ)) (piece served more : List ℕ) (stop : Stop)
       (source source' before between after before' between' after' : ℕ)
       → Feeding content trusted first f count left mid old now → count + length piece ≤ 16_777_217 → Consumes mid rest piece → piece ≡ served ++ more → (trusted → GoesTo f)
       → (trusted → Stopped content moment left_since size f.session.clerk.desk end (Breaks content stop between after f served now new))
@@ -153,7 +154,7 @@ module _ {D : Type 0} (content : D → List ℕ) (moment : D → ℕ) (left_sinc
   }
 
   -- the source failed
-  pub stopped_by_source : (f : Flow D) (count : ℕ) (left mid rest old now : Option (List ℕ)) (stop : Stop) (before between after c d c' d' : ℕ)
+  pub stopped_by_source : (f : Flow D O) (count : ℕ) (left mid rest old now : Option (List ℕ)) (stop : Stop) (before between after c d c' d' : ℕ)
       → Feeding content trusted first f count left mid old now → count ≤ 16_777_216 → Keeps mid rest → (trusted → GoesTo f) → before ≤ between → stop ≡ Stops.Source → Rose between after
       → IsStopped trusted (EachTo (disk_of f.session.clerk.desk)) (HasTo (disk_of f.session.clerk.desk)) first.state stop (faults_of before after c d c' d') left rest old now
   stopped_by_source f count left mid rest old now stop before between after c d c' d' h few kept goes later e rose =
@@ -170,7 +171,7 @@ module _ {D : Type 0} (content : D → List ℕ) (moment : D → ℕ) (left_sinc
       })
 
   -- one byte more than the limit was given
-  pub stopped_by_limit : (f g : Flow D) (count n : ℕ) (left mid rest old now new : Option (List ℕ)) (piece : List ℕ) (faults : Faults)
+  pub stopped_by_limit : (f g : Flow D O) (count n : ℕ) (left mid rest old now new : Option (List ℕ)) (piece : List ℕ) (faults : Faults)
       → Feeding content trusted first f count left mid old now → Consumes mid rest piece → length piece ≡ suc n → count + suc n ≡ 16_777_217 → (trusted → GoesTo g) → (trusted → Carries content f g (take n piece) now new)
       → IsStopped trusted (EachTo (disk_of g.session.clerk.desk)) (HasTo (disk_of g.session.clerk.desk)) first.state Stops.Limit faults left rest old new
   stopped_by_limit f g count n left mid rest old now new piece faults h given long all goes carries =
@@ -195,7 +196,7 @@ module _ {D : Type 0} (content : D → List ℕ) (moment : D → ℕ) (left_sinc
 
   -- ---- the end of the stream
 
-  served : (f g : Flow D) (refused : Bool) (left rest old mid new : Option (List ℕ)) → a.refused ≡ false
+  served : (f g : Flow D O) (refused : Bool) (left rest old mid new : Option (List ℕ)) → a.refused ≡ false
       → FedAll content trusted first f left rest old mid → (trusted → GoesTo g) → (trusted → Finishes content f (seen content g.session.clerk) refused mid new)
       → IsServed trusted (EachTo (disk_of g.session.clerk.desk)) (HasTo (disk_of g.session.clerk.desk)) first.state refused left rest old new
   served f g refused left rest old mid new clean h goes finishes = record {
@@ -211,7 +212,7 @@ module _ {D : Type 0} (content : D → List ℕ) (moment : D → ℕ) (left_sinc
         came_exactly content moment left_since size a.desk g.session.clerk.desk (goes holds) (events_told first.state (requests_of h.all)) done.3);
   }
 
-  stopped_at_end : (here : Type 0) (f : Flow D) (end : D) (left rest old mid new : Option (List ℕ)) (stop : Stop) (c d before between after before' between' after' : ℕ)
+  stopped_at_end : (here : Type 0) (f : Flow D O) (end : D) (left rest old mid new : Option (List ℕ)) (stop : Stop) (c d before between after before' between' after' : ℕ)
       → FedAll content trusted first f left rest old mid → (trusted → GoesTo f) → (trusted → Stopped content moment left_since size f.session.clerk.desk end (FinishBreaks content stop between after f mid new))
       → before ≤ between → before' ≤ between' → (trusted → here) → Caused here stop between after between' after'
       → IsStopped trusted (EachTo end) (HasTo end) first.state stop (faults_of c d before after before' after') left rest old new
@@ -233,7 +234,7 @@ module _ {D : Type 0} (content : D → List ℕ) (moment : D → ℕ) (left_sinc
         (breaks holds));
   }
 
-  pub serving_on : (here : Type 0) (f g : Flow D) (r : Result Bool Stop) (left rest old mid new : Option (List ℕ)) (c d before between after before' between' after' : ℕ) → a.refused ≡ false
+  pub serving_on : (here : Type 0) (f g : Flow D O) (r : Result Bool Stop) (left rest old mid new : Option (List ℕ)) (c d before between after before' between' after' : ℕ) → a.refused ≡ false
       → FedAll content trusted first f left rest old mid → (trusted → GoesTo f) → (trusted → OnOk r (Goes content moment left_since size f.session.clerk.desk g.session.clerk.desk))
       → (trusted → IfOk r (λ refused. Finishes content f (seen content g.session.clerk) refused mid new))
       → (trusted → IfErr r (λ stop. Stopped content moment left_since size f.session.clerk.desk (disk_of g.session.clerk.desk) (FinishBreaks content stop between after f mid new)))
@@ -245,7 +246,7 @@ module _ {D : Type 0} (content : D → List ℕ) (moment : D → ℕ) (left_sinc
       stopped_at_end here f (disk_of g.session.clerk.desk) left rest old mid new stop c d before between after before' between' after' h goes err later later' stays cause
 
 -- the exit of a `?` that hands the stop on, of a whole stream
-pub serving_stopped : (trusted : Type 0) (each has : List (List ℕ) → Type 0) (state : RoomyDesk) (r : Result Bool Stop) (stop : Stop) (faults : Faults) (left rest old new : Option (List ℕ)) → IsErrAnd r (λ s. s ≡ stop)
+pub serving_stopped : (trusted : Type 0) (each has : List (List ℕ) → Type 0) (state : StaffedDesk) (r : Result Bool Stop) (stop : Stop) (faults : Faults) (left rest old new : Option (List ℕ)) → IsErrAnd r (λ s. s ≡ stop)
     → IsStopped trusted each has state stop faults left rest old new → Serving trusted each has state r faults left rest old new
 serving_stopped trusted each has state (Ok x) stop faults left rest old new h s = absurd h
 serving_stopped trusted each has state (Err x) stop faults left rest old new h s = subst (λ (w : Stop). IsStopped trusted each has state w faults left rest old new) (sym h) s

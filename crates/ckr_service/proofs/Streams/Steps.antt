@@ -32,9 +32,9 @@ pushed_standing parts line =
     ap (session_behind_all first_session) (pushed_lines parts line)
     ∙ session_behind_all-append first_session (map strip_carriage_return parts) (strip_carriage_return line ∷ [])
 
-module _ {D : Type 0} (content : D → List ℕ) where
+module _ {D O : Type 0} (content : D → List ℕ) where
   -- the parts behind a line's end
-  pub split_at_end : (first : View) (taken : List ℕ) (f : Flow D) (start now : Option (List ℕ)) (p : StreamProgress content first taken f start now) → (rest : List ℕ)
+  pub split_at_end : (first : View) (taken : List ℕ) (f : Flow D O) (start now : Option (List ℕ)) (p : StreamProgress content first taken f start now) → (rest : List ℕ)
       → slice_split is_line_end (taken ++ 10 ∷ rest) ≡ (p.parts ++ f.partial.items ∷ []) ++ slice_split is_line_end rest
   split_at_end first taken f start now p rest =
       p.split (10 ∷ rest)
@@ -42,7 +42,7 @@ module _ {D : Type 0} (content : D → List ℕ) where
       ∙ sym (append_assoc p.parts (f.partial.items ∷ []) (slice_split is_line_end rest))
 
   -- a line's end comes, and the line is served
-  pub line_served : (first : View) (taken : List ℕ) (f g : Flow D) (start old new : Option (List ℕ)) → EndsLine content f g old new
+  pub line_served : (first : View) (taken : List ℕ) (f g : Flow D O) (start old new : Option (List ℕ)) → EndsLine content f g old new
       → StreamProgress content first taken f start old → StreamProgress content first (taken ++ 10 ∷ []) g start new
   line_served first taken f g start old new e p = record {
     parts = p.parts ++ f.partial.items ∷ [];

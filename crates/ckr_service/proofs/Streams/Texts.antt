@@ -23,9 +23,9 @@ use Rattle.ckr_service.proofs.Service.Halts.{stops_behind, stops_earlier}
 use Rattle.ckr_service.proofs.Streams.Pieces.{lines_behind, ended_parts-push}
 use Rattle.ckr_service.proofs.Streams.Steps.{pushed_requests, split_at_end, line_served}
 
-module _ {D : Type 0} (content : D → List ℕ) where
+module _ {D O : Type 0} (content : D → List ℕ) where
   -- what the whole stream asks: what was asked so far, and what the rest does
-  pub asked_behind : (first : View) (taken : List ℕ) (f : Flow D) (start now : Option (List ℕ)) (p : StreamProgress content first taken f start now) → (rest : List ℕ)
+  pub asked_behind : (first : View) (taken : List ℕ) (f : Flow D O) (start now : Option (List ℕ)) (p : StreamProgress content first taken f start now) → (rest : List ℕ)
       → requests_of (taken ++ rest) ≡ handed_within first_session (map strip_carriage_return p.parts)
       ++ handed_by (session_behind_all first_session (map strip_carriage_return p.parts)) (lines (f.partial.items ++ rest))
   asked_behind first taken f start now p rest =
@@ -34,7 +34,7 @@ module _ {D : Type 0} (content : D → List ℕ) where
       ∙ handed_by-append first_session (map strip_carriage_return p.parts) (lines (f.partial.items ++ rest))
 
   -- what is asked with the line that waits, once it ends
-  asked_with : (first : View) (taken : List ℕ) (f : Flow D) (start now : Option (List ℕ)) (p : StreamProgress content first taken f start now) → (rest : List ℕ)
+  asked_with : (first : View) (taken : List ℕ) (f : Flow D O) (start now : Option (List ℕ)) (p : StreamProgress content first taken f start now) → (rest : List ℕ)
       → requests_of (taken ++ 10 ∷ rest) ≡ (handed_within first_session (map strip_carriage_return p.parts) ++ line_requests f)
       ++ handed_by (session_behind_all first_session (map strip_carriage_return (p.parts ++ f.partial.items ∷ []))) (lines rest)
   asked_with first taken f start now p rest =
@@ -47,7 +47,7 @@ module _ {D : Type 0} (content : D → List ℕ) where
       (pushed_requests p.parts f.partial.items ∙ ap (λ s. handed_within first_session (map strip_carriage_return p.parts) ++ handed_with s line) (sym p.standing))
 
   -- the serving stops within the line
-  line_broken : (stop : Stop) (before between now : ℕ) (f : Flow D) (old new : Option (List ℕ)) (came kept : List (List ℕ)) → before ≤ between
+  line_broken : (stop : Stop) (before between now : ℕ) (f : Flow D O) (old new : Option (List ℕ)) (came kept : List (List ℕ)) → before ≤ between
       → StopsWithin stop between now (seen content f.session.clerk).state (line_requests f) old new came kept → Breaks content stop before now f (10 ∷ []) old new came kept
   line_broken stop before between now f old new came kept later so first taken start p rest =
       let bytes : taken ++ 10 ∷ rest ≡ (taken ++ 10 ∷ []) ++ rest = sym (append_assoc taken (10 ∷ []) rest) in
@@ -58,7 +58,7 @@ module _ {D : Type 0} (content : D → List ℕ) where
       p.text start old new came kept later p.serves p.written so)
 
   -- memory ran out, and nothing more is written
-  pub nothing_broken : (before now : ℕ) (f : Flow D) (piece : List ℕ) (here : Option (List ℕ)) → before ≤ now → Breaks content Stops.Memory before now f piece here here [] []
+  pub nothing_broken : (before now : ℕ) (f : Flow D O) (piece : List ℕ) (here : Option (List ℕ)) → before ≤ now → Breaks content Stops.Memory before now f piece here here [] []
   nothing_broken before now f piece here later first taken start p rest =
       let xs = handed_within first_session (map strip_carriage_return p.parts) in
       let more = handed_by (session_behind_all first_session (map strip_carriage_return p.parts)) (lines (f.partial.items ++ (piece ++ rest))) in
@@ -69,7 +69,7 @@ module _ {D : Type 0} (content : D → List ℕ) where
       (([], [], refl, Appends-nil here), comes_all [] [] [] refl))
 
   -- what is written is the text of the items that ended, and their events came
-  pub ended_told : (first : View) (taken : List ℕ) (f : Flow D) (start now : Option (List ℕ)) → (p : StreamProgress content first taken f start now)
+  pub ended_told : (first : View) (taken : List ℕ) (f : Flow D O) (start now : Option (List ℕ)) → (p : StreamProgress content first taken f start now)
       → HasServed first.state taken start now (told_so_far content p) (told_so_far content p)
   ended_told first taken f start now p =
       let whole : slice_split is_line_end taken ≡ p.parts ++ f.partial.items ∷ [] =
@@ -86,23 +86,23 @@ module _ {D : Type 0} (content : D → List ℕ) where
       }
 
   -- the same of a call's result
-  pub line_served_on : {E : Type 0} (r : Result (Unit {0}) E) (f g : Flow D) (old new : Option (List ℕ)) (b : ℕ) → b ≡ 10 → OnOk r (EndsLine content f g old new) → OnOk r (Carries content f g (b ∷ []) old new)
+  pub line_served_on : {E : Type 0} (r : Result (Unit {0}) E) (f g : Flow D O) (old new : Option (List ℕ)) (b : ℕ) → b ≡ 10 → OnOk r (EndsLine content f g old new) → OnOk r (Carries content f g (b ∷ []) old new)
   line_served_on (Ok x) f g old new b e served = λ first taken start p. subst (λ (c : ℕ). StreamProgress content first (taken ++ c ∷ []) g start new) (sym e) (line_served content first taken f g start old new served p)
   line_served_on (Err x) f g old new b e served = tt
 
-  pub line_broken_at : (before now : ℕ) (f : Flow D) (old new : Option (List ℕ)) (b : ℕ) → b ≡ 10 → (stop : Stop) (came kept : List (List ℕ))
+  pub line_broken_at : (before now : ℕ) (f : Flow D O) (old new : Option (List ℕ)) (b : ℕ) → b ≡ 10 → (stop : Stop) (came kept : List (List ℕ))
       → StopsWithin stop before now (seen content f.session.clerk).state (line_requests f) old new came kept → Breaks content stop before now f (b ∷ []) old new came kept
   line_broken_at before now f old new b e stop came kept so =
       subst (λ (c : ℕ). Breaks content stop before now f (c ∷ []) old new came kept) (sym e) (line_broken stop before before now f old new came kept (omega arith) so)
 
-  pub nothing_yet : (f : Flow D) (now : Option (List ℕ)) → Carries content f f [] now now
+  pub nothing_yet : (f : Flow D O) (now : Option (List ℕ)) → Carries content f f [] now now
   nothing_yet f now first taken start p = subst (λ (t : List ℕ). StreamProgress content first t f start now) (sym (append-nil taken)) p
 
-  pub Carries-trans : (f g h : Flow D) (xs ys : List ℕ) (old mid new : Option (List ℕ)) → Carries content f g xs old mid → Carries content g h ys mid new → Carries content f h (xs ++ ys) old new
+  pub Carries-trans : (f g h : Flow D O) (xs ys : List ℕ) (old mid new : Option (List ℕ)) → Carries content f g xs old mid → Carries content g h ys mid new → Carries content f h (xs ++ ys) old new
   Carries-trans f g h xs ys old mid new front behind first taken start p =
       subst (λ (t : List ℕ). StreamProgress content first t h start new) (append_assoc taken xs ys) (behind first (taken ++ xs) start (front first taken start p))
 
-  pub Carries-Breaks : (stop : Stop) (before between now : ℕ) (f g : Flow D) (xs ys more whole : List ℕ) (old mid new : Option (List ℕ)) (between_came came kept : List (List ℕ)) → before ≤ between
+  pub Carries-Breaks : (stop : Stop) (before between now : ℕ) (f g : Flow D O) (xs ys more whole : List ℕ) (old mid new : Option (List ℕ)) (between_came came kept : List (List ℕ)) → before ≤ between
       → (seen content g.session.clerk).events ≡ (seen content f.session.clerk).events ++ between_came
       → Carries content f g xs old mid → Breaks content stop between now g ys mid new came kept → whole ≡ (xs ++ ys) ++ more → Breaks content stop before now f whole old new (between_came ++ came) (between_came ++ kept)
   Carries-Breaks stop before between now f g xs ys more whole old mid new between_came came kept later events front behind e first taken start p rest =

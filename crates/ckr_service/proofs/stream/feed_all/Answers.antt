@@ -3,7 +3,7 @@ use Rattle.std.proofs.lemmas.List.{length-take-le}
 use Rattle.ckr_cards.specs.Session.{SessionModel as Standing}
 use Rattle.ckr_service.specs.Service.{seen}
 use Rattle.ckr_service.specs.Flows.{Carries}
-use Rattle.ckr_service.proofs.Streams.Feeds.{begun, fed, stopped_within, stopped_by_source, stopped_by_limit, handed_on, front_take, front_and_last}
+use Rattle.ckr_service.proofs.Streams.Feeds.{begun, fed, fed_all, stopped_within, stopped_by_source, stopped_by_limit, handed_on, front_take, front_and_last}
 use Rattle.ckr_service.proofs.Calls.Stops.{goes_nowhere, goes_then}
 use Rattle.ckr_service.proofs.stream.feed_all.Goals as goal
 use Rattle.ckr_desk.specs.State.{disk_of}
@@ -31,6 +31,14 @@ loop-taken-init g c =
       disk_later = omega arith;
       size = refl;
     }
+
+pub returns-then-taken-eq0-clause-ok : goal.returns-then-taken-eq0-clause-ok
+returns-then-taken-eq0-clause-ok g c =
+    let i = c.loop-taken.invariant in
+    let n = c.in_ok-taken.taken in
+    let buffer = c.next_piece.new.buffer in
+    fed_all g.D.Disk.content _ (seen g.D.Disk.content c.args.flow.now.session.clerk) c.loop-taken.flow c.loop-taken.count _ _ _ _ _ (take n buffer) i.feeding i.few c.in_ok-taken.ensures.given
+    (ap (λ (m : ℕ). take m buffer) c.if-taken-eq0.true) (c.in_ok-taken.ensures.end c.if-taken-eq0.true)
 
 pub returns-in_err-taken-clause-stop : goal.returns-in_err-taken-clause-stop
 returns-in_err-taken-clause-stop g c =

@@ -1,13 +1,16 @@
-use Rattle.std.proofs.Common.{◌≡◌, ◌++◌, ◌∙◌, ℕ, List}
+use Rattle.std.proofs.Common.{◌≡◌, ◌++◌, ◌∙◌, ℕ, List, map}
 use Rattle.ckr_desk.specs.FirstSync.{FromSync, IsLeft}
 use Rattle.ckr_desk.specs.Model.Layout.{Layout}
 use Rattle.ckr_desk.specs.Model.OpenImages.{event_records}
 use Rattle.ckr_desk.specs.Soundness.{AllSound, HasKept, IsTrusted, state_of}
 use Rattle.ckr_desk.specs.State.{disk_of, layout_of, opened_of}
+use Rattle.ckr_service.specs.Service.{staffed_by}
+use Rattle.ckr_service.specs.Staff.{staffed_with}
 use Rattle.ckr_service.specs.Stops.{Has, KeepsTo}
 use Rattle.ckr_service.proofs.Calls.Ends.{run_ended, run_not_opened}
 use Rattle.ckr_service.proofs.Calls.OpenStops.{all_sound_after, each_served, has_served, sound_from, sound_left}
-use Rattle.ckr_service.proofs.Service.Ends.{serving_from, some_came}
+use Rattle.ckr_service.proofs.Service.Ends.{serving_so, some_came}
+use Rattle.ckr_service.proofs.Service.Staff.{staffed-opened}
 use Rattle.ckr_service.proofs.top.run.Goals as goal
 
 pub returns-in-Ok : goal.returns-in-Ok
@@ -22,16 +25,20 @@ returns-in-Ok g c =
     let laws = g.met.D.Disk g.world.𝓛 g.world.𝓜 g.world.𝓡 ((λ s x. x), (λ x. x), (λ x. x), λ x. x) in
     let each : Layout → List (List ℕ) → Type 0 = λ layout came. FromSync d.content d.may_leave d.moment d.left_since disk end (HasKept layout (d.size disk) (event_records layout (d.content disk)) came) in
     let has : Layout → List (List ℕ) → Type 0 = λ layout kept. event_records layout (d.content end) ≡ event_records layout (d.content disk) ++ kept in
-    let served = serving_from (IsTrusted d.told d.content d.may_leave desk) (AllSound d.told d.may_leave d.size disk) (KeepsTo d.content d.moment d.left_since d.size desk end) (Has d.content d.moment d.left_since d.size desk end)
+    let operators = map g.O.Operator.answering c.args.operators.items in
+    let start = staffed_with operators (state_of d.content desk) in
+    let opened = staffed-opened d.content g.O.Operator.answering operators c.next-operator.result desk c.new-roster.result c.next-operator.new.self
+    c.new-roster.ensures.later c.new-roster.ensures.place c.next-operator.ensures e.operator in
+    let served = serving_so (IsTrusted d.told d.content d.may_leave desk) (AllSound d.told d.may_leave d.size disk) (KeepsTo d.content d.moment d.left_since d.size desk end) (Has d.content d.moment d.left_since d.size desk end)
     (each (layout_of desk)) (has (layout_of desk)) e.trusted
     (λ all came. each_served d.told d.content d.may_leave d.moment d.left_since d.size disk desk end (e.kept all) (e.records all.tells) e.size came)
     (λ all kept. has_served d.told d.content d.may_leave d.moment d.left_since d.size disk desk end (e.records all.tells) kept)
-    (state_of d.content desk) outcome _ _ _ _ (d.faults disk) (d.faults (disk_of desk)) (d.faults end) _ _ _ _ e.never_falls s.served in
+    (staffed_by d.content desk c.next-operator.new.self) start outcome _ _ _ _ (d.faults disk) (d.faults (disk_of desk)) (d.faults end) _ _ _ _ e.never_falls opened s.served in
     let safe = (λ (all : AllSound d.told d.may_leave d.size disk).
-    (let came = some_came (AllSound d.told d.may_leave d.size disk) (each (layout_of desk)) (has (layout_of desk)) (state_of d.content desk) outcome _ _ _ _ _ served all in
+    (let came = some_came (AllSound d.told d.may_leave d.size disk) (each (layout_of desk)) (has (layout_of desk)) start outcome _ _ _ _ _ served all in
     sound_from d.told d.content d.may_leave d.moment d.left_since d.size disk end (HasKept (layout_of desk) (d.size disk) (event_records (layout_of desk) (d.content disk)) came.0) all came.1 (λ image kept. kept.sound))) in
     record {
-      run = run_ended d.told (AllSound d.told d.may_leave d.size disk) (d.content disk) (d.size disk) (opened_of desk) (state_of d.content desk)
+      run = run_ended d.told (AllSound d.told d.may_leave d.size disk) (d.content disk) (d.size disk) (opened_of desk) (state_of d.content desk) operators
           (λ error. IsLeft d.content d.may_leave d.moment d.left_since d.size d.told (AllSound d.told d.may_leave d.size disk) error disk end) each has
           outcome _ _ _ _ _ _ e.read e.opened c.serving_status.ensures served;
       size = s.size ∙ e.size;
@@ -48,7 +55,7 @@ returns-in-Err g c =
     let laws = g.met.D.Disk g.world.𝓛 g.world.𝓜 g.world.𝓡 ((λ s x. x), (λ x. x), (λ x. x), λ x. x) in
     let safe = (λ (all : AllSound d.told d.may_leave d.size disk). sound_left d.told d.content d.may_leave d.moment d.left_since d.size c.in-Err.field-0.error disk end all e.left) in
     record {
-      run = run_not_opened _ _ _ (λ error. IsLeft d.content d.may_leave d.moment d.left_since d.size d.told (AllSound d.told d.may_leave d.size disk) error disk end) _ _ c.in-Err.field-0.error _ _ _ _ _ _ _
+      run = run_not_opened _ _ _ _ (λ error. IsLeft d.content d.may_leave d.moment d.left_since d.size d.told (AllSound d.told d.may_leave d.size disk) error disk end) _ _ c.in-Err.field-0.error _ _ _ _ _ _ _
           c.opening_status.ensures e.cause e.left;
       size = e.size_left;
       safe = safe;

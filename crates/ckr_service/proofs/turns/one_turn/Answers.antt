@@ -1,13 +1,15 @@
-use Rattle.std.proofs.Common.{refl, subst}
+use Rattle.std.proofs.Common.{refl}
 use Rattle.ckr_desk.specs.Model.Reply.{Reply}
 use Rattle.ckr_desk.proofs.Calls.FullBooks.{turn-fits, turn-full}
 use Rattle.ckr_desk.proofs.Calls.OneEvent.{turn-few}
-use Rattle.ckr_desk.specs.Requests.{spelled}
 use Rattle.ckr_desk.specs.Soundness.{state_of}
-use Rattle.ckr_desk.specs.Turn.{event_of_turn}
-use Rattle.ckr_desk.specs.State.{disk_of}
+use Rattle.ckr_desk.specs.State.{disk_of, operator_of}
+use Rattle.ckr_console.specs.Answering.{restart_answer}
 use Rattle.ckr_service.specs.declared.stop.Halt.TheVariants as Halts
+use Rattle.ckr_service.specs.Service.{attended_of}
+use Rattle.ckr_service.specs.Staff.{attended_event}
 use Rattle.ckr_service.specs.Turns.{TurnHalt}
+use Rattle.ckr_service.proofs.Service.Staff.{attended-behind}
 use Rattle.ckr_service.proofs.Calls.Stops.{failed_kept, goes_done, with_failed_disk, with_full_book, without_memory}
 use Rattle.ckr_service.proofs.turns.one_turn.Goals as goal
 
@@ -22,7 +24,7 @@ returns-in-Err-NoMemory-clause-halt g c holds =
     let d = g.D.Disk in
     let old = c.args.desk.now in
     let e = c.in-Err-NoMemory.ensures in
-    without_memory d.content d.moment d.left_since d.size Reply d.may_leave d.faults old c.turn.new.self c.in-Err-NoMemory.field-0 _ (TurnHalt Halts.Memory c.args.turn (state_of d.content old))
+    without_memory d.content d.moment d.left_since d.size Reply d.may_leave d.faults old c.turn.new.self c.in-Err-NoMemory.field-0 _ (TurnHalt Halts.Memory c.args.turn (attended_of d.content old))
     c.in-Err-NoMemory.field-0-is (e.kept c.requires.is_open holds) e.keeps.stays (refl, refl)
 
 pub returns-in-Err-BookFull-clause-halt : goal.returns-in-Err-BookFull-clause-halt
@@ -31,8 +33,8 @@ returns-in-Err-BookFull-clause-halt g c holds =
     let old = c.args.desk.now in
     let e = c.in-Err-BookFull.ensures in
     with_full_book d.content d.moment d.left_since d.size Reply d.may_leave d.faults old c.turn.new.self c.in-Err-BookFull.field-0 c.in-Err-BookFull.field-0-0 c.in-Err-BookFull.field-0-1 _
-    (TurnHalt Halts.Book c.args.turn (state_of d.content old)) c.in-Err-BookFull.field-0-is (e.kept c.requires.is_open holds) e.keeps.stays
-    (turn-full (state_of d.content old) c.args.turn c.in-Err-BookFull.field-0 c.in-Err-BookFull.field-0-0 c.in-Err-BookFull.field-0-1 c.in-Err-BookFull.field-0-is (e.comes holds).cause, refl, refl)
+    (TurnHalt Halts.Book c.args.turn (attended_of d.content old)) c.in-Err-BookFull.field-0-is (e.kept c.requires.is_open holds) e.keeps.stays
+    (turn-full (state_of d.content old) c.args.turn (restart_answer (operator_of old)) c.in-Err-BookFull.field-0 c.in-Err-BookFull.field-0-0 c.in-Err-BookFull.field-0-1 c.in-Err-BookFull.field-0-is (e.comes holds).cause, refl, refl)
 
 pub returns-in-Err-DiskFault-clause-halt : goal.returns-in-Err-DiskFault-clause-halt
 returns-in-Err-DiskFault-clause-halt g c holds =
@@ -41,18 +43,21 @@ returns-in-Err-DiskFault-clause-halt g c holds =
     let old = c.args.desk.now in
     let new = c.turn.new.self in
     let e = c.in-Err-DiskFault.ensures in
-    let s = state_of d.content old in
-    let came = spelled (event_of_turn s c.args.turn) in
+    let s = attended_of d.content old in
+    let came = attended_event s c.args.turn in
     with_failed_disk d.content d.moment d.left_since d.size d.may_leave old new came (TurnHalt Halts.Disk c.args.turn s)
-    (laws.reads_an_image (disk_of new) holds.tells) (laws.counts_now (disk_of new)) (turn-few s c.args.turn)
+    (laws.reads_an_image (disk_of new) holds.tells) (laws.counts_now (disk_of new)) (turn-few s.state c.args.turn (restart_answer s.operator))
     (failed_kept d.content d.moment d.left_since d.size Reply old new c.in-Err-DiskFault.field-0 came c.in-Err-DiskFault.field-0-is (e.kept c.requires.is_open holds))
     (λ kept either. (refl, either))
 
 pub returns-in-Ok-clause-fits : goal.returns-in-Ok-clause-fits
-returns-in-Ok-clause-fits g c holds = turn-fits (state_of g.D.Disk.content c.args.desk.now) c.args.turn (c.in-Ok.ensures.comes holds).fits
+returns-in-Ok-clause-fits g c holds = turn-fits (state_of g.D.Disk.content c.args.desk.now) c.args.turn (restart_answer (operator_of c.args.desk.now)) (c.in-Ok.ensures.comes holds).fits
 
 pub returns-in-Ok-clause-after : goal.returns-in-Ok-clause-after
-returns-in-Ok-clause-after g c holds = (c.in-Ok.ensures.comes holds).after
+returns-in-Ok-clause-after g c holds =
+    let d = g.D.Disk in
+    let e = c.in-Ok.ensures in
+    attended-behind (attended_of d.content c.args.desk.now) (attended_of d.content c.turn.new.self) c.args.turn (e.comes holds).after (e.answered holds)
 
 pub returns-in-Ok-clause-events : goal.returns-in-Ok-clause-events
 returns-in-Ok-clause-events g c holds = (c.in-Ok.ensures.comes holds).events

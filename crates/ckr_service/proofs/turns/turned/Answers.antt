@@ -1,17 +1,17 @@
 use Rattle.std.proofs.Common.{◌≡◌, ◌-◌, ◌+◌, ◌++◌, [], ℕ, List, Option, length, suc, true, false, None, refl, ap, sym, subst, ◌∙◌, append-nil, arith}
 use Rattle.std.specs.List.{flat_map}
 use Rattle.ckr_desk.specs.Model.OpenImages.{event_records}
-use Rattle.ckr_desk.specs.Soundness.{state_of}
 use Rattle.ckr_desk.specs.State.{DeskView, disk_of, layout_of}
 use Rattle.ckr_service.specs.declared.stop.Halt.TheVariants as Halts
 use Rattle.ckr_service.specs.Events.{turns_events}
+use Rattle.ckr_service.specs.Service.{attended_of}
 use Rattle.ckr_desk.specs.Model.Layout.{Layout}
 use Rattle.ckr_desk.specs.Model.Reply.{Reply}
-use Rattle.ckr_service.specs.Calls.{is_idle}
+use Rattle.ckr_service.specs.Calls.{is_rest}
 use Rattle.ckr_service.specs.Lines.{IsTold, telling}
 use Rattle.ckr_service.specs.Texts.{run_text, with_waiting}
-use Rattle.ckr_service.specs.Turns.{Adds, TurnHalt, Turns, TurnsHaltTelling, turns_text}
-use Rattle.ckr_service.proofs.Service.Turns.{adds_behind_text, no_more, turns_begun, turn_counted, turn_made, turn_idle, turns_counted, turns_front, turns_made, turns_halted}
+use Rattle.ckr_service.specs.Turns.{Adds, TurnHalt, Turns, TurnsHaltTelling}
+use Rattle.ckr_service.proofs.Service.Turns.{adds_behind_text, no_more, turns_begun, turn_counted, turn_made, turn_rests, turns_counted, turns_front, turns_made, turns_halted}
 use Rattle.ckr_service.proofs.Calls.Stops.{came_there, goes_nowhere, goes_then, stopped_behind, stopped_here}
 use Rattle.ckr_service.proofs.Streams.Feeds.{handed_on}
 use Rattle.ckr_service.proofs.Tellings.{ends_told, front_told, told_here, told_more}
@@ -30,7 +30,7 @@ none_waits layout initiator waiting text none = sym (ap (λ (w : Option (Reply �
 pub loop-init : goal.loop-init
 loop-init g c =
     let d = g.D.Disk in
-    let s = state_of d.content c.args.desk.now in
+    let s = attended_of d.content c.args.desk.now in
     let lines = c.args.lines.now in
     let from = telling lines (g.K.Sink.written c.args.sink.now) (g.K.Sink.faults c.args.sink.now) in
     record {
@@ -60,7 +60,7 @@ loop-preserved g c =
     let layout = layout_of c.args.desk.now in
     let m = c.args.count - (c.loop.counter + 1) in
     let less : c.args.count - c.loop.counter ≡ suc m = omega arith in
-    let busy : is_idle c.in_ok-reply.reply ≡ false = sym c.is_idle-idle.ensures ∙ c.if-idle.false in
+    let busy : is_rest c.in_ok-reply.reply ≡ false = sym c.is_rest-rests.ensures ∙ c.if-rests.false in
     let lines = c.write.new.self in
     let adds = subst (λ (l : Layout). Adds l c.args.turn.initiator c.loop.waiting c.in_ok-reply.reply c.in_ok-waiting.waiting lines.text c.add.new.out) (c.layout.ensures.layout ∙ o.layout ∙ i.layout) c.in_ok-waiting.ensures.adds in
     let more = flat_map (run_text layout c.args.turn.initiator) adds.ended in
@@ -88,94 +88,94 @@ loop-preserved g c =
       failed = λ failed. c.write.ensures.failed failed (g.K.Sink.faults c.args.sink.now) i.sink_later i.failed;
     }
 
-pub returns-then-idle-clause-text : goal.returns-then-idle-clause-text
-returns-then-idle-clause-text g c holds =
+pub returns-then-rests-clause-text : goal.returns-then-rests-clause-text
+returns-then-rests-clause-text g c holds =
     let i = c.loop.invariant in
     let o = c.in_ok-reply.ensures in
     let here = i.trusted holds in
     let layout = layout_of c.args.desk.now in
     let m = c.args.count - (c.loop.counter + 1) in
     let less : c.args.count - c.loop.counter ≡ suc m = omega arith in
-    let rests : is_idle c.in_ok-reply.reply ≡ true = sym c.is_idle-idle.ensures ∙ c.if-idle.true in
+    let rests : is_rest c.in_ok-reply.reply ≡ true = sym c.is_rest-rests.ensures ∙ c.if-rests.true in
     let lines = c.write.new.self in
     let adds = subst (λ (l : Layout). Adds l c.args.turn.initiator c.loop.waiting c.in_ok-reply.reply c.in_ok-waiting.waiting lines.text c.add.new.out) (c.layout.ensures.layout ∙ o.layout ∙ i.layout) c.in_ok-waiting.ensures.adds in
     let more = flat_map (run_text layout c.args.turn.initiator) adds.ended in
     let turns = i.turns holds in
-    let all = turn_idle layout c.args.turn c.args.count (c.args.count - c.loop.counter) m _ _ _ c.in_ok-reply.reply _ _ _ turns.told (turns.told ++ more) (turns.told ++ more) _ _ _ less (o.fits here) (o.reply here) (o.after here) rests
+    let all = turn_rests layout c.args.turn c.args.count (c.args.count - c.loop.counter) m _ _ _ c.in_ok-reply.reply _ _ _ turns.told (turns.told ++ more) (turns.told ++ more) _ _ _ less (o.fits here) (o.reply here) (o.after here) rests
     (came_there g.D.Disk.content c.loop.desk c.one_turn.new.desk _ o.layout (o.events here)) turns.so
     (adds_behind_text layout c.args.turn.initiator c.loop.waiting c.in_ok-reply.reply c.in_ok-waiting.waiting lines.text c.add.new.out turns.told adds)
-    (none_waits layout c.args.turn.initiator c.in_ok-waiting.waiting (turns.told ++ more) (c.in_ok-waiting.ensures.idle rests)) in
+    (none_waits layout c.args.turn.initiator c.in_ok-waiting.waiting (turns.told ++ more) (c.in_ok-waiting.ensures.rest rests)) in
     let from = telling c.args.lines.now (g.K.Sink.written c.args.sink.now) (g.K.Sink.faults c.args.sink.now) in
     let written = g.K.Sink.written c.write.new.sink in
     let faults = g.K.Sink.faults c.write.new.sink in
     subst (λ (l : List ℕ). IsTold from l (record { waits = c.add.new.out; failed = lines.failed; written = written; faults = faults })) all.text
     (told_more from turns.told more lines.text c.add.new.out lines.failed written faults adds.written (c.write.ensures.told from turns.told i.sink_later turns.is))
 
-pub returns-then-idle-clause-after : goal.returns-then-idle-clause-after
-returns-then-idle-clause-after g c holds =
+pub returns-then-rests-clause-after : goal.returns-then-rests-clause-after
+returns-then-rests-clause-after g c holds =
     let i = c.loop.invariant in
     let o = c.in_ok-reply.ensures in
     let here = i.trusted holds in
     let layout = layout_of c.args.desk.now in
     let m = c.args.count - (c.loop.counter + 1) in
     let less : c.args.count - c.loop.counter ≡ suc m = omega arith in
-    let rests : is_idle c.in_ok-reply.reply ≡ true = sym c.is_idle-idle.ensures ∙ c.if-idle.true in
+    let rests : is_rest c.in_ok-reply.reply ≡ true = sym c.is_rest-rests.ensures ∙ c.if-rests.true in
     let lines = c.write.new.self in
     let adds = subst (λ (l : Layout). Adds l c.args.turn.initiator c.loop.waiting c.in_ok-reply.reply c.in_ok-waiting.waiting lines.text c.add.new.out) (c.layout.ensures.layout ∙ o.layout ∙ i.layout) c.in_ok-waiting.ensures.adds in
     let more = flat_map (run_text layout c.args.turn.initiator) adds.ended in
     let turns = i.turns holds in
-    let all = turn_idle layout c.args.turn c.args.count (c.args.count - c.loop.counter) m _ _ _ c.in_ok-reply.reply _ _ _ turns.told (turns.told ++ more) (turns.told ++ more) _ _ _ less (o.fits here) (o.reply here) (o.after here) rests
+    let all = turn_rests layout c.args.turn c.args.count (c.args.count - c.loop.counter) m _ _ _ c.in_ok-reply.reply _ _ _ turns.told (turns.told ++ more) (turns.told ++ more) _ _ _ less (o.fits here) (o.reply here) (o.after here) rests
     (came_there g.D.Disk.content c.loop.desk c.one_turn.new.desk _ o.layout (o.events here)) turns.so
     (adds_behind_text layout c.args.turn.initiator c.loop.waiting c.in_ok-reply.reply c.in_ok-waiting.waiting lines.text c.add.new.out turns.told adds)
-    (none_waits layout c.args.turn.initiator c.in_ok-waiting.waiting (turns.told ++ more) (c.in_ok-waiting.ensures.idle rests)) in
+    (none_waits layout c.args.turn.initiator c.in_ok-waiting.waiting (turns.told ++ more) (c.in_ok-waiting.ensures.rest rests)) in
     all.after
 
-pub returns-then-idle-clause-fits : goal.returns-then-idle-clause-fits
-returns-then-idle-clause-fits g c holds =
+pub returns-then-rests-clause-fits : goal.returns-then-rests-clause-fits
+returns-then-rests-clause-fits g c holds =
     let i = c.loop.invariant in
     let o = c.in_ok-reply.ensures in
     let here = i.trusted holds in
     let layout = layout_of c.args.desk.now in
     let m = c.args.count - (c.loop.counter + 1) in
     let less : c.args.count - c.loop.counter ≡ suc m = omega arith in
-    let rests : is_idle c.in_ok-reply.reply ≡ true = sym c.is_idle-idle.ensures ∙ c.if-idle.true in
+    let rests : is_rest c.in_ok-reply.reply ≡ true = sym c.is_rest-rests.ensures ∙ c.if-rests.true in
     let lines = c.write.new.self in
     let adds = subst (λ (l : Layout). Adds l c.args.turn.initiator c.loop.waiting c.in_ok-reply.reply c.in_ok-waiting.waiting lines.text c.add.new.out) (c.layout.ensures.layout ∙ o.layout ∙ i.layout) c.in_ok-waiting.ensures.adds in
     let more = flat_map (run_text layout c.args.turn.initiator) adds.ended in
     let turns = i.turns holds in
-    let all = turn_idle layout c.args.turn c.args.count (c.args.count - c.loop.counter) m _ _ _ c.in_ok-reply.reply _ _ _ turns.told (turns.told ++ more) (turns.told ++ more) _ _ _ less (o.fits here) (o.reply here) (o.after here) rests
+    let all = turn_rests layout c.args.turn c.args.count (c.args.count - c.loop.counter) m _ _ _ c.in_ok-reply.reply _ _ _ turns.told (turns.told ++ more) (turns.told ++ more) _ _ _ less (o.fits here) (o.reply here) (o.after here) rests
     (came_there g.D.Disk.content c.loop.desk c.one_turn.new.desk _ o.layout (o.events here)) turns.so
     (adds_behind_text layout c.args.turn.initiator c.loop.waiting c.in_ok-reply.reply c.in_ok-waiting.waiting lines.text c.add.new.out turns.told adds)
-    (none_waits layout c.args.turn.initiator c.in_ok-waiting.waiting (turns.told ++ more) (c.in_ok-waiting.ensures.idle rests)) in
+    (none_waits layout c.args.turn.initiator c.in_ok-waiting.waiting (turns.told ++ more) (c.in_ok-waiting.ensures.rest rests)) in
     all.fits
 
-pub returns-then-idle-clause-events : goal.returns-then-idle-clause-events
-returns-then-idle-clause-events g c holds =
+pub returns-then-rests-clause-events : goal.returns-then-rests-clause-events
+returns-then-rests-clause-events g c holds =
     let i = c.loop.invariant in
     let o = c.in_ok-reply.ensures in
     let here = i.trusted holds in
     let layout = layout_of c.args.desk.now in
     let m = c.args.count - (c.loop.counter + 1) in
     let less : c.args.count - c.loop.counter ≡ suc m = omega arith in
-    let rests : is_idle c.in_ok-reply.reply ≡ true = sym c.is_idle-idle.ensures ∙ c.if-idle.true in
+    let rests : is_rest c.in_ok-reply.reply ≡ true = sym c.is_rest-rests.ensures ∙ c.if-rests.true in
     let lines = c.write.new.self in
     let adds = subst (λ (l : Layout). Adds l c.args.turn.initiator c.loop.waiting c.in_ok-reply.reply c.in_ok-waiting.waiting lines.text c.add.new.out) (c.layout.ensures.layout ∙ o.layout ∙ i.layout) c.in_ok-waiting.ensures.adds in
     let more = flat_map (run_text layout c.args.turn.initiator) adds.ended in
     let turns = i.turns holds in
-    let all = turn_idle layout c.args.turn c.args.count (c.args.count - c.loop.counter) m _ _ _ c.in_ok-reply.reply _ _ _ turns.told (turns.told ++ more) (turns.told ++ more) _ _ _ less (o.fits here) (o.reply here) (o.after here) rests
+    let all = turn_rests layout c.args.turn c.args.count (c.args.count - c.loop.counter) m _ _ _ c.in_ok-reply.reply _ _ _ turns.told (turns.told ++ more) (turns.told ++ more) _ _ _ less (o.fits here) (o.reply here) (o.after here) rests
     (came_there g.D.Disk.content c.loop.desk c.one_turn.new.desk _ o.layout (o.events here)) turns.so
     (adds_behind_text layout c.args.turn.initiator c.loop.waiting c.in_ok-reply.reply c.in_ok-waiting.waiting lines.text c.add.new.out turns.told adds)
-    (none_waits layout c.args.turn.initiator c.in_ok-waiting.waiting (turns.told ++ more) (c.in_ok-waiting.ensures.idle rests)) in
+    (none_waits layout c.args.turn.initiator c.in_ok-waiting.waiting (turns.told ++ more) (c.in_ok-waiting.ensures.rest rests)) in
     ap (λ (l : Layout). event_records l (g.D.Disk.content (disk_of c.one_turn.new.desk))) (sym (o.layout ∙ i.layout)) ∙ all.events
 
-pub returns-then-idle-clause-goes : goal.returns-then-idle-clause-goes
-returns-then-idle-clause-goes g c holds =
+pub returns-then-rests-clause-goes : goal.returns-then-rests-clause-goes
+returns-then-rests-clause-goes g c holds =
     let d = g.D.Disk in
     let i = c.loop.invariant in
     goes_then d.content d.moment d.left_since d.size c.args.desk.now c.loop.desk c.one_turn.new.desk (i.goes holds) (c.in_ok-reply.ensures.goes (i.trusted holds))
 
-pub returns-then-idle-clause-failed : goal.returns-then-idle-clause-failed
-returns-then-idle-clause-failed g c failed =
+pub returns-then-rests-clause-failed : goal.returns-then-rests-clause-failed
+returns-then-rests-clause-failed g c failed =
     let i = c.loop.invariant in
     c.write.ensures.failed failed (g.K.Sink.faults c.args.sink.now) i.sink_later i.failed
 
@@ -186,7 +186,7 @@ returns-in_err-reply-clause-halt g c holds =
     let d = g.D.Disk in
     let i = c.loop.invariant in
     let old = c.args.desk.now in
-    let s = state_of d.content old in
+    let s = attended_of d.content old in
     let layout = layout_of old in
     let halt = c.in_err-reply.field-0.0 in
     let m = c.args.count - (c.loop.counter + 1) in
@@ -197,7 +197,7 @@ returns-in_err-reply-clause-halt g c holds =
     let whole = turns_front layout c.args.turn c.args.count (c.args.count - c.loop.counter) _ _ _ _ _ _ _ turns.so in
     handed_on c.from_residual.result halt _ c.from_residual.ensures.1
     (stopped_behind d.content d.moment d.left_since d.size old c.loop.desk (disk_of c.one_turn.new.desk) (i.goes holds) (turns_events c.args.turn (length turns.so.made) s)
-    (TurnHalt halt c.args.turn (state_of d.content c.loop.desk)) (TurnsHaltTelling layout c.args.turn halt c.args.count s from to) turns.so.events
+    (TurnHalt halt c.args.turn (attended_of d.content c.loop.desk)) (TurnsHaltTelling layout c.args.turn halt c.args.count s from to) turns.so.events
     (λ came kept why. record {
       told = turns.told;
       so = turns_halted layout c.args.turn halt c.args.count (c.args.count - c.loop.counter) m _ _ _ _ turns.told turns.told _ _ came kept less why turns.so (no_more layout c.args.turn c.loop.waiting turns.told i.told);
@@ -218,7 +218,7 @@ returns-in_err-waiting-clause-halt g c holds =
     let i = c.loop.invariant in
     let o = c.in_ok-reply.ensures in
     let old = c.args.desk.now in
-    let s = state_of d.content old in
+    let s = attended_of d.content old in
     let layout = layout_of old in
     let m = c.args.count - (c.loop.counter + 1) in
     let less : c.args.count - c.loop.counter ≡ suc m = omega arith in
@@ -249,7 +249,7 @@ returns-in_err-finish-clause-halt g c holds =
     let d = g.D.Disk in
     let i = c.loop.invariant in
     let old = c.args.desk.now in
-    let s = state_of d.content old in
+    let s = attended_of d.content old in
     let layout = layout_of old in
     let turns = i.turns holds in
     let written = g.K.Sink.written c.loop.sink in

@@ -1,10 +1,11 @@
 use Rattle.std.proofs.Common.{◌≡◌, ◌≤◌, ◌-◌, true}
 use Rattle.ckr_outside.specs.Faults.{Rose}
 use Rattle.ckr_desk.specs.Model.OpenImages.{event_records}
-use Rattle.ckr_desk.specs.Soundness.{IsTrusted, state_of}
+use Rattle.ckr_desk.specs.Soundness.{IsTrusted}
 use Rattle.ckr_desk.specs.State.{IsOpen, disk_of, layout_of}
 use Rattle.ckr_service.specs.Lines.{TellsSo, telling}
 use Rattle.ckr_service.specs.Texts.{waiting_count}
+use Rattle.ckr_service.specs.Service.{attended_of}
 use Rattle.ckr_service.specs.Stops.{Goes}
 use Rattle.ckr_service.specs.Turns.{IsToldWaiting, Turns}
 use Rattle.ckr_service.proofs.turns.turned.Given as goal
@@ -13,7 +14,7 @@ abbrev pub invariant-loop : goal.invariant-loop
 invariant-loop g l = record {
   turns : IsTrusted g.D.Disk.told g.D.Disk.content g.D.Disk.may_leave l.fn.desk
       → TellsSo
-      (λ told. Turns (layout_of l.fn.desk) l.turn l.count (l.count - l.counter) (state_of g.D.Disk.content l.fn.desk) (state_of g.D.Disk.content l.desk) l.waiting l.fn.lines.text told
+      (λ told. Turns (layout_of l.fn.desk) l.turn l.count (l.count - l.counter) (attended_of g.D.Disk.content l.fn.desk) (attended_of g.D.Disk.content l.desk) l.waiting l.fn.lines.text told
       (event_records (layout_of l.fn.desk) (g.D.Disk.content (disk_of l.fn.desk))) (event_records (layout_of l.desk) (g.D.Disk.content (disk_of l.desk))))
       (telling l.fn.lines (g.K.Sink.written l.fn.sink) (g.K.Sink.faults l.fn.sink)) (telling l.lines (g.K.Sink.written l.sink) (g.K.Sink.faults l.sink));
   told : IsToldWaiting l.waiting;

@@ -3,14 +3,13 @@ use Rattle.std.specs.List.{slice_split, All}
 use Rattle.std.proofs.lemmas.Grind.{common_steps}
 use Rattle.std.proofs.lemmas.List.Elements.{All-push}
 use Rattle.std.specs.Str.Lines.{strip_carriage_return}
-use Rattle.ckr_desk.specs.Soundness.{state_of}
 use Rattle.ckr_desk.specs.State.{disk_of}
 use Rattle.ckr_cards.specs.Session.{first_session, handed_within as asked_within}
 use Rattle.ckr_service.specs.declared.flow.Flow.{Flow}
 use Rattle.ckr_service.specs.declared.session.Session.{Session}
 use Rattle.ckr_service.specs.declared.stop.Stop.TheVariants as Stops
 use Rattle.ckr_service.specs.Flows.{Breaks, Carries, line_requests}
-use Rattle.ckr_service.specs.Service.{Serves, StopsWithin, seen}
+use Rattle.ckr_service.specs.Service.{Serves, StopsWithin, seen, staffed_of}
 use Rattle.ckr_service.specs.Sessions.{standing_of}
 use Rattle.ckr_service.specs.Stream.{is_line_end}
 use Rattle.ckr_service.proofs.Streams.Texts.{line_served_on, line_broken_at, nothing_broken}
@@ -19,8 +18,8 @@ use Rattle.ckr_service.proofs.Calls.Stops.{goes_nowhere, stopped_here, stopped_o
 use Rattle.ckr_service.proofs.flow.Flow.byte.Goals as goal
 
 -- a byte that ends no line waits with those before it
-byte_waits : {D : Type 0} (content : D → List ℕ) (f g : Flow D) (b : ℕ) (now : Option (List ℕ)) → g.session ≡ f.session → g.partial.items ≡ f.partial.items ++ b ∷ [] → is_line_end b ≡ false → Carries content f g (b ∷ []) now now
-byte_waits {D = D} content f g b now same grown other first taken start p = record {
+byte_waits : {D O : Type 0} (content : D → List ℕ) (f g : Flow D O) (b : ℕ) (now : Option (List ℕ)) → g.session ≡ f.session → g.partial.items ≡ f.partial.items ++ b ∷ [] → is_line_end b ≡ false → Carries content f g (b ∷ []) now now
+byte_waits {D = D} {O = O} content f g b now same grown other first taken start p = record {
   parts = p.parts;
   split = λ rest.
       ap (slice_split is_line_end) (append_assoc taken (b ∷ []) rest)
@@ -29,7 +28,7 @@ byte_waits {D = D} content f g b now same grown other first taken start p = reco
   waits = subst (All (λ x. is_line_end x ≡ false)) (sym grown) (All-push (λ x. is_line_end x ≡ false) f.partial.items b p.waits other);
   standing = ap standing_of same ∙ p.standing;
   text = p.text;
-  serves = subst (λ (s : Session D). Serves first (seen content s.clerk) (asked_within first_session (map strip_carriage_return p.parts)) [] p.text) (sym same) p.serves;
+  serves = subst (λ (s : Session D O). Serves first (seen content s.clerk) (asked_within first_session (map strip_carriage_return p.parts)) [] p.text) (sym same) p.serves;
   written = p.written;
 }
 
@@ -42,7 +41,7 @@ returns-then-byte-eq10-clause-err g c holds =
     let d = g.D.Disk in
     let f = c.args.self.now in
     stopped_on d.content d.moment d.left_since d.size c.end_line.result f.session.clerk.desk (disk_of c.end_line.new.self.session.clerk.desk)
-    (λ stop. StopsWithin stop (g.K.Sink.faults c.args.sink.now) (g.K.Sink.faults c.end_line.new.sink) (state_of d.content f.session.clerk.desk) (line_requests f) (g.K.Sink.written c.args.sink.now) (g.K.Sink.written c.end_line.new.sink))
+    (λ stop. StopsWithin stop (g.K.Sink.faults c.args.sink.now) (g.K.Sink.faults c.end_line.new.sink) (staffed_of d.content f.session.clerk) (line_requests f) (g.K.Sink.written c.args.sink.now) (g.K.Sink.written c.end_line.new.sink))
     (λ stop. Breaks d.content stop (g.K.Sink.faults c.args.sink.now) (g.K.Sink.faults c.end_line.new.sink) f (c.args.byte ∷ []) (g.K.Sink.written c.args.sink.now) (g.K.Sink.written c.end_line.new.sink))
     (line_broken_at d.content (g.K.Sink.faults c.args.sink.now) (g.K.Sink.faults c.end_line.new.sink) f (g.K.Sink.written c.args.sink.now) (g.K.Sink.written c.end_line.new.sink) c.args.byte c.if-byte-eq10.true)
     (c.end_line.ensures.err holds)

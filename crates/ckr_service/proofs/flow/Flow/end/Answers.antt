@@ -1,9 +1,7 @@
-use Rattle.std.proofs.Common.{[], subst}
-use Rattle.ckr_desk.specs.Soundness.{state_of}
 use Rattle.ckr_desk.specs.State.{disk_of}
 use Rattle.ckr_service.specs.Events.{events_told}
 use Rattle.ckr_service.specs.Lines.{telling}
-use Rattle.ckr_service.specs.Service.{HaltsTelling, seen}
+use Rattle.ckr_service.specs.Service.{HaltsTelling, seen, staffed_of}
 use Rattle.ckr_service.specs.Flows.{FinishBreaks, end_requests}
 use Rattle.ckr_service.proofs.Streams.Feeds.{handed_on}
 use Rattle.ckr_service.proofs.Streams.End.{finished, finish_broken}
@@ -31,7 +29,7 @@ returns-in_err-write-in-Ok-clause-err g c holds =
     let now = g.K.Sink.faults c.write.new.sink in
     let new = g.K.Sink.written c.write.new.sink in
     let serves = o.serves holds in
-    let came = events_told (state_of d.content f.session.clerk.desk) (end_requests f) in
+    let came = events_told (staffed_of d.content f.session.clerk) (end_requests f) in
     handed_on c.from_residual.result stop _ c.from_residual.ensures.1
     (stopped_here d.content d.moment d.left_since d.size f.session.clerk.desk c.end_requests.new.self.session.clerk.desk (o.goes holds) came (FinishBreaks d.content stop from.faults now f from.written new) serves.so.events
     (finish_broken d.content from.faults now f from.written new stop came came
@@ -48,9 +46,9 @@ returns-clause-err g c holds =
     let now = g.K.Sink.faults c.write_rest.new.sink in
     let new = g.K.Sink.written c.write_rest.new.sink in
     stopped_so d.content d.moment d.left_since d.size f.session.clerk.desk (disk_of c.end_requests.new.self.session.clerk.desk)
-    (HaltsTelling halt (state_of d.content f.session.clerk.desk) (end_requests f) from to) (FinishBreaks d.content stop from.faults now f from.written new)
+    (HaltsTelling halt (staffed_of d.content f.session.clerk) (end_requests f) from to) (FinishBreaks d.content stop from.faults now f from.written new)
     (λ came kept so.
     finish_broken d.content from.faults now f from.written new stop came kept
-    (halted halt stop now (state_of d.content f.session.clerk.desk) (end_requests f) from to new came kept c.new-lines.ensures.text so c.write_rest.ensures.stop
+    (halted halt stop now (staffed_of d.content f.session.clerk) (end_requests f) from to new came kept c.new-lines.ensures.text so c.write_rest.ensures.stop
     (λ whole told ends. c.write_rest.ensures.writes from whole told c.in-Err.ensures.sink_later ends)))
     (c.in-Err.ensures.halt holds)

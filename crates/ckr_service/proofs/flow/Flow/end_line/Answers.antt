@@ -1,12 +1,11 @@
-use Rattle.std.proofs.Common.{List, ℕ, [], ap, subst, ◌∙◌}
+use Rattle.std.proofs.Common.{List, ℕ, ap, subst, ◌∙◌}
 use Rattle.std.specs.Str.Lines.{strip_carriage_return}
 use Rattle.ckr_cards.specs.Session.{handed_with, session_behind}
-use Rattle.ckr_desk.specs.Soundness.{state_of}
 use Rattle.ckr_desk.specs.State.{disk_of}
 use Rattle.ckr_service.specs.Events.{events_told}
 use Rattle.ckr_service.specs.Flows.{line_requests}
 use Rattle.ckr_service.specs.Lines.{telling}
-use Rattle.ckr_service.specs.Service.{HaltsTelling, ServesTelling, StopsWithin, seen}
+use Rattle.ckr_service.specs.Service.{HaltsTelling, ServesTelling, StopsWithin, seen, staffed_of}
 use Rattle.ckr_service.specs.Sessions.{standing_of}
 use Rattle.ckr_service.proofs.Calls.Texts.{halted, serves_first, unwritten}
 use Rattle.ckr_service.proofs.Calls.Stops.{stopped_here, stopped_so}
@@ -43,15 +42,15 @@ returns-in_err-write-in-Ok-clause-err g c holds =
     let line = c.without_return.ensures ∙ ap strip_carriage_return c.deref.ensures.value in
     let serves = subst (λ (l : List ℕ). ServesTelling (seen d.content f.session.clerk) (seen d.content c.line.new.self.clerk) (handed_with (standing_of f.session) l) from to) line (o.serves holds) in
     handed_on c.from_residual.result stop _ c.from_residual.ensures.1
-    (stopped_here d.content d.moment d.left_since d.size f.session.clerk.desk c.line.new.self.clerk.desk (o.goes holds) (events_told (state_of d.content f.session.clerk.desk) (line_requests f))
-    (StopsWithin stop from.faults now (state_of d.content f.session.clerk.desk) (line_requests f) from.written new) serves.so.events
+    (stopped_here d.content d.moment d.left_since d.size f.session.clerk.desk c.line.new.self.clerk.desk (o.goes holds) (events_told (staffed_of d.content f.session.clerk) (line_requests f))
+    (StopsWithin stop from.faults now (staffed_of d.content f.session.clerk) (line_requests f) from.written new) serves.so.events
     (unwritten (seen d.content f.session.clerk) (seen d.content c.line.new.self.clerk) (line_requests f) from to stop now new serves c.new-lines.ensures.text o.sink_later e.cause.0 e.err))
 
 pub returns-clause-err : goal.returns-clause-err
 returns-clause-err g c holds =
     let d = g.D.Disk in
     let f = c.args.self.now in
-    let s = state_of d.content f.session.clerk.desk in
+    let s = staffed_of d.content f.session.clerk in
     let halt = c.in-Err.halt in
     let stop = c.write_rest.result in
     let from = telling c.new-lines.result (g.K.Sink.written c.args.sink.now) (g.K.Sink.faults c.args.sink.now) in

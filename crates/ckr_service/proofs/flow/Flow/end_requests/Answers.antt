@@ -1,11 +1,10 @@
 use Rattle.std.proofs.Common.{◌≡◌, ◌==◌, List, true, false, length, ap, subst, refl, arith, OnOk, IfErr}
 use Rattle.std.proofs.lemmas.Grind.{common_steps}
-use Rattle.ckr_desk.specs.Soundness.{state_of}
 use Rattle.ckr_desk.specs.State.{disk_of}
 use Rattle.ckr_cards.specs.Session.{Handed, SessionModel as Standing, handed_with, session_behind}
 use Rattle.ckr_service.specs.Flows.{end_requests}
 use Rattle.ckr_service.specs.Lines.{telling}
-use Rattle.ckr_service.specs.Service.{Serves, HaltsSo, HaltsTelling, ServesTelling, seen}
+use Rattle.ckr_service.specs.Service.{Serves, HaltsSo, HaltsTelling, ServesTelling, seen, staffed_of}
 use Rattle.ckr_service.specs.Stops.{Stopped}
 use Rattle.ckr_service.specs.Sessions.{standing_of}
 use Rattle.ckr_service.proofs.Streams.Feeds.{handed_on}
@@ -30,8 +29,8 @@ returns-then-is_empty-clause-halt g c holds =
     let f = c.args.self.now in
     let none : (length f.partial.items == 0) ≡ true = grind (arith, common_steps, c.is_empty.ensures, c.if-is_empty.true) in
     let from = telling c.args.lines.now (g.K.Sink.written c.args.sink.now) (g.K.Sink.faults c.args.sink.now) in
-    halts_quiet_on d.content d.moment d.left_since d.size c.end.result f.session.clerk.desk (disk_of c.end.new.self.clerk.desk) (end_requests f) from (waiting_with from.failed from.written from.faults c.end.new.out) c.requires.fresh refl
-    (subst (λ (xs : List Handed). IfErr c.end.result (λ halt. Stopped d.content d.moment d.left_since d.size f.session.clerk.desk (disk_of c.end.new.self.clerk.desk) (HaltsSo halt (state_of d.content f.session.clerk.desk) xs from.waits c.end.new.out)))
+    halts_quiet_on d.content d.moment d.left_since d.size c.end.result f.session.clerk (disk_of c.end.new.self.clerk.desk) (end_requests f) from (waiting_with from.failed from.written from.faults c.end.new.out) c.requires.fresh refl
+    (subst (λ (xs : List Handed). IfErr c.end.result (λ halt. Stopped d.content d.moment d.left_since d.size f.session.clerk.desk (disk_of c.end.new.self.clerk.desk) (HaltsSo halt (staffed_of d.content f.session.clerk) xs from.waits c.end.new.out)))
     (end_requests_without d.content f none) (c.end.ensures.halt holds))
 
 pub returns-in_err-line-clause-halt : goal.returns-in_err-line-clause-halt
@@ -42,7 +41,7 @@ returns-in_err-line-clause-halt g c holds =
     let some : (length f.partial.items == 0) ≡ false = grind (arith, common_steps, c.is_empty.ensures, c.if-is_empty.false) in
     let whole = end_requests_of d.content f line (session_behind (standing_of f.session) line).cards c.deref.ensures.value some refl in
     let halt = c.in_err-line.field-0.0 in
-    let s = state_of d.content f.session.clerk.desk in
+    let s = staffed_of d.content f.session.clerk in
     let from = telling c.args.lines.now (g.K.Sink.written c.args.sink.now) (g.K.Sink.faults c.args.sink.now) in
     let to = telling c.line.new.lines (g.K.Sink.written c.line.new.sink) (g.K.Sink.faults c.line.new.sink) in
     handed_on c.from_residual.result halt _ c.from_residual.ensures.1
@@ -78,7 +77,7 @@ returns-clause-halt g c holds =
     let written = g.K.Sink.written c.line.new.sink in
     let faults = g.K.Sink.faults c.line.new.sink in
     subst (λ (xs : List Handed). IfErr c.end-2.result (λ halt. Stopped d.content d.moment d.left_since d.size f.session.clerk.desk (disk_of c.end-2.new.self.clerk.desk)
-    (HaltsTelling halt (state_of d.content f.session.clerk.desk) xs from (waiting_with lines.failed written faults c.end-2.new.out)))) whole
+    (HaltsTelling halt (staffed_of d.content f.session.clerk) xs from (waiting_with lines.failed written faults c.end-2.new.out)))) whole
     (halts_then_on d.content d.moment d.left_since d.size c.end-2.result lines.failed written faults f.session.clerk c.line.new.self.clerk (disk_of c.end-2.new.self.clerk.desk) _ _ from lines.text c.end-2.new.out
     (o.goes holds) (o.serves holds) (c.end-2.ensures.halt (o.trusted holds)))
 

@@ -1,10 +1,9 @@
 use Rattle.std.proofs.Common.{◌≡◌, ◌+◌, ◌∙◌, ap, refl, sym, subst, List, ℕ, OnOk, IfErr, ◌++◌}
-use Rattle.ckr_desk.specs.Soundness.{state_of}
 use Rattle.ckr_desk.specs.State.{disk_of}
 use Rattle.ckr_cards.specs.declared.cutter.Line.{Line}
 use Rattle.ckr_cards.specs.Session.{handed_before, handed_alone}
 use Rattle.ckr_service.specs.Lines.{telling}
-use Rattle.ckr_service.specs.Service.{HaltsSo, HaltsTelling, ServesTelling, seen}
+use Rattle.ckr_service.specs.Service.{HaltsSo, HaltsTelling, ServesTelling, seen, staffed_of}
 use Rattle.ckr_service.specs.Stops.{Stopped}
 use Rattle.ckr_service.specs.Sessions.{standing_of, cards_left, cards_with}
 use Rattle.ckr_service.proofs.Service.Tellings.{serves_behind_quiet, waiting_with}
@@ -41,7 +40,7 @@ returns-clause-halt g c holds =
     let both = halts_behind_on d.content d.moment d.left_since d.size c.serve_line.result lines.failed written faults old c.end_before.new.clerk (disk_of c.serve_line.new.clerk.desk) _ _ lines.text c.end_before.new.out to
     (o.goes holds) (o.serves holds) (c.serve_line.ensures.halt (o.trusted holds)) in
     subst (λ (k : Line). IfErr c.serve_line.result (λ halt. Stopped d.content d.moment d.left_since d.size old.desk (disk_of c.serve_line.new.clerk.desk)
-    (HaltsTelling halt (state_of d.content old.desk) (handed_before k s.cards ++ handed_alone k s.number c.args.text.now) (waiting_with lines.failed written faults lines.text) to)))
+    (HaltsTelling halt (staffed_of d.content old) (handed_before k s.cards ++ handed_alone k s.number c.args.text.now) (waiting_with lines.failed written faults lines.text) to)))
     c.line-kind.ensures.kind both
 
 pub returns-clause-whole : goal.returns-clause-whole
@@ -64,9 +63,9 @@ returns-in_err-end_before-clause-halt g c holds =
     let lines = c.args.lines.now in
     let written = g.K.Sink.written c.args.sink.now in
     let faults = g.K.Sink.faults c.args.sink.now in
-    halts_quiet_on d.content d.moment d.left_since d.size c.from_residual.result old.desk disk _ (waiting_with lines.failed written faults lines.text) (waiting_with lines.failed written faults c.end_before.new.out) c.requires.fresh refl
+    halts_quiet_on d.content d.moment d.left_since d.size c.from_residual.result old disk _ (waiting_with lines.failed written faults lines.text) (waiting_with lines.failed written faults c.end_before.new.out) c.requires.fresh refl
     (subst (λ (k : Line). IfErr c.from_residual.result (λ halt. Stopped d.content d.moment d.left_since d.size old.desk disk
-    (HaltsSo halt (state_of d.content old.desk) (handed_before k s.cards ++ handed_alone k s.number c.args.text.now) c.args.lines.now.text c.end_before.new.out)))
+    (HaltsSo halt (staffed_of d.content old) (handed_before k s.cards ++ handed_alone k s.number c.args.text.now) c.args.lines.now.text c.end_before.new.out)))
     c.line-kind.ensures.kind
     (halts_before_on d.content d.moment d.left_since d.size c.from_residual.result c.in_err-end_before.field-0.0 old disk _ _ _ _ c.from_residual.ensures.1 (c.in_err-end_before.ensures.halt holds)))
 
@@ -80,9 +79,9 @@ returns-in_err-keep_card-clause-halt g c holds =
     let lines = c.args.lines.now in
     let written = g.K.Sink.written c.args.sink.now in
     let faults = g.K.Sink.faults c.args.sink.now in
-    halts_quiet_on d.content d.moment d.left_since d.size c.from_residual-in_err-keep_card.result old.desk (disk_of new.desk) _ (waiting_with lines.failed written faults lines.text) (waiting_with lines.failed written faults c.end_before.new.out) c.requires.fresh refl
+    halts_quiet_on d.content d.moment d.left_since d.size c.from_residual-in_err-keep_card.result old (disk_of new.desk) _ (waiting_with lines.failed written faults lines.text) (waiting_with lines.failed written faults c.end_before.new.out) c.requires.fresh refl
     (subst (λ (k : Line). IfErr c.from_residual-in_err-keep_card.result (λ halt. Stopped d.content d.moment d.left_since d.size old.desk (disk_of new.desk)
-    (HaltsSo halt (state_of d.content old.desk) (handed_before k s.cards ++ handed_alone k s.number c.args.text.now) c.args.lines.now.text c.end_before.new.out)))
+    (HaltsSo halt (staffed_of d.content old) (handed_before k s.cards ++ handed_alone k s.number c.args.text.now) c.args.lines.now.text c.end_before.new.out)))
     c.line-kind.ensures.kind
     (memory_behind d.content d.moment d.left_since d.size c.from_residual-in_err-keep_card.result old new _ _ _ _ _ _ (o.goes holds) (o.serves holds) c.from_residual-in_err-keep_card.ensures.1))
 

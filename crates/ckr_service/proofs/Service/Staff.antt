@@ -1,0 +1,82 @@
+-- A desk with its operators.
+use Rattle.std.proofs.Common.{◌≡◌, ℕ, ◌+◌, List, [], ◌∷◌, Option, None, Some, append-nil, ap, refl, sym, ◌∙◌}
+use Rattle.std.specs.Prelude.{MatchOption}
+use Rattle.std.specs.Option.{option_map}
+use Rattle.ckr_console.specs.Answering.{Answering, restart_answer}
+use Rattle.ckr_desk.specs.Model.Restart.{Decked}
+use Rattle.ckr_desk.specs.Model.OpenImages.{event_records}
+use Rattle.ckr_desk.specs.Model.Turn.{Turn}
+use Rattle.ckr_desk.specs.Requests.{behind_call}
+use Rattle.ckr_desk.specs.Soundness.{IsTrusted, KeepsWithin, state_of}
+use Rattle.ckr_desk.specs.State.{DeskView, RoomyDesk, disk_of, layout_of, operator_of}
+use Rattle.ckr_desk.specs.Turn.{asks, behind_turn, operator_behind}
+use Rattle.ckr_service.specs.Service.{staffed_by}
+use Rattle.ckr_service.specs.Staff.{AttendedDesk, RosterView, StaffedDesk, behind_attended, staffed_with, with_call}
+use Rattle.ckr_service.specs.Stops.{Goes}
+
+-- of the same desk, with the same operator in office
+pub attended-same : (a b : AttendedDesk) → a.state ≡ b.state → a.operator ≡ b.operator → a ≡ b
+attended-same a b state operator =
+    ap (λ (s : RoomyDesk). record { state = s; operator = a.operator }) state
+    ∙ ap (λ (o : Option Answering). record { state = b.state; operator = o }) operator
+
+-- and the same roster
+pub staffed-same : (a b : StaffedDesk) → a.attended.state ≡ b.attended.state → a.attended.operator ≡ b.attended.operator → a.roster ≡ b.roster → a ≡ b
+staffed-same a b state operator roster =
+    ap (λ (d : AttendedDesk). record { attended = d; roster = a.roster }) (attended-same a.attended b.attended state operator)
+    ∙ ap (λ (r : RosterView). record { attended = b.attended; roster = r }) roster
+
+-- behind a turn
+pub attended-behind : (a b : AttendedDesk) (turn : Turn) → b.state ≡ behind_turn a.state turn (restart_answer a.operator)
+    → b.operator ≡ operator_behind (asks a.state turn (restart_answer a.operator)) a.operator → b ≡ behind_attended a turn
+unfolding behind_attended
+attended-behind a b turn state operator = attended-same b (behind_attended a turn) state operator
+
+-- behind a call that is no turn
+pub staffed-behind : (a b : StaffedDesk) (call : Option Decked) → b.attended.state ≡ behind_call a.attended.state call → b.attended.operator ≡ a.attended.operator → b.roster ≡ a.roster → b ≡ with_call a call
+staffed-behind a b call state operator roster = staffed-same b (with_call a call) state operator roster
+
+-- ---- the opening: the first of the operators is in office
+
+pub staffed-opened : {D O : Type 0} (content : D → List ℕ) (answering : O → Answering) (operators : List Answering) (first : Option O) (desk : DeskView D) (all roster : RosterView)
+    → all.later ≡ operators → all.place ≡ 0
+    → MatchOption first ((all.later ≡ []) × (roster ≡ all)) (λ operator. (all.later ≡ answering operator ∷ roster.later) × (roster.place ≡ all.place + 1))
+    → operator_of desk ≡ option_map answering first → staffed_by content desk roster ≡ staffed_with operators (state_of content desk)
+staffed-opened content answering operators None desk all roster later place next operator =
+    staffed-same (staffed_by content desk roster) (staffed_with [] (state_of content desk)) refl operator
+    (next.1 ∙ ap (λ (l : List Answering). record { later = l; place = all.place }) next.0 ∙ ap (λ (n : ℕ). record { later = []; place = n }) place)
+    ∙ ap (λ (l : List Answering). staffed_with l (state_of content desk)) (sym next.0 ∙ later)
+staffed-opened content answering operators (Some first) desk all roster later place next operator =
+    staffed-same (staffed_by content desk roster) (staffed_with (answering first ∷ roster.later) (state_of content desk)) refl operator
+    (ap (λ (n : ℕ). record { later = roster.later; place = n }) (next.1 ∙ ap (λ (n : ℕ). n + 1) place))
+    ∙ ap (λ (l : List Answering). staffed_with l (state_of content desk)) (sym next.0 ∙ later)
+
+-- ---- another operator takes office
+
+module _ {D : Type 0} (desk : DeskView D) (operator : Option Answering) where
+  abbrev with_operator : DeskView D
+  with_operator = record desk { operator = operator }
+
+  -- the desk is trusted as before
+  pub trusted-with_operator : (told : Type 0) (content : D → List ℕ) (may_leave : D → List ℕ → Type 0) → IsTrusted told content may_leave desk → IsTrusted told content may_leave with_operator
+  trusted-with_operator told content may_leave trusted = record {
+    tells = trusted.tells;
+    opens = trusted.opens;
+    events = trusted.events;
+    stands = trusted.stands;
+    last = trusted.last;
+    committed = trusted.committed;
+    entries = trusted.entries;
+    entries_left = trusted.entries_left;
+  }
+
+  -- and nothing came
+  pub goes-with_operator : (content : D → List ℕ) (moment : D → ℕ) (left_since : D → ℕ → List ℕ → Type 0) (size : D → ℕ) → KeepsWithin content moment left_since size desk desk []
+      → Goes content moment left_since size desk with_operator
+  goes-with_operator content moment left_since size kept = record {
+    came = [];
+    each = kept;
+    has = sym (append-nil (event_records (layout_of desk) (content (disk_of desk))));
+    same_layout = refl;
+    same_size = refl;
+  }
