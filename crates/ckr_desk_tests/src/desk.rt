@@ -5,6 +5,7 @@ ghost use Rattle.ckr_volumes.specs.Layouts.{disk_needed};
 
 use arrayvec::ArrayVec;
 use ckr_base::{Code, DsName, Volser, trimmed};
+use ckr_console::{Answer, Standing};
 use ckr_desk::{Desk, DeskError, OpenError};
 use ckr_desk_turn::{Reply, Submitted, Turn};
 use ckr_journal::format;
@@ -44,8 +45,8 @@ fn formatted(alloc: Global) -> Result<MemDisk, Fail> {
     Ok(disk)
 }
 
-fn open(alloc: Global, disk: MemDisk) -> Result<Desk<MemDisk>, Fail> {
-    match Desk::open_on(alloc, disk) {
+fn open(alloc: Global, disk: MemDisk) -> Result<Desk<MemDisk, Standing>, Fail> {
+    match Desk::open_on(alloc, disk, Some(Standing(Answer::Yes))) {
         Ok(desk) => Ok(desk),
         Err(opening) => Err(opening.error.into()),
     }
@@ -66,7 +67,7 @@ fn opened_again(rt: HostRuntime) -> Result<(), Fail> {
 fn never_formatted(rt: HostRuntime) -> Result<(), Fail> {
     let alloc = rt.alloc();
     let zeros = MemDisk::new(alloc, 512, Vec::new(alloc), None)?;
-    match Desk::open_on(alloc, zeros) {
+    match Desk::open_on(alloc, zeros, Some(Standing(Answer::Yes))) {
         Ok(_) => Err("it was never formatted".into()),
         Err(opening) => {
             assert!(rt; matches!(opening.error, OpenError::NotFormatted));
@@ -103,7 +104,7 @@ fn copy_cards(alloc: Global) -> Result<Vec<u8>, Fail> {
 }
 
 /// Submits that copy.
-fn submit_copy(alloc: Global, desk: &mut Desk<MemDisk>) -> Result<Submitted, Fail> {
+fn submit_copy(alloc: Global, desk: &mut Desk<MemDisk, Standing>) -> Result<Submitted, Fail> {
     let cards = copy_cards(alloc)?;
     if cards.len() % 81 != 0 || cards.len() < 81 || 8_100 < cards.len() {
         return Err("the cards have 81 bytes each".into());
@@ -112,7 +113,7 @@ fn submit_copy(alloc: Global, desk: &mut Desk<MemDisk>) -> Result<Submitted, Fai
 }
 
 /// Submits two decks, and purges the first one's job; whether all is answered so.
-fn submit_and_purge(alloc: Global, desk: &mut Desk<MemDisk>) -> Result<bool, Fail> {
+fn submit_and_purge(alloc: Global, desk: &mut Desk<MemDisk, Standing>) -> Result<bool, Fail> {
     Ok(
         matches!(submit_copy(alloc, desk)?, Submitted::Job(1))
             && matches!(submit_copy(alloc, desk)?, Submitted::Job(2))
@@ -134,7 +135,7 @@ fn submitted_and_purged(rt: HostRuntime) -> Result<(), Fail> {
 }
 
 /// One turn of the first initiator.
-fn turn(desk: &mut Desk<MemDisk>) -> Result<Reply, Fail> {
+fn turn(desk: &mut Desk<MemDisk, Standing>) -> Result<Reply, Fail> {
     if desk.layout().initiators < 1 {
         return Err("a layout has an initiator".into());
     }
@@ -146,7 +147,7 @@ fn turn(desk: &mut Desk<MemDisk>) -> Result<Reply, Fail> {
 }
 
 /// Whether the one data set that is listed has the record that the job copies, and nothing more.
-fn has_copied(desk: &mut Desk<MemDisk>) -> Result<bool, Fail> {
+fn has_copied(desk: &mut Desk<MemDisk, Standing>) -> Result<bool, Fail> {
     let name = DsName::read(b"OUT.A").ok_or("the name is well formed")?;
     let listed = desk.set_at(0).ok_or("a data set is listed")?;
     if listed.name != name || listed.set.length != 1 || desk.set_at(1).is_some() {
@@ -183,7 +184,7 @@ fn is_worked(reply: &Reply) -> bool {
 }
 
 /// Runs the copy; whether each turn is answered so.
-fn run_copy(alloc: Global, desk: &mut Desk<MemDisk>) -> Result<bool, Fail> {
+fn run_copy(alloc: Global, desk: &mut Desk<MemDisk, Standing>) -> Result<bool, Fail> {
     let started = matches!(submit_copy(alloc, desk)?, Submitted::Job(1))
         && matches!(turn(desk)?, Reply::Selected { job: 1 })
         && is_started(&turn(desk)?)
@@ -207,7 +208,7 @@ fn run_to_its_end(rt: HostRuntime) -> Result<(), Fail> {
 }
 
 /// Submits a copy of two records to a data set with space for one, and does the first unit of it; whether one record is written.
-fn begin_long_copy(alloc: Global, desk: &mut Desk<MemDisk>) -> Result<bool, Fail> {
+fn begin_long_copy(alloc: Global, desk: &mut Desk<MemDisk, Standing>) -> Result<bool, Fail> {
     let cards = cards_of(
         alloc,
         &[
@@ -231,7 +232,7 @@ fn begin_long_copy(alloc: Global, desk: &mut Desk<MemDisk>) -> Result<bool, Fail
 }
 
 /// Fills the book with decks, and then by purging their jobs, until fewer than 11 bytes of it are left.
-fn fill_book(alloc: Global, desk: &mut Desk<MemDisk>) -> Result<(), Fail> {
+fn fill_book(alloc: Global, desk: &mut Desk<MemDisk, Standing>) -> Result<(), Fail> {
     let cards = copy_cards(alloc)?;
     if cards.len() % 81 != 0 || cards.len() < 81 || 8_100 < cards.len() {
         return Err("the cards have 81 bytes each".into());
@@ -252,7 +253,7 @@ fn fill_book(alloc: Global, desk: &mut Desk<MemDisk>) -> Result<(), Fail> {
 }
 
 /// What the event of a turn of the first initiator needs, and the room of the book, where it has no room.
-fn lack_in_turn(desk: &mut Desk<MemDisk>) -> Option<(u32, u32)> {
+fn lack_in_turn(desk: &mut Desk<MemDisk, Standing>) -> Option<(u32, u32)> {
     if desk.layout().initiators < 1 {
         return None;
     }
@@ -267,7 +268,7 @@ fn lack_in_turn(desk: &mut Desk<MemDisk>) -> Option<(u32, u32)> {
 }
 
 /// Whether a turn has no room for its event, of 19 bytes, and the next one neither.
-fn has_no_room_twice(desk: &mut Desk<MemDisk>) -> bool {
+fn has_no_room_twice(desk: &mut Desk<MemDisk, Standing>) -> bool {
     let first = lack_in_turn(desk);
     let second = lack_in_turn(desk);
     first.is_some_and(|(need, room)| need == 25 && room < 11)

@@ -14,6 +14,8 @@ mod inputs;
 #[cfg(test)]
 mod matching;
 #[cfg(test)]
+mod operators;
+#[cfg(test)]
 mod programs;
 #[cfg(test)]
 mod queue;

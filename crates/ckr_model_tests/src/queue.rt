@@ -33,6 +33,15 @@ fn take_next(queue: &mut Queue) -> Option<u32>
     }
 }
 
+/// A run that is on an initiator is held, and goes on.
+fn hold_and_resume(queue: &mut Queue, number: u32)
+    requires { state_of number queue.old.entries ≡ Some SelectedRun }
+    ensures { state_of number queue.new.entries ≡ Some SelectedRun }
+{
+    queue.hold(number);
+    queue.resume(number);
+}
+
 /// Two jobs that name one data set OLD: the second waits until the first has ended.
 #[test]
 #[tactic(auto, using(ckr_queue::proofs::Select::states))]
@@ -87,5 +96,22 @@ fn a_released_run_is_next(rt: HostRuntime) -> Result<(), Fail> {
     assert!(rt; !queue.purge(1));
     assert!(rt; queue.purge(2));
     assert!(rt; !queue.purge(2));
+    Ok(())
+}
+
+/// A run that is held goes on with no release. It is on its initiator then, and has kept its names.
+#[test]
+#[tactic(auto, using(ckr_queue::proofs::Select::states))]
+fn a_held_run_goes_on(rt: HostRuntime) -> Result<(), Fail> {
+    let mut queue = Queue::new(rt.alloc());
+    queue.submit(1, use_of(rt.alloc(), b"X.A", true)?)?;
+    queue.submit(2, use_of(rt.alloc(), b"X.A", true)?)?;
+    let Some(first) = take_next(&mut queue) else {
+        assert!(rt; false);
+        return Ok(());
+    };
+    hold_and_resume(&mut queue, first);
+    assert!(rt; !queue.release(first));
+    assert!(rt; queue.select() == Selection::Idle);
     Ok(())
 }

@@ -1,6 +1,7 @@
 //! The whole call over memory: what is written for a stream, what is left on the disk, and how the call ends.
 use ckr_base::NoMemory;
-use ckr_outside::{CallKind, DiskCall, MemDisk, MemSink, MemSource, Pick};
+use ckr_console::{Answer, Cautious, Operator, Scripted, Standing};
+use ckr_outside::{MemDisk, MemSink, MemSource, Pick};
 use ckr_service::{Closed, batch_desk};
 use std::alloc::{AllocError, Global};
 use std::test::Fail;
@@ -35,20 +36,48 @@ fn words(alloc: Global, first: &str, second: &str) -> Result<Vec<String>, AllocE
     Ok(words)
 }
 
-/// The status, the text and the disk after a call.
-#[derive(Drop)]
-struct Ended {
-    status: u8,
-    text: Vec<u8>,
-    disk: MemDisk,
+/// The answers that letters stand for: Y, N and H.
+fn answers_of(alloc: Global, letters: &[u8]) -> Result<Vec<Answer>, AllocError> {
+    let mut answers = Vec::new(alloc);
+    for letter in letters {
+        answers.push(match letter {
+            b'Y' => Answer::Yes,
+            b'N' => Answer::No,
+            _ => Answer::Hold,
+        })?;
+    }
+    Ok(answers)
 }
 
-/// One call with these words and this stream, whose source and sink don't fail.
-fn call(alloc: Global, command: &str, stream: &[u8], disk: MemDisk) -> Result<Ended, AllocError> {
+/// The status, the text and the disk after a call.
+#[derive(Drop)]
+pub struct Ended {
+    pub status: u8,
+    pub text: Vec<u8>,
+    pub disk: MemDisk,
+}
+
+/// One call with these words and this stream, whose source and sink don't fail. An operator is `+`, who says yes to everything, `*`, the cautious one, or
+/// letters, his answers in order, behind which he is silent.
+pub fn call_with(
+    alloc: Global,
+    command: &str,
+    stream: &[u8],
+    disk: MemDisk,
+    operators: &[&str],
+) -> Result<Ended, AllocError> {
     let mut source = MemSource::new(stream.to_vec(alloc)?, Vec::new(alloc));
     let mut sink = MemSink::new(alloc, Vec::new(alloc));
     let words = words(alloc, command, "night.disk")?;
-    let Closed { status, disk } = batch_desk(alloc, &words, &mut source, &mut sink, disk);
+    let mut named: Vec<Box<dyn Operator>> = Vec::new(alloc);
+    for operator in operators {
+        named.push(match operator.as_bytes() {
+            b"+" => Box::new(alloc, Standing(Answer::Yes))?,
+            b"*" => Box::new(alloc, Cautious)?,
+            letters => Box::new(alloc, Scripted::new(answers_of(alloc, letters)?))?,
+        })?;
+    }
+    let Closed { status, disk } = batch_desk(alloc, &words, &mut source, &mut sink, disk, named);
     Ok(Ended {
         status,
         text: sink.bytes().to_vec(alloc)?,
@@ -56,8 +85,18 @@ fn call(alloc: Global, command: &str, stream: &[u8], disk: MemDisk) -> Result<En
     })
 }
 
+/// The same with one operator, who says yes to everything.
+pub fn call(
+    alloc: Global,
+    command: &str,
+    stream: &[u8],
+    disk: MemDisk,
+) -> Result<Ended, AllocError> {
+    call_with(alloc, command, stream, disk, &["+"])
+}
+
 /// A disk that is formatted by these cards; a call of it fails, and from a call on all do.
-fn formatted(
+pub fn formatted(
     alloc: Global,
     cards: &[u8],
     size: u64,
@@ -103,13 +142,19 @@ pub fn text_in_turn(alloc: Global, streams: &[&[u8]]) -> Result<Vec<u8>, Fail> {
     Ok(text)
 }
 
-/// The status and the sink after a stream whose source and sink fail at one call each, on a fresh disk.
+/// No operators: every question stays unanswered.
+fn nobody(alloc: Global) -> Vec<Standing> {
+    Vec::new(alloc)
+}
+
+/// The status and the sink after a stream whose source and sink fail at one call each, on a fresh disk. Nobody is in office.
 pub fn served(alloc: Global, bytes: Vec<u8>, take: u32, put: u32) -> Result<(u8, MemSink), Fail> {
     let disk = formatted(alloc, SMALL_CARDS, SMALL_SIZE, None, None)?;
     let mut source = MemSource::new(bytes, [take].to_vec(alloc)?);
     let mut sink = MemSink::new(alloc, [put].to_vec(alloc)?);
     let words = words(alloc, "run", "night.disk")?;
-    let closed = batch_desk(alloc, &words, &mut source, &mut sink, disk);
+    let operators = nobody(alloc);
+    let closed = batch_desk(alloc, &words, &mut source, &mut sink, disk, operators);
     Ok((closed.status, sink))
 }
 
@@ -280,82 +325,6 @@ fn any_stop_leaves_a_disk_that_opens_with_what_was_answered(rt: HostRuntime) -> 
     Ok(())
 }
 
-/// A job up to before its second checkpoint, and up to behind it.
-const BEFORE: &[u8] =
-    b"//M JOB\n//S1 EXEC PGM=COPY\n//SYSUT1 DD *\nR01\nR02\nR03\nR04\nR05\nR06\nR07\nR08\nR09\nR10\nR11\nR12\nR13\nR14\nR15\nR16\nR17\nR18\nR19\nR20\nR21\nR22\nR23\nR24\nR25\nR26\nR27\nR28\nR29\nR30\nR31\nR32\nR33\nR34\nR35\nR36\nR37\nR38\nR39\nR40\nR41\nR42\nR43\nR44\nR45\nR46\nR47\nR48\nR49\nR50\nR51\nR52\nR53\nR54\nR55\nR56\nR57\nR58\nR59\nR60\n/*\n//SYSUT2 DD DSN=IN.A,DISP=(NEW,CATLG),SPACE=(80,100)\n//\n$T 1 99\n//K JOB\n//S1 EXEC PGM=COPY,PARM='CHK=20'\n//SYSUT1 DD DSN=IN.A,DISP=SHR\n//SYSUT2 DD DSN=OUT.K,DISP=(NEW,CATLG,CATLG),SPACE=(80,100)\n//CHKDD DD DSN=CHK.K,DISP=(NEW,CATLG,CATLG),SPACE=(256,20)\n//\n$T 1 43\n";
-
-const BEHIND: &[u8] =
-    b"//M JOB\n//S1 EXEC PGM=COPY\n//SYSUT1 DD *\nR01\nR02\nR03\nR04\nR05\nR06\nR07\nR08\nR09\nR10\nR11\nR12\nR13\nR14\nR15\nR16\nR17\nR18\nR19\nR20\nR21\nR22\nR23\nR24\nR25\nR26\nR27\nR28\nR29\nR30\nR31\nR32\nR33\nR34\nR35\nR36\nR37\nR38\nR39\nR40\nR41\nR42\nR43\nR44\nR45\nR46\nR47\nR48\nR49\nR50\nR51\nR52\nR53\nR54\nR55\nR56\nR57\nR58\nR59\nR60\n/*\n//SYSUT2 DD DSN=IN.A,DISP=(NEW,CATLG),SPACE=(80,100)\n//\n$T 1 99\n//K JOB\n//S1 EXEC PGM=COPY,PARM='CHK=20'\n//SYSUT1 DD DSN=IN.A,DISP=SHR\n//SYSUT2 DD DSN=OUT.K,DISP=(NEW,CATLG,CATLG),SPACE=(80,100)\n//CHKDD DD DSN=CHK.K,DISP=(NEW,CATLG,CATLG),SPACE=(256,20)\n//\n$T 1 44\n";
-
-/// How many calls of the disk its formatting and this stream make.
-fn calls_of(alloc: Global, stream: &[u8]) -> Result<u64, Fail> {
-    let disk = formatted(alloc, CARDS, SIZE, None, None)?;
-    let ended = call(alloc, "run", stream, disk)?;
-    Ok(ended.disk.calls().len() as u64)
-}
-
-/// Stopped before the event of the checkpoint is written the step is restarted at the first checkpoint, behind the event at the second, and
-/// while the event is written at one of the two.
-#[test]
-fn a_stop_within_a_checkpoint_restarts_at_it_or_at_the_one_before(
-    rt: HostRuntime,
-) -> Result<(), Fail> {
-    let alloc = rt.alloc();
-    let first = b"I1 J0000002 S1 RESTARTED AT C0000001 TAKEN 20 CHKPT 04\n";
-    let second = b"I1 J0000002 S1 RESTARTED AT C0000002 TAKEN 40 CHKPT 04\n";
-    let before = calls_of(alloc, BEFORE)?;
-    let behind = calls_of(alloc, BEHIND)?;
-    assert!(rt; before < behind);
-    for pick in [Pick::Kept, Pick::Lost, Pick::Filled(165)] {
-        for stop_at in before..=behind {
-            let disk = formatted(alloc, CARDS, SIZE, None, Some(stop_at))?;
-            let ended = call(alloc, "run", BEHIND, disk)?;
-            assert!(rt;
-                (ended.status == 0) == (stop_at == behind),
-                "call {stop_at}"
-            );
-            let again = call(alloc, "run", b"$T 1 1\n", ended.disk.stop(pick))?;
-            let one = again.text.as_slice() == first.as_slice();
-            let two = again.text.as_slice() == second.as_slice();
-            assert!(rt; one || two, "call {stop_at}");
-            assert!(rt; one || stop_at != before, "call {stop_at}");
-            assert!(rt; two || stop_at != behind, "call {stop_at}");
-        }
-    }
-    Ok(())
-}
-
-/// Whether a call reads one of these records of 80 bytes of the first data set of the first volume: it lies behind the header and the book.
-fn reads(call: &DiskCall, from: u32, to: u32) -> bool {
-    let begins = 100_512 + 80 * u64::from(from);
-    let ends = 100_512 + 80 * u64::from(to);
-    matches!(call.kind, CallKind::Read) && begins <= call.at && call.at < ends
-}
-
-/// Behind a restart at the second checkpoint, at 40 records, the step reads on there: none of the records before it is read again.
-#[test]
-fn a_restart_at_a_checkpoint_reads_no_record_again(rt: HostRuntime) -> Result<(), Fail> {
-    let alloc = rt.alloc();
-    let mut stream = BEHIND.to_vec(alloc)?;
-    stream.extend_from_slice(b"$T 1 2\n$F 1 S001\n")?;
-    let restarted = calls_of(alloc, &stream)? as usize;
-    stream.extend_from_slice(b"$T 1 99\n")?;
-    let disk = formatted(alloc, CARDS, SIZE, None, None)?;
-    let ended = call(alloc, "run", &stream, disk)?;
-    let last = b"I1 J0000002 ENDED\nI1 IDLE\n";
-    assert!(rt; ended.status == 0 && ended.text.as_slice().ends_with(last));
-    let Some(before) = ended.disk.calls().get(..restarted) else {
-        return Err("the calls up to the restart are there".into());
-    };
-    let Some(behind) = ended.disk.calls().get(restarted..) else {
-        return Err("the calls behind it are there".into());
-    };
-    assert!(rt; before.iter().any(|call| reads(call, 0, 1)));
-    assert!(rt; !behind.iter().any(|call| reads(call, 0, 40)));
-    assert!(rt; behind.iter().any(|call| reads(call, 40, 41)));
-    Ok(())
-}
-
 /// Each put has the lines that were told since the one before: of the deck, of each turn but units of work in a row, of a listing.
 #[test]
 fn each_call_of_the_outside_fails_in_turn(rt: HostRuntime) -> Result<(), Fail> {
@@ -391,7 +360,15 @@ fn a_sink_that_fails_within_a_command(rt: HostRuntime) -> Result<(), Fail> {
     let mut source = MemSource::new(STREAM.to_vec(alloc)?, Vec::new(alloc));
     let mut sink = MemSink::new(alloc, [2].to_vec(alloc)?);
     let words = words(alloc, "run", "night.disk")?;
-    let Closed { status, disk } = batch_desk(alloc, &words, &mut source, &mut sink, disk);
+    let operators = nobody(alloc);
+    let Closed { status, disk } = batch_desk(
+        alloc,
+        &words,
+        &mut source,
+        &mut sink,
+        disk,
+        operators,
+    );
     assert!(rt; status == 5 && TEXT.starts_with(sink.bytes()) && sink.bytes().len() == 46);
     let ended = call(alloc, "run", b"$Q\n$R OUT.A\n", disk)?;
     assert!(rt; ended.status == 0);

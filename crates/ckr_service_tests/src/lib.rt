@@ -6,8 +6,14 @@ mod calls;
 #[cfg(test)]
 mod checkpoints;
 #[cfg(test)]
+mod operators;
+#[cfg(test)]
 mod refusals;
 #[cfg(test)]
 mod restarts;
 #[cfg(test)]
 mod rows;
+#[cfg(test)]
+mod stops;
+#[cfg(test)]
+mod words;

@@ -196,7 +196,7 @@ const REFUSED: [(&[u8], &[u8]); 48] = [
     ),
 ];
 
-/// For each rule its first deck of the table above, with one byte changed, put in or left out; and decks whose RD in effect comes to no restart.
+/// For each rule its first deck of the table above, with one byte changed, put in or left out; and decks with each RD in effect.
 const ACCEPTED: [&[u8]; 30] = [
     b"//J JOB\n//S EXEC PGM=IEFBR14\n//*XXXXXXXXXXXXXXXXXXXXXXXXXXXXXXXXXXXXXXXXXXXXXXXXXXXXXXXXXXXXXXXXXXXXXXXXXXXXX",
     b"//J JOB\n//S EXEC PGM=IEFBR14 ~",

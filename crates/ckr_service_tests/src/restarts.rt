@@ -173,14 +173,16 @@ const CHECKED: [&[u8]; 6] = [
     b"//J JOB\n//S EXEC PGM=PRINT,PARM='SUM=1:4,CHK=2'\n//SYSUT1 DD DSN=M.A,DISP=SHR\n//SYSPRINT DD DSN=LIST.J,DISP=(NEW,CATLG),SPACE=(80,9)\n//CHKDD DD DSN=CHK.J,DISP=(NEW,CATLG),SPACE=(256,50)\n//\n",
 ];
 
-/// The turns up to behind the first checkpoint and behind the second, and what a restart tells then.
-const CHECKPOINTS: [(&[u8], &[u8]); 2] = [
+/// The turns up to behind the first checkpoint and behind the second, the same with a code then, and what a restart tells.
+const CHECKPOINTS: [(&[u8], &[u8], &[u8]); 2] = [
     (
         b"$T 1 6\n",
+        b"$T 1 6\n$F 1 S001\n",
         b"I1 J0000002 S RESTARTED AT C0000001 TAKEN 2 CHKPT 04\n",
     ),
     (
         b"$T 1 9\n",
+        b"$T 1 9\n$F 1 S001\n",
         b"I1 J0000002 S RESTARTED AT C0000002 TAKEN 4 CHKPT 04\n",
     ),
 ];
@@ -253,7 +255,11 @@ fn programs_restarted_at_a_checkpoint_leave_what_they_leave_uninterrupted(
     let alloc = rt.alloc();
     for deck in CHECKED {
         let whole = text_in_turn(alloc, &[MORE, deck, b"$T 1 99\n", LISTING])?;
-        for (turns, told) in CHECKPOINTS {
+        for (turns, failing, told) in CHECKPOINTS {
+            let failed = text_in_turn(alloc, &[MORE, deck, failing])?;
+            assert!(rt; failed.as_slice().ends_with(told), "{deck:?}");
+            let behind = text_in_turn(alloc, &[MORE, deck, failing, b"$T 1 99\n", LISTING])?;
+            assert!(rt; behind.as_slice() == whole.as_slice(), "{deck:?}");
             let stopped = text_in_turn(alloc, &[MORE, deck, turns, b"$T 1 1\n"])?;
             assert!(rt; stopped.as_slice() == told, "{deck:?}");
             let behind = text_in_turn(alloc, &[MORE, deck, turns, b"$T 1 99\n", LISTING])?;
