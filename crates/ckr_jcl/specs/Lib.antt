@@ -1,3 +1,4 @@
 pub mod Text
 pub mod ParmGrammar
 pub mod Programs
+pub mod Qualifiers

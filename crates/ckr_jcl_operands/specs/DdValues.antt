@@ -15,7 +15,8 @@ use Rattle.ckr_jcl_operands.specs.declared.dd_values.VolText.TheVariants.{Serial
 use Rattle.ckr_cards.specs.Card.{begins}
 use Rattle.ckr_cards.specs.Field.{is_opening, is_closing, parts_of}
 use Rattle.ckr_cards.specs.Tables.{look_up}
-use Rattle.ckr_jcl.specs.Text.{number_value, before, begins_quoted, begins_list, in_parentheses, opened, item_at, is_empty_or, or_empty, if_holds}
+use Rattle.ckr_jcl.specs.Qualifiers.{is_kept_name}
+use Rattle.ckr_jcl.specs.Text.{number_value, begins_quoted, begins_list, in_parentheses, opened, item_at, is_empty_or, or_empty, if_holds}
 
 -- ---- DSN
 
@@ -31,14 +32,6 @@ is_referring text = begins_quoted text || is_backward text || list_any is_parent
 
 unfoldable pub is_passing : List ℕ → Bool
 is_passing text = begins text (codes "&&")
-
--- what stands before the first period
-abbrev pub first_qualifier : List ℕ → List ℕ
-first_qualifier text = before 46 text
-
--- the desk's own names begin with these
-unfoldable pub is_kept_name : List ℕ → Bool
-is_kept_name text = bytes_eq (codes "SYSOUT") (first_qualifier text) || bytes_eq (codes "SYSTEMP") (first_qualifier text)
 
 abbrev pub passing_name : List ℕ → DsnText
 passing_name name = if is_name8 name then Passing name else IllFormed

@@ -7,7 +7,8 @@ ghost use Rattle.ckr_cards.specs.Card.{begins};
 ghost use Rattle.ckr_cards.specs.Field.{parts_of};
 ghost use Rattle.ckr_cards.specs.Tables.{look_up};
 ghost use Rattle.ckr_jcl.specs.Text.{number_value, before, opened, item_at, is_empty_or, or_empty};
-ghost use Rattle.ckr_jcl_operands.specs.DdValues.{is_backward, is_parenthesis, is_referring, is_passing, first_qualifier, is_kept_name, passing_name, permanent_name, dsn_value, statuses, abnormal_ends, passes, status_named, abnormal_end, normal_end, disp_of, disp_from, disp_in, disp_listed, disp_value, serial_value, serials_value, serials_listed, volume_part, volume_in, volume_listed, vol_value, unit_value, quantity_in, quantity_listed, quantity_value, is_release, product, space_in, space_listed, space_value, is_class, is_class_first, is_sysout};
+ghost use Rattle.ckr_jcl.specs.Qualifiers.{first_qualifier, is_kept_name};
+ghost use Rattle.ckr_jcl_operands.specs.DdValues.{is_backward, is_parenthesis, is_referring, is_passing, passing_name, permanent_name, dsn_value, statuses, abnormal_ends, passes, status_named, abnormal_end, normal_end, disp_of, disp_from, disp_in, disp_listed, disp_value, serial_value, serials_value, serials_listed, volume_part, volume_in, volume_listed, vol_value, unit_value, quantity_in, quantity_listed, quantity_value, is_release, product, space_in, space_listed, space_value, is_class, is_class_first, is_sysout};
 
 use ckr_base::{DsName, Name8, Volser};
 use ckr_cards::part_length;
@@ -71,7 +72,7 @@ fn is_passing(text: &[u8]) -> bool
 }
 
 /// Whether the desk keeps a name for itself.
-#[tactic(auto, unfolding(crate::specs::DdValues::is_kept_name))]
+#[tactic(auto, unfolding(ckr_jcl::specs::Qualifiers::is_kept_name))]
 fn is_kept_name(text: &[u8]) -> bool
     ensures { result ≡ is_kept_name text.now }
 {
