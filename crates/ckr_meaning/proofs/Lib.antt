@@ -11,3 +11,4 @@ pub mod Room
 pub mod SetProperties
 pub mod Units
 pub mod Prefixes
+pub mod Fronts

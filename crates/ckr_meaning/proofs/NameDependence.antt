@@ -31,8 +31,8 @@ use Rattle.ckr_meaning.specs.Dispositions.{Disposal, Stock, sets_after, passed_a
 use Rattle.ckr_meaning.specs.EffectiveJob.{OwnedStep, Effective, AgreeOn, name_of, names_of, names_of_steps, names_of_job, names_made, flaws_in, is_among, placed_one, placed_from, disposals_of, step_at}
 use Rattle.ckr_meaning.specs.Program.{work, work_within}
 use Rattle.ckr_meaning.specs.StepRun.{StepStart, placed_at, stamp_at, opened_at, fresh_set, made_one, made_all, made_at, dd_named, set_name, set_records, records_of_origin, records_in, input_names, input_at, case_at, output_dd, output_name, room_of, room_in, room_at, written_set, changed_in, written_one, written_all, work_at, within_at, disposed_at, end_by, end_at}
-use Rattle.ckr_meaning.specs.JobRun.{Walk, StepCodes, start_in, rc_of, step_walked, walked_by, walked_one, walked, walk_from, walk_before, start_at, is_bypassed, with_sets, at, cut_from, cut_at, place_of_end, end_unless, end_in, end_from, end_of_job, job_run}
-use Rattle.ckr_meaning.proofs.JobEnds.{end_or, end_from-step}
+use Rattle.ckr_meaning.specs.JobRun.{Walk, StepCodes, start_in, rc_of, step_walked, walked_by, walked_one, walked, walk_from, walk_before, start_at, is_bypassed, with_sets, at, cut_from, cut_at, place_of_end, end_unless, end_in, end_from, end_of_job, job_run, all_go_on}
+use Rattle.ckr_meaning.proofs.JobEnds.{all_go_on-step, end_or, end_from-step, go_on_unless}
 
 -- the same step on another library
 abbrev start_on : Library → StepStart → StepStart
@@ -387,6 +387,14 @@ module _ (P : Name → Type 0) where
       ∙ ap (end_or (end_in root number owned second)) (end_from_alike root (suc number) rest (walked_one root number owned first) (walked_one root number owned second) named.1 (walked_one_alike root number owned first second named.0 alike))
       ∙ sym (end_from-step root number owned rest second)
 
+  all_go_on_alike : (root number : ℕ) (steps : List OwnedStep) (first second : Walk) → EachStep root steps → Alike first second → all_go_on root number steps first ≡ all_go_on root number steps second
+  all_go_on_alike root number [] first second named alike = refl
+  all_go_on_alike root number (owned ∷ rest) first second named alike =
+      all_go_on-step root number owned rest first
+      ∙ ap (λ place. go_on_unless place (all_go_on root (suc number) rest (walked_one root number owned first))) (end_alike root number owned first second named.0 alike)
+      ∙ ap (go_on_unless (end_in root number owned second)) (all_go_on_alike root (suc number) rest (walked_one root number owned first) (walked_one root number owned second) named.1 (walked_one_alike root number owned first second named.0 alike))
+      ∙ sym (all_go_on-step root number owned rest second)
+
   same-passed_ended : (passed : List Passed) (first second : Library) → Same first second → Same (passed_ended passed first) (passed_ended passed second)
   same-passed_ended [] first second same = same
   same-passed_ended (one ∷ passed) first second same =
@@ -403,6 +411,39 @@ module _ (P : Name → Type 0) where
     before_alike number =
         walked_alike job.root 1 (take (pred number) job.steps) (walk_from first) (walk_from second) (each_taken job.root (pred number) job.steps named)
         (record { sets = same; passed = refl; earlier = refl; rcs = refl })
+
+    pub goes_alike : (count : ℕ) → all_go_on job.root 1 (take count job.steps) (walk_from first) ≡ all_go_on job.root 1 (take count job.steps) (walk_from second)
+    goes_alike count =
+        all_go_on_alike job.root 1 (take count job.steps) (walk_from first) (walk_from second) (each_taken job.root count job.steps named)
+        (record { sets = same; passed = refl; earlier = refl; rcs = refl })
+
+    module _ (number : ℕ) (owned : OwnedStep) (found : step_at job number ≡ Some owned) where
+      its_names : Each (names_of job.root owned)
+      its_names = each_step job number owned named found
+
+      placed_on : (walk : Walk) → Alike (walk_before job first number) walk → placed_at (start_in job.root number owned (walk_before job first number)) ≡ placed_at (start_in job.root number owned walk)
+      placed_on walk alike =
+          subst (λ w. placed_at (start_in job.root number owned (walk_before job first number)) ≡ placed_at (start_in job.root number owned w)) (on_second (walk_before job first number) walk alike)
+          (placed_there (start_in job.root number owned (walk_before job first number)) walk.standing.sets its_names alike.sets)
+
+      work_on : (walk : Walk) → Alike (walk_before job first number) walk → work_at (start_in job.root number owned (walk_before job first number)) ≡ work_at (start_in job.root number owned walk)
+      work_on walk alike =
+          subst (λ w. work_at (start_in job.root number owned (walk_before job first number)) ≡ work_at (start_in job.root number owned w)) (on_second (walk_before job first number) walk alike)
+          (work_there (start_in job.root number owned (walk_before job first number)) walk.standing.sets its_names alike.sets)
+
+      case_on : (walk : Walk) → Alike (walk_before job first number) walk → case_at (start_in job.root number owned (walk_before job first number)) ≡ case_at (start_in job.root number owned walk)
+      case_on walk alike =
+          subst (λ w. case_at (start_in job.root number owned (walk_before job first number)) ≡ case_at (start_in job.root number owned w)) (on_second (walk_before job first number) walk alike)
+          (case_there (start_in job.root number owned (walk_before job first number)) walk.standing.sets its_names alike.sets)
+
+      pub placed_alike : placed_at (start_in job.root number owned (walk_before job first number)) ≡ placed_at (start_in job.root number owned (walk_before job second number))
+      placed_alike = placed_on (walk_before job second number) (before_alike number)
+
+      pub work_alike : work_at (start_in job.root number owned (walk_before job first number)) ≡ work_at (start_in job.root number owned (walk_before job second number))
+      work_alike = work_on (walk_before job second number) (before_alike number)
+
+      pub case_alike : case_at (start_in job.root number owned (walk_before job first number)) ≡ case_at (start_in job.root number owned (walk_before job second number))
+      case_alike = case_on (walk_before job second number) (before_alike number)
 
     -- a library with its passed list, as the other
     pub record AlikeStanding (one other : Stock LibrarySet) : Type 0 where
@@ -528,3 +569,19 @@ end-agrees job first second same = end_of_job_alike (Among (names_of_job job)) j
 
 pub job_run-agrees : (job : Effective) (first second : Library) (cut : Option Place) → AgreeOn (names_of_job job) first second → AgreeOn (names_of_job job) (job_run job first cut) (job_run job second cut)
 job_run-agrees job first second cut same = job_run_alike (Among (names_of_job job)) job first second (each_of_job job.root job.steps) same cut
+
+module _ (job : Effective) (first second : Library) (same : AgreeOn (names_of_job job) first second) where
+  pub before-agrees : (number : ℕ) → Alike (Among (names_of_job job)) (walk_before job first number) (walk_before job second number)
+  before-agrees = before_alike (Among (names_of_job job)) job first second (each_of_job job.root job.steps) same
+
+  pub goes-agrees : (count : ℕ) → all_go_on job.root 1 (take count job.steps) (walk_from first) ≡ all_go_on job.root 1 (take count job.steps) (walk_from second)
+  goes-agrees = goes_alike (Among (names_of_job job)) job first second (each_of_job job.root job.steps) same
+
+  pub placed-agrees : (number : ℕ) (owned : OwnedStep) → step_at job number ≡ Some owned → placed_at (start_in job.root number owned (walk_before job first number)) ≡ placed_at (start_in job.root number owned (walk_before job second number))
+  placed-agrees = placed_alike (Among (names_of_job job)) job first second (each_of_job job.root job.steps) same
+
+  pub work-agrees : (number : ℕ) (owned : OwnedStep) → step_at job number ≡ Some owned → work_at (start_in job.root number owned (walk_before job first number)) ≡ work_at (start_in job.root number owned (walk_before job second number))
+  work-agrees = work_alike (Among (names_of_job job)) job first second (each_of_job job.root job.steps) same
+
+  pub case-agrees : (number : ℕ) (owned : OwnedStep) → step_at job number ≡ Some owned → case_at (start_in job.root number owned (walk_before job first number)) ≡ case_at (start_in job.root number owned (walk_before job second number))
+  case-agrees = case_alike (Among (names_of_job job)) job first second (each_of_job job.root job.steps) same

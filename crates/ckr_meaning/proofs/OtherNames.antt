@@ -94,7 +94,7 @@ unfolding placed_at
 placed_at-other start name apart =
     ap (λ names. is_among names name) (names_in-placed_from record_ways start.standing start.root start.owned 1 start.owned.step.dds) ∙ apart
 
-opened_at-other : (start : StepStart) (name : Name) → is_among (names_of start.root start.owned) name ≡ false → entry_at (opened_at start) name ≡ entry_at start.standing.sets name
+pub opened_at-other : (start : StepStart) (name : Name) → is_among (names_of start.root start.owned) name ≡ false → entry_at (opened_at start) name ≡ entry_at start.standing.sets name
 unfolding opened_at
 opened_at-other start name apart =
     opened_all-other record_ways (stamp_at start) (placed_at start) start.standing.sets name (placed_at-other start name apart)

@@ -2,6 +2,7 @@ pub mod Allotments
 pub mod Dispositions
 pub mod EffectiveJob
 pub mod JobRun
+pub mod Fronts
 pub mod LibrarySet
 pub mod Program
 pub mod States

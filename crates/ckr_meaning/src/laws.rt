@@ -1,5 +1,5 @@
 //! What holds of every step and of every job. Each law is the contract of a function that does nothing.
-ghost use Rattle.std.specs.Prelude.{◌≡◌, ◌<◌, ◌≤◌, ℕ, suc, ◌+◌, Bool, true, false, List, ◌++◌, length, take, drop, Option, Some, None};
+ghost use Rattle.std.specs.Prelude.{◌≡◌, ◌<◌, ◌≤◌, ℕ, suc, pred, ◌+◌, Bool, true, false, List, ◌++◌, length, take, drop, Option, Some, None};
 ghost use Rattle.ckr_base.specs.declared.code.Code.TheVariants.{System};
 ghost use Rattle.ckr_base.specs.declared.programs.Finish.TheVariants.{Abend};
 ghost use Rattle.ckr_base.specs.declared.programs.Write.{Write as RecordWritten};
@@ -8,13 +8,14 @@ ghost use Rattle.ckr_entry.specs.declared.point.State.{State as ProgramState};
 ghost use Rattle.ckr_library.specs.NameMaps.{Name, entry_at};
 ghost use Rattle.ckr_programs.specs.Units.{end_of, written_by};
 ghost use Rattle.ckr_meaning.specs.declared.place.Place.{Place as PlaceInJob};
-ghost use Rattle.ckr_meaning.specs.declared.place.Place.TheVariants.{Before};
+ghost use Rattle.ckr_meaning.specs.declared.place.Place.TheVariants.{Before, Opened, Within};
+ghost use Rattle.ckr_meaning.specs.Fronts.{BeginAlike, StandAlike, WalkAlike, front_names};
 ghost use Rattle.ckr_meaning.specs.LibrarySet.{Library, AreWithinSpace, HasRecordLengths};
 ghost use Rattle.ckr_meaning.specs.EffectiveJob.{AgreeOn, Effective, HasDistinctNames, OwnedStep, is_among, names_of, names_of_job, step_at};
 ghost use Rattle.ckr_meaning.specs.Program.{ProgramCase, OutputRoom, fitting, fitting_in, records_taken, rest, room_after, unit_done, units_from, upto, work};
 ghost use Rattle.ckr_meaning.specs.States.{IsSameRemainder};
-ghost use Rattle.ckr_meaning.specs.StepRun.{StepStart, case_at, disposed_at, made_at, room_at, within_at, work_at, written_all};
-ghost use Rattle.ckr_meaning.specs.JobRun.{Walk, at, end_of_job, is_bypassed, is_place, job_run, start_at, walk_before, walked};
+ghost use Rattle.ckr_meaning.specs.StepRun.{StepStart, case_at, disposed_at, made_at, placed_at, room_at, within_at, work_at, written_all};
+ghost use Rattle.ckr_meaning.specs.JobRun.{Walk, all_go_on, at, end_of_job, is_bypassed, is_place, job_run, start_at, start_in, walk_before, walk_from, walked};
 
 /// What is left to write depends on the state, the PARM and the records that are left alone, whichever the program is.
 pub fn same_states_have_the_same_rest()
@@ -116,4 +117,25 @@ pub fn writes_keep_to_the_space()
     ensures disposed { (start : StepStart) (abnormal : Bool) (library : Library) → AreWithinSpace library → AreWithinSpace (disposed_at start abnormal library).sets }
     ensures place { (job : Effective) (library : Library) (place : PlaceInJob) → HasDistinctNames job → AreWithinSpace library → AreWithinSpace (at job library place).sets }
     ensures job { (job : Effective) (library : Library) (cut : Option PlaceInJob) → HasDistinctNames job → AreWithinSpace library → AreWithinSpace (job_run job library cut) }
+{}
+
+/// A job that begins with the same steps as another one, on libraries that agree on the names of these, comes equally far in them: it
+/// goes on to each of them where the other one does, has the same standing at each place, has made the same names with the same return
+/// codes, and each of these steps places the same data sets, does the same work and has the same records to take.
+pub fn jobs_that_begin_alike_go_on_alike()
+    ensures step { (count number : ℕ) (first second : Effective) (one other : Library) → BeginAlike count first second one other → number ≤ count → step_at first number ≡ step_at second number }
+    ensures walk { (count number : ℕ) (first second : Effective) (one other : Library) → BeginAlike count first second one other → pred number ≤ count → WalkAlike (front_names count first) (walk_before first one number) (walk_before second other number) }
+    ensures goes { (count number : ℕ) (first second : Effective) (one other : Library) → BeginAlike count first second one other → pred number ≤ count → all_go_on first.root 1 (take (pred number) first.steps) (walk_from one) ≡ all_go_on second.root 1 (take (pred number) second.steps) (walk_from other) }
+    ensures opened { (count number : ℕ) (first second : Effective) (one other : Library) → BeginAlike count first second one other → number ≤ count → StandAlike (front_names count first) (at first one (Opened number)) (at second other (Opened number)) }
+    ensures within { (count number writes : ℕ) (first second : Effective) (one other : Library) → BeginAlike count first second one other → number ≤ count → StandAlike (front_names count first) (at first one (Within number writes)) (at second other (Within number writes)) }
+    ensures placed { (count number : ℕ) (first second : Effective) (one other : Library) (owned : OwnedStep) → BeginAlike count first second one other → number ≤ count → step_at first number ≡ Some owned → placed_at (start_in first.root number owned (walk_before first one number)) ≡ placed_at (start_in second.root number owned (walk_before second other number)) }
+    ensures work { (count number : ℕ) (first second : Effective) (one other : Library) (owned : OwnedStep) → BeginAlike count first second one other → number ≤ count → step_at first number ≡ Some owned → work_at (start_in first.root number owned (walk_before first one number)) ≡ work_at (start_in second.root number owned (walk_before second other number)) }
+    ensures case { (count number : ℕ) (first second : Effective) (one other : Library) (owned : OwnedStep) → BeginAlike count first second one other → number ≤ count → step_at first number ≡ Some owned → case_at (start_in first.root number owned (walk_before first one number)) ≡ case_at (start_in second.root number owned (walk_before second other number)) }
+{}
+
+/// The first steps of a job leave the names that only later ones have.
+pub fn first_steps_leave_other_names()
+    ensures before { (count number : ℕ) (job : Effective) (library : Library) (name : Name) → is_among (front_names count job) name ≡ false → pred number ≤ count → entry_at (at job library (Before number)).sets name ≡ entry_at library name }
+    ensures opened { (count number : ℕ) (job : Effective) (library : Library) (name : Name) → is_among (front_names count job) name ≡ false → number ≤ count → entry_at (at job library (Opened number)).sets name ≡ entry_at library name }
+    ensures within { (count number writes : ℕ) (job : Effective) (library : Library) (name : Name) → is_among (front_names count job) name ≡ false → number ≤ count → entry_at (at job library (Within number writes)).sets name ≡ entry_at library name }
 {}
