@@ -1,5 +1,5 @@
 -- Whether an event follows on the tables.
-use Rattle.std.specs.Prelude.{ℕ, suc, pred, ◌+◌, ◌==◌, Bool, true, false, ◌&&◌, ◌||◌, not, nat_lt, nat_le, nat_eq, if◌then◌else◌, List, [], ◌∷◌, ◌++◌, map, filter, flat_map, length, slice_get, sum_by, unwrap_or, Option, None, Some}
+use Rattle.std.specs.Prelude.{ℕ, suc, pred, ◌+◌, ◌==◌, Bool, true, false, ◌&&◌, ◌||◌, not, nat_lt, nat_le, nat_eq, if◌then◌else◌, List, [], ◌∷◌, map, filter, flat_map, length, slice_get, sum_by, unwrap_or, Option, None, Some}
 use Rattle.std.specs.Option.{option_map_or, option_eq, is_some, is_none}
 use Rattle.std.specs.List.{list_all, list_any}
 use Rattle.std.specs.Cmp.Lexicographic.{pointwise}

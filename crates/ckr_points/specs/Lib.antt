@@ -5,6 +5,9 @@ pub mod Payload
 pub mod Events
 pub mod RuleCases
 pub mod Marks
+pub mod Needed
+pub mod Staleness
+pub mod Syschk
 pub mod Office
 pub mod Restart
 pub mod Rows

@@ -8,7 +8,6 @@ use Rattle.ckr_jcl.specs.declared.deck.Origin.TheVariants.{InStream, Named as Na
 use Rattle.ckr_library.specs.declared.sets.Part.{Part}
 use Rattle.ckr_library.specs.declared.sets.Stamp.{Stamp}
 use Rattle.ckr_library.specs.NameMaps.{Name, Named, same_name, entry_at, with_entry, with_changed, without_entry}
-use Rattle.ckr_meaning.specs.Allotments.{is_output}
 use Rattle.ckr_entry.specs.declared.point.Passed.{Passed}
 use Rattle.ckr_meaning.specs.EffectiveJob.{OwnedStep, owned_by, name_of, names_of, names_of_steps, names_of_job, is_among}
 use Rattle.ckr_entry.specs.declared.point.Mark.{Mark}
@@ -142,6 +141,14 @@ still_exists marks named sets name =
     is_among named name
     && option_map_or (λ present. option_map_or (λ table. is_as_marked table present) (entry_at sets name) false) (present_at marks name) false
 
--- the passed names of a point that still exist
-abbrev pub put_back_passed : List Mark → List Name → Named TableSet → List Passed → List Passed
-put_back_passed marks named sets passed = filter (λ entry. still_exists marks named sets entry.name) passed
+-- the passed names of a point that no longer exist
+abbrev pub lost_names : List Mark → List Name → Named TableSet → List Passed → List Name
+lost_names marks named sets passed = map (λ entry. entry.name) (filter (λ entry. not (still_exists marks named sets entry.name)) passed)
+
+-- a passed list without some names
+abbrev pub without_passed : List Name → List Passed → List Passed
+without_passed lost passed = filter (λ entry. not (is_among lost entry.name)) passed
+
+-- what a run itself has of the passed list of its job
+abbrev pub has_passed : RunRow → List Passed
+has_passed row = without_passed row.lost row.passed

@@ -15,6 +15,7 @@ use Rattle.ckr_meaning.specs.declared.place.Place.TheVariants.{Before, Within}
 use Rattle.ckr_meaning.specs.JobRun.{at, job_run}
 use Rattle.ckr_points.specs.declared.run.RunState.{RunState}
 use Rattle.ckr_points.specs.declared.run.RunState.TheVariants.{Queued, On, Held as HeldRun, Released as ReleasedRun, Ended as EndedRun, Denied as DeniedRun, Purged as PurgedRun}
+use Rattle.ckr_points.specs.Marks.{has_passed}
 use Rattle.ckr_points.specs.Rows.{RunRow, TablesModel, no_tables, run_of}
 use Rattle.ckr_points.specs.Restart.{Decked, after_event, place_of, step_in}
 
@@ -55,7 +56,7 @@ continued_leg office row earlier = record {
   number = row.number;
   job = row.job;
   start = taken_over (names_of_job earlier.job) earlier.start office.library;
-  reach = names_of_steps row.job.root (drop (pred row.earlier_step) row.job.steps) ++ passed_made row.passed;
+  reach = names_of_steps row.job.root (drop (pred row.earlier_step) row.job.steps) ++ passed_made (has_passed row);
 }
 
 abbrev pub leg_by : Office → RunRow → ℕ → Leg

@@ -1,5 +1,5 @@
 -- What an event carries of its job, so that the events stay sound.
-use Rattle.std.specs.Prelude.{ℕ, pred, ◌-◌, ◌==◌, Bool, true, false, ◌&&◌, not, nat_le, nat_lt, nat_eq, List, [], ◌∷◌, ◌++◌, map, length, take, drop, slice_get, option_and_then, Option, None, Some}
+use Rattle.std.specs.Prelude.{ℕ, pred, ◌-◌, ◌==◌, Bool, true, false, ◌&&◌, not, nat_le, nat_lt, nat_eq, List, [], ◌∷◌, map, length, take, drop, slice_get, option_and_then, Option, Some, None}
 use Rattle.std.specs.Option.{option_map_or, is_some}
 use Rattle.std.specs.List.{list_all}
 use Rattle.std.specs.Cmp.Lexicographic.{pointwise}
@@ -18,14 +18,20 @@ use Rattle.ckr_library.specs.declared.sets.Content.TheVariants.{Plain, Checkpoin
 use Rattle.ckr_library.specs.NameMaps.{Name, Named, entry_at}
 use Rattle.ckr_meaning.specs.LibrarySet.{Library}
 use Rattle.ckr_uses.specs.Uses.{are_distinct, is_shr}
+use Rattle.ckr_jcl.specs.declared.deck.After.{After}
+use Rattle.ckr_jcl.specs.declared.deck.After.TheVariants.{Keep}
 use Rattle.ckr_jcl.specs.declared.deck.Dd.{Dd}
+use Rattle.ckr_jcl.specs.declared.deck.Disp.{Disp}
 use Rattle.ckr_jcl.specs.declared.deck.Job.{Job}
 use Rattle.ckr_jcl.specs.declared.deck.Kind.{Kind}
+use Rattle.ckr_jcl.specs.declared.deck.Origin.{Origin}
+use Rattle.ckr_jcl.specs.declared.deck.Origin.TheVariants.{Named as NamedOrigin, Sysout}
 use Rattle.ckr_jcl.specs.declared.deck.Role.{Role}
 use Rattle.ckr_jcl.specs.declared.deck.Role.TheVariants.{Reads, Writes, Updates, Checkpoints as ChecksOn, Unused}
 use Rattle.ckr_jcl.specs.declared.deck.Status.{Status}
 use Rattle.ckr_jcl.specs.declared.deck.Status.TheVariants.{New, Old, Shr, Mod}
 use Rattle.ckr_jcl.specs.Programs.{names_updated, role_of}
+use Rattle.ckr_jcl.specs.Qualifiers.{is_kept_name}
 use Rattle.ckr_meaning.specs.declared.place.Place.{Place}
 use Rattle.ckr_meaning.specs.declared.place.Place.TheVariants.{Before, Opened, Within}
 use Rattle.ckr_meaning.specs.EffectiveJob.{Effective, OwnedStep, name_of, names_of, plain_job}
@@ -195,9 +201,30 @@ is_formed_step root owned =
 abbrev pub is_formed : Effective → Bool
 is_formed job = list_all (is_formed_step job.root) job.steps
 
+abbrev pub is_keep : Option After → Bool
+is_keep (Some Keep) = true
+is_keep _ = false
+
+abbrev pub is_new : Status → Bool
+is_new New = true
+is_new _ = false
+
+-- a written name isn't one of the desk's own, and what goes to SYSOUT is new and kept at both ends of its step
+abbrev pub is_orderly_at : Origin → Disp → Bool
+is_orderly_at (NamedOrigin name) disp = not (is_kept_name name)
+is_orderly_at Sysout disp = is_new disp.status && is_keep disp.normal && is_keep disp.abnormal
+is_orderly_at _ disp = true
+
+abbrev pub is_orderly_dd : Dd → Bool
+is_orderly_dd dd = is_orderly_at dd.origin dd.disp
+
+-- the deck of a run: the run's number has at most seven digits, its job is formed, and its DDs are orderly
+abbrev pub is_orderly : ℕ → Job → Bool
+is_orderly job deck = nat_le job 9999999 && is_formed (plain_job job deck) && list_all (λ step. list_all is_orderly_dd step.dds) deck.steps
+
 -- whether an event carries what the job's run gives at the place that it commits, and a Restarted has the verdict of the rules
 abbrev pub carries : Layout → Office → Event → Option Job → Bool
-carries layout now (Submitted job cards) deck = option_map_or (λ deck. is_formed (plain_job job deck)) deck false
+carries layout now (Submitted job cards) deck = option_map_or (is_orderly job) deck false
 carries layout now (Selected job initiator earlier step id) deck = true
 carries layout now (Denied job rule name) deck = true
 carries layout now (Started job step items) deck = of_row now job (λ row. option_map_or (λ owned. not (is_bypassed row.rcs owned)) (step_of_run row step) false)

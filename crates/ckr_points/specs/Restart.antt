@@ -1,5 +1,5 @@
 -- The tables after restarts and ends, and the fold over all events.
-use Rattle.std.specs.Prelude.{ℕ, zero, suc, pred, ◌==◌, nat_lt, Bool, true, false, not, List, [], ◌∷◌, ◌++◌, map, filter, find, take, drop, Option, None, Some}
+use Rattle.std.specs.Prelude.{ℕ, zero, suc, pred, nat_lt, Bool, true, false, not, List, [], ◌∷◌, ◌++◌, map, filter, find, take, drop, Option, None, Some}
 use Rattle.std.specs.Option.{option_map_or, is_some}
 use Rattle.ckr_events.specs.declared.event.Event.{Event}
 use Rattle.ckr_events.specs.declared.event.Event.TheVariants.{Submitted, Selected, Denied, Started, Rewritten, Checkpointed, Cancelled, StepEnded, Restarted, Held, Released, Ended, Purged}
@@ -18,7 +18,7 @@ use Rattle.ckr_meaning.specs.declared.place.Place.TheVariants.{Before, Opened, W
 use Rattle.ckr_points.specs.declared.run.RunState.TheVariants.{On, Released as ReleasedRun, Ended as EndedRun, Denied as DeniedRun, Purged as PurgedRun}
 use Rattle.ckr_points.specs.Rows.{EntryPoint, KeptEntry, TableSet, StartPoint, EffectPoint, RunRow, TablesModel, no_tables, run_of, with_run, with_standing, step_of_run}
 use Rattle.ckr_points_library.specs.Commit.{output_names}
-use Rattle.ckr_points.specs.Marks.{mark_now, mark_at, marks_for, point_at, with_point, sysout_names, made_names, removed_all, put_back, put_back_passed, deck_names}
+use Rattle.ckr_points.specs.Marks.{mark_now, mark_at, marks_for, own_names, point_at, with_point, sysout_names, made_names, removed_all, put_back, lost_names, has_passed, deck_names}
 use Rattle.ckr_points.specs.Tables.{after_submitted, after_selected, after_started, after_commit, after_rewritten, after_checkpointed, after_cancelled, after_step_ended, after_held, after_dispositions, own_made, fresh_effect}
 
 -- the first entry of that identifier that a data set keeps
@@ -35,14 +35,15 @@ pub record Back : Type 0 where
   pub removed : List Name
   pub needed : List Name
 
--- the tables put back for a run
+-- the data sets put back for a run
+abbrev pub sets_back : RunRow → OwnedStep → Back → Named TableSet → Named TableSet
+sets_back row owned back sets = put_back back.marks (output_names row.job.root owned) back.needed (removed_all back.removed sets)
+
+-- the tables put back for a run, whose passed list is that of the point
 abbrev pub after_put_back : RunRow → OwnedStep → Back → TablesModel → TablesModel
 after_put_back row owned back tables =
-    let root = row.job.root in
-    let sets = put_back back.marks (output_names root owned) back.needed (removed_all back.removed tables.sets) in
-    let named = deck_names root row.number row.deck in
     with_standing (record row { place = Some back.place; count = back.count })
-    (record { sets = sets; passed = put_back_passed back.marks named sets back.passed }) tables
+    (record { sets = sets_back row owned back tables.sets; passed = back.passed }) tables
 
 -- an automatic restart at the start of a step goes back so
 abbrev pub back_to_start : RunRow → OwnedStep → ℕ → StartPoint → Back
@@ -163,14 +164,21 @@ deferred_entry row step point = record {
   needed = needed_names row.job step point.marks;
 }
 
+-- the tables put back for a run that continues another one: it loses the passed names of the point that no longer exist, or that neither its
+-- own steps nor its deck name
+abbrev pub after_taken_over : RunRow → OwnedStep → Back → TablesModel → TablesModel
+after_taken_over row owned back tables =
+    let named = own_names row ++ deck_names row.job.root row.number row.deck in
+    after_put_back (record row { lost = lost_names back.marks named (sets_back row owned back tables.sets) back.passed }) owned back tables
+
 -- after Selected of a run that is continued at the start of a step
 abbrev pub after_start_continued : RunRow → OwnedStep → ℕ → StartPoint → TablesModel → TablesModel
-after_start_continued row owned step point tables = after_put_back row owned (deferred_start row owned step point) tables
+after_start_continued row owned step point tables = after_taken_over row owned (deferred_start row owned step point) tables
 
 -- after Selected of a run that is continued at a checkpoint
 abbrev pub after_entry_continued : RunRow → OwnedStep → ℕ → Name → KeptEntry → TablesModel → TablesModel
 after_entry_continued row owned step set entry tables =
-    after_put_back (record row { in_effect = Some (fresh_effect set entry.kept) }) owned (deferred_entry row step entry.point) tables
+    after_taken_over (record row { in_effect = Some (fresh_effect set entry.kept) }) owned (deferred_entry row step entry.point) tables
 
 abbrev pub after_continued_at : RunRow → OwnedStep → ℕ → StartPoint → Option Name → TablesModel → TablesModel
 after_continued_at row owned step point None tables = after_start_continued row owned step point tables
@@ -191,8 +199,8 @@ after_continued row earlier step initiator id tables =
 -- the tables with a run ended, its passed data sets too
 abbrev pub after_passed_ended : RunRow → TablesModel → TablesModel
 after_passed_ended row tables =
-    with_run (record row { state = EndedRun; initiator = None; code = None; passed = []; in_effect = None })
-    (record tables { sets = passed_ended row.passed tables.sets })
+    with_run (record row { state = EndedRun; initiator = None; code = None; passed = []; lost = []; in_effect = None })
+    (record tables { sets = passed_ended (has_passed row) tables.sets })
 
 -- with the dispositions of the step, where the run was within it
 abbrev pub after_abnormal : RunRow → Place → TablesModel → TablesModel

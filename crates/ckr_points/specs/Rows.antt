@@ -54,7 +54,7 @@ pub record EffectPoint : Type 0 where
   pub restarts : ℕ
   pub rewritten : Bool
 
--- a run
+-- A run. Its passed list is that of its job; a run that was continued may have lost some of these names.
 pub record RunRow : Type 0 where
   pub number : ℕ
   pub deck : Job
@@ -68,6 +68,7 @@ pub record RunRow : Type 0 where
   pub count : ℕ
   pub rcs : StepCodes
   pub passed : List Passed
+  pub lost : List Name
   pub points : List StartPoint
   pub in_effect : Option EffectPoint
 

@@ -1,7 +1,7 @@
 -- What holds of the tables and the office of sound events, and whether an event may come next.
-use Rattle.std.specs.Prelude.{◌≡◌, ◌≤◌, ℕ, zero, suc, ◌==◌, Bool, true, false, ◌&&◌, ◌||◌, nat_lt, nat_le, IsTrue, if◌then◌else◌, List, [], ◌∷◌, ◌++◌, map, filter, flat_map, length, take, Option, None, Some}
+use Rattle.std.specs.Prelude.{◌≡◌, ◌≤◌, ℕ, zero, suc, ◌==◌, Bool, true, false, ◌&&◌, ◌||◌, IsTrue, if◌then◌else◌, List, [], ◌∷◌, ◌++◌, map, flat_map, length, take, Option, None, Some}
 use Rattle.std.specs.Option.{option_map, option_map_or, is_some}
-use Rattle.std.specs.List.{list_all, AllByRecursion}
+use Rattle.std.specs.List.{AllByRecursion}
 use Rattle.ckr_base.specs.declared.code.Code.{Code}
 use Rattle.ckr_base.specs.declared.programs.Output.{Output}
 use Rattle.ckr_base.specs.declared.programs.Output.TheVariants.{Main, Rejects, InPlace}
@@ -13,14 +13,11 @@ use Rattle.ckr_events.specs.declared.event.Ending.TheVariants.{Completed, Coded,
 use Rattle.ckr_library.specs.declared.sets.Content.{Content}
 use Rattle.ckr_library.specs.declared.sets.Content.TheVariants.{Plain, Checkpoints}
 use Rattle.ckr_library.specs.declared.sets.DataSet.{DataSet}
-use Rattle.ckr_library.specs.declared.sets.Part.{Part}
 use Rattle.ckr_library.specs.declared.sets.Stamp.{Stamp}
 use Rattle.ckr_library.specs.NameMaps.{EachEntry, Name, Named, entry_at, same_name}
 use Rattle.ckr_meaning.specs.LibrarySet.{LibrarySet, Library}
-use Rattle.ckr_entry.specs.declared.point.Passed.{Passed}
 use Rattle.ckr_entry.specs.declared.point.Mark.{Mark}
 use Rattle.ckr_entry.specs.declared.point.Present.{Present}
-use Rattle.ckr_meaning.specs.EffectiveJob.{is_among}
 use Rattle.ckr_meaning.specs.JobRun.{start_at}
 use Rattle.ckr_meaning.specs.StepRun.{work_at, within_at}
 use Rattle.ckr_rules.specs.RuleTables.{automatic, deferred, rule_number}
@@ -29,7 +26,7 @@ use Rattle.ckr_rules.specs.declared.cases.Verdict.TheVariants.{Step, Checkpoint,
 use Rattle.ckr_volumes.specs.declared.layout.Layout.{Layout}
 use Rattle.ckr_volumes.specs.Layouts.{StandsIn, lie_apart}
 use Rattle.ckr_points.specs.Follows.{follows}
-use Rattle.ckr_points.specs.Marks.{carried_marks, deck_names, is_as_marked, mark_at, point_at}
+use Rattle.ckr_points.specs.Marks.{has_passed, without_passed}
 use Rattle.ckr_points.specs.RuleCases.{auto_case, wanted_of, deferred_case}
 use Rattle.ckr_points.specs.Office.{Leg, Office, leg_of, is_holder, standing_at, library_for, model_records}
 use Rattle.ckr_points.specs.Restart.{Decked, place_of, step_in}
@@ -115,30 +112,11 @@ pub record AgreesAt (office : Office) (name : Name) : Type 0 where
   pub agrees : seen_at office name ≡ compared_at (library_for office name) name
   pub long : (table : TableSet) → entry_at office.tables.sets name ≡ Some table → HasLength table.set.content (length (model_records office name)) table.set.length
 
--- the marks that a run goes by: those of the point of its step, else of the one from which it was continued
-abbrev pub marks_by : RunRow → List Mark
-marks_by row = option_map_or (λ point. point.marks) (point_at row.points (step_in (place_of row))) (carried_marks row)
-
--- whether a data set has the stamp, the length and the catalog mark of its mark; one that has no mark is as it was
-abbrev pub is_as_before : Option Mark → TableSet → Bool
-is_as_before None table = true
-is_as_before (Some mark) table = option_map_or (is_as_marked table) mark.present false
-
--- whether a passed name of a run exists: its own deck names it, and the tables have it as it was marked
-abbrev pub still_there : Named TableSet → RunRow → Name → Bool
-still_there sets row name =
-    is_among (deck_names row.job.root row.number row.deck) name
-    && option_map_or (is_as_before (mark_at (marks_by row) name)) (entry_at sets name) false
-
--- the passed names of a run that exist
-abbrev pub passed_there : Office → RunRow → List Passed → List Passed
-passed_there office row passed = filter (λ entry. still_there office.tables.sets row entry.name) passed
-
--- the passed list of a holder, as far as its names exist
+-- the passed list of a holder is that of its job, but for the names that it has lost
 abbrev pub PassedAgrees : Office → Leg → Type 0
 PassedAgrees office leg =
     (row : RunRow) → run_of office.tables leg.number ≡ Some row → is_holder row.state ≡ true
-    → passed_there office row row.passed ≡ passed_there office row (standing_at office leg).passed
+    → has_passed row ≡ without_passed row.lost (standing_at office leg).passed
 
 -- the place and the image of a rewrite in place
 abbrev pub rewrite_of : Output → List ℕ → Option (ℕ × List ℕ)

@@ -39,6 +39,7 @@ queued_run number deck = record {
   count = 0;
   rcs = [];
   passed = [];
+  lost = [];
   points = [];
   in_effect = None;
 }

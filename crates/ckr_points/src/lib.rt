@@ -2,7 +2,18 @@
 #![tactic(auto)]
 
 mod denial;
+mod freshness;
+mod marks;
+mod needed;
 mod run;
+mod statements;
+mod step_names;
+mod syschk;
 
 pub use denial::{Denial, Seen};
+pub use freshness::fresh;
+pub use marks::{has_present_marks, is_marked_absent, is_of_step, mark_at, present_at};
+pub use needed::Needed;
 pub use run::{Run, RunState, step_in};
+pub use statements::same_statements;
+pub use syschk::{is_syschk_found, syschk_name};

@@ -39,14 +39,14 @@ pub fn is_passed(passed: &[Passed], name: &DsName) -> bool
 }
 
 /// Whether a step puts records into the data set of a DD: an output, or checkpoints. What it rewrites in place is none.
-pub(crate) fn is_output(role: Role) -> bool
+pub fn is_output(role: Role) -> bool
     ensures { result ≡ is_output role }
 {
     matches!(role, Role::Writes | Role::Checkpoints)
 }
 
 /// Whether a data set of the library is found by a DD: it was passed, is cataloged, or VOL is given.
-fn is_found(dd: &Dd, passed: bool, set: &DataSet) -> bool
+pub fn is_found(dd: &Dd, passed: bool, set: &DataSet) -> bool
     ensures { result ≡ is_found dd.now passed (Some (known_of set.now)) }
 {
     passed || set.cataloged || !dd.volumes.is_empty()
@@ -67,7 +67,7 @@ fn allotment_by(status: Status, there: bool, here: bool, space: bool) -> Allotme
 }
 
 /// Whether a DD of this role asks for the other kind of data set.
-fn is_wrong_kind(role: Role, content: Content) -> bool
+pub fn is_wrong_kind(role: Role, content: Content) -> bool
     ensures { result ≡ is_wrong_kind role content }
 {
     match role {

@@ -1,5 +1,5 @@
 -- Jobs of steps that have no program to run, and a layout.
-use Rattle.std.specs.Prelude.{ℕ, List, [], ◌∷◌, codes, Option, None}
+use Rattle.std.specs.Prelude.{List, [], ◌∷◌, codes, Option, None}
 use Rattle.ckr_jcl.specs.declared.deck.Dd.{Dd}
 use Rattle.ckr_jcl.specs.declared.deck.Job.{Job}
 use Rattle.ckr_jcl.specs.declared.deck.Kind.TheVariants.{Br14}

@@ -1,5 +1,5 @@
 -- Deferred restarts of runs that were continued themselves: the step that is named, and the passed names that exist.
-use Rattle.std.specs.Prelude.{◌≡◌, ℕ, true, false, List, [], ◌∷◌, codes, map, None, Some, refl}
+use Rattle.std.specs.Prelude.{◌≡◌, ℕ, true, false, List, [], ◌∷◌, ◌++◌, codes, map, None, Some, refl}
 use Rattle.ckr_jcl.specs.declared.deck.Dd.{Dd}
 use Rattle.ckr_jcl.specs.declared.deck.Job.{Job}
 use Rattle.ckr_jcl.specs.declared.deck.Origin.TheVariants.{Named as NamedOrigin}
@@ -18,12 +18,10 @@ use Rattle.ckr_rules.specs.declared.cases.Verdict.{Verdict}
 use Rattle.ckr_rules.specs.declared.cases.Verdict.TheVariants.{Step, Denied}
 use Rattle.ckr_points.specs.declared.run.RunState.TheVariants.{On, Ended}
 use Rattle.ckr_points.specs.Follows.{may_continue}
-use Rattle.ckr_points.specs.Marks.{mark_now}
-use Rattle.ckr_points.specs.Office.{Office}
+use Rattle.ckr_points.specs.Marks.{deck_names, has_passed, lost_names, mark_now, own_names}
 use Rattle.ckr_points.specs.Restart.{spliced}
 use Rattle.ckr_points.specs.Rows.{RunRow, StartPoint, TableSet, TablesModel}
 use Rattle.ckr_points.specs.RuleCases.{deferred_case, number_named, wanted_of}
-use Rattle.ckr_points.specs.Soundness.{passed_there}
 use Rattle.ckr_points.specs.Tables.{queued_run}
 use Rattle.ckr_points.proofs.Examples.Jobs.{deck, step}
 
@@ -128,22 +126,28 @@ continuing dds = record (queued_run 2 (deck (Some (record { step = 2; id = None 
   points = point 2 (mark_now ((codes "X.P", its_set 9 4) ∷ []) (codes "X.P") ∷ []) ∷ [];
 }
 
-abbrev with_set : TableSet → Office
-with_set table = record { tables = record { sets = (codes "X.P", table) ∷ []; runs = [] }; library = []; legs = [] }
-
 abbrev passed_on : List Passed
 passed_on = record { name = codes "X.P"; made = false } ∷ []
 
-exists_still : passed_there (with_set (its_set 9 4)) (continuing (passing ∷ [])) passed_on ≡ passed_on
+-- the names that it loses, where the tables have X.P so
+abbrev lost : RunRow → TableSet → List Name
+lost row table =
+    lost_names (mark_now ((codes "X.P", its_set 9 4) ∷ []) (codes "X.P") ∷ []) (own_names row ++ deck_names row.job.root row.number row.deck) ((codes "X.P", table) ∷ []) passed_on
+
+exists_still : lost (continuing (passing ∷ [])) (its_set 9 4) ≡ []
 exists_still = refl
 
 -- the deck of the run doesn't name it
-unnamed : passed_there (with_set (its_set 9 4)) (continuing []) passed_on ≡ []
+unnamed : lost (continuing []) (its_set 9 4) ≡ codes "X.P" ∷ []
 unnamed = refl
 
 -- it has another stamp, or another length
-stamped_since : passed_there (with_set (its_set 7 4)) (continuing (passing ∷ [])) passed_on ≡ []
+stamped_since : lost (continuing (passing ∷ [])) (its_set 7 4) ≡ codes "X.P" ∷ []
 stamped_since = refl
 
-grown_since : passed_there (with_set (its_set 9 5)) (continuing (passing ∷ [])) passed_on ≡ []
+grown_since : lost (continuing (passing ∷ [])) (its_set 9 5) ≡ codes "X.P" ∷ []
 grown_since = refl
+
+-- the run has the others of its job's passed list
+what_is_left : has_passed (record (continuing (passing ∷ [])) { passed = record { name = codes "X.Q"; made = true } ∷ passed_on; lost = codes "X.P" ∷ [] }) ≡ record { name = codes "X.Q"; made = true } ∷ []
+what_is_left = refl
