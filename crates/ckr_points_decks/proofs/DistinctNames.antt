@@ -17,11 +17,12 @@ use Rattle.ckr_jcl_decks.specs.Parts.DsnText.TheVariants.{Permanent, Passing, Re
 use Rattle.ckr_jcl_decks.specs.Parts.DdText.{DdText}
 use Rattle.ckr_cards.specs.declared.statement.Statement.{Statement}
 use Rattle.ckr_cards.specs.Statement.{name_in}
-use Rattle.ckr_jcl_decks.specs.Parts.DdValues.{dsn_value, is_kept_name, is_passing, is_referring, passing_name, permanent_name}
+use Rattle.ckr_jcl_decks.specs.Parts.DdValues.{dsn_value, is_passing, is_referring, passing_name, permanent_name}
 use Rattle.ckr_jcl_decks.specs.Parts.DeckText.{dd_text, role_in}
 use Rattle.ckr_jcl_decks.specs.Parts.Keywords.{value_of}
 use Rattle.ckr_jcl_decks.specs.DeckFaults.{is_same_dsn}
 use Rattle.ckr_jcl_decks.specs.Deck.{bytes_of, named_origin, origin_of}
+use Rattle.ckr_jcl.specs.Qualifiers.{is_kept_name}
 use Rattle.ckr_jcl.specs.Text.{before}
 use Rattle.ckr_library.specs.NameMaps.{Name, same_name}
 use Rattle.ckr_uses.specs.SetNames.{origin_name, qualified, step_name}

@@ -7,6 +7,7 @@ pub mod DeckLimits
 pub mod ParmItems
 pub mod CheckParts
 pub mod Names
+pub mod OrderlyDecks
 pub mod Origins
 pub mod DeckTests
 pub mod Repeats
