@@ -1,7 +1,6 @@
 -- The put back of the library, name by name, and how the tables see it.
-use Rattle.std.proofs.Common.{◌≡◌, ℕ, ◌≤◌, ◌&&◌, ◌||◌, T, Bool, true, false, cond, nat_le, IsSomeAnd, IsTrue, List, [], ◌∷◌, flat_map, refl, ap, sym, ◌∙◌, arith, Option, Some, None}
+use Rattle.std.proofs.Common.{◌≡◌, ℕ, ◌≤◌, T, Bool, true, false, cond, nat_le, IsSomeAnd, IsTrue, List, [], ◌∷◌, refl, ap, sym, ◌∙◌, arith, Option, Some, None}
 use Rattle.std.specs.Option.{option_map, option_map_or}
-use Rattle.std.specs.List.{list_any}
 use Rattle.std.specs.Cmp.Lexicographic.{nat_list_cmp_total}
 use Rattle.std.specs.FinMap.Entries.{by_order, is_sorted}
 use Rattle.std.specs.Ordering.{is_eq}
@@ -12,25 +11,19 @@ use Rattle.ckr_base.proofs.Bools.{T-and-first, T-and-second, T-from-true}
 use Rattle.ckr_base.proofs.Numbers.{nat_le-true}
 use Rattle.ckr_base.proofs.Options.{some-not-none}
 use Rattle.ckr_entry.specs.declared.point.Mark.{Mark}
-use Rattle.ckr_entry.specs.declared.point.Passed.{Passed}
 use Rattle.ckr_entry.specs.declared.point.Present.{Present}
-use Rattle.ckr_jcl.specs.declared.deck.Job.{Job}
-use Rattle.ckr_jcl.specs.declared.deck.Step.{Step}
 use Rattle.ckr_library.specs.Catalog.{Holding, with_catalog, with_length}
-use Rattle.ckr_library.specs.declared.sets.DataSet.{DataSet}
 use Rattle.ckr_library.specs.NameMaps.{EachEntry, Name, Named, are_named_in_order, entry_at, name_cmp, with_change, with_changed, with_entry, without_entry}
-use Rattle.ckr_library.proofs.Named.{at-viewed as plain-at, each-at, each-with_changed, each-without_entry}
+use Rattle.ckr_library.proofs.Named.{each-at, each-with_changed, each-without_entry}
 use Rattle.ckr_library.proofs.OrderedLists.{find-below}
-use Rattle.ckr_meaning.specs.EffectiveJob.{is_among, names_of, owned_by}
-use Rattle.ckr_points.specs.Marks.{is_as_marked, is_marked_absent, made_names, present_at, put_back, put_back_catalogs, put_back_length, put_back_lengths, put_back_passed, removed_all, still_exists}
+use Rattle.ckr_points.specs.Marks.{is_marked_absent, made_names, present_at, put_back, put_back_catalogs, put_back_length, put_back_lengths, removed_all}
 use Rattle.ckr_points.specs.Rows.{TableSet, cut_set, table_ways}
-use Rattle.ckr_points_library.specs.Holdings.{holding_ways, owned}
+use Rattle.ckr_points_library.specs.Holdings.{holding_ways}
 use Rattle.ckr_points_tables.specs.Invariant.{IsFilled, IsWide}
 use Rattle.ckr_points_tables.specs.PutBack.{all_made_gone, catalog_back, catalogs_back, cut_back, length_back, lengths_back, made_gone, sets_back}
-use Rattle.ckr_points_tables.specs.View.{Writings, seen_by, table_in, table_of}
+use Rattle.ckr_points_tables.specs.View.{Writings, table_in}
 use Rattle.ckr_points_tables.proofs.MeaningViews.{viewed-without}
-use Rattle.ckr_points_tables.proofs.NamedViews.{at-viewed, viewed, viewed-with_changed}
-use Rattle.ckr_points_tables.proofs.RunChanges.{among-both}
+use Rattle.ckr_points_tables.proofs.NamedViews.{viewed, viewed-with_changed}
 use Rattle.ckr_points_tables.proofs.SetViews.{table_view}
 
 -- ---- in the library
@@ -77,16 +70,6 @@ cut-back-wide most holding wide = by (nat_le most holding.set.length)
     by : (b : Bool) → IsWide (cond b (with_length most holding) holding)
     by true = wide
     by false = wide
-
--- what a mark is compared with
-pub marked-there : (sets : Named Holding) (name : Name) (present : Present)
-    → option_map_or (λ (set : DataSet). is_as_marked (record { set = set; entries = [] }) present) (option_map (λ (holding : Holding). holding.set) (entry_at sets name)) false
-    ≡ option_map_or (λ (table : TableSet). is_as_marked table present) (entry_at (seen_by table_of sets) name) false
-marked-there sets name present = by (entry_at sets name) ∙ ap (λ found. option_map_or (λ (table : TableSet). is_as_marked table present) found false) (sym (plain-at table_of sets name))
-  where
-    by : (found : Option Holding) → option_map_or (λ (set : DataSet). is_as_marked (record { set = set; entries = [] }) present) (option_map (λ (holding : Holding). holding.set) found) false ≡ option_map_or (λ (table : TableSet). is_as_marked table present) (option_map table_of found) false
-    by None = refl
-    by (Some holding) = refl
 
 -- ---- as the tables see it
 
@@ -135,28 +118,6 @@ module _ (writings : Writings) where
   pub back-seen : (marks : List Mark) (outputs needed : List Name) (sets : Named Holding) → see (sets_back marks outputs needed sets) ≡ put_back marks outputs needed (see sets)
   back-seen marks outputs needed sets = catalogs-seen marks needed (lengths_back marks outputs sets) ∙ ap (put_back_catalogs marks needed) (lengths-seen marks outputs sets)
 
-  -- what still exists looks at the data sets alone
-  exists-seen : (marks : List Mark) (named : List Name) (sets : Named Holding) (name : Name) → still_exists marks named (seen_by table_of sets) name ≡ still_exists marks named (see sets) name
-  exists-seen marks named sets name = ap (λ b. is_among named name && b) (by (present_at marks name))
-    where
-      at : (present : Present) (found : Option Holding) → option_map_or (λ (table : TableSet). is_as_marked table present) (option_map table_of found) false ≡ option_map_or (λ (table : TableSet). is_as_marked table present) (option_map (table_in writings name) found) false
-      at present None = refl
-      at present (Some holding) = refl
-
-      by : (found : Option Present) → option_map_or (λ (present : Present). option_map_or (λ (table : TableSet). is_as_marked table present) (entry_at (seen_by table_of sets) name) false) found false
-          ≡ option_map_or (λ (present : Present). option_map_or (λ (table : TableSet). is_as_marked table present) (entry_at (see sets) name) false) found false
-      by None = refl
-      by (Some present) =
-          ap (λ found. option_map_or (λ (table : TableSet). is_as_marked table present) found false) (plain-at table_of sets name)
-          ∙ at present (entry_at sets name)
-          ∙ ap (λ found. option_map_or (λ (table : TableSet). is_as_marked table present) found false) (sym (at-viewed (table_in writings) sets name))
-
-  pub passed-seen : (marks : List Mark) (named : List Name) (sets : Named Holding) (passed : List Passed) → put_back_passed marks named (seen_by table_of sets) passed ≡ put_back_passed marks named (see sets) passed
-  passed-seen marks named sets [] = refl
-  passed-seen marks named sets (one ∷ passed) =
-      ap (λ b. cond b (one ∷ put_back_passed marks named (seen_by table_of sets) passed) (put_back_passed marks named (seen_by table_of sets) passed)) (exists-seen marks named sets one.name)
-      ∙ ap (λ rest. cond (still_exists marks named (see sets) one.name) (one ∷ rest) rest) (passed-seen marks named sets passed)
-
 -- ---- what holds of each data set
 
 module _ (Q : Holding → Type 0) (cuts : (most : ℕ) (holding : Holding) → Q holding → Q (cut_back most holding)) (marks_so : (on : Bool) (holding : Holding) → Q holding → Q (with_catalog on holding)) where
@@ -189,11 +150,3 @@ module _ (Q : Holding → Type 0) (cuts : (most : ℕ) (holding : Holding) → Q
 
   pub back-each : (marks : List Mark) (outputs needed : List Name) (sets : Named Holding) → EachEntry Q sets → EachEntry Q (sets_back marks outputs needed sets)
   back-each marks outputs needed sets each = catalogs-each marks needed (lengths_back marks outputs sets) (lengths-each marks outputs sets each)
-
--- ---- names of a deck
-
-pub among-steps : (run : ℕ) (job : Job) (steps : List Step) (name : Name) → list_any (λ (step : Step). is_among (names_of run (owned step run [])) name) steps ≡ is_among (flat_map (λ step. names_of run (owned_by run job step)) steps) name
-among-steps run job [] name = refl
-among-steps run job (step ∷ steps) name =
-    ap (λ b. is_among (names_of run (owned step run [])) name || b) (among-steps run job steps name)
-    ∙ sym (among-both (names_of run (owned_by run job step)) (flat_map (λ one. names_of run (owned_by run job one)) steps) name)

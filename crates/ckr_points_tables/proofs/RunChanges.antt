@@ -40,6 +40,7 @@ use Rattle.ckr_points.specs.Marks.{carried_marks, is_marked_absent, made_names, 
 use Rattle.ckr_points.specs.Restart.{after_event, after_abnormal, after_chosen, after_ended, after_passed_ended, by_run, by_step, step_in}
 use Rattle.ckr_points.specs.Rows.{RunRow, StartPoint, TableSet, TablesModel, run_of, step_of_run, table_ways, with_row, with_run, with_standing}
 use Rattle.ckr_points_tables.specs.View.{RunTableView, row_with}
+use Rattle.ckr_points_tables.proofs.StepEnd.{ended-whole}
 
 -- a run put twice
 with_row-again : (number : ℕ) (one other : RunRow) (runs : List RunRow) → with_row other number (with_row one number runs) ≡ with_row other number runs
@@ -69,7 +70,7 @@ among-filtered p (other ∷ names) name = by (p other) (same_name name other) re
     by false true passes same more = more ∙ ap (λ b. is_among names name && b) (ap p (name-same name other same) ∙ passes) ∙ and-false (is_among names name) ∙ sym (ap p (name-same name other same) ∙ passes)
     by false false passes same more = more
 
-pub among-both : (first second : List Name) (name : Name) → is_among (first ++ second) name ≡ (is_among first name || is_among second name)
+among-both : (first second : List Name) (name : Name) → is_among (first ++ second) name ≡ (is_among first name || is_among second name)
 among-both [] second name = refl
 among-both (other ∷ first) second name = ap (λ b. same_name name other || b) (among-both first second name) ∙ sym (join (same_name name other) (is_among first name) (is_among second name))
   where
@@ -202,6 +203,7 @@ module _ (desk : TablesModel) (line : Run) (facts : RunTableView) (found : run_o
       let after = disposed_of table_kit step true own (going line within done.sets) in
       ap (λ (step_there : Option OwnedStep). option_map_or (λ other. passed_over done within (after_dispositions one other step true done)) step_there done) there
       ∙ ap (passed_over done within) (dispositions_own done line within place (run_of-with line.number one run done.sets desk found) own step true)
+      ∙ ended-whole line (record within { passed = after.passed }) after.sets done
       ∙ ap (λ runs. let all : TablesModel = record { sets = passed_ended after.passed after.sets; runs = runs } in all)
       (with_row-again line.number one (row_with (ended (disposed table_kit step true own (going line within done.sets))).line (ended (disposed table_kit step true own (going line within done.sets))).facts) desk.runs)
 
@@ -215,15 +217,17 @@ module _ (desk : TablesModel) (line : Run) (facts : RunTableView) (found : run_o
       → option_map_or (λ own. passed_over desk facts (after_dispositions run own step true desk)) there desk
       ≡ desk_with (option_map_or (ended_in table_kit step now) there now) desk
   within-by step None = unchanged-in
-  within-by step (Some own) = ap (passed_over desk facts) (dispositions_own desk line facts facts.place found own step true)
+  within-by step (Some own) =
+      let after = disposed_of table_kit step true own now in
+      ap (passed_over desk facts) (dispositions_own desk line facts facts.place found own step true) ∙ ended-whole line (record facts { passed = after.passed }) after.sets desk
 
   abnormal-in : (place : Place) → after_abnormal run place desk ≡ desk_with (ended_at table_kit place now) desk
-  abnormal-in (Before step) = refl
-  abnormal-in (Opened step) = refl
+  abnormal-in (Before step) = ended-whole line facts desk.sets desk
+  abnormal-in (Opened step) = ended-whole line facts desk.sets desk
   abnormal-in (Within step writes) = within-by step (step_of now step)
 
   ended-in : (ending : Ending) → after_ended run ending desk ≡ desk_with (ended_by table_kit ending now) desk
-  ended-in Completed = refl
+  ended-in Completed = ended-whole line facts desk.sets desk
   ended-in (Coded code rule writes lengths) = coded-by writes lengths.items (step_of now (step_in (place_now facts))) refl
   ended-in (Allocation dd cause one other) = abnormal-in (place_now facts)
 

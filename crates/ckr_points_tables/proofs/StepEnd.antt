@@ -1,5 +1,5 @@
--- The end of a step, and of a run in it, as the code puts them together.
-use Rattle.std.proofs.Common.{◌≡◌, ℕ, Bool, true, false, List, ap, ◌∙◌, Some, None, Option}
+-- The end of a step, and of a run, as the code puts them together and as the tables see it.
+use Rattle.std.proofs.Common.{◌≡◌, ℕ, Bool, true, false, List, [], ◌∷◌, refl, ap, ◌∙◌, Some, None, Option}
 use Rattle.std.specs.Option.{is_some, option_map_or}
 use Rattle.std.proofs.lemmas.Bool.{false≢true}
 use Rattle.ckr_points_library.specs.Commit.{committed, output_names}
@@ -7,13 +7,16 @@ use Rattle.ckr_points_library.specs.Holdings.{holding_ways, standing}
 use Rattle.ckr_library.specs.Catalog.{Holding, with_length}
 use Rattle.ckr_library.specs.NameMaps.{Named}
 use Rattle.ckr_entry.specs.declared.point.Passed.{Passed}
-use Rattle.ckr_meaning.specs.Dispositions.{Stock, disposed_all}
+use Rattle.ckr_meaning.specs.Dispositions.{Stock, disposed_all, passed_ended}
 use Rattle.ckr_meaning.specs.EffectiveJob.{OwnedStep, plain_job, step_at}
 use Rattle.ckr_meaning.specs.declared.place.Place.TheVariants.{Within}
 use Rattle.ckr_points.specs.declared.run.Run.{Run}
-use Rattle.ckr_points_tables.specs.RunChange.{by_step_of, coded, ended, ended_in, going, gone_on, holding_kit, step_ended}
+use Rattle.ckr_points.specs.Marks.{without_passed}
+use Rattle.ckr_points.specs.Restart.{after_passed_ended}
+use Rattle.ckr_points.specs.Rows.{TableSet, TablesModel}
+use Rattle.ckr_points_tables.specs.RunChange.{by_step_of, coded, desk_with, ended, ended_in, going, gone_on, holding_kit, step_ended}
 use Rattle.ckr_points_tables.specs.StepEnd.{disposals_at}
-use Rattle.ckr_points_tables.specs.View.{RunTableView}
+use Rattle.ckr_points_tables.specs.View.{RunTableView, row_with}
 
 -- a run with this passed list
 abbrev pub with_passed : RunTableView → List Passed → RunTableView
@@ -69,3 +72,13 @@ module _ (line : Run) (facts : RunTableView) (sets : Named Holding) (step : ℕ)
       → by_step_of step (ended_in holding_kit step (going line (record facts { place = Some (Within step writes) }) commit)) (going line (record facts { place = Some (Within step writes) }) commit)
       ≡ by_step_of step (coded holding_kit step writes lengths (going line facts sets)) (going line facts sets)
   coded_so writes lengths = coded-by writes lengths (step_at (plain_job line.number facts.job) step)
+
+-- ---- the end of a run, as the tables see it
+
+without_passed-none : (passed : List Passed) → without_passed [] passed ≡ passed
+without_passed-none [] = refl
+without_passed-none (one ∷ passed) = ap (λ all. one ∷ all) (without_passed-none passed)
+
+-- a run in code has lost no name, and ends its whole passed list
+pub ended-whole : (line : Run) (facts : RunTableView) (sets : Named TableSet) (tables : TablesModel) → after_passed_ended (row_with line facts) (record tables { sets = sets }) ≡ desk_with (ended (going line facts sets)) tables
+ended-whole line facts sets tables = ap (λ passed. desk_with (record (ended (going line facts sets)) { sets = passed_ended passed sets }) tables) (without_passed-none facts.passed)

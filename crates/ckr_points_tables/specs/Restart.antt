@@ -9,7 +9,7 @@ use Rattle.ckr_library.specs.declared.sets.Kept.{Kept}
 use Rattle.ckr_meaning.specs.EffectiveJob.{OwnedStep, names_of}
 use Rattle.ckr_meaning.specs.declared.place.Place.{Place}
 use Rattle.ckr_meaning.specs.declared.place.Place.TheVariants.{Opened, Within}
-use Rattle.ckr_points.specs.Marks.{deck_names, point_at, put_back_passed, with_point}
+use Rattle.ckr_points.specs.Marks.{point_at, with_point}
 use Rattle.ckr_points.specs.Restart.{effect_restarted, point_restarted, step_in}
 use Rattle.ckr_points.specs.Rows.{EffectPoint, EntryPoint, StartPoint}
 use Rattle.ckr_points.specs.declared.run.Run.{Run}
@@ -17,7 +17,7 @@ use Rattle.ckr_points.specs.declared.run.RunState.TheVariants.{On}
 use Rattle.ckr_points_library.specs.Commit.{output_names}
 use Rattle.ckr_points_tables.specs.PutBack.{all_made_gone, sets_back}
 use Rattle.ckr_points_tables.specs.RunChange.{Going, by_step_of, going, place_now}
-use Rattle.ckr_points_tables.specs.View.{RunTableView, Writings, entry_point_of, no_point, point_for, seen_by, table_of}
+use Rattle.ckr_points_tables.specs.View.{RunTableView, Writings, entry_point_of, no_point, point_for}
 use Rattle.ckr_points_tables.specs.declared.run_table.WrittenEntry.{WrittenEntry}
 
 -- the line of a run that goes on
@@ -28,26 +28,20 @@ line_on initiator line = record line { state = On; initiator = Some initiator }
 abbrev pub facts_back : Place → ℕ → RunTableView → RunTableView
 facts_back place count facts = record facts { place = Some place; code = None; count = count }
 
--- what was passed on at a point and still exists
-abbrev pub passed_back : List Mark → ℕ → List Passed → RunTableView → Named Holding → List Passed
-passed_back marks run passed facts sets = put_back_passed marks (deck_names run run facts.job) (seen_by table_of sets) passed
-
 -- the library as it was at the start of a step
 abbrev pub sets_at_start : ℕ → List Mark → Named Holding → OwnedStep → Named Holding
 sets_at_start run marks sets own = sets_back marks (output_names run own) (names_of run own) (all_made_gone marks (names_of run own) sets)
 
--- a run that goes back to the start of a step
+-- a run that goes back to the start of a step, with the whole passed list of its point
 abbrev pub back_at_start : ℕ → ℕ → Going Holding → OwnedStep → StartPoint → Going Holding
 back_at_start initiator step now own point =
-    let run = now.line.number in
-    let sets = sets_at_start run point.marks now.sets own in
     going (line_on initiator now.line)
     (record (facts_back (Opened step) point.count now.facts) {
-      passed = passed_back point.marks run point.passed now.facts sets;
+      passed = point.passed;
       points = with_point (point_restarted point) now.facts.points;
       in_effect = None;
     })
-    sets
+    (sets_at_start now.line.number point.marks now.sets own)
 
 abbrev pub step_restarted : ℕ → ℕ → Going Holding → OwnedStep → Going Holding
 step_restarted initiator step now own = option_map_or (back_at_start initiator step now own) (point_at now.facts.points step) now
@@ -56,17 +50,15 @@ step_restarted initiator step now own = option_map_or (back_at_start initiator s
 abbrev pub sets_at_entry : ℕ → List Mark → Named Holding → OwnedStep → Named Holding
 sets_at_entry run marks sets own = sets_back marks (output_names run own) (names_of run own) sets
 
--- a run that goes back to a checkpoint
+-- a run that goes back to a checkpoint, with the whole passed list of its point
 abbrev pub back_at_entry : ℕ → ℕ → EffectPoint → Going Holding → OwnedStep → EntryPoint → Going Holding
 back_at_entry initiator step effect now own point =
-    let run = now.line.number in
-    let sets = sets_at_entry run point.marks now.sets own in
     going (line_on initiator now.line)
     (record (facts_back (Within step point.writes) point.count now.facts) {
-      passed = passed_back point.marks run point.passed now.facts sets;
+      passed = point.passed;
       in_effect = Some (effect_restarted effect);
     })
-    sets
+    (sets_at_entry now.line.number point.marks now.sets own)
 
 -- the first entry of an identifier that a data set keeps
 abbrev pub kept_under : Named Holding → Name → Name → Option Kept

@@ -173,7 +173,7 @@ fresh_facts job = record {
 abbrev pub line_of : RunRow → Run
 line_of row = record { number = row.number; name = row.deck.name; state = row.state; initiator = row.initiator }
 
--- a run that continues none, by its line and its facts
+-- a run by its line and its facts: the runs in code continue none, and so have lost no passed name
 abbrev pub row_with : Run → RunTableView → RunRow
 row_with line facts = record {
   number = line.number;
@@ -188,6 +188,7 @@ row_with line facts = record {
   count = facts.count;
   rcs = facts.rcs;
   passed = facts.passed;
+  lost = [];
   points = facts.points;
   in_effect = facts.in_effect;
 }

@@ -1,38 +1,20 @@
 //! Which names the steps of a run made.
 ghost use Rattle.std.specs.Prelude.{◌≡◌, ◌≤◌, [], false, length, map};
-ghost use Rattle.std.specs.Option.{option_copied, option_map_or};
+ghost use Rattle.std.specs.Option.{option_map_or};
 ghost use Rattle.std.specs.List.{list_any};
 ghost use Rattle.ckr_points_library.specs.Holdings.{owned};
 ghost use Rattle.ckr_library.specs.NameMaps.{same_name};
 ghost use Rattle.ckr_meaning.specs.EffectiveJob.{is_among, name_of, names_of};
 ghost use Rattle.ckr_points_tables.specs.StepEnd.{made_at, made_in};
-ghost use Rattle.ckr_points.specs.Marks.{is_marked_absent, mark_at};
 ghost use Rattle.ckr_points_tables.specs.View.{point_of};
 
 use crate::StepPoint;
 use crate::start::point_at;
 use arrayvec::ArrayVec;
 use ckr_base::DsName;
-use ckr_entry::Mark;
 use ckr_jcl::{Dd, Step};
+use ckr_points::is_marked_absent;
 use ckr_uses::{has_set_named, library_name};
-
-/// A name's mark among marks.
-pub(crate) fn mark_at<'a>(marks: &'a [Mark], name: &DsName) -> Option<&'a Mark>
-    ensures { option_copied result ≡ mark_at marks.now name.now }
-{
-    marks.iter().find(|mark| name.is_same(&mark.name))
-}
-
-/// Whether a point marks a name absent.
-pub(crate) fn is_marked_absent(marks: &[Mark], name: &DsName) -> bool
-    ensures { result ≡ is_marked_absent marks.now name.now }
-{
-    match mark_at(marks, name) {
-        Some(mark) => mark.present.is_none(),
-        None => false,
-    }
-}
 
 /// Whether the step of this number made a name.
 fn made_at(points: &[StepPoint], step: u8, name: &DsName) -> bool
@@ -54,7 +36,7 @@ pub(crate) fn is_any_named(run: u32, step: &Step, dds: &[Dd], name: &DsName) -> 
 }
 
 /// Whether a step has the name.
-pub(crate) fn has_name(run: u32, step: &Step, name: &DsName) -> bool
+fn has_name(run: u32, step: &Step, name: &DsName) -> bool
     requires { run ≤ 9999999 }
     ensures { result ≡ is_among (names_of run (owned step.now run [])) name.now }
 {

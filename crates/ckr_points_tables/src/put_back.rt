@@ -1,36 +1,22 @@
-//! What a restart puts back: the data sets as a point marks them, and what was passed on.
-ghost use Rattle.std.specs.Prelude.{◌≡◌, ◌+◌, ◌≤◌, [], ◌∷◌, ◌++◌, false, length, IsTrue, nat_le};
-ghost use Rattle.std.specs.List.{list_any};
+//! What a restart puts back: the data sets as a point marks them, and its passed list.
+ghost use Rattle.std.specs.Prelude.{◌≡◌, ◌≤◌, [], false, length, IsTrue, nat_le};
 ghost use Rattle.std.specs.Option.{option_map_or};
 ghost use Rattle.ckr_library.specs.Catalog.{with_catalog, Holding};
 ghost use Rattle.ckr_library.specs.NameMaps.{are_named_in_order, entry_at, with_changed, without_entry, EachEntry};
-ghost use Rattle.ckr_meaning.specs.EffectiveJob.{is_among, names_of};
-ghost use Rattle.ckr_points.specs.Marks.{deck_names, is_as_marked, present_at, put_back_passed, still_exists};
-ghost use Rattle.ckr_points.specs.Rows.{TableSet};
+ghost use Rattle.ckr_meaning.specs.EffectiveJob.{names_of};
 ghost use Rattle.ckr_points_library.specs.Commit.{output_names};
 ghost use Rattle.ckr_points_library.specs.Holdings.{owned};
 ghost use Rattle.ckr_points_tables.specs.PutBack.{all_made_gone, catalog_back, catalogs_back, cut_back, length_back, lengths_back, made_gone, sets_back};
 ghost use Rattle.ckr_points_tables.specs.Invariant.{IsFilled};
-ghost use Rattle.ckr_points_tables.specs.View.{seen_by, table_of};
 
-use crate::made_names::{has_name, is_marked_absent, mark_at};
-use crate::start::copy_of_passed;
+use crate::start::put_passed;
 use ckr_base::DsName;
 use ckr_entry::{Mark, Passed, PassedList, Present};
-use ckr_jcl::{Job, Step};
-use ckr_library::{DataSet, Library};
+use ckr_jcl::Step;
+use ckr_library::Library;
+use ckr_points::{is_marked_absent, present_at};
 use ckr_points_library::output_name;
 use ckr_uses::library_name;
-
-/// What a point has of a name: nothing where it has no mark, or marks it absent.
-fn present_at(marks: &[Mark], name: &DsName) -> Option<Present>
-    ensures { result ≡ present_at marks.now name.now }
-{
-    match mark_at(marks, name) {
-        Some(mark) => mark.present,
-        None => None,
-    }
-}
 
 /// Takes a data set out of the library, if it is there.
 fn delete(name: &DsName, library: &mut Library)
@@ -148,90 +134,11 @@ pub(crate) fn put_back_sets(run: u32, own: &Step, marks: &[Mark], library: &mut 
     put_back_catalogs(run, own, marks, library);
 }
 
-/// Whether a data set has the stamp, the length and the catalog mark of a mark.
-fn is_as_marked(set: &DataSet, present: &Present) -> bool
-    ensures { result ≡ is_as_marked (record { set = set.now; entries = [] }) present.now }
-{
-    let same_stamp = set.stamp.run == present.stamp.run
-        && set.stamp.step == present.stamp.step
-        && set.stamp.rewrites == present.stamp.rewrites;
-    let same_mark = if set.cataloged {
-        present.cataloged
-    } else {
-        !present.cataloged
-    };
-    same_stamp && set.length == present.length && same_mark
-}
-
-/// Whether the data set of a name is there as it was marked.
-fn is_there_as_marked(name: &DsName, present: &Present, library: &Library) -> bool
-    ensures { result ≡ option_map_or (λ (table : TableSet). is_as_marked table present.now) (entry_at (seen_by table_of library.now.sets) name.now) false }
-{
-    match library.get(name) {
-        Some(set) => is_as_marked(set, present),
-        None => false,
-    }
-}
-
-/// Whether one of these steps has the name.
-fn is_of_any_step(run: u32, steps: &[Step], name: &DsName) -> bool
-    requires { run ≤ 9999999 }
-    ensures { result ≡ list_any (λ step. is_among (names_of run (owned step run [])) name.now) steps.now }
-{
-    steps.iter().any(|step| has_name(run, step, name))
-}
-
-/// Whether a step of the job has the name.
-fn is_of_deck(run: u32, job: &Job, name: &DsName) -> bool
-    requires { run ≤ 9999999 }
-    ensures { result ≡ is_among (deck_names run run job.now) name.now }
-{
-    is_of_any_step(run, job.steps.as_slice(), name)
-}
-
-/// Whether a name that was passed on at a point still exists.
-fn still_exists(run: u32, job: &Job, marks: &[Mark], library: &Library, name: &DsName) -> bool
-    requires { run ≤ 9999999 }
-    ensures { result ≡ still_exists marks.now (deck_names run run job.now) (seen_by table_of library.now.sets) name.now }
-{
-    if !is_of_deck(run, job, name) {
-        return false;
-    }
-    match present_at(marks, name) {
-        Some(present) => is_there_as_marked(name, &present, library),
-        None => false,
-    }
-}
-
-/// Puts an entry behind the others. There is a spare place for it.
-fn pass_again(one: &Passed, passed: &mut PassedList)
-    requires { 1 ≤ passed.old.room }
-    ensures items { passed.new.items ≡ passed.old.items ++ one.now ∷ [] }
-    ensures room { passed.old.room ≤ passed.new.room + 1 }
-{
-    match passed.push(copy_of_passed(one)) {
-        Ok(()) => {}
-        Err(_) => unreachable!(),
-    }
-}
-
-/// The passed list of a run becomes that of a point: what of it still exists. There is a spare place for each.
-pub(crate) fn put_back_passed(
-    run: u32,
-    job: &Job,
-    marks: &[Mark],
-    items: &[Passed],
-    library: &Library,
-    passed: &mut PassedList,
-)
-    requires run { run ≤ 9999999 }
-    requires room { length items.now ≤ passed.old.room }
-    ensures { passed.new.items ≡ put_back_passed marks.now (deck_names run run job.now) (seen_by table_of library.now.sets) items.now }
+/// The passed list of a run becomes that of a point. There is a spare place for each of its entries.
+pub(crate) fn put_back_passed(items: &[Passed], passed: &mut PassedList)
+    requires { length items.now ≤ passed.old.room }
+    ensures { passed.new.items ≡ items.now }
 {
     passed.clear();
-    for one in items {
-        if still_exists(run, job, marks, library, &one.name) {
-            pass_again(one, passed);
-        }
-    }
+    put_passed(items, passed);
 }

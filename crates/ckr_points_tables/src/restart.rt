@@ -112,14 +112,7 @@ fn restart_at_start(
     let count = point.count;
     delete_all_made(run, own, marks, library);
     put_back_sets(run, own, marks, library);
-    put_back_passed(
-        run,
-        &table.job,
-        marks,
-        point.passed.as_slice(),
-        library,
-        &mut table.passed,
-    );
+    put_back_passed(point.passed.as_slice(), &mut table.passed);
     go_back(Place::Opened(step), count, table);
     count_at_start(step, table);
     go_on(initiator, line);
@@ -266,14 +259,7 @@ fn restart_at_point(
     };
     let marks = marks_of(point);
     put_back_sets(run, own, marks, library);
-    put_back_passed(
-        run,
-        &table.job,
-        marks,
-        passed_of(point),
-        library,
-        &mut table.passed,
-    );
+    put_back_passed(passed_of(point), &mut table.passed);
     go_back(
         Place::Within(step, writes_of(point)),
         count_of(point),

@@ -78,7 +78,7 @@ fn put_marks(items: &[Mark], marks: &mut Marks)
 }
 
 /// The same entry of a passed list.
-pub(crate) fn copy_of_passed(one: &Passed) -> Passed
+fn copy_of_passed(one: &Passed) -> Passed
     ensures { result ≡ one.now }
 {
     Passed {
@@ -88,7 +88,7 @@ pub(crate) fn copy_of_passed(one: &Passed) -> Passed
 }
 
 /// Puts what was passed behind the others. There is a spare place for each.
-fn put_passed(items: &[Passed], passed: &mut PassedList)
+pub(crate) fn put_passed(items: &[Passed], passed: &mut PassedList)
     requires { length items.now ≤ passed.old.room }
     ensures { passed.new.items ≡ passed.old.items ++ items.now }
 {

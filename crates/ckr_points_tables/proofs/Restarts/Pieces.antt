@@ -15,7 +15,7 @@ use Rattle.ckr_points_tables.specs.declared.run_table.WrittenEntry.{WrittenEntry
 use Rattle.ckr_meaning.specs.EffectiveJob.{OwnedStep, names_of, owned_by, plain_job, step_at}
 use Rattle.ckr_meaning.specs.declared.place.Place.TheVariants.{Opened, Within}
 use Rattle.ckr_points.specs.declared.run.Run.{Run}
-use Rattle.ckr_points.specs.Marks.{deck_names, point_at, put_back_passed, with_point}
+use Rattle.ckr_points.specs.Marks.{point_at, with_point}
 use Rattle.ckr_points.specs.Restart.{effect_restarted, point_restarted}
 use Rattle.ckr_points.specs.Rows.{EffectPoint, EntryPoint, StartPoint}
 use Rattle.ckr_points_library.specs.Commit.{output_names}
@@ -23,7 +23,7 @@ use Rattle.ckr_points_library.specs.Holdings.{owned}
 use Rattle.ckr_points_tables.specs.PutBack.{all_made_gone, sets_back}
 use Rattle.ckr_points_tables.specs.Restart.{back_at_entry, back_at_start, check_restarted, effect_restart, facts_back, kept_under, line_on, point_written, step_restarted}
 use Rattle.ckr_points_tables.specs.RunChange.{Going, by_step_of, going, step_of}
-use Rattle.ckr_points_tables.specs.View.{RunTableView, Writing, Writings, find_last, is_entry, no_point, point_for, point_of, writing_of, written_by, written_of, seen_by, table_of}
+use Rattle.ckr_points_tables.specs.View.{RunTableView, Writing, Writings, find_last, is_entry, no_point, point_for, point_of, writing_of, written_by, written_of}
 use Rattle.ckr_points_tables.proofs.Steps.{point-mapped}
 
 -- where there is no point of the step, nothing changes
@@ -80,50 +80,43 @@ module _ (line : Run) (facts : RunTableView) (sets : Named Holding) (step initia
   abbrev names : List Name
   names = names_of line.number (owned own line.number [])
 
-  abbrev deck : List Name
-  deck = deck_names line.number line.number facts.job
-
   -- the pieces of a restart at the start of a step
   pub start-built : (point : StartPoint) → point_at facts.points step ≡ Some point
       → (new : Run) → new ≡ line_on initiator line
-      → (gone back : Named Holding) (marks : List Mark) (passed_on : List Passed) → marks ≡ point.marks → passed_on ≡ point.passed
+      → (gone back : Named Holding) (marks : List Mark) → marks ≡ point.marks
       → gone ≡ all_made_gone marks names sets → back ≡ sets_back marks outputs names gone
-      → (passed : List Passed) → passed ≡ put_back_passed marks deck (seen_by table_of back) passed_on
+      → (passed : List Passed) → passed ≡ point.passed
       → (before after : RunTableView) → before ≡ facts_back (Opened step) point.count (record facts { passed = passed })
       → ((one : StartPoint) → point_at before.points step ≡ Some one → after ≡ record before { points = with_point (point_restarted one) before.points; in_effect = None })
       → going new after back ≡ by_step_of step (step_restarted initiator step (going line facts sets)) (going line facts sets)
-  start-built point found new line_is gone back marks passed_on marks_are passed_is gone_is back_is passed put before after before_is after_is =
+  start-built point found new line_is gone back marks marks_are gone_is back_is passed passed_is before after before_is after_is =
       let facts_with = λ (all : List Passed). record (facts_back (Opened step) point.count facts) { passed = all; points = with_point (point_restarted point) facts.points; in_effect = None } in
-      let built = λ (m : List Mark) (p : List Passed) (all : Named Holding). going (line_on initiator line) (facts_with (put_back_passed m deck (seen_by table_of all) p)) all in
+      let built = going (line_on initiator line) (facts_with point.passed) in
       ap (λ l. going l after back) line_is
       ∙ ap (λ f. going (line_on initiator line) f back)
       (after_is point (ap (λ (f : RunTableView). point_at f.points step) before_is ∙ found) ∙ ap (λ (f : RunTableView). record f { points = with_point (point_restarted point) f.points; in_effect = None }) before_is)
-      ∙ ap (λ all. going (line_on initiator line) (facts_with all) back) put
-      ∙ ap (built marks passed_on) (back_is ∙ ap (sets_back marks outputs names) gone_is)
-      ∙ ap (λ m. built m passed_on (sets_back m outputs names (all_made_gone m names sets))) marks_are
-      ∙ ap (λ p. built point.marks p (sets_back point.marks outputs names (all_made_gone point.marks names sets))) passed_is
+      ∙ ap (λ all. going (line_on initiator line) (facts_with all) back) passed_is
+      ∙ ap built (back_is ∙ ap (sets_back marks outputs names) gone_is ∙ ap (λ m. sets_back m outputs names (all_made_gone m names sets)) marks_are)
       ∙ start-with-point (going line facts sets) step initiator (owned_by line.number facts.job own) point there found
 
   -- those of a restart at an entry
   pub entry-built : (point : EntryPoint) (effect : EffectPoint) → facts.in_effect ≡ Some effect
       → (new : Run) → new ≡ line_on initiator line
-      → (back : Named Holding) (marks : List Mark) (passed_on : List Passed) → marks ≡ point.marks → passed_on ≡ point.passed → back ≡ sets_back marks outputs names sets
-      → (passed : List Passed) → passed ≡ put_back_passed marks deck (seen_by table_of back) passed_on
+      → (back : Named Holding) (marks : List Mark) → marks ≡ point.marks → back ≡ sets_back marks outputs names sets
+      → (passed : List Passed) → passed ≡ point.passed
       → (writes count : ℕ) → writes ≡ point.writes → count ≡ point.count
       → (before after : RunTableView) → before ≡ facts_back (Within step writes) count (record facts { passed = passed }) → after ≡ record before { in_effect = option_map effect_restarted before.in_effect }
       → going new after back ≡ by_step_of step (λ one. back_at_entry initiator step effect (going line facts sets) one point) (going line facts sets)
-  entry-built point effect in_effect new line_is back marks passed_on marks_are passed_is back_is passed put writes count writes_are count_is before after before_is after_is =
+  entry-built point effect in_effect new line_is back marks marks_are back_is passed passed_is writes count writes_are count_is before after before_is after_is =
       let facts_with = λ (w n : ℕ) (e : Option EffectPoint) (all : List Passed). record (facts_back (Within step w) n facts) { passed = all; in_effect = e } in
-      let built = λ (m : List Mark) (p : List Passed) (all : Named Holding). going (line_on initiator line) (facts_with point.writes point.count (Some (effect_restarted effect)) (put_back_passed m deck (seen_by table_of all) p)) all in
+      let built = going (line_on initiator line) (facts_with point.writes point.count (Some (effect_restarted effect)) point.passed) in
       ap (λ l. going l after back) line_is
       ∙ ap (λ f. going (line_on initiator line) f back) (after_is ∙ ap (λ (f : RunTableView). record f { in_effect = option_map effect_restarted f.in_effect }) before_is)
       ∙ ap (λ w. going (line_on initiator line) (facts_with w count (option_map effect_restarted facts.in_effect) passed) back) writes_are
       ∙ ap (λ n. going (line_on initiator line) (facts_with point.writes n (option_map effect_restarted facts.in_effect) passed) back) count_is
       ∙ ap (λ e. going (line_on initiator line) (facts_with point.writes point.count (option_map effect_restarted e) passed) back) in_effect
-      ∙ ap (λ all. going (line_on initiator line) (facts_with point.writes point.count (Some (effect_restarted effect)) all) back) put
-      ∙ ap (built marks passed_on) back_is
-      ∙ ap (λ m. built m passed_on (sets_back m outputs names sets)) marks_are
-      ∙ ap (λ p. built point.marks p (sets_back point.marks outputs names sets)) passed_is
+      ∙ ap (λ all. going (line_on initiator line) (facts_with point.writes point.count (Some (effect_restarted effect)) all) back) passed_is
+      ∙ ap built (back_is ∙ ap (λ m. sets_back m outputs names sets) marks_are)
       ∙ sym (ap (λ found. option_map_or (λ one. back_at_entry initiator step effect (going line facts sets) one point) found (going line facts sets)) there)
 
 changed-by : (now : Going Holding) (step : ℕ) (change other : OwnedStep → Going Holding) → ((own : OwnedStep) → change own ≡ other own) → by_step_of step change now ≡ by_step_of step other now

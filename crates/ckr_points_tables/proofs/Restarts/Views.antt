@@ -4,25 +4,23 @@ use Rattle.std.specs.Option.{option_and_then, option_map, option_map_or}
 use Rattle.std.proofs.lemmas.Bool.{false≢true}
 use Rattle.std.proofs.lemmas.Option.{same_Some}
 use Rattle.ckr_entry.specs.declared.point.Mark.{Mark}
-use Rattle.ckr_entry.specs.declared.point.Passed.{Passed}
 use Rattle.ckr_library.specs.Catalog.{Holding, kept_in, with_catalog}
 use Rattle.ckr_library.specs.NameMaps.{EachEntry, Name, Named, entry_at, same_name}
 use Rattle.ckr_library.specs.declared.sets.Kept.{Kept}
 use Rattle.ckr_meaning.specs.EffectiveJob.{OwnedStep, names_of}
-use Rattle.ckr_meaning.specs.declared.place.Place.TheVariants.{Opened, Within}
 use Rattle.ckr_points.specs.declared.run.Run.{Run}
-use Rattle.ckr_points.specs.Marks.{deck_names, made_names, point_at, put_back, put_back_passed, removed_all, with_point}
+use Rattle.ckr_points.specs.Marks.{made_names, point_at, put_back, removed_all, with_point}
 use Rattle.ckr_points.specs.Restart.{after_check_restart, after_put_back, after_restarted, after_step_restart, back_to_entry, back_to_start, by_step, effect_restarted, kept_at, point_restarted, row_on, step_in}
 use Rattle.ckr_points.specs.Rows.{EffectPoint, EntryPoint, KeptEntry, RunRow, StartPoint, TableSet, TablesModel, run_of}
 use Rattle.ckr_points.specs.Tables.{kept_entry}
 use Rattle.ckr_points_library.specs.Commit.{output_names}
 use Rattle.ckr_points_tables.specs.Invariant.{is_queued, passed_back_at}
 use Rattle.ckr_points_tables.specs.PutBack.{all_made_gone, cut_back}
-use Rattle.ckr_points_tables.specs.Restart.{back_at_entry, back_at_start, check_restarted, effect_restart, facts_back, kept_under, line_on, passed_at_entry, passed_for, point_under, restarted, sets_at_entry, sets_at_start, step_restarted}
+use Rattle.ckr_points_tables.specs.Restart.{back_at_entry, back_at_start, check_restarted, effect_restart, kept_under, passed_at_entry, passed_for, point_under, restarted, sets_at_entry, sets_at_start, step_restarted}
 use Rattle.ckr_points_tables.specs.RunChange.{Going, by_step_of, desk_with, going, place_now, step_of}
 use Rattle.ckr_points_tables.specs.View.{RunTableView, Writings, point_for, row_with, table_in}
 use Rattle.ckr_points_tables.proofs.NamedViews.{at-viewed, viewed}
-use Rattle.ckr_points_tables.proofs.PutBack.{back-each, back-seen, gone-each, gone-seen, passed-seen}
+use Rattle.ckr_points_tables.proofs.PutBack.{back-each, back-seen, gone-each, gone-seen}
 use Rattle.ckr_points_tables.proofs.RunChanges.{unchanged-in}
 use Rattle.ckr_points_tables.proofs.RunMoves.{StaysRun}
 use Rattle.ckr_points_tables.proofs.SetViews.{going_viewed}
@@ -143,14 +141,10 @@ module _ (writings : Writings) (line : Run) (facts : RunTableView) (sets : Named
       ≡ desk_with (going_viewed (table_in writings) (back_at_start initiator step now own point)) desk
   back-row own step initiator point at =
       let run = line.number in
-      let after = put_back point.marks (output_names run own) (names_of run own) (removed_all (made_names point.marks (names_of run own)) desk.sets) in
-      let facts_with = λ (passed : List Passed). record (facts_back (Opened step) point.count facts) { passed = passed; points = with_point (point_restarted point) facts.points; in_effect = None } in
-      ap (λ removed. let all = put_back point.marks (output_names run own) (names_of run own) (removed_all removed desk.sets) in
-      desk_with (going (line_on initiator line) (facts_with (put_back_passed point.marks (deck_names run run facts.job) all point.passed)) all) desk)
-      (ap (λ one. option_map_or (λ (one : StartPoint). made_names one.marks (names_of run own)) one []) at)
-      ∙ ap (λ (all : Named TableSet). desk_with (going (line_on initiator line) (facts_with (put_back_passed point.marks (deck_names run run facts.job) all point.passed)) all) desk) (sym (start-seen point.marks own))
-      ∙ ap (λ passed. desk_with (going (line_on initiator line) (facts_with passed) (viewed (table_in writings) (sets_at_start run point.marks sets own))) desk)
-      (sym (passed-seen writings point.marks (deck_names run run facts.job) (sets_at_start run point.marks sets own) point.passed))
+      let back = back_at_start initiator step now own point in
+      ap (λ (all : Named TableSet). desk_with (going back.line back.facts all) desk)
+      (ap (λ one. put_back point.marks (output_names run own) (names_of run own) (removed_all (option_map_or (λ (one : StartPoint). made_names one.marks (names_of run own)) one []) desk.sets)) at
+      ∙ sym (start-seen point.marks own))
 
   pub start-row : (step initiator : ℕ) (there : Option OwnedStep)
       → option_map_or (λ own. after_step_restart row own step initiator desk) there desk
@@ -176,11 +170,8 @@ module _ (writings : Writings) (line : Run) (facts : RunTableView) (sets : Named
       → after_put_back (record (row_on initiator row) { in_effect = Some (effect_restarted effect) }) own (back_to_entry row own step point) desk
       ≡ desk_with (going_viewed (table_in writings) (back_at_entry initiator step effect now own point)) desk
   entry-back own step initiator effect point =
-      let run = line.number in
-      let facts_with = λ (passed : List Passed). record (facts_back (Within step point.writes) point.count facts) { passed = passed; in_effect = Some (effect_restarted effect) } in
-      ap (λ (all : Named TableSet). desk_with (going (line_on initiator line) (facts_with (put_back_passed point.marks (deck_names run run facts.job) all point.passed)) all) desk) (sym (entry-seen point.marks own))
-      ∙ ap (λ passed. desk_with (going (line_on initiator line) (facts_with passed) (viewed (table_in writings) (sets_at_entry run point.marks sets own))) desk)
-      (sym (passed-seen writings point.marks (deck_names run run facts.job) (sets_at_entry run point.marks sets own) point.passed))
+      let back = back_at_entry initiator step effect now own point in
+      ap (λ (all : Named TableSet). desk_with (going back.line back.facts all) desk) (sym (entry-seen point.marks own))
 
   unchanged : desk ≡ desk_with (going_viewed (table_in writings) now) desk
   unchanged = unchanged-in desk line facts found ∙ ap (λ all. desk_with (going line facts all) desk) seen

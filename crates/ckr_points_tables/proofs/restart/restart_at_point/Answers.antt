@@ -1,4 +1,4 @@
-use Rattle.std.proofs.Common.{sym}
+use Rattle.std.proofs.Common.{sym, ◌∙◌}
 use Rattle.std.specs.Option.{option_copied}
 use Rattle.ckr_points_tables.specs.Restart.{point_written}
 use Rattle.ckr_points_tables.specs.View.{facts_of}
@@ -10,8 +10,7 @@ returns c = λ effect is.
     entry-built c.args.line.now (facts_of c.args.table.now) c.args.library.now.sets c.args.step c.args.initiator c.in-Some.own.now (sym (c.in-Some.ensures c.args.line.now.number))
     (point_written (option_copied c.args.point)) effect is
     c.go_on.new.line c.go_on.ensures
-    c.put_back_sets.new.library.sets c.marks_of-marks.result.now c.passed_of.result.now c.marks_of-marks.ensures c.passed_of.ensures
-    c.put_back_sets.ensures
-    c.put_back_passed.new.passed.items c.put_back_passed.ensures
+    c.put_back_sets.new.library.sets c.marks_of-marks.result.now c.marks_of-marks.ensures c.put_back_sets.ensures
+    c.put_back_passed.new.passed.items (c.put_back_passed.ensures ∙ c.passed_of.ensures)
     c.writes_of.result c.count_of.result c.writes_of.ensures c.count_of.ensures
     (facts_of c.go_back.new.table) (facts_of c.count_at_entry.new.table) c.go_back.ensures.facts c.count_at_entry.ensures

@@ -1,4 +1,4 @@
-use Rattle.std.proofs.Common.{◌≤◌, [], length, sym, subst}
+use Rattle.std.proofs.Common.{◌≤◌, ◌∙◌, [], length, sym, subst}
 use Rattle.std.specs.Option.{option_map}
 use Rattle.ckr_library.specs.NameMaps.{EachEntry}
 use Rattle.ckr_meaning.specs.EffectiveJob.{names_of, owned_by}
@@ -23,8 +23,8 @@ put_back_sets-requires-clause-filled c =
     subst (EachEntry IsFilled) (sym c.delete_all_made.ensures)
     (gone-each IsFilled cut-back-filled (λ on holding is. is) c.as_slice-marks.result.now (names_of c.args.line.now.number (owned c.in-Some.own.now c.args.line.now.number [])) c.args.library.now.sets c.requires.filled)
 
-pub put_back_passed-requires-clause-room : goal.put_back_passed-requires-clause-room
-put_back_passed-requires-clause-room c =
+pub put_back_passed-requires : goal.put_back_passed-requires
+put_back_passed-requires c =
     let point = c.in-Some-point_at.point.now in
     subst (λ all. length all ≤ c.args.table.now.passed.room) (sym c.as_slice-2.ensures)
     (subst (λ found. HasPassedFor c.args.table.now.passed.room (option_map (λ (one : StartPoint). one.passed) found))
@@ -36,7 +36,7 @@ returns c =
     start-built c.args.line.now (facts_of c.args.table.now) c.args.library.now.sets c.args.step c.args.initiator c.in-Some.own.now (sym (c.in-Some.ensures c.args.line.now.number))
     (point_of point) (point-found c.args.table.now.points.items c.as_slice.result.now c.as_slice.ensures c.args.step point c.in-Some-point_at.ensures)
     c.go_on.new.line c.go_on.ensures
-    c.delete_all_made.new.library.sets c.put_back_sets.new.library.sets c.as_slice-marks.result.now c.as_slice-2.result.now c.as_slice-marks.ensures c.as_slice-2.ensures
+    c.delete_all_made.new.library.sets c.put_back_sets.new.library.sets c.as_slice-marks.result.now c.as_slice-marks.ensures
     c.delete_all_made.ensures c.put_back_sets.ensures
-    c.put_back_passed.new.passed.items c.put_back_passed.ensures
+    c.put_back_passed.new.passed.items (c.put_back_passed.ensures ∙ c.as_slice-2.ensures)
     (facts_of c.go_back.new.table) (facts_of c.count_at_start.new.table) c.go_back.ensures.facts c.count_at_start.ensures
