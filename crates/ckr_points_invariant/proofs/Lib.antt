@@ -16,10 +16,14 @@ pub mod Writes
 pub mod Marks
 pub mod Points
 pub mod Counts
+pub mod Decks
 pub mod Start
 pub mod PutBack
 pub mod Restart
 pub mod PassedNames
 pub mod OtherRuns
 pub mod PlainRuns
+pub mod Continuations
+pub mod StartedSteps
+pub mod WrittenEntries
 mod Examples

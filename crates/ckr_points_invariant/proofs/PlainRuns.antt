@@ -1,4 +1,3 @@
-pub mod Names
 pub mod Readiness
 pub mod Office
 pub mod Writes

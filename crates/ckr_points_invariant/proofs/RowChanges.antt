@@ -27,13 +27,15 @@ use Rattle.ckr_points.specs.declared.run.RunState.TheVariants.{Queued, On, Held 
 use Rattle.ckr_points.specs.Tables.{after_cancelled, own_made, after_checkpointed, after_commit, entry_point, fresh_effect, is_checkpoints, kept_entry, name_with_role, with_kept_entry}
 use Rattle.ckr_points.specs.Follows.{are_lengths, is_checkpoint, is_in_state, is_running, is_within, lengths_follow, of_step, state_number}
 use Rattle.ckr_points.specs.Payload.{carries, carries_taken, commits, writes_in}
+use Rattle.ckr_points_invariant.proofs.Marks.Points.{carried-same}
 use Rattle.ckr_points_invariant.specs.Invariant.{AreStamped, IsAgreed, IsHolder, IsKept, IsKnownLeg, IsMarkedShort, IsUnderWay, IsWaiting, IsWithinStep, MarksHold, set_shape, step_now, table_shape}
 use Rattle.ckr_points_library.specs.Commit.{output_names}
-use Rattle.ckr_points.specs.Marks.{made_names, point_at, present_of}
+use Rattle.ckr_points.specs.Marks.{made_names, point_at, present_of, carried_marks}
 use Rattle.ckr_points.specs.Office.{Leg, Office, is_holder, office_after}
 use Rattle.ckr_points.specs.Restart.{by_step, place_of, step_in}
 use Rattle.ckr_points.specs.Rows.{KeptEntry, RunRow, StartPoint, TableSet, TablesModel, run_of, with_run}
 use Rattle.ckr_points.specs.Soundness.{AreLaidOut, marks_of_entries, marks_of_row, may_come}
+use Rattle.ckr_points_invariant.proofs.Decks.Events.{orderly-next, row-orderly, with-orderly}
 use Rattle.ckr_points_invariant.proofs.WaitingRuns.{follows-of, tested-run}
 use Rattle.ckr_points_invariant.proofs.Steps.Commits.{IsRunning, carried-of, its_start}
 use Rattle.ckr_points_invariant.proofs.Library.Extents.{laid-changed}
@@ -56,6 +58,7 @@ pub record IsSameRow (row next : RunRow) : Type 0 where
   pub own_from : next.earlier_step ≡ row.earlier_step
   pub rcs : next.rcs ≡ row.rcs
   pub passed : next.passed ≡ row.passed
+  pub lost : next.lost ≡ row.lost
   pub place : next.place ≡ row.place
   pub points : next.points ≡ row.points
 
@@ -63,6 +66,11 @@ own-same : (row next : RunRow) → IsSameRow row next → (owned : OwnedStep) (s
 own-same row next same owned step =
     ap (λ (job : Effective). option_map_or (λ (point : StartPoint). made_names point.marks (names_of job.root owned)) (point_at next.points step) []) same.job
     ∙ ap (λ points. option_map_or (λ (point : StartPoint). made_names point.marks (names_of row.job.root owned)) (point_at points step) []) same.points
+
+carried-is : (row next : RunRow) → IsSameRow row next → carried_marks next ≡ carried_marks row
+carried-is row next same =
+    ap (λ points. option_map_or (λ (point : StartPoint). point.marks) (point_at points next.earlier_step) []) same.points
+    ∙ ap (λ step. option_map_or (λ (point : StartPoint). point.marks) (point_at row.points step) []) same.own_from
 
 place-same : (row next : RunRow) → IsSameRow row next → place_of next ≡ place_of row
 place-same row next same = ap (λ (o : Option Place). option_map_or (λ place. place) o (Before 1)) same.place
@@ -100,8 +108,11 @@ kept-row layout office number row next leg kept holder same holds waits =
             own_from = same.own_from;
             rcs = same.rcs;
             passed = same.passed;
+            deck = same.deck;
+            lost = same.lost;
             step = ap step_in (place-same row next same);
             made = λ owned step below. own-same row next same owned step;
+            carried = carried-same row next (carried-is row next same);
           })
           (λ off. ap is_within (place-same row next same) ∙ waits off)
           (subst (IsWithinStep next leg) (sym (place-same row next same)) (within-same row next leg same (place_of row) (kept.places number row leg holder).within))
@@ -123,12 +134,13 @@ cancelled layout office job deck kept may = record {
       (λ leg holder.
       subst (λ (o : Option RunRow). IsAgreed layout (record office { tables = option_map_or (λ row. after_cancelled row office.tables) o office.tables })) (sym e)
       (kept-row layout office job row (record row { in_effect = None }) leg kept.events holder
-      (record { number = refl; deck = refl; job = refl; own_from = refl; rcs = refl; passed = refl; place = refl; points = refl }) holds
+      (record { number = refl; deck = refl; job = refl; own_from = refl; rcs = refl; passed = refl; lost = refl; place = refl; points = refl }) holds
       (λ off. and-second (is_in_state On row) (is_within (place_of row)) runs))));
   stamps =
       same_library office (option_map_or (λ row. after_cancelled row office.tables) (run_of office.tables job) office.tables) kept.stamps
       (by-row (IsMarkedShort office) office.tables job (λ row. after_cancelled row office.tables) kept.stamps.marks
       (λ row mine. holds-run (IsMarkedShort office) (record row { in_effect = None }) office.tables mine kept.stamps.marks));
+  decks = orderly-next office.tables (Cancelled job) deck tt kept.decks;
 }
 
 held-holds : (state : RunState) → (state_number state == 3) ≡ true → (is_holder state ≡ true) × ((state_number state == 2) ≡ false)
@@ -150,12 +162,13 @@ released layout office job deck kept may = record {
       (λ leg holder.
       subst (λ (o : Option RunRow). IsAgreed layout (record office { tables = option_map_or (λ row. with_run (record row { state = ReleasedRun }) office.tables) o office.tables })) (sym e)
       (kept-row layout office job row (record row { state = ReleasedRun }) leg kept.events holder
-      (record { number = refl; deck = refl; job = refl; own_from = refl; rcs = refl; passed = refl; place = refl; points = refl }) refl
+      (record { number = refl; deck = refl; job = refl; own_from = refl; rcs = refl; passed = refl; lost = refl; place = refl; points = refl }) refl
       (λ off. (kept.events.places job row leg holder).waits state.1))));
   stamps =
       same_library office (option_map_or (λ row. with_run (record row { state = ReleasedRun }) office.tables) (run_of office.tables job) office.tables) kept.stamps
       (by-row (IsMarkedShort office) office.tables job (λ row. with_run (record row { state = ReleasedRun }) office.tables) kept.stamps.marks
       (λ row mine. holds-run (IsMarkedShort office) (record row { state = ReleasedRun }) office.tables mine kept.stamps.marks));
+  decks = orderly-next office.tables (Released job) deck tt kept.decks;
 }
 
 -- ---- a checkpoint
@@ -181,7 +194,7 @@ shaped layout office sets kept same laid =
       numbered = kept.numbered;
       waiting = λ number row e queued.
           let waits : IsWaiting office row = kept.waiting number row e queued in
-          record { alone = waits.alone; job = waits.job; formed = waits.formed; earlier = waits.earlier; own = waits.own; rcs = waits.rcs; passed = waits.passed };
+          record { alone = waits.alone; job = waits.job; formed = waits.formed; earlier = waits.earlier; own = waits.own; rcs = waits.rcs; passed = waits.passed; lost = waits.lost };
       legs = each-implies (IsKnownLeg office) (IsKnownLeg other) office.legs (λ leg is. record { found = is.found; listed = is.listed }) kept.legs;
       led = kept.led;
       places = λ number row leg holder.
@@ -228,7 +241,7 @@ module _ (layout : Layout) (office : Office) (job : ℕ) (row : RunRow) (leg : L
   committed_agreed : IsAgreed layout (record office { tables = done })
   committed_agreed =
       kept-commit layout office job row next leg owned writes lengths kept.events running
-      (record { number = refl; deck = refl; job = refl; own_from = refl; rcs = refl; passed = refl; stands = refl; holds = running.holder.holds; made = λ owned step. refl }) carried are
+      (record { number = refl; deck = refl; job = refl; own_from = refl; rcs = refl; passed = refl; lost = refl; stands = refl; holds = running.holder.holds; made = λ owned step. refl; carried = refl }) carried are
 
   mine : AllByRecursion (IsMarkedShort office) (marks_of_row row)
   mine = row-holds (IsMarkedShort office) office.tables job row kept.stamps.marks running.holder.row_at
@@ -237,7 +250,7 @@ module _ (layout : Layout) (office : Office) (job : ℕ) (row : RunRow) (leg : L
   done_marks = commit-holds (IsMarkedShort office) office.tables kept.stamps.marks (record row { count = suc row.count; in_effect = Some (fresh_effect set entry) }) owned (step_now row) writes lengths mine
 
   committed_kept : IsKept layout (record office { tables = done })
-  committed_kept = record { events = committed_agreed; stamps = same_library office done kept.stamps done_marks }
+  committed_kept = record { events = committed_agreed; stamps = same_library office done kept.stamps done_marks; decks = with-orderly next office.tables (row-orderly office.tables job row kept.decks running.holder.row_at) kept.decks }
 
   checked_stamps : AreStamped (record office { tables = after_checkpointed row owned (step_now row) entry taken writes lengths office.tables })
   checked_stamps =
@@ -277,4 +290,5 @@ checkpointed layout office job taken writes place bytes id lengths deck kept may
     (record {
       events = checked_agreed layout office job row leg owned taken writes lengths.items entry kept running commit are;
       stamps = checked_stamps layout office job row leg owned taken writes lengths.items entry kept running commit are;
+      decks = with-orderly (next layout office job row leg owned taken writes lengths.items entry kept running commit are) office.tables (row-orderly office.tables job row kept.decks running.holder.row_at) kept.decks;
     })))))

@@ -17,10 +17,11 @@ use Rattle.ckr_meaning.specs.StepRun.{StepStart, opened_at, within_at}
 use Rattle.ckr_meaning.specs.JobRun.{at, start_at, start_in, walk_before, with_sets}
 use Rattle.ckr_volumes.specs.declared.layout.Layout.{Layout}
 use Rattle.ckr_points_invariant.specs.Invariant.{AreAlike, IsHolder, IsAgreed, IsKnownLeg, Shape, counted, set_shape, table_shape}
+use Rattle.ckr_points.specs.Marks.{without_passed}
 use Rattle.ckr_points.specs.Office.{Leg, Office, holder_of, library_for, standing_at}
 use Rattle.ckr_points.specs.Restart.{place_of, step_in}
 use Rattle.ckr_points.specs.Rows.{TableSet}
-use Rattle.ckr_points.specs.Soundness.{AgreesAt, HasLength, PassedAgrees, as_compared, as_set, passed_there}
+use Rattle.ckr_points.specs.Soundness.{AgreesAt, HasLength, PassedAgrees, as_compared, as_set}
 use Rattle.ckr_points_invariant.proofs.Holders.Moves.{standing-is}
 use Rattle.ckr_points_invariant.proofs.Select.Holders.{free-of, holder-of}
 
@@ -114,7 +115,7 @@ kept-passed layout office kept =
     each-implies (IsKnownLeg office) (PassedAgrees office) office.legs
     (λ leg is row row_at holds.
     let holder : IsHolder office leg.number row leg = record { row_at = row_at; holds = holds; leg_at = is.found } in
-    ap (passed_there office row) (
+    ap (without_passed row.lost) (
     (kept.places leg.number row leg holder).passed
     ∙ sym (ap (λ (standing : Stock LibrarySet). standing.passed) (standing-is office leg.number row leg row_at is.found) ∙ at-passed leg.job leg.start (place_of row))))
     kept.legs

@@ -4,3 +4,4 @@ pub mod Events
 pub mod Starts
 pub mod Steps
 pub mod Tables
+pub mod Sameness

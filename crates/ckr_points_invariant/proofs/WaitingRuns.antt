@@ -26,6 +26,7 @@ use Rattle.ckr_points_invariant.specs.Invariant.{IsAgreed, IsKnownLeg, IsWaiting
 use Rattle.ckr_points.specs.Office.{Leg, Office, is_holder, leg_by, leg_of, no_office, office_after, office_selected, with_leg}
 use Rattle.ckr_points.specs.Rows.{RunRow, TablesModel, run_of, with_row, with_run}
 use Rattle.ckr_points.specs.Soundness.{may_come, names_first_rule}
+use Rattle.ckr_points_invariant.proofs.Decks.Names.{orderly-formed}
 use Rattle.ckr_points_invariant.proofs.Select.Invariant.{chosen, kept-chosen}
 use Rattle.ckr_points_invariant.proofs.Holders.Rows.{leg-number, queued-is, run-other, run-same}
 use Rattle.ckr_points_invariant.proofs.Holders.Waits.{WaitsOn, kept-waits}
@@ -90,7 +91,7 @@ submitted-waits layout office deck kept formed = record {
   over = refl;
   before = ap (λ (o : Option RunRow). option_map_or (λ row. is_ended row.state) o false) past;
   alone = alone;
-  waiting = λ queued. record { alone = alone; job = refl; formed = formed; earlier = refl; own = refl; rcs = refl; passed = refl };
+  waiting = λ queued. record { alone = alone; job = refl; formed = formed; earlier = refl; own = refl; rcs = refl; passed = refl; lost = refl };
 }
   where
     past : run_of office.tables (suc (length office.tables.runs)) ≡ None
@@ -110,7 +111,7 @@ kept-submitted layout office job cards (Some deck) kept may carried =
     let number : job ≡ suc (length office.tables.runs) = equal-true job (suc (length office.tables.runs)) (and-first (job == suc (length office.tables.runs)) _ (and-first (job == suc (length office.tables.runs) && not (is_empty cards)) _ comes)) in
     subst (λ n. IsAgreed layout (record office { tables = after_submitted n deck office.tables })) (sym number)
     (kept-waits layout office (suc (length office.tables.runs)) (queued_run (suc (length office.tables.runs)) deck) (office.tables.runs ++ queued_run (suc (length office.tables.runs)) deck ∷ []) kept
-    (submitted-waits layout office deck kept (subst (λ n. is_formed (plain_job n deck) ≡ true) number carried)))
+    (submitted-waits layout office deck kept (subst (λ n. is_formed (plain_job n deck) ≡ true) number (orderly-formed job deck carried))))
 
 -- ---- purged and denied
 

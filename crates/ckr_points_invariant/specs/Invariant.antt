@@ -1,5 +1,5 @@
 -- When the events are kept: what the tables keep from event to event beside what is sound, so that it follows for one more event.
-use Rattle.std.specs.Prelude.{◌≡◌, ◌≢◌, ◌≤◌, ◌<◌, ℕ, pred, ◌==◌, Bool, true, false, ◌||◌, List, [], flat_map, take, length, None, Some}
+use Rattle.std.specs.Prelude.{◌≡◌, ◌≢◌, ◌≤◌, ◌<◌, ℕ, pred, ◌==◌, Bool, true, false, ◌||◌, List, [], flat_map, take, length, Option, None, Some}
 use Rattle.std.specs.Option.{option_map, option_map_or, is_some, is_none}
 use Rattle.std.specs.List.{list_all, list_any, AllByRecursion}
 use Rattle.ckr_uses.specs.Uses.{is_of, is_shared, leaves, uses_of}
@@ -11,7 +11,7 @@ use Rattle.ckr_library.specs.declared.sets.Content.TheVariants.{Plain, Checkpoin
 use Rattle.ckr_library.specs.declared.sets.Stamp.{Stamp}
 use Rattle.ckr_library.specs.NameMaps.{EachEntry, Name, Named, entry_at}
 use Rattle.ckr_meaning.specs.LibrarySet.{LibrarySet, Library}
-use Rattle.ckr_meaning.specs.EffectiveJob.{Effective, OwnedStep, name_of, names_of, names_made, flaws_in, is_among, plain_job, step_at}
+use Rattle.ckr_meaning.specs.EffectiveJob.{Effective, OwnedStep, name_of, names_of, names_of_job, names_made, flaws_in, is_among, plain_job, step_at}
 use Rattle.ckr_meaning.specs.declared.place.Place.{Place}
 use Rattle.ckr_meaning.specs.declared.place.Place.TheVariants.{Before, Opened, Within}
 use Rattle.ckr_meaning.specs.JobRun.{all_go_on, at, is_bypassed, start_at, start_in, walk_before, walk_from}
@@ -20,9 +20,9 @@ use Rattle.ckr_volumes.specs.declared.layout.Layout.{Layout}
 use Rattle.ckr_points.specs.declared.run.RunState.TheVariants.{Queued, On}
 use Rattle.ckr_points.specs.Tables.{earlier_made, own_made, step_made}
 use Rattle.ckr_points.specs.Follows.{is_in_state, is_within}
-use Rattle.ckr_points.specs.Payload.{is_formed, writes_in}
+use Rattle.ckr_points.specs.Payload.{is_formed, is_orderly, writes_in}
 use Rattle.ckr_points.specs.RuleCases.{is_ended}
-use Rattle.ckr_points.specs.Marks.{own_names}
+use Rattle.ckr_points.specs.Marks.{carried_marks, mark_at, own_names}
 use Rattle.ckr_points.specs.Office.{Leg, Office, is_holder, leg_of, passed_made, standing_at}
 use Rattle.ckr_points.specs.Restart.{place_of, step_in}
 use Rattle.ckr_points.specs.Rows.{KeptEntry, RunRow, StartPoint, TableSet, TablesModel, run_of}
@@ -64,6 +64,29 @@ set_shape set = record {
 -- the tables and a library have the same under a name
 abbrev pub AreAlike : Named TableSet → Library → Name → Type 0
 AreAlike sets library name = option_map table_shape (entry_at sets name) ≡ option_map set_shape (entry_at library name)
+
+-- what a mark says of a data set, its volume aside
+abbrev pub present_shape : Content → Present → Shape
+present_shape content present = record {
+  cataloged = present.cataloged;
+  lrecl = present.lrecl;
+  space = present.space;
+  content = content;
+  stamp = present.stamp;
+  length = counted content present.length;
+}
+
+-- a mark says what a library has under its name
+abbrev pub IsMarkOf : Option Present → Option LibrarySet → Type 0
+IsMarkOf None None = Unit {0}
+IsMarkOf None (Some set) = ⊥
+IsMarkOf (Some present) None = ⊥
+IsMarkOf (Some present) (Some set) = present_shape set.content present ≡ set_shape set
+
+-- there is a mark, and it says that
+abbrev pub HasMarkOf : Option Mark → Option LibrarySet → Type 0
+HasMarkOf None set = ⊥
+HasMarkOf (Some mark) set = IsMarkOf mark.present set
 
 -- ---- a holder at its place
 
@@ -107,12 +130,20 @@ pub record IsAtPlace (tables : TablesModel) (row : RunRow) (leg : Leg) : Type 0 
   -- the names of the steps from here on are in the reach, and are the run's own
   pub ahead : (number : ℕ) (owned : OwnedStep) (name : Name) → step_now row ≤ number → step_at leg.job number ≡ Some owned
       → is_among (names_of leg.job.root owned) name ≡ true → (is_among leg.reach name ≡ true) × (is_among (own_names row) name ≡ true)
+  -- the run's own names are in its reach
+  pub own : (name : Name) → is_among (own_names row) name ≡ true → is_among leg.reach name ≡ true
+  -- of each other name of its job it carries the mark of the point from which it was continued, which says what the job has
+  pub carried : (name : Name) → is_among (names_of_job leg.job) name ≡ true → is_among (own_names row) name ≡ false
+      → HasMarkOf (mark_at (carried_marks row) name) (entry_at (at leg.job leg.start (place_of row)).sets name)
   pub later : (number : ℕ) (owned : OwnedStep) → step_now row < number → step_at leg.job number ≡ Some owned → owned.owner ≡ row.number
   -- another run that owns the step has marked absent what wasn't there
   pub lent : (owned : OwnedStep) (name : Name) → step_at leg.job (step_now row) ≡ Some owned → owned.owner ≢ row.number
       → is_among (step_made tables row owned (step_now row)) name
       ≡ is_among (names_made (placed_at (start_in leg.job.root (step_now row) owned (walk_before leg.job leg.start (step_now row))))) name
-  pub entered : (name : Name) → is_among leg.reach name ≡ false → is_among (passed_made row.passed) name ≡ false
+  -- the names that the run has lost aren't in its reach, and of the others each that its job passed on as made is
+  pub unreached : (name : Name) → is_among row.lost name ≡ true → is_among leg.reach name ≡ false
+  pub none_lost : row.deck.restart ≡ None → row.lost ≡ []
+  pub entered : (name : Name) → is_among leg.reach name ≡ false → is_among row.lost name ≡ false → is_among (passed_made row.passed) name ≡ false
   pub waits : is_in_state On row ≡ false → is_within (place_of row) ≡ true
   pub within : IsWithinStep row leg (place_of row)
 
@@ -145,6 +176,7 @@ pub record IsWaiting (office : Office) (row : RunRow) : Type 0 where
   pub own : row.earlier_step ≡ 0
   pub rcs : row.rcs ≡ []
   pub passed : row.passed ≡ []
+  pub lost : row.lost ≡ []
 
 pub record IsKnownLeg (office : Office) (leg : Leg) : Type 0 where
   pub found : leg_of office leg.number ≡ Some leg
@@ -177,11 +209,13 @@ library_at_stamp office stamp =
     (λ leg. option_map_or (λ start. within_at start (stamped_writes (work_at start).writes stamp.rewrites)) (start_at leg.job leg.start stamp.step) [])
     (leg_of office stamp.run) []
 
--- a data set's records begin what the step of its stamp writes
+-- a data set has the kind, the record length and the space of what the step of its stamp writes, and its records begin that
 pub record HasBegun (office : Office) (name : Name) (set : LibrarySet) : Type 0 where
   pub last : LibrarySet
   pub found : entry_at (library_at_stamp office set.stamp) name ≡ Some last
   pub content : last.content ≡ set.content
+  pub lrecl : last.lrecl ≡ set.lrecl
+  pub space : last.space ≡ set.space
   pub begins : IsPrefix set.records last.records
 
 abbrev pub AreBegun : Office → Library → Type 0
@@ -223,7 +257,12 @@ pub record AreStamped (office : Office) : Type 0 where
   pub places : (number : ℕ) (leg : Leg) (place : Place) → leg_of office number ≡ Some leg → IsReached leg place → AreBegun office (at leg.job leg.start place).sets
   pub marks : MarksHold (IsMarkedShort office) office.tables
 
+-- each run has an orderly deck
+abbrev pub AreOrderly : TablesModel → Type 0
+AreOrderly tables = AllByRecursion (λ (row : RunRow). is_orderly row.number row.deck ≡ true) tables.runs
+
 -- the events of an office are kept
 pub record IsKept (layout : Layout) (office : Office) : Type 0 where
   pub events : IsAgreed layout office
   pub stamps : AreStamped office
+  pub decks : AreOrderly office.tables

@@ -5,3 +5,5 @@ pub mod Counts
 pub mod Restorability
 pub mod PlainRuns
 pub mod Readiness
+pub mod StartedSteps
+pub mod WrittenEntries

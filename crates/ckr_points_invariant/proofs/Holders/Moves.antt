@@ -87,7 +87,7 @@ module _ (layout : Layout) (office : Office) (number : ℕ) (row next : RunRow) 
       (λ here. absurd (false≢true (sym busy ∙ ap (is_in_state Queued) (row_is_next its (ap (run_of later.tables) (sym here) ∙ e)) ∙ queued)))
       (λ apart.
       let waiting : IsWaiting office its = kept.waiting other its (sym (row_there other apart) ∙ e) queued in
-      record { alone = waiting.alone; job = waiting.job; formed = waiting.formed; earlier = waiting.earlier; own = waiting.own; rcs = waiting.rcs; passed = waiting.passed })
+      record { alone = waiting.alone; job = waiting.job; formed = waiting.formed; earlier = waiting.earlier; own = waiting.own; rcs = waiting.rcs; passed = waiting.passed; lost = waiting.lost })
 
   pub still-legs : AllByRecursion (IsKnownLeg later) office.legs
   still-legs =

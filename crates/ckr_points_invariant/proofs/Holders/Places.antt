@@ -1,25 +1,32 @@
 -- A holder at its place, where its row goes on.
-use Rattle.std.proofs.Common.{◌≡◌, ◌≢◌, ◌≤◌, ◌<◌, ℕ, zero, suc, pred, ◌+◌, Bool, true, false, ◌&&◌, ◌||◌, List, [], ◌∷◌, ◌++◌, filter, take, drop, length, refl, ap, sym, ◌∙◌, subst, Option, Some, arith}
+use Rattle.std.proofs.Common.{◌≡◌, ◌≢◌, ◌≤◌, ◌<◌, ℕ, zero, suc, pred, ◌+◌, Bool, true, false, ◌&&◌, ◌||◌, List, [], ◌∷◌, ◌++◌, filter, take, drop, length, refl, ap, sym, ◌∙◌, subst, Option, Some, None, arith}
 use Rattle.std.specs.Prelude.{◌==◌}
 use Rattle.std.specs.List.{list_all, list_any}
 use Rattle.std.specs.Option.{option_map_or}
+use Rattle.std.proofs.lemmas.Bool.{false≢true}
+use Rattle.ckr_base.proofs.Bools.{bool-cases}
 use Rattle.ckr_base.proofs.Numbers.{equal-itself, number-cases}
 use Rattle.ckr_base.proofs.Sequences.{all-implies, any-filter}
+use Rattle.ckr_entry.specs.declared.point.Mark.{Mark}
 use Rattle.ckr_library.specs.NameMaps.{Name}
 use Rattle.ckr_meaning.specs.Allotments.{is_output}
-use Rattle.ckr_meaning.specs.EffectiveJob.{Effective, OwnedStep, is_among, name_of, names_made, names_of, names_of_steps, step_at}
+use Rattle.ckr_jcl.specs.declared.deck.Job.{Job}
+use Rattle.ckr_meaning.specs.EffectiveJob.{Effective, OwnedStep, is_among, name_of, names_made, names_of, names_of_job, names_of_steps, step_at}
+use Rattle.ckr_meaning.specs.LibrarySet.{LibrarySet}
 use Rattle.ckr_meaning.specs.JobRun.{all_go_on, start_in, walk_before, walk_from}
 use Rattle.ckr_meaning.specs.StepRun.{placed_at}
 use Rattle.ckr_points.specs.declared.run.RunState.TheVariants.{On}
 use Rattle.ckr_points.specs.Tables.{earlier_made, own_made, step_made, steps_made}
 use Rattle.ckr_points.specs.Follows.{is_in_state, is_within}
 use Rattle.ckr_points.specs.RuleCases.{is_ended}
-use Rattle.ckr_points_invariant.specs.Invariant.{IsAtPlace, IsWithinStep, keeps_points, step_now}
+use Rattle.ckr_points_invariant.specs.Invariant.{HasMarkOf, IsAtPlace, IsWithinStep, keeps_points, step_now}
 use Rattle.ckr_points_library.specs.Commit.{output_names}
-use Rattle.ckr_points.specs.Marks.{made_names, point_at}
+use Rattle.ckr_points.specs.Marks.{carried_marks, made_names, mark_at, own_names, point_at}
 use Rattle.ckr_points.specs.Office.{Leg, passed_made}
 use Rattle.ckr_points.specs.Restart.{place_of}
 use Rattle.ckr_points.specs.Rows.{RunRow, TablesModel, run_of}
+use Rattle.ckr_points_invariant.proofs.Marks.Points.{KeepsCarried}
+use Rattle.ckr_points_invariant.proofs.Steps.Walks.{at-same-step}
 use Rattle.ckr_points_invariant.proofs.Library.Entries.{among-filter_map, is_name}
 
 -- ---- names of a step
@@ -51,8 +58,11 @@ pub record IsSameRun (row next : RunRow) : Type 0 where
   pub own_from : next.earlier_step ≡ row.earlier_step
   pub rcs : next.rcs ≡ row.rcs
   pub passed : next.passed ≡ row.passed
+  pub deck : next.deck ≡ row.deck
+  pub lost : next.lost ≡ row.lost
   pub step : step_now next ≡ step_now row
   pub made : (owned : OwnedStep) (step : ℕ) → step < step_now row → own_made next owned step ≡ own_made row owned step
+  pub carried : KeepsCarried row next
 
 -- the tables have the later row, and the other rows as they were
 pub record HasNext (tables later : TablesModel) (row next : RunRow) : Type 0 where
@@ -103,6 +113,23 @@ shorter zero steps = omega arith
 shorter (suc count) [] = omega arith
 shorter (suc count) (first ∷ rest) = let e : length (take count rest) ≤ count = shorter count rest in omega (arith, e)
 
+own-is : (row next : RunRow) → IsSameRun row next → (name : Name) → is_among (own_names next) name ≡ is_among (own_names row) name
+own-is row next same name =
+    ap (λ (job : Effective). is_among (names_of_steps job.root (drop (pred next.earlier_step) job.steps)) name) same.job
+    ∙ ap (λ n. is_among (names_of_steps row.job.root (drop (pred n) row.job.steps)) name) same.own_from
+
+-- a name that isn't the run's own isn't one of its step
+pub other-out : (tables : TablesModel) (row : RunRow) (leg : Leg) (name : Name) → IsAtPlace tables row leg → is_among (own_names row) name ≡ false → (owned : OwnedStep) → step_at leg.job (step_now row) ≡ Some owned → is_among (names_of leg.job.root owned) name ≡ false
+other-out tables row leg name place other owned found =
+    bool-cases (is_among (names_of leg.job.root owned) name)
+    (λ among. absurd (false≢true (sym other ∙ (place.ahead (step_now row) owned name (omega arith) found among).1)))
+    (λ e. e)
+
+-- a mark that stays
+pub mark-stays : (one other : Option Mark) (set : Option LibrarySet) → ((mark : Mark) → one ≡ Some mark → other ≡ Some mark) → HasMarkOf one set → HasMarkOf other set
+mark-stays None other set stays has = absurd has
+mark-stays (Some mark) other set stays has = subst (λ (o : Option Mark). HasMarkOf o set) (sym (stays mark refl)) has
+
 -- a holder is at its place, as its row goes on in the step
 pub place-next : (tables later : TablesModel) (row next : RunRow) (leg : Leg) → HasNext tables later row next → IsSameRun row next → (is_in_state On next ≡ false → is_within (place_of next) ≡ true) → IsWithinStep next leg (place_of next) → IsAtPlace tables row leg → IsAtPlace later next leg
 place-next tables later row next leg has same waits within place = record {
@@ -120,14 +147,23 @@ place-next tables later row next leg has same waits within place = record {
   owners = subst (λ (job : Effective). list_all (λ owned. keeps_points later next.number owned.owner) job.steps ≡ true) (sym same.job) (owners-same tables later row next has same.number same.job row.job.steps place.owners);
   ahead = λ number owned name from found among.
       let its = place.ahead number owned name (subst (λ n. n ≤ number) same.step from) found among in
-      (its.0, ap (λ (job : Effective). is_among (names_of_steps job.root (drop (pred next.earlier_step) job.steps)) name) same.job ∙ ap (λ n. is_among (names_of_steps row.job.root (drop (pred n) row.job.steps)) name) same.own_from ∙ its.1);
+      (its.0, own-is row next same name ∙ its.1);
+  own = λ name own. place.own name (sym (own-is row next same name) ∙ own);
+  carried = λ name among other.
+      let apart : is_among (own_names row) name ≡ false = sym (own-is row next same name) ∙ other in
+      subst (HasMarkOf (mark_at (carried_marks next) name)) (at-same-step leg.job leg.start (place_of row) (place_of next) name same.step (other-out tables row leg name place apart))
+      (mark-stays (mark_at (carried_marks row) name) (mark_at (carried_marks next) name) _ (λ mark has. same.carried name mark (ap (λ job. is_among (names_of_job job) name) (sym place.job) ∙ among) apart has)
+      (place.carried name among apart));
   later = λ number owned from found. place.later number owned (subst (λ n. n < number) same.step from) found ∙ sym same.number;
   lent = λ owned name found apart.
       ap (λ n. is_among (step_made later next owned n) name) same.step
       ∙ ap (λ names. is_among names name) (lent-same tables later row next has same.number same.job owned (step_now row) (λ e. apart (e ∙ sym same.number)))
       ∙ place.lent owned name (ap (step_at leg.job) (sym same.step) ∙ found) (λ e. apart (e ∙ sym same.number))
       ∙ ap (λ n. is_among (names_made (placed_at (start_in leg.job.root n owned (walk_before leg.job leg.start n)))) name) (sym same.step);
-  entered = λ name out. ap (λ passed. is_among (passed_made passed) name) same.passed ∙ place.entered name out;
+  unreached = λ name gone. place.unreached name (ap (λ lost. is_among lost name) (sym same.lost) ∙ gone);
+  none_lost = λ plain. same.lost ∙ place.none_lost (ap (λ (deck : Job). deck.restart) (sym same.deck) ∙ plain);
+  entered = λ name out stays.
+      ap (λ passed. is_among (passed_made passed) name) same.passed ∙ place.entered name out (ap (λ lost. is_among lost name) (sym same.lost) ∙ stays);
   waits = waits;
   within = within;
 }

@@ -107,10 +107,14 @@ module _ (tables other : TablesModel) (row : RunRow) (stay : PointsStay tables o
         ∙ place.earlier name;
     owners = all-implies (λ owned. keeps_points tables row.number owned.owner) (λ owned. keeps_points other row.number owned.owner) row.job.steps (λ owned. keeps-stays owned.owner) place.owners;
     ahead = place.ahead;
+    own = place.own;
+    carried = place.carried;
     later = place.later;
     lent = λ owned name found apart.
         ap (λ names. is_among names name) (step_made-stays owned (step_now row) (step-all (λ owned. keeps_points tables row.number owned.owner) row.job (step_now row) owned place.owners (ap (λ job. step_at job (step_now row)) (sym place.job) ∙ found)))
         ∙ place.lent owned name found apart;
+    unreached = place.unreached;
+    none_lost = place.none_lost;
     entered = place.entered;
     waits = place.waits;
     within = place.within;

@@ -64,10 +64,10 @@ module _ (layout : Layout) (office : Office) (number : ℕ) (next : RunRow) (run
         (λ here.
         let so : next ≡ its = some-one next its (run_of later.tables number) waits.here (ap (run_of later.tables) (sym here) ∙ e) in
         let waiting : IsWaiting office its = subst (IsWaiting office) so (waits.waiting (ap (is_in_state Queued) so ∙ queued)) in
-        record { alone = waiting.alone; job = waiting.job; formed = waiting.formed; earlier = waiting.earlier; own = waiting.own; rcs = waiting.rcs; passed = waiting.passed })
+        record { alone = waiting.alone; job = waiting.job; formed = waiting.formed; earlier = waiting.earlier; own = waiting.own; rcs = waiting.rcs; passed = waiting.passed; lost = waiting.lost })
         (λ apart.
         let waiting : IsWaiting office its = kept.waiting other its (sym (waits.there other apart) ∙ e) queued in
-        record { alone = waiting.alone; job = waiting.job; formed = waiting.formed; earlier = waiting.earlier; own = waiting.own; rcs = waiting.rcs; passed = waiting.passed });
+        record { alone = waiting.alone; job = waiting.job; formed = waiting.formed; earlier = waiting.earlier; own = waiting.own; rcs = waiting.rcs; passed = waiting.passed; lost = waiting.lost });
     legs =
         each-implies (IsKnownLeg office) (IsKnownLeg later) office.legs
         (λ one is. record {

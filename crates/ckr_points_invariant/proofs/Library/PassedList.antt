@@ -1,18 +1,20 @@
 -- The passed list: what it enters as made, and what its end leaves.
-use Rattle.std.proofs.Common.{◌≡◌, Bool, true, false, cond, not, ◌&&◌, ◌||◌, if◌then◌else◌, List, [], ◌∷◌, filter, map, refl, ap, sym, ◌∙◌, None}
+use Rattle.std.proofs.Common.{◌≡◌, Bool, true, false, cond, not, ◌&&◌, ◌||◌, if◌then◌else◌, List, [], ◌∷◌, filter, map, refl, ap, sym, ◌∙◌, Option, None}
 use Rattle.std.specs.List.{AllByRecursion, list_any}
 use Rattle.std.specs.Option.{option_map}
 use Rattle.std.proofs.lemmas.Bool.{false≢true, or_from, or_parts}
 use Rattle.std.proofs.lemmas.List.Folds.{list_any-append}
+use Rattle.ckr_base.proofs.Bools.{bool-cases}
 use Rattle.ckr_base.proofs.Sequences.{any-filter}
 use Rattle.ckr_entry.specs.declared.point.Passed.{Passed}
 use Rattle.ckr_jcl.specs.declared.deck.After.{After}
 use Rattle.ckr_jcl.specs.declared.deck.After.TheVariants.{Delete, Keep, Pass, Catlg, Uncatlg}
 use Rattle.ckr_library.specs.NameMaps.{Name, Named, same_name, entry_at, without_entry}
-use Rattle.ckr_library.proofs.Named.{at-with_changed, at-without_entry}
+use Rattle.ckr_library.proofs.Named.{at-with_changed, at-without_entry, name-same}
 use Rattle.ckr_meaning.specs.LibrarySet.{SetWays}
 use Rattle.ckr_meaning.specs.Dispositions.{Disposal, Stock, disposed_all, disposed_one, passed_after, passed_ended, sets_after, unpassed}
 use Rattle.ckr_meaning.specs.EffectiveJob.{is_among}
+use Rattle.ckr_points.specs.Marks.{without_passed}
 use Rattle.ckr_points.specs.Office.{passed_made}
 
 -- whether an entry of the list enters the name as made
@@ -75,6 +77,75 @@ ended_leaves {X = X} (one ∷ rest) sets name none =
 
 pub ended-leaves : {X : Type 0} (passed : List Passed) (sets : Named X) (name : Name) → is_among (passed_made passed) name ≡ false → entry_at (passed_ended passed sets) name ≡ entry_at sets name
 ended-leaves passed sets name none = ended_leaves passed sets name (sym (among-made passed name) ∙ none)
+
+-- ---- a list without names that were lost
+
+-- what the end of a run leaves of a name
+pub at-passed_ended : {X : Type 0} (passed : List Passed) (sets : Named X) (name : Name) → entry_at (passed_ended passed sets) name ≡ cond (is_among (passed_made passed) name) None (entry_at sets name)
+at-passed_ended {X = X} passed sets name = by_list passed sets ∙ ap (λ b. cond b None (entry_at sets name)) (sym (among-made passed name))
+  where
+    goes : (made : Bool) (one : Passed) (sets : Named X) → entry_at (if made then without_entry one.name sets else sets) name ≡ cond (made && same_name name one.name) None (entry_at sets name)
+    goes true one sets = at-without_entry one.name name sets
+    goes false one sets = refl
+
+    both : (here later : Bool) (entry : Option X) → cond later None (cond here None entry) ≡ cond (here || later) None entry
+    both true true entry = refl
+    both true false entry = refl
+    both false later entry = refl
+
+    by_list : (passed : List Passed) (sets : Named X) → entry_at (passed_ended passed sets) name ≡ cond (list_any (enters name) passed) None (entry_at sets name)
+    by_list [] sets = refl
+    by_list (one ∷ rest) sets =
+        by_list rest (if one.made then without_entry one.name sets else sets) ∙ ap (cond (list_any (enters name) rest) None) (goes one.made one sets)
+        ∙ both (enters name one) (list_any (enters name) rest) (entry_at sets name)
+
+pub made-without : (lost : List Name) (passed : List Passed) (name : Name) → is_among (passed_made (without_passed lost passed)) name ≡ (not (is_among lost name) && is_among (passed_made passed) name)
+made-without lost passed name =
+    among-made (without_passed lost passed) name
+    ∙ any-filter (λ (one : Passed). not (is_among lost one.name)) (enters name) passed
+    ∙ by_list passed ∙ ap (λ b. not (is_among lost name) && b) (sym (among-made passed name))
+  where
+    here : (one : Passed) → (not (is_among lost one.name) && enters name one) ≡ (not (is_among lost name) && enters name one)
+    here one =
+        bool-cases (same_name name one.name)
+        (λ same. ap (λ n. not (is_among lost n) && enters name one) (sym (name-same name one.name same)))
+        (λ apart. ap (λ b. not (is_among lost one.name) && (one.made && b)) apart ∙ none (not (is_among lost one.name)) one.made ∙ sym (ap (λ b. not (is_among lost name) && (one.made && b)) apart ∙ none (not (is_among lost name)) one.made))
+      where
+        none : (a made : Bool) → (a && (made && false)) ≡ false
+        none true true = refl
+        none true false = refl
+        none false made = refl
+
+    spread : (a b c : Bool) → ((a && b) || (a && c)) ≡ (a && (b || c))
+    spread true b c = refl
+    spread false b c = refl
+
+    nothing : (a : Bool) → false ≡ (a && false)
+    nothing true = refl
+    nothing false = refl
+
+    by_list : (passed : List Passed) → list_any (λ (one : Passed). not (is_among lost one.name) && enters name one) passed ≡ (not (is_among lost name) && list_any (enters name) passed)
+    by_list [] = nothing (not (is_among lost name))
+    by_list (one ∷ rest) =
+        ap (λ b. b || list_any (λ (one : Passed). not (is_among lost one.name) && enters name one) rest) (here one)
+        ∙ ap (λ b. (not (is_among lost name) && enters name one) || b) (by_list rest)
+        ∙ spread (not (is_among lost name)) (enters name one) (list_any (enters name) rest)
+
+-- a name that isn't lost ends as in the whole list
+pub ended-has : {X : Type 0} (lost : List Name) (passed : List Passed) (sets : Named X) (name : Name) → is_among lost name ≡ false → entry_at (passed_ended (without_passed lost passed) sets) name ≡ entry_at (passed_ended passed sets) name
+ended-has lost passed sets name stays =
+    at-passed_ended (without_passed lost passed) sets name
+    ∙ ap (λ b. cond b None (entry_at sets name)) (made-without lost passed name ∙ ap (λ b. not b && is_among (passed_made passed) name) stays)
+    ∙ sym (at-passed_ended passed sets name)
+
+-- one that is lost, or isn't passed on as made, stays
+pub ended-stays : {X : Type 0} (lost : List Name) (passed : List Passed) (sets : Named X) (name : Name) → (is_among lost name ≡ false → is_among (passed_made passed) name ≡ false) → entry_at (passed_ended (without_passed lost passed) sets) name ≡ entry_at sets name
+ended-stays lost passed sets name unless =
+    ended-leaves (without_passed lost passed) sets name
+    (made-without lost passed name
+    ∙ bool-cases (is_among lost name)
+    (λ gone. ap (λ b. not b && is_among (passed_made passed) name) gone)
+    (λ stays. ap (λ b. not b && is_among (passed_made passed) name) stays ∙ unless stays))
 
 -- ---- names that aren't disposed of
 

@@ -1,14 +1,14 @@
 -- The marks of a point, and the names that its step made.
 use Rattle.std.proofs.Common.{◌≡◌, ◌≢◌, ℕ, zero, suc, pred, Bool, true, false, cond, ◌&&◌, ◌||◌, if◌then◌else◌, List, [], ◌∷◌, drop, filter, map, refl, ap, sym, ◌∙◌, Option, Some, None}
 use Rattle.std.specs.Prelude.{◌==◌, nat_lt}
-use Rattle.std.specs.Option.{option_map, option_map_or, is_none}
+use Rattle.std.specs.Option.{option_map, option_map_or, is_none, is_some}
 use Rattle.std.specs.Ordering.{is_eq}
 use Rattle.std.proofs.lemmas.Bool.{false≢true, or_right}
 use Rattle.std.proofs.lemmas.List.Folds.{list_any-append}
 use Rattle.std.specs.FinMap.Entries.{by_order}
 use Rattle.std.specs.declared.cmp.Ordering.TheVariants.{Less, Equal, Greater}
 use Rattle.ckr_base.proofs.Bools.{and-false, bool-cases}
-use Rattle.ckr_base.proofs.Numbers.{equal-itself, equal-true}
+use Rattle.ckr_base.proofs.Numbers.{equal-itself, equal-true, number-cases}
 use Rattle.ckr_base.proofs.Options.{option-cases}
 use Rattle.ckr_base.proofs.Sequences.{find-passes}
 use Rattle.ckr_entry.specs.declared.point.Mark.{Mark}
@@ -64,6 +64,15 @@ pub mark_at-for : (mark : Name → Mark) (names : List Name) (name : Name) → (
 mark_at-for mark names name named among =
     mark_at-keyed (marked_under mark names) name (keyed-marked mark named names)
     ∙ entry-marked mark names name ∙ ap (λ b. cond b (Some (mark name)) None) among
+
+-- and no other one has one
+pub mark_at-among : (mark : Name → Mark) (names : List Name) (name : Name) → ((name : Name) → (mark name).name ≡ name) → is_some (mark_at (marks_for mark names) name) ≡ is_among names name
+mark_at-among mark names name named =
+    ap is_some (mark_at-keyed (marked_under mark names) name (keyed-marked mark named names) ∙ entry-marked mark names name) ∙ by (is_among names name)
+  where
+    by : (b : Bool) → is_some (cond b (Some (mark name)) None) ≡ b
+    by true = refl
+    by false = refl
 
 -- ---- names
 
@@ -188,3 +197,47 @@ own_made-out row owned step name out = by (point_at row.points step)
     by (Some point) =
         among-filter (is_marked_absent point.marks) (names_of row.job.root owned) name
         ∙ ap (λ b. is_marked_absent point.marks name && b) out ∙ and-false (is_marked_absent point.marks name)
+
+-- ---- the marks of other names, which a run carries
+
+-- a point that is taken now has of a name that isn't the run's own the mark that the run carries
+pub mark-carried : (row : RunRow) (sets : Named TableSet) (name : Name) (mark : Mark) → is_among (names_of_job row.job) name ≡ true → is_among (own_names row) name ≡ false → mark_at (carried_marks row) name ≡ Some mark → mark_at (marks_now row sets) name ≡ Some mark
+unfolding own_mark
+mark-carried row sets name mark among other has =
+    mark_at-for (own_mark row sets) (names_of_job row.job) name (own_mark-named row sets) among
+    ∙ ap (λ (b : Bool). Some (if b then mark_now sets name else option_map_or (λ mark. mark) (mark_at (carried_marks row) name) (mark_now sets name))) other
+    ∙ ap (λ (o : Option Mark). Some (option_map_or (λ mark. mark) o (mark_now sets name))) has
+
+-- each mark that a run carries of a name that isn't its own stays
+abbrev pub KeepsCarried : RunRow → RunRow → Type 0
+KeepsCarried row next = (name : Name) (mark : Mark) → is_among (names_of_job row.job) name ≡ true → is_among (own_names row) name ≡ false → mark_at (carried_marks row) name ≡ Some mark → mark_at (carried_marks next) name ≡ Some mark
+
+pub carried-same : (row next : RunRow) → carried_marks next ≡ carried_marks row → KeepsCarried row next
+carried-same row next same name mark among other has = ap (λ marks. mark_at marks name) same ∙ has
+
+-- the marks that a run carries behind a point of its own
+abbrev carried_with : RunRow → StartPoint → ℕ → List Mark
+carried_with row point step = option_map_or (λ point. point.marks) (point_at (with_point point row.points) step) []
+
+-- they stay where a point is taken
+pub carried-taken : (row : RunRow) (point : StartPoint) (sets : Named TableSet) → point.marks ≡ marks_now row sets → (name : Name) (mark : Mark) → is_among (names_of_job row.job) name ≡ true → is_among (own_names row) name ≡ false → mark_at (carried_marks row) name ≡ Some mark
+    → mark_at (option_map_or (λ (point : StartPoint). point.marks) (point_at (with_point point row.points) row.earlier_step) []) name ≡ Some mark
+carried-taken row point sets marks name mark among other has =
+    number-cases row.earlier_step point.step
+    (λ same.
+    ap (λ n. mark_at (carried_with row point n) name) same
+    ∙ ap (λ (o : Option StartPoint). mark_at (option_map_or (λ point. point.marks) o []) name) (point_at-new point row.points)
+    ∙ ap (λ its. mark_at its name) marks ∙ mark-carried row sets name mark among other has)
+    (λ apart. ap (λ (o : Option StartPoint). mark_at (option_map_or (λ point. point.marks) o []) name) (point_at-other point row.points row.earlier_step apart) ∙ has)
+
+-- and where a point of the same marks comes in its place
+pub carried-again : (row : RunRow) (point old : StartPoint) → point_at row.points point.step ≡ Some old → point.marks ≡ old.marks
+    → option_map_or (λ (point : StartPoint). point.marks) (point_at (with_point point row.points) row.earlier_step) [] ≡ carried_marks row
+carried-again row point old got marks =
+    number-cases row.earlier_step point.step
+    (λ same.
+    ap (carried_with row point) same
+    ∙ ap (λ (o : Option StartPoint). option_map_or (λ point. point.marks) o []) (point_at-new point row.points)
+    ∙ marks
+    ∙ sym (ap (λ n. option_map_or (λ (point : StartPoint). point.marks) (point_at row.points n) []) same ∙ ap (λ (o : Option StartPoint). option_map_or (λ point. point.marks) o []) got))
+    (λ apart. ap (λ (o : Option StartPoint). option_map_or (λ point. point.marks) o []) (point_at-other point row.points row.earlier_step apart))

@@ -31,7 +31,7 @@ use Rattle.ckr_points.specs.Soundness.{may_come}
 use Rattle.ckr_points.specs.Tables.{after_checkpointed, after_commit, after_dispositions, after_held, after_rewritten, after_step_ended, committed, is_checkpoints, is_updates, name_with_role, table_rewritten}
 use Rattle.ckr_points_invariant.specs.Invariant.{IsAgreed, IsAtPlace, IsHolder, step_now}
 use Rattle.ckr_points_invariant.proofs.Library.Likeness.{made_all-apart, opened_all-apart, placed-apart}
-use Rattle.ckr_points_invariant.proofs.Library.PassedList.{ended-leaves}
+use Rattle.ckr_points_invariant.proofs.Library.PassedList.{ended-stays}
 use Rattle.ckr_points_invariant.proofs.Rewrite.Invariant.{updated-name}
 use Rattle.ckr_points_invariant.proofs.RunEnd.Event.{committed_office, kept_then, running_then}
 use Rattle.ckr_points_invariant.proofs.Start.Event.{by-start, running-so}
@@ -130,7 +130,7 @@ module _ (layout : Layout) (now : Office) (job : ℕ) (row : RunRow) (leg : Leg)
     coded-out : entry_at (after_abnormal row_then (Within (step_now row) writes) done).sets name ≡ entry_at now.tables.sets name
     coded-out =
         ap (λ (o : Option OwnedStep). entry_at (option_map_or (λ owned. let disposed = after_dispositions row_then owned (step_now row) true done in after_passed_ended (record row_then { passed = disposed.passed }) (record done { sets = disposed.sets })) o done).sets name) running.found
-        ∙ ended-leaves (after_dispositions row_then owned (step_now row) true done).passed (after_dispositions row_then owned (step_now row) true done).sets name
+        ∙ ended-stays row.lost (after_dispositions row_then owned (step_now row) true done).passed (after_dispositions row_then owned (step_now row) true done).sets name
         (disposed-enters layout (committed_office now row owned writes lengths) job row_then leg owned (step_now row) writes agreed runs true name out)
         ∙ disposed-out true
 
@@ -233,7 +233,7 @@ module _ (layout : Layout) (now : Office) (kept : IsAgreed layout now) where
       led-by layout now job row kept e (on-holds row.state (and-first (is_in_state On row) (not (is_within (place_of row))) (and-first (is_in_state On row && not (is_within (place_of row))) _ passes)))
       (λ leg holder.
       by-its-row job row (λ row. after_ended row Completed now.tables) name e
-      (ended-leaves row.passed now.tables.sets name ((kept.places job row leg holder).entered name (apart row leg holder)))))
+      (ended-stays row.lost row.passed now.tables.sets name ((kept.places job row leg holder).entered name (apart row leg holder)))))
 
   pub apart-coded : (job rule writes : ℕ) (code : Code) (lengths : ArrayVec ℕ) (deck : Option Job) → may_come layout now (Ended job (Coded code rule writes lengths), deck) ≡ true → carries layout now (Ended job (Coded code rule writes lengths)) deck ≡ true → LeavesApart now job (office_after (Ended job (Coded code rule writes lengths), deck) now).tables.sets
   apart-coded job rule writes code lengths deck may carried name apart =
@@ -251,15 +251,15 @@ module _ (layout : Layout) (now : Office) (kept : IsAgreed layout now) where
       ∙ coded-out layout now job row leg owned kept running name (apart row leg holder) writes lengths.items commit are))))
 
   abnormal-out : (job : ℕ) (row : RunRow) (leg : Leg) (name : Name) → IsHolder now job row leg → is_among leg.reach name ≡ false → (place : Place) → place_of row ≡ place → entry_at (after_abnormal row place now.tables).sets name ≡ entry_at now.tables.sets name
-  abnormal-out job row leg name holder out (Before step) stands = ended-leaves row.passed now.tables.sets name ((kept.places job row leg holder).entered name out)
-  abnormal-out job row leg name holder out (Opened step) stands = ended-leaves row.passed now.tables.sets name ((kept.places job row leg holder).entered name out)
+  abnormal-out job row leg name holder out (Before step) stands = ended-stays row.lost row.passed now.tables.sets name ((kept.places job row leg holder).entered name out)
+  abnormal-out job row leg name holder out (Opened step) stands = ended-stays row.lost row.passed now.tables.sets name ((kept.places job row leg holder).entered name out)
   abnormal-out job row leg name holder out (Within step writes) stands =
       option-cases (step_of_run row step)
       (λ none. ap (λ (o : Option OwnedStep). entry_at (option_map_or (λ owned. let disposed = after_dispositions row owned step true now.tables in after_passed_ended (record row { passed = disposed.passed }) (record now.tables { sets = disposed.sets })) o now.tables).sets name) none)
       (λ owned found.
       let running : IsRunning now job row leg owned step writes = record { holder = holder; stands = stands; found = found } in
       ap (λ (o : Option OwnedStep). entry_at (option_map_or (λ owned. let disposed = after_dispositions row owned step true now.tables in after_passed_ended (record row { passed = disposed.passed }) (record now.tables { sets = disposed.sets })) o now.tables).sets name) found
-      ∙ ended-leaves (after_dispositions row owned step true now.tables).passed (after_dispositions row owned step true now.tables).sets name (disposed-enters layout now job row leg owned step writes kept running true name out)
+      ∙ ended-stays row.lost (after_dispositions row owned step true now.tables).passed (after_dispositions row owned step true now.tables).sets name (disposed-enters layout now job row leg owned step writes kept running true name out)
       ∙ disposed-outside layout now job row leg owned step writes kept running true name out)
 
   pub apart-allocation : (job dd cause first second : ℕ) (deck : Option Job) → may_come layout now (Ended job (Allocation dd cause first second), deck) ≡ true → LeavesApart now job (office_after (Ended job (Allocation dd cause first second), deck) now).tables.sets

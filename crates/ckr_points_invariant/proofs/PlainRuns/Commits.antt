@@ -1,30 +1,24 @@
 -- A run stays ready where the lengths of its step are committed.
-use Rattle.std.proofs.Common.{◌≡◌, ◌≤◌, ℕ, ◌+◌, Bool, true, false, cond, ◌&&◌, List, [], ◌∷◌, filter, refl, ap, sym, ◌∙◌, subst, Option, Some, None, arith}
+use Rattle.std.proofs.Common.{◌≡◌, ◌≤◌, ℕ, ◌+◌, Bool, true, false, cond, ◌&&◌, List, [], ◌∷◌, filter, ap, sym, ◌∙◌, subst, Option, Some, arith}
 use Rattle.std.specs.Prelude.{nat_le}
-use Rattle.std.specs.List.{find, list_all}
+use Rattle.std.specs.List.{find}
 use Rattle.std.specs.Option.{option_map, option_map_or}
-use Rattle.std.proofs.lemmas.Bool.{and_from, false≢true}
+use Rattle.std.proofs.lemmas.Bool.{false≢true}
 use Rattle.std.proofs.lemmas.Option.{same_Some}
 use Rattle.ckr_base.specs.declared.code.Code.{Code}
 use Rattle.ckr_base.proofs.Bools.{and-first, and-second, bool-cases}
 use Rattle.ckr_base.proofs.Numbers.{nat_le-from, nat_le-true}
-use Rattle.ckr_base.proofs.Options.{some-one}
-use Rattle.ckr_base.proofs.Sequences.{all-implies}
-use Rattle.ckr_entry.specs.declared.point.Mark.{Mark}
-use Rattle.ckr_entry.specs.declared.point.Passed.{Passed}
-use Rattle.ckr_entry.specs.declared.point.Present.{Present}
 use Rattle.ckr_library.specs.Catalog.{ends_within, records_of}
 use Rattle.ckr_library.specs.NameMaps.{Name, Named, same_name, entry_at, with_changed}
 use Rattle.ckr_library.proofs.Named.{at-with_changed, name-same}
-use Rattle.ckr_meaning.specs.EffectiveJob.{OwnedStep, is_among}
+use Rattle.ckr_meaning.specs.EffectiveJob.{OwnedStep}
 use Rattle.ckr_meaning.specs.JobRun.{start_at}
 use Rattle.ckr_meaning.specs.StepRun.{StepStart}
 use Rattle.ckr_meaning.specs.declared.place.Place.TheVariants.{Within}
 use Rattle.ckr_volumes.specs.declared.layout.Layout.{Layout}
 use Rattle.ckr_points_library.specs.Commit.{output_names}
 use Rattle.ckr_points.specs.declared.run.RunState.{RunState}
-use Rattle.ckr_points.specs.Follows.{are_lengths, is_within, own_step}
-use Rattle.ckr_points.specs.Marks.{deck_names, present_at, same_stamp}
+use Rattle.ckr_points.specs.Follows.{are_lengths, is_within}
 use Rattle.ckr_points.specs.Office.{Leg, Office}
 use Rattle.ckr_points.specs.Payload.{carries_lengths, commits, rewrites_nothing, writes_in}
 use Rattle.ckr_points.specs.Restart.{place_of}
@@ -33,9 +27,8 @@ use Rattle.ckr_points.specs.Tables.{committed}
 use Rattle.ckr_points_invariant.specs.Invariant.{IsAgreed, step_now}
 use Rattle.ckr_points_invariant.proofs.Steps.Commits.{IsRunning, found_leg, its_start}
 use Rattle.ckr_points_invariant.proofs.Steps.Walks.{start_at-of}
-use Rattle.ckr_points_invariant.proofs.Writes.Likeness.{committed-other}
 use Rattle.ckr_points_invariant.specs.Readiness.{IsCheck, IsReady, KeepsEntry}
-use Rattle.ckr_points_invariant.specs.Restorability.{IsRestorable, is_passed_there, is_still_marked}
+use Rattle.ckr_points_invariant.specs.Restorability.{IsRestorable}
 use Rattle.ckr_points_invariant.proofs.PlainRuns.Writes.{unwritten-on}
 
 -- ---- entries that are kept
@@ -97,50 +90,7 @@ module _ (P : TableSet → Type 0) (first : Named TableSet) (name : Name) (befor
       committed-has outputs lengths (with_changed output (cut_set now) sets) (and-second (option_map_or (λ (table : TableSet). nat_le table.set.length now && nat_le now table.set.space) (entry_at first output) false) _ are)
       (cut-has output now sets (and-first (option_map_or (λ (table : TableSet). nat_le table.set.length now && nat_le now table.set.space) (entry_at first output) false) _ are) has)
 
--- ---- passed names
-
--- an output that is long enough stays so where it grows
-grown-marked : (now : ℕ) (before table : TableSet) (present : Present) → is_still_marked true before present ≡ true → before.set.length ≤ now → is_still_marked true table present ≡ true → is_still_marked true (cut_set now table) present ≡ true
-grown-marked now before table present first below e =
-    and_from (same_stamp table.set.stamp present.stamp && nat_le present.length now) _
-    (and_from (same_stamp table.set.stamp present.stamp) _ (and-first (same_stamp table.set.stamp present.stamp) _ (and-first (same_stamp table.set.stamp present.stamp && nat_le present.length table.set.length) _ e))
-    (nat_le-from present.length now
-    (let long : present.length ≤ before.set.length = nat_le-true present.length before.set.length (and-second (same_stamp before.set.stamp present.stamp) _ (and-first (same_stamp before.set.stamp present.stamp && nat_le present.length before.set.length) _ first)) in
-    omega (arith, long, below))))
-    (and-second (same_stamp table.set.stamp present.stamp && nat_le present.length table.set.length) _ e)
-
-abbrev is_marked_in : Bool → Present → Option TableSet → Bool
-is_marked_in output present entry = option_map_or (λ table. is_still_marked output table present) entry false
-
 module _ (outputs : List Name) (lengths : List ℕ) (sets : Named TableSet) (are : are_lengths sets outputs lengths ≡ true) where
-  committed-output : (name : Name) (present : Present) (entry : Option TableSet) → entry_at sets name ≡ entry → is_marked_in true present entry ≡ true → is_marked_in true present (entry_at (committed outputs lengths sets) name) ≡ true
-  committed-output name present None was e = absurd (false≢true e)
-  committed-output name present (Some before) was e =
-      let P : TableSet → Type 0 = λ table. is_still_marked true table present ≡ true in
-      let has : HasTable P (committed outputs lengths sets) name = committed-has P sets name before was (λ now below table its. grown-marked now before table present e below its) outputs lengths sets are (record { table = before; at = was; holds = e }) in
-      ap (is_marked_in true present) has.at ∙ has.holds
-
-  committed-marked : (name : Name) (present : Present) → is_marked_in (is_among outputs name) present (entry_at sets name) ≡ true → is_marked_in (is_among outputs name) present (entry_at (committed outputs lengths sets) name) ≡ true
-  committed-marked name present e =
-      bool-cases (is_among outputs name)
-      (λ among.
-      ap (λ b. is_marked_in b present (entry_at (committed outputs lengths sets) name)) among
-      ∙ committed-output name present (entry_at sets name) refl (sym (ap (λ b. is_marked_in b present (entry_at sets name)) among) ∙ e))
-      (λ out. ap (is_marked_in (is_among outputs name) present) (committed-other outputs lengths sets name out) ∙ e)
-
-  -- passed names are there still
-  committed-there : (named : List Name) (marks : List Mark) (entry : Passed) → is_passed_there named outputs marks sets entry ≡ true → is_passed_there named outputs marks (committed outputs lengths sets) entry ≡ true
-  committed-there named marks entry e =
-      and_from (is_among named entry.name) _ (and-first (is_among named entry.name) _ e)
-      (by (present_at marks entry.name) (and-second (is_among named entry.name) _ e))
-    where
-      by : (present : Option Present) → option_map_or (λ present. is_marked_in (is_among outputs entry.name) present (entry_at sets entry.name)) present false ≡ true → option_map_or (λ present. is_marked_in (is_among outputs entry.name) present (entry_at (committed outputs lengths sets) entry.name)) present false ≡ true
-      by None e = e
-      by (Some present) e = committed-marked entry.name present e
-
-  pub all-committed-there : (named : List Name) (marks : List Mark) (passed : List Passed) → list_all (is_passed_there named outputs marks sets) passed ≡ true → list_all (is_passed_there named outputs marks (committed outputs lengths sets)) passed ≡ true
-  all-committed-there named marks passed each = all-implies (is_passed_there named outputs marks sets) (is_passed_there named outputs marks (committed outputs lengths sets)) passed (committed-there named marks) each
-
   -- ---- entries
 
   -- an entry that ends within its data set is kept
@@ -190,17 +140,13 @@ module _ (layout : Layout) (now : Office) (job : ℕ) (row : RunRow) (leg : Leg)
     abbrev pub next_row : RunRow
     next_row = row_behind row state initiator code writes count effect
 
-    pub committed-restorable : (from : ℕ) (marks : List Mark) (passed : List Passed) → IsRestorable now.tables.sets row leg from marks passed → IsRestorable sets_behind next_row leg from marks passed
-    committed-restorable from marks passed can = record {
+    pub committed-restorable : (from : ℕ) → IsRestorable row leg from → IsRestorable next_row leg from
+    committed-restorable from can = record {
       behind = let a = can.behind in let b = more in omega (arith, a, b);
       unwritten = λ its at_step.
           subst (λ s. rewrites_nothing s from writes ≡ true) (start_is its at_step)
           (unwritten-on start from (writes_in (place_of row)) writes can.behind more
           (subst (λ s. rewrites_nothing s from (writes_in (place_of row)) ≡ true) (sym (start_is its at_step)) (can.unwritten its at_step)) none_rewritten);
-      there = λ other found.
-          subst (λ (step : OwnedStep). list_all (is_passed_there (deck_names row.job.root row.number row.deck) (output_names row.job.root step) marks sets_behind) passed ≡ true)
-          (some-one owned other (own_step row) running.found found)
-          (all-committed-there (output_names row.job.root owned) lengths now.tables.sets are (deck_names row.job.root row.number row.deck) marks passed (can.there owned running.found));
     }
 
   within_now : is_within (place_of row) ≡ true
@@ -210,7 +156,7 @@ module _ (layout : Layout) (now : Office) (job : ℕ) (row : RunRow) (leg : Leg)
   pub committed-ready : (state : RunState) (initiator : Option ℕ) (code : Option Code) → IsReady now.tables.sets row leg → IsReady sets_behind (next_row state initiator code row.count row.in_effect) leg
   committed-ready state initiator code ready = record {
     begun = λ within. ready.begun within_now;
-    steps = λ point within got unwritten. committed-restorable state initiator code row.count row.in_effect 0 point.marks point.passed (ready.steps point within_now got unwritten);
+    steps = λ point within got unwritten. committed-restorable state initiator code row.count row.in_effect 0 (ready.steps point within_now got unwritten);
     check = λ effect within got.
         let its : IsCheck now.tables.sets row leg effect = ready.check effect within_now got in
         record {
@@ -222,8 +168,7 @@ module _ (layout : Layout) (now : Office) (job : ℕ) (row : RunRow) (leg : Leg)
           back = its.back;
           point = its.point;
           taken = its.taken;
-          since = λ unwritten. committed-restorable state initiator code row.count row.in_effect its.entry.point.writes its.entry.point.marks its.entry.point.passed (its.since unwritten);
-          after = its.after;
+          since = λ unwritten. committed-restorable state initiator code row.count row.in_effect its.entry.point.writes (its.since unwritten);
         };
     none = λ out. absurd (false≢true (sym out));
   }

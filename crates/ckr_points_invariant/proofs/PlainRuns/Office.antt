@@ -1,14 +1,13 @@
 -- An office in which one run's row changed: what restarts rest on holds of the other runs still.
 use Rattle.std.proofs.Common.{◌≡◌, ◌≢◌, ℕ, true, ap, sym, ◌∙◌, subst, Some, None, arith}
 use Rattle.std.specs.Prelude.{◌==◌}
-use Rattle.std.specs.List.{AllByRecursion}
 use Rattle.std.proofs.lemmas.Bool.{false≢true}
 use Rattle.ckr_base.proofs.Bools.{bool-cases}
 use Rattle.ckr_base.proofs.Numbers.{equal-true, number-cases}
 use Rattle.ckr_base.proofs.Options.{some-one}
 use Rattle.ckr_base.proofs.Sequences.{find-holds, find-passes}
 use Rattle.ckr_library.specs.NameMaps.{Name}
-use Rattle.ckr_meaning.specs.EffectiveJob.{Effective, OwnedStep, is_among, names_of_job, step_at}
+use Rattle.ckr_meaning.specs.EffectiveJob.{Effective, OwnedStep, is_among, step_at}
 use Rattle.ckr_meaning.specs.declared.place.Place.TheVariants.{Opened, Within}
 use Rattle.ckr_volumes.specs.declared.layout.Layout.{Layout}
 use Rattle.ckr_points_library.specs.Commit.{output_names}
@@ -24,11 +23,9 @@ use Rattle.ckr_points_invariant.proofs.Holders.Places.{outputs-among}
 use Rattle.ckr_points_invariant.proofs.Holders.SharedSets.{step_left}
 use Rattle.ckr_points_invariant.proofs.Points.Rows as rows
 use Rattle.ckr_points_invariant.specs.Readiness.{AreReady, HasPoint, IsCheck, IsReady}
-use Rattle.ckr_points_invariant.specs.PlainRuns.{IsPlain}
 use Rattle.ckr_points_invariant.specs.Restorability.{AreEntriesRestorable, AreStepsRestorable, IsRestorable}
 use Rattle.ckr_points_invariant.proofs.OtherRuns.Outputs.{not-output}
 use Rattle.ckr_points_invariant.proofs.OtherRuns.Sets.{IsApart, LeavesApart}
-use Rattle.ckr_points_invariant.proofs.PlainRuns.Names.{listed-apart}
 use Rattle.ckr_points_invariant.proofs.PlainRuns.Readiness.{kept-entry, ready-same}
 use Rattle.ckr_points_invariant.proofs.Restart.Invariant.{point-of}
 use Rattle.ckr_points_invariant.proofs.Restart.Points.{fewer}
@@ -41,7 +38,7 @@ pub entries-restorable : (office : Office) → AreReady office → AreEntriesRes
 entries-restorable office ready = record {
   since = λ number row leg effect entry holder within got there unwritten.
       let check : IsCheck office.tables.sets row leg effect = (ready.runs number row leg holder).check effect within got in
-      subst (λ (e : KeptEntry). IsRestorable office.tables.sets row leg e.point.writes e.point.marks e.point.passed)
+      subst (λ (e : KeptEntry). IsRestorable row leg e.point.writes)
       (some-one check.entry entry (kept_at office.tables.sets effect.set effect.kept.id) (kept-entry office.tables.sets effect.set effect.kept.id check.entry check.keeps) there)
       (check.since unwritten);
   points = λ number row leg effect entry holder within got there.
@@ -64,17 +61,16 @@ module _ (layout : Layout) (now : Office) (kept : IsAgreed layout now) (pointed 
   -- only the row of one run changed, and data sets that it reaches; it is ready itself
   pub record IsOnly (job : ℕ) (later : Office) : Type 0 where
     pub legs : (number : ℕ) → number ≢ job → leg_of later number ≡ leg_of now number
-    pub reaches : AllByRecursion (λ (leg : Leg). leg.reach ≡ names_of_job leg.job) later.legs
     pub others : (number : ℕ) → number ≢ job → run_of later.tables number ≡ run_of now.tables number
     pub sets : LeavesApart now job later.tables.sets
-    pub own : (row : RunRow) (leg : Leg) → IsHolder later job row leg → IsPlain row × IsReady later.tables.sets row leg
+    pub own : (row : RunRow) (leg : Leg) → IsHolder later job row leg → IsReady later.tables.sets row leg
     pub waits : (row : RunRow) → run_of later.tables job ≡ Some row → is_in_state Queued row ≡ true → row.in_effect ≡ None
 
   former : (job number : ℕ) (later : Office) (row : RunRow) (leg : Leg) → IsOnly job later → number ≢ job → IsHolder later number row leg → IsHolder now number row leg
   former job number later row leg only apart there = record { row_at = sym (only.others number apart) ∙ there.row_at; holds = there.holds; leg_at = sym (only.legs number apart) ∙ there.leg_at }
 
   -- an output of the step that a holder is in is reached by no other one
-  output-apart : (number : ℕ) (row : RunRow) (leg : Leg) (owned : OwnedStep) (name : Name) → IsHolder now number row leg → own_step row ≡ Some owned → is_among (output_names row.job.root owned) name ≡ true → (other : ℕ) → number ≢ other → IsApart now other name
+  pub output-apart : (number : ℕ) (row : RunRow) (leg : Leg) (owned : OwnedStep) (name : Name) → IsHolder now number row leg → own_step row ≡ Some owned → is_among (output_names row.job.root owned) name ≡ true → (other : ℕ) → number ≢ other → IsApart now other name
   output-apart number row leg owned name holder found among other apart its fellow there =
       let place : IsAtPlace now.tables row leg = kept.places number row leg holder in
       let at_leg : step_at leg.job (step_now row) ≡ Some owned = ap (λ job. step_at job (step_now row)) place.job ∙ found in
@@ -88,25 +84,16 @@ module _ (layout : Layout) (now : Office) (kept : IsAgreed layout now) (pointed 
 
   pub ready-only : (job : ℕ) (later : Office) → IsOnly job later → AreReady later
   ready-only job later only = record {
-    plain = record {
-      rows = λ number row leg there.
-          number-cases number job
-          (λ here. (only.own row leg (subst (λ n. IsHolder later n row leg) here there)).0)
-          (λ apart. ready.plain.rows number row leg (former job number later row leg only apart there));
-      reaches = only.reaches;
-      waits = λ number row e queued.
-          number-cases number job
-          (λ here. only.waits row (ap (run_of later.tables) (sym here) ∙ e) queued)
-          (λ apart. ready.plain.waits number row (sym (only.others number apart) ∙ e) queued);
-    };
+    waits = λ number row e queued.
+        number-cases number job
+        (λ here. only.waits row (ap (run_of later.tables) (sym here) ∙ e) queued)
+        (λ apart. ready.waits number row (sym (only.others number apart) ∙ e) queued);
     runs = λ number row leg there.
         number-cases number job
-        (λ here. (only.own row leg (subst (λ n. IsHolder later n row leg) here there)).1)
+        (λ here. only.own row leg (subst (λ n. IsHolder later n row leg) here there))
         (λ apart.
         let before : IsHolder now number row leg = former job number later row leg only apart there in
         ready-same row leg now.tables.sets later.tables.sets
-        (λ name listed. only.sets name (listed-apart layout now kept ready.plain number row leg before name listed job apart))
         (λ owned name found among. only.sets name (output-apart number row leg owned name before found among job apart))
-        (λ point got. step-point layout now number row leg point kept pointed before got)
         (ready.runs number row leg before));
   }

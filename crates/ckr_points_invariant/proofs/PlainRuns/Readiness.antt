@@ -5,19 +5,12 @@ use Rattle.std.specs.Option.{option_map_or}
 use Rattle.std.proofs.lemmas.Bool.{false≢true}
 use Rattle.ckr_library.specs.NameMaps.{Name, Named, same_name, entry_at}
 use Rattle.ckr_meaning.specs.EffectiveJob.{OwnedStep, is_among}
-use Rattle.ckr_meaning.specs.JobRun.{walk_before}
-use Rattle.ckr_meaning.specs.declared.place.Place.TheVariants.{Opened, Within}
 use Rattle.ckr_points_library.specs.Commit.{output_names}
 use Rattle.ckr_points.specs.Follows.{is_within, own_step}
-use Rattle.ckr_points.specs.Marks.{point_at}
 use Rattle.ckr_points.specs.Office.{Leg}
 use Rattle.ckr_points.specs.Restart.{kept_at, place_of}
-use Rattle.ckr_points.specs.Rows.{EffectPoint, KeptEntry, RunRow, StartPoint, TableSet}
-use Rattle.ckr_points_invariant.specs.Invariant.{step_now}
-use Rattle.ckr_points_invariant.proofs.Soundness.{at-passed}
-use Rattle.ckr_points_invariant.specs.Readiness.{HasPoint, IsCheck, IsReady, KeepsEntry}
-use Rattle.ckr_points_invariant.proofs.PassedNames.Dispositions.{is_listed}
-use Rattle.ckr_points_invariant.proofs.PlainRuns.Names.{restorable-same}
+use Rattle.ckr_points.specs.Rows.{EffectPoint, KeptEntry, RunRow, TableSet}
+use Rattle.ckr_points_invariant.specs.Readiness.{IsCheck, IsReady, KeepsEntry}
 
 -- ---- a run
 
@@ -38,9 +31,7 @@ ready-outside sets row leg outside none = record {
 -- ---- other data sets
 
 module _ (row : RunRow) (leg : Leg) (sets later : Named TableSet)
-    (listed-same : (name : Name) → is_listed name (walk_before leg.job leg.start (step_now row)).standing.passed ≡ true → entry_at later name ≡ entry_at sets name)
-    (output-same : (owned : OwnedStep) (name : Name) → own_step row ≡ Some owned → is_among (output_names row.job.root owned) name ≡ true → entry_at later name ≡ entry_at sets name)
-    (pointed : (point : StartPoint) → point_at row.points (step_now row) ≡ Some point → HasPoint leg (Opened (step_now row)) point.marks point.passed) where
+    (output-same : (owned : OwnedStep) (name : Name) → own_step row ≡ Some owned → is_among (output_names row.job.root owned) name ≡ true → entry_at later name ≡ entry_at sets name) where
   check-same : (effect : EffectPoint) → IsCheck sets row leg effect → IsCheck later row leg effect
   check-same effect its = record {
     owned = its.owned;
@@ -56,22 +47,14 @@ module _ (row : RunRow) (leg : Leg) (sets later : Named TableSet)
     back = its.back;
     point = its.point;
     taken = its.taken;
-    since = λ unwritten.
-        restorable-same row leg its.entry.point.writes its.entry.point.marks its.entry.point.passed sets later
-        (λ name listed.
-        listed-same name (ap (is_listed name) (sym (its.point.passed_on ∙ at-passed leg.job leg.start (Within (step_now row) its.entry.point.writes))) ∙ listed))
-        (its.since unwritten);
-    after = its.after;
+    since = its.since;
   }
 
-  -- a run is ready where the data sets of its passed names and of its outputs are the same
+  -- a run is ready where the data sets of its outputs are the same
   pub ready-same : IsReady sets row leg → IsReady later row leg
   ready-same ready = record {
     begun = ready.begun;
-    steps = λ point within got unwritten.
-        restorable-same row leg 0 point.marks point.passed sets later
-        (λ name listed. listed-same name (ap (is_listed name) (sym ((pointed point got).passed_on ∙ at-passed leg.job leg.start (Opened (step_now row)))) ∙ listed))
-        (ready.steps point within got unwritten);
+    steps = ready.steps;
     check = λ effect within got. check-same effect (ready.check effect within got);
     none = ready.none;
   }

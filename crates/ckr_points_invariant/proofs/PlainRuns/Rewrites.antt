@@ -101,7 +101,6 @@ module _ (layout : Layout) (now : Office) (job : ℕ) (row : RunRow) (leg : Leg)
         point = its.point;
         taken = its.taken;
         since = λ unwritten. absurd (false≢true (sym unwritten));
-        after = λ point got unwritten. absurd (false≢true (sym unwritten ∙ rewritten-told (step_now row) row.points point got));
       }
 
   pub rewritten-ready : IsReady rewritten_sets rewritten_row leg

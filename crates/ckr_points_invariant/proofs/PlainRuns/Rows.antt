@@ -1,10 +1,8 @@
 -- One more event by which one run's row changes leaves all runs ready to restart.
-use Rattle.std.proofs.Common.{◌≡◌, ◌≢◌, ℕ, true, List, refl, sym, ◌∙◌, subst, Option, Some, None}
+use Rattle.std.proofs.Common.{◌≡◌, ◌≢◌, ℕ, true, refl, sym, ◌∙◌, subst, Option, Some, None}
 use Rattle.std.specs.Option.{option_map_or}
 use Rattle.ckr_base.specs.declared.code.Code.{Code}
 use Rattle.ckr_base.proofs.Options.{some-not-none, some-one}
-use Rattle.ckr_entry.specs.declared.point.Mark.{Mark}
-use Rattle.ckr_entry.specs.declared.point.Passed.{Passed}
 use Rattle.ckr_library.specs.NameMaps.{Named}
 use Rattle.ckr_meaning.specs.EffectiveJob.{OwnedStep}
 use Rattle.ckr_meaning.specs.LibrarySet.{Library}
@@ -19,20 +17,19 @@ use Rattle.ckr_points_invariant.specs.Invariant.{IsAgreed, IsHolder, step_now}
 use Rattle.ckr_points_invariant.specs.Points.{ArePointed}
 use Rattle.ckr_points_invariant.proofs.Holders.Rows.{run-other, run-same}
 use Rattle.ckr_points_invariant.specs.Readiness.{AreReady, IsCheck, IsReady}
-use Rattle.ckr_points_invariant.specs.PlainRuns.{IsPlain}
 use Rattle.ckr_points_invariant.specs.Restorability.{IsRestorable}
 use Rattle.ckr_points_invariant.proofs.OtherRuns.Sets.{LeavesApart}
 use Rattle.ckr_points_invariant.proofs.PlainRuns.Office.{ready-only}
 
 -- ---- a row in another state
 
-restorable-state : (sets : Named TableSet) (row : RunRow) (leg : Leg) (state : RunState) (initiator : Option ℕ) (code : Option Code) (from : ℕ) (marks : List Mark) (passed : List Passed) → IsRestorable sets row leg from marks passed → IsRestorable sets (record row { state = state; initiator = initiator; code = code }) leg from marks passed
-restorable-state sets row leg state initiator code from marks passed can = record { behind = can.behind; unwritten = can.unwritten; there = can.there }
+restorable-state : (row : RunRow) (leg : Leg) (state : RunState) (initiator : Option ℕ) (code : Option Code) (from : ℕ) → IsRestorable row leg from → IsRestorable (record row { state = state; initiator = initiator; code = code }) leg from
+restorable-state row leg state initiator code from can = record { behind = can.behind; unwritten = can.unwritten }
 
 pub ready-state : (sets : Named TableSet) (row : RunRow) (leg : Leg) (state : RunState) (initiator : Option ℕ) (code : Option Code) → IsReady sets row leg → IsReady sets (record row { state = state; initiator = initiator; code = code }) leg
 ready-state sets row leg state initiator code ready = record {
   begun = ready.begun;
-  steps = λ point within got unwritten. restorable-state sets row leg state initiator code 0 point.marks point.passed (ready.steps point within got unwritten);
+  steps = λ point within got unwritten. restorable-state row leg state initiator code 0 (ready.steps point within got unwritten);
   check = λ effect within got.
       let its : IsCheck sets row leg effect = ready.check effect within got in
       record {
@@ -44,8 +41,7 @@ ready-state sets row leg state initiator code ready = record {
         back = its.back;
         point = its.point;
         taken = its.taken;
-        since = λ unwritten. restorable-state sets row leg state initiator code its.entry.point.writes its.entry.point.marks its.entry.point.passed (its.since unwritten);
-        after = its.after;
+        since = λ unwritten. restorable-state row leg state initiator code its.entry.point.writes (its.since unwritten);
       };
   none = ready.none;
 }
@@ -55,7 +51,7 @@ pub ready-cancelled : (sets : Named TableSet) (row : RunRow) (leg : Leg) → IsR
 ready-cancelled sets row leg ready = record {
   begun = ready.begun;
   steps = λ point within got unwritten.
-      let can = ready.steps point within got unwritten in record { behind = can.behind; unwritten = can.unwritten; there = can.there };
+      let can = ready.steps point within got unwritten in record { behind = can.behind; unwritten = can.unwritten };
   check = λ effect within got. absurd (some-not-none effect (sym got));
   none = λ out. refl;
 }
@@ -71,18 +67,17 @@ changed-to Q now job row owned change e found it =
 module _ (layout : Layout) (now : Office) (kept : IsAgreed layout now) (pointed : ArePointed now) (ready : AreReady now) where
   -- all runs stay ready where one run's row comes in the tables, with data sets that differ in those that the run reaches
   pub ready-with : (job : ℕ) (mid next : RunRow) (base : TablesModel) (sets : Named TableSet) (library : Library) → run_of base job ≡ Some mid → next.number ≡ job → ((number : ℕ) → number ≢ job → run_of base number ≡ run_of now.tables number) → LeavesApart now job sets
-      → ((leg : Leg) → IsHolder (record now { tables = with_run next (record base { sets = sets }); library = library }) job next leg → IsPlain next × IsReady sets next leg)
+      → ((leg : Leg) → IsHolder (record now { tables = with_run next (record base { sets = sets }); library = library }) job next leg → IsReady sets next leg)
       → (is_in_state Queued next ≡ true → next.in_effect ≡ None) → AreReady (record now { tables = with_run next (record base { sets = sets }); library = library })
   ready-with job mid next base sets library was same others apart own waits =
       ready-only layout now kept pointed ready job later
       (record {
         legs = λ number differs. refl;
-        reaches = ready.plain.reaches;
         others = λ number differs. run-other (record base { sets = sets }) next number (λ e. differs (e ∙ same)) ∙ others number differs;
         sets = apart;
         own = λ row leg there.
             let is : next ≡ row = some-one next row (run_of later.tables job) here there.row_at in
-            subst (λ (its : RunRow). IsPlain its × IsReady sets its leg) is
+            subst (λ (its : RunRow). IsReady sets its leg) is
             (own leg (record { row_at = here; holds = subst (λ (its : RunRow). is_holder its.state ≡ true) (sym is) there.holds; leg_at = there.leg_at }));
         waits = λ row e queued.
             let is : next ≡ row = some-one next row (run_of later.tables job) here e in
@@ -97,7 +92,7 @@ module _ (layout : Layout) (now : Office) (kept : IsAgreed layout now) (pointed 
 
   -- a row of the tables as they are
   pub ready-moved : (job : ℕ) (row next : RunRow) (sets : Named TableSet) (library : Library) → run_of now.tables job ≡ Some row → next.number ≡ row.number → LeavesApart now job sets
-      → ((leg : Leg) → IsHolder (record now { tables = with_run next (record now.tables { sets = sets }); library = library }) job next leg → IsPlain next × IsReady sets next leg)
+      → ((leg : Leg) → IsHolder (record now { tables = with_run next (record now.tables { sets = sets }); library = library }) job next leg → IsReady sets next leg)
       → (is_in_state Queued next ≡ true → next.in_effect ≡ None) → AreReady (record now { tables = with_run next (record now.tables { sets = sets }); library = library })
   ready-moved job row next sets library e same apart own waits =
       ready-with job row next now.tables sets library e (same ∙ kept.numbered job row e) (λ number differs. refl) apart own waits

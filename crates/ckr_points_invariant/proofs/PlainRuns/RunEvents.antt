@@ -15,16 +15,17 @@ use Rattle.ckr_events.specs.declared.event.Ending.TheVariants.{Allocation, Coded
 use Rattle.ckr_jcl.specs.declared.deck.Job.{Job}
 use Rattle.ckr_library.specs.NameMaps.{Name, Named}
 use Rattle.ckr_meaning.specs.Dispositions.{passed_ended}
-use Rattle.ckr_meaning.specs.EffectiveJob.{OwnedStep, names_of_job}
+use Rattle.ckr_meaning.specs.EffectiveJob.{OwnedStep}
 use Rattle.ckr_meaning.specs.LibrarySet.{Library}
 use Rattle.ckr_meaning.specs.declared.place.Place.{Place}
 use Rattle.ckr_meaning.specs.declared.place.Place.TheVariants.{Before, Opened, Within}
 use Rattle.ckr_volumes.specs.declared.layout.Layout.{Layout}
 use Rattle.ckr_points_library.specs.Commit.{output_names}
+use Rattle.ckr_points.specs.Marks.{has_passed, without_passed}
 use Rattle.ckr_points.specs.declared.run.RunState.{RunState}
 use Rattle.ckr_points.specs.declared.run.RunState.TheVariants.{On, Queued, Held as HeldRun, Released as ReleasedRun, Ended as EndedRun, Denied as DeniedRun, Purged as PurgedRun}
 use Rattle.ckr_points.specs.Follows.{ended_follows, is_empty, is_in_state, is_running, is_within, lengths_follow, state_number}
-use Rattle.ckr_points.specs.Office.{Leg, Office, is_holder, library_after, office_after}
+use Rattle.ckr_points.specs.Office.{Office, is_holder, library_after, office_after}
 use Rattle.ckr_points.specs.Payload.{carries}
 use Rattle.ckr_points.specs.Restart.{after_abnormal, after_ended, after_passed_ended, place_of}
 use Rattle.ckr_points.specs.Rows.{RunRow, TableSet, TablesModel, run_of, step_of_run, with_run}
@@ -33,12 +34,10 @@ use Rattle.ckr_points.specs.Tables.{after_cancelled, after_commit, after_disposi
 use Rattle.ckr_points_invariant.specs.Invariant.{IsAgreed, IsHolder, step_now}
 use Rattle.ckr_points_invariant.specs.Points.{ArePointed}
 use Rattle.ckr_points_invariant.proofs.Holders.Rows.{run-other, run-same}
-use Rattle.ckr_points_invariant.proofs.Select.Holders.{all_legs}
-use Rattle.ckr_points_invariant.proofs.Select.Invariant.{chosen, led_there, next, waits}
+use Rattle.ckr_points_invariant.proofs.Select.Invariant.{chosen, led_there, next}
 use Rattle.ckr_points_invariant.proofs.Steps.Events.{on-holds, step-by}
 use Rattle.ckr_points_invariant.proofs.WaitingRuns.{by-selected, follows-of, tested-run}
 use Rattle.ckr_points_invariant.specs.Readiness.{AreReady, IsReady}
-use Rattle.ckr_points_invariant.specs.PlainRuns.{IsPlain}
 use Rattle.ckr_points_invariant.proofs.OtherRuns.Sets.{LeavesApart, apart-allocation, apart-coded, apart-completed}
 use Rattle.ckr_points_invariant.proofs.PlainRuns.Office.{ready-only}
 use Rattle.ckr_points_invariant.proofs.PlainRuns.Readiness.{ready-outside}
@@ -46,7 +45,7 @@ use Rattle.ckr_points_invariant.proofs.PlainRuns.Rows.{ready-cancelled, ready-mo
 
 -- ---- a run more
 
-get-last : (runs : List RunRow) (row : RunRow) → slice_get (runs ++ row ∷ []) (length runs) ≡ Some row
+pub get-last : (runs : List RunRow) (row : RunRow) → slice_get (runs ++ row ∷ []) (length runs) ≡ Some row
 get-last [] row = refl
 get-last (first ∷ rest) row = get-last rest row
 
@@ -56,11 +55,11 @@ get-front [] row (suc place) apart = refl
 get-front (first ∷ rest) row zero apart = refl
 get-front (first ∷ rest) row (suc place) apart = get-front rest row place (λ e. apart (ap suc e))
 
-more-others : (tables : TablesModel) (row : RunRow) (number : ℕ) → number ≢ suc (length tables.runs) → run_of (record { sets = tables.sets; runs = tables.runs ++ row ∷ [] }) number ≡ run_of tables number
+pub more-others : (tables : TablesModel) (row : RunRow) (number : ℕ) → number ≢ suc (length tables.runs) → run_of (record { sets = tables.sets; runs = tables.runs ++ row ∷ [] }) number ≡ run_of tables number
 more-others tables row zero apart = refl
 more-others tables row (suc place) apart = get-front tables.runs row place (λ e. apart (ap suc e))
 
-held-holds : (row : RunRow) → is_in_state HeldRun row ≡ true → is_holder row.state ≡ true
+pub held-holds : (row : RunRow) → is_in_state HeldRun row ≡ true → is_holder row.state ≡ true
 held-holds row e = by row.state e
   where
     by : (state : RunState) → (state_number state == 3) ≡ true → is_holder state ≡ true
@@ -74,7 +73,7 @@ held-holds row e = by row.state e
 
 module _ (layout : Layout) (now : Office) (kept : IsAgreed layout now) (pointed : ArePointed now) (ready : AreReady now) where
   pub ready-submitted : (job : ℕ) (cards : List ℕ) (deck : Option Job) → may_come layout now (Submitted job cards, deck) ≡ true → AreReady (office_after (Submitted job cards, deck) now)
-  ready-submitted job cards None may = record { plain = record { rows = ready.plain.rows; reaches = ready.plain.reaches; waits = ready.plain.waits }; runs = ready.runs }
+  ready-submitted job cards None may = record { waits = ready.waits; runs = ready.runs }
   ready-submitted job cards (Some deck) may =
       let number : job ≡ suc (length now.tables.runs) =
       equal-true job (suc (length now.tables.runs)) (and-first (job == suc (length now.tables.runs)) _ (and-first (job == suc (length now.tables.runs) && not (is_empty cards)) _ (follows-of layout now (Submitted job cards) (Some deck) may))) in
@@ -82,7 +81,6 @@ module _ (layout : Layout) (now : Office) (kept : IsAgreed layout now) (pointed 
       (ready-only layout now kept pointed ready (suc (length now.tables.runs)) (record now { tables = after_submitted (suc (length now.tables.runs)) deck now.tables })
       (record {
         legs = λ other differs. refl;
-        reaches = ready.plain.reaches;
         others = λ other differs. more-others now.tables (queued_run (suc (length now.tables.runs)) deck) other differs;
         sets = λ name apart. refl;
         own = λ row leg there.
@@ -123,8 +121,7 @@ module _ (layout : Layout) (now : Office) (kept : IsAgreed layout now) (pointed 
       (ready-moved layout now kept pointed ready job row (record row { in_effect = None }) now.tables.sets now.library e refl (λ name apart. refl)
       (λ leg there.
       let holder : IsHolder now job row leg = record { row_at = e; holds = holds; leg_at = there.leg_at } in
-      let plain : IsPlain row = ready.plain.rows job row leg holder in
-      (record { unasked = plain.unasked; own = plain.own }, ready-cancelled now.tables.sets row leg (ready.runs job row leg holder)))
+      ready-cancelled now.tables.sets row leg (ready.runs job row leg holder))
       (λ queued. refl)))
 
   pub ready-released : (job : ℕ) (deck : Option Job) → may_come layout now (Released job, deck) ≡ true → AreReady (office_after (Released job, deck) now)
@@ -135,8 +132,7 @@ module _ (layout : Layout) (now : Office) (kept : IsAgreed layout now) (pointed 
       (ready-moved layout now kept pointed ready job row (record row { state = ReleasedRun }) now.tables.sets now.library e refl (λ name apart. refl)
       (λ leg there.
       let holder : IsHolder now job row leg = record { row_at = e; holds = held-holds row is_held; leg_at = there.leg_at } in
-      let plain : IsPlain row = ready.plain.rows job row leg holder in
-      (record { unasked = plain.unasked; own = plain.own }, ready-state now.tables.sets row leg ReleasedRun row.initiator row.code (ready.runs job row leg holder)))
+      ready-state now.tables.sets row leg ReleasedRun row.initiator row.code (ready.runs job row leg holder))
       (λ again. absurd (false≢true again))))
 
   -- ---- a run is selected
@@ -151,12 +147,11 @@ module _ (layout : Layout) (now : Office) (kept : IsAgreed layout now) (pointed 
       ready-only layout now kept pointed ready row.number later
       (record {
         legs = λ number differs. led_there layout now row initiator kept row_at queued plain free number differs;
-        reaches = all_legs (λ (leg : Leg). leg.reach ≡ names_of_job leg.job) _ now.legs refl ready.plain.reaches;
         others = λ number differs. run-other now.tables next_row number differs;
         sets = λ name apart. refl;
         own = λ other leg there.
-            subst (λ (its : RunRow). IsPlain its × IsReady now.tables.sets its leg) (some-one next_row other (run_of later.tables row.number) here there.row_at)
-            (record { unasked = plain; own = (waits layout now row initiator kept row_at queued plain free).own }, ready-outside now.tables.sets next_row leg refl (ready.plain.waits row.number row row_at queued));
+            subst (λ (its : RunRow). IsReady now.tables.sets its leg) (some-one next_row other (run_of later.tables row.number) here there.row_at)
+            (ready-outside now.tables.sets next_row leg refl (ready.waits row.number row row_at queued));
         waits = λ other e again. absurd (false≢true (ap (is_in_state Queued) (some-one next_row other (run_of later.tables row.number) here e) ∙ again));
       }))
 
@@ -181,7 +176,7 @@ module _ (layout : Layout) (now : Office) (kept : IsAgreed layout now) (pointed 
       (λ row e passes.
       ended-by job row Completed deck e
       (λ library apart.
-      ended-so job row row now.tables (passed_ended row.passed now.tables.sets) (record row { state = EndedRun; initiator = None; code = None; passed = []; in_effect = None }) library e (kept.numbered job row e) refl (λ number differs. refl) apart)
+      ended-so job row row now.tables (passed_ended (has_passed row) now.tables.sets) (record row { state = EndedRun; initiator = None; code = None; passed = []; lost = []; in_effect = None }) library e (kept.numbered job row e) refl (λ number differs. refl) apart)
       (apart-completed layout now kept job deck may))
 
   pub ready-coded : (job rule writes : ℕ) (code : Code) (lengths : ArrayVec ℕ) (deck : Option Job) → may_come layout now (Ended job (Coded code rule writes lengths), deck) ≡ true → carries layout now (Ended job (Coded code rule writes lengths)) deck ≡ true → AreReady (office_after (Ended job (Coded code rule writes lengths), deck) now)
@@ -200,7 +195,7 @@ module _ (layout : Layout) (now : Office) (kept : IsAgreed layout now) (pointed 
       subst (λ (o : Option OwnedStep). LeavesApart now job (option_map_or (λ owned. after_abnormal row_then (Within (step_now row) writes) (after_commit row owned (step_now row) writes lengths.items now.tables)) o now.tables).sets → AreReady (record now { tables = option_map_or (λ owned. after_abnormal row_then (Within (step_now row) writes) (after_commit row owned (step_now row) writes lengths.items now.tables)) o now.tables; library = library })) (sym found)
       (subst (λ (o : Option OwnedStep). LeavesApart now job (option_map_or (λ owned. let disposed = after_dispositions row_then owned (step_now row) true done in after_passed_ended (record row_then { passed = disposed.passed }) (record done { sets = disposed.sets })) o done).sets → AreReady (record now { tables = option_map_or (λ owned. let disposed = after_dispositions row_then owned (step_now row) true done in after_passed_ended (record row_then { passed = disposed.passed }) (record done { sets = disposed.sets })) o done; library = library })) (sym found)
       (λ apart.
-      ended-so job row row_then done (passed_ended disposed.passed disposed.sets) (record row_then { state = EndedRun; initiator = None; code = None; passed = []; in_effect = None }) library
+      ended-so job row row_then done (passed_ended (without_passed row.lost disposed.passed) disposed.sets) (record row_then { state = EndedRun; initiator = None; code = None; passed = []; lost = []; in_effect = None }) library
       (run-same (record now.tables { sets = sets }) row_then row job e (kept.numbered job row e)) (kept.numbered job row e) refl
       (λ number differs. run-other (record now.tables { sets = sets }) row_then number (λ same. differs (same ∙ kept.numbered job row e))) apart)))
       (apart-coded layout now kept job rule writes code lengths deck may carried)))
@@ -208,19 +203,15 @@ module _ (layout : Layout) (now : Office) (kept : IsAgreed layout now) (pointed 
   -- with another library alone
   library-ready : (library : Library) → AreReady (record now { library = library })
   library-ready library = record {
-    plain = record {
-      rows = λ number row leg there. ready.plain.rows number row leg (record { row_at = there.row_at; holds = there.holds; leg_at = there.leg_at });
-      reaches = ready.plain.reaches;
-      waits = ready.plain.waits;
-    };
+    waits = ready.waits;
     runs = λ number row leg there. ready.runs number row leg (record { row_at = there.row_at; holds = there.holds; leg_at = there.leg_at });
   }
 
   abnormal-ready : (job : ℕ) (row : RunRow) (place : Place) (library : Library) → run_of now.tables job ≡ Some row → LeavesApart now job (after_abnormal row place now.tables).sets → AreReady (record now { tables = after_abnormal row place now.tables; library = library })
   abnormal-ready job row (Before step) library e apart =
-      ended-so job row row now.tables (passed_ended row.passed now.tables.sets) (record row { state = EndedRun; initiator = None; code = None; passed = []; in_effect = None }) library e (kept.numbered job row e) refl (λ number differs. refl) apart
+      ended-so job row row now.tables (passed_ended (has_passed row) now.tables.sets) (record row { state = EndedRun; initiator = None; code = None; passed = []; lost = []; in_effect = None }) library e (kept.numbered job row e) refl (λ number differs. refl) apart
   abnormal-ready job row (Opened step) library e apart =
-      ended-so job row row now.tables (passed_ended row.passed now.tables.sets) (record row { state = EndedRun; initiator = None; code = None; passed = []; in_effect = None }) library e (kept.numbered job row e) refl (λ number differs. refl) apart
+      ended-so job row row now.tables (passed_ended (has_passed row) now.tables.sets) (record row { state = EndedRun; initiator = None; code = None; passed = []; lost = []; in_effect = None }) library e (kept.numbered job row e) refl (λ number differs. refl) apart
   abnormal-ready job row (Within step writes) library e apart =
       by (step_of_run row step) apart
     where
@@ -228,7 +219,7 @@ module _ (layout : Layout) (now : Office) (kept : IsAgreed layout now) (pointed 
       by None apart = library-ready library
       by (Some owned) apart =
           let disposed = after_dispositions row owned step true now.tables in
-          ended-so job row row now.tables (passed_ended disposed.passed disposed.sets) (record row { state = EndedRun; initiator = None; code = None; passed = []; in_effect = None }) library e (kept.numbered job row e) refl (λ number differs. refl) apart
+          ended-so job row row now.tables (passed_ended (without_passed row.lost disposed.passed) disposed.sets) (record row { state = EndedRun; initiator = None; code = None; passed = []; lost = []; in_effect = None }) library e (kept.numbered job row e) refl (λ number differs. refl) apart
 
   pub ready-allocation : (job dd cause first second : ℕ) (deck : Option Job) → may_come layout now (Ended job (Allocation dd cause first second), deck) ≡ true → AreReady (office_after (Ended job (Allocation dd cause first second), deck) now)
   ready-allocation job dd cause first second deck may =

@@ -35,11 +35,7 @@ pub record AreKept (layout : Layout) (now : Office) : Type 0 where
 
 pub none-ready : AreReady no_office
 none-ready = record {
-  plain = record {
-    rows = λ number row leg there. absurd (some-not-none leg (sym there.leg_at));
-    reaches = tt;
-    waits = λ number row e queued. none number row e;
-  };
+  waits = λ number row e queued. none number row e;
   runs = λ number row leg there. absurd (some-not-none leg (sym there.leg_at));
 }
   where
@@ -47,7 +43,7 @@ none-ready = record {
     none zero row e = absurd (some-not-none row (sym e))
     none (suc before) row e = absurd (some-not-none row (sym e))
 
-no-events : (layout : Layout) → AreKept layout no_office
+pub no-events : (layout : Layout) → AreKept layout no_office
 no-events layout = record { kept = no_events layout; pointed = record { rows = tt; entries = tt }; ready = none-ready }
 
 module _ (layout : Layout) (now : Office) (are : AreKept layout now) where
@@ -103,7 +99,7 @@ kept_from layout (event ∷ rest) now sound on are =
     kept_from layout rest (office_after event now) sound.1 (and-second (not (continues event.0)) _ on)
     (all-next layout now are event.0 event.1 (not-true (continues event.0) (and-first (not (continues event.0)) _ on)) (record { may = sound.0.may; carried = sound.0.carried }))
 
-front_on : (front more : List Decked) → NoneContinues (front ++ more) → NoneContinues front
+pub front_on : (front more : List Decked) → NoneContinues (front ++ more) → NoneContinues front
 front_on [] more on = refl
 front_on (event ∷ rest) more on =
     and_from (not (continues event.0)) (list_all (λ (event : Decked). not (continues event.0)) rest) (and-first (not (continues event.0)) _ on)

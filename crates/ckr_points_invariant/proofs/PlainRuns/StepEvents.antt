@@ -32,7 +32,6 @@ use Rattle.ckr_points_invariant.proofs.Steps.Commits.{IsRunning, carried-of, its
 use Rattle.ckr_points_invariant.proofs.Steps.Events.{led-by, on-holds, running-holds, running-within, step-by}
 use Rattle.ckr_points_invariant.proofs.WaitingRuns.{follows-of, tested-run}
 use Rattle.ckr_points_invariant.specs.Readiness.{AreReady, HasPoint, IsCheck, IsReady}
-use Rattle.ckr_points_invariant.specs.PlainRuns.{IsPlain}
 use Rattle.ckr_points_invariant.proofs.OtherRuns.Sets.{LeavesApart, apart-checkpointed, apart-held, apart-rewritten, apart-started, apart-step_end}
 use Rattle.ckr_points_invariant.proofs.PlainRuns.Checkpoints.{checked-ready, checked_row, checked_sets}
 use Rattle.ckr_points_invariant.proofs.PlainRuns.Commits.{committed-ready}
@@ -63,14 +62,10 @@ module _ (layout : Layout) (now : Office) (kept : IsAgreed layout now) (pointed 
   ready-started job step items deck may carried =
       by-start (λ later. LeavesApart now job later.tables.sets → AreReady later) layout now job step items deck kept may carried
       (λ row leg owned starts apart.
-      let next : RunRow = started_row layout now job row leg owned step items.items kept ready.plain starts (ready.runs job row leg starts.holder) in
-      let sets : Named TableSet = started_sets layout now job row leg owned step items.items kept ready.plain starts (ready.runs job row leg starts.holder) in
-      let plain : IsPlain row = ready.plain.rows job row leg starts.holder in
+      let next : RunRow = started_row layout now job row leg owned step items.items kept starts (ready.runs job row leg starts.holder) in
+      let sets : Named TableSet = started_sets layout now job row leg owned step items.items kept starts (ready.runs job row leg starts.holder) in
       ready-moved layout now kept pointed ready job row next sets now.library starts.holder.row_at refl apart
-      (λ its there. (
-        record { unasked = plain.unasked; own = plain.own },
-        its-leg job row leg (IsReady sets next) starts.holder (started-ready layout now job row leg owned step items.items kept ready.plain starts (ready.runs job row leg starts.holder)) its there.leg_at,
-      ))
+      (λ its there. its-leg job row leg (IsReady sets next) starts.holder (started-ready layout now job row leg owned step items.items kept starts (ready.runs job row leg starts.holder)) its there.leg_at)
       (not-queued next starts.holds))
       (apart-started layout now kept job step items deck may carried)
 
@@ -88,15 +83,11 @@ module _ (layout : Layout) (now : Office) (kept : IsAgreed layout now) (pointed 
       let running : IsRunning now job row leg owned (step_now row) (writes_in (place_of row)) = running-so layout now job row leg owned holder (running-within now.tables row leg (kept.places job row leg holder) runs) found in
       let commit : commits now.tables.sets row writes lengths.items (its_start leg owned (step_now row)) ≡ true = carried-of layout now job row leg owned (step_now row) (λ row. commits now.tables.sets row writes lengths.items) kept holder refl found carried in
       let next : RunRow = record row { state = HeldRun; initiator = None; code = Some code; place = Some (Within (step_now row) writes) } in
-      let plain : IsPlain row = ready.plain.rows job row leg holder in
       changed-to (λ later. LeavesApart now job later.tables.sets → AreReady later) now job row owned (λ row owned step. after_held row owned step code writes lengths.items now.tables) e found
       (λ apart.
       ready-moved layout now kept pointed ready job row next (committed (output_names row.job.root owned) lengths.items now.tables.sets) now.library e refl apart
-      (λ its there. (
-        record { unasked = plain.unasked; own = plain.own },
-        its-leg job row leg (IsReady (committed (output_names row.job.root owned) lengths.items now.tables.sets) next) holder
-            (committed-ready layout now job row leg owned writes lengths.items kept running commit are HeldRun None (Some code) (ready.runs job row leg holder)) its there.leg_at,
-      ))
+      (λ its there. its-leg job row leg (IsReady (committed (output_names row.job.root owned) lengths.items now.tables.sets) next) holder
+      (committed-ready layout now job row leg owned writes lengths.items kept running commit are HeldRun None (Some code) (ready.runs job row leg holder)) its there.leg_at)
       (not-queued next refl)))))
       (apart-held layout now kept job writes code lengths deck may)
 
@@ -116,14 +107,10 @@ module _ (layout : Layout) (now : Office) (kept : IsAgreed layout now) (pointed 
       let running : IsRunning now job row leg owned (step_now row) (writes_in (place_of row)) = running-so layout now job row leg owned holder (and-second (is_in_state On row) (is_within (place_of row)) runs) found in
       let next : RunRow = rewritten_row layout now job row leg owned writes lengths.items kept running updates are (ready.runs job row leg holder) in
       let sets : Named TableSet = rewritten_sets layout now job row leg owned writes lengths.items kept running updates are (ready.runs job row leg holder) in
-      let plain : IsPlain row = ready.plain.rows job row leg holder in
       changed-to (λ later. LeavesApart now job later.tables.sets → AreReady later) now job row owned (λ row owned step. after_rewritten row owned step writes lengths.items now.tables) e found
       (λ apart.
       ready-moved layout now kept pointed ready job row next sets now.library e refl apart
-      (λ its there. (
-        record { unasked = plain.unasked; own = plain.own },
-        its-leg job row leg (IsReady sets next) holder (rewritten-ready layout now job row leg owned writes lengths.items kept running updates are (ready.runs job row leg holder)) its there.leg_at,
-      ))
+      (λ its there. its-leg job row leg (IsReady sets next) holder (rewritten-ready layout now job row leg owned writes lengths.items kept running updates are (ready.runs job row leg holder)) its there.leg_at)
       (not-queued next holds)))))
       (apart-rewritten layout now kept job taken writes place lengths image deck may)
 
@@ -146,17 +133,13 @@ module _ (layout : Layout) (now : Office) (kept : IsAgreed layout now) (pointed 
       and-first (commits now.tables.sets row writes lengths.items (its_start leg owned (step_now row))) (carries_taken taken writes (its_start leg owned (step_now row))) both in
       let told : carries_taken taken writes (its_start leg owned (step_now row)) ≡ true =
       and-second (commits now.tables.sets row writes lengths.items (its_start leg owned (step_now row))) (carries_taken taken writes (its_start leg owned (step_now row))) both in
-      let next : RunRow = checked_row layout now job row leg owned writes taken place bytes id lengths.items kept ready.plain running commit told are check (points-of job row leg holder) (ready.runs job row leg holder) in
-      let sets : Named TableSet = checked_sets layout now job row leg owned writes taken place bytes id lengths.items kept ready.plain running commit told are check (points-of job row leg holder) (ready.runs job row leg holder) in
-      let plain : IsPlain row = ready.plain.rows job row leg holder in
+      let next : RunRow = checked_row layout now job row leg owned writes taken place bytes id lengths.items kept running commit told are check (ready.runs job row leg holder) in
+      let sets : Named TableSet = checked_sets layout now job row leg owned writes taken place bytes id lengths.items kept running commit told are check (ready.runs job row leg holder) in
       changed-to (λ later. LeavesApart now job later.tables.sets → AreReady later) now job row owned (λ row owned step. after_checkpointed row owned step (record { id = id; run = job; place = place; bytes = bytes }) taken writes lengths.items now.tables) e found
       (λ apart.
       ready-moved layout now kept pointed ready job row next sets now.library e refl apart
-      (λ its there. (
-        record { unasked = plain.unasked; own = plain.own },
-        its-leg job row leg (IsReady sets next) holder
-            (checked-ready layout now job row leg owned writes taken place bytes id lengths.items kept ready.plain running commit told are check (points-of job row leg holder) (ready.runs job row leg holder)) its there.leg_at,
-      ))
+      (λ its there. its-leg job row leg (IsReady sets next) holder
+      (checked-ready layout now job row leg owned writes taken place bytes id lengths.items kept running commit told are check (ready.runs job row leg holder)) its there.leg_at)
       (not-queued next holds)))))
       (apart-checkpointed layout now kept job taken writes place bytes id lengths deck may)
 
@@ -176,16 +159,12 @@ module _ (layout : Layout) (now : Office) (kept : IsAgreed layout now) (pointed 
       let row_then : RunRow = record row { place = Some (Within (step_now row) writes) } in
       let done : TablesModel = with_run row_then (record now.tables { sets = sets }) in
       let next : RunRow = record row { place = Some (Before (suc (step_now row))); rcs = row.rcs ++ (step_now row, rc) ∷ []; in_effect = None; passed = (after_dispositions row owned (step_now row) false done).passed } in
-      let plain : IsPlain row = ready.plain.rows job row leg holder in
       changed-to (λ later. LeavesApart now job later.tables.sets → AreReady later) now job row owned (λ row owned step. after_step_ended row owned step rc writes lengths.items now.tables) e found
       (λ apart.
       ready-with layout now kept pointed ready job row_then next done (after_dispositions row owned (step_now row) false done).sets now.library
       (run-same (record now.tables { sets = sets }) row_then row job e (kept.numbered job row e)) (kept.numbered job row e)
       (λ number differs. run-other (record now.tables { sets = sets }) row_then number (λ same. differs (same ∙ kept.numbered job row e))) apart
-      (λ its there. (
-        record { unasked = plain.unasked; own = plain.own },
-        ready-outside (after_dispositions row owned (step_now row) false done).sets next its refl refl,
-      ))
+      (λ its there. ready-outside (after_dispositions row owned (step_now row) false done).sets next its refl refl)
       (λ queued. refl)))))
       (apart-step_end layout now kept job step rc writes lengths deck may carried)
 
@@ -196,14 +175,13 @@ module _ (layout : Layout) (now : Office) (kept : IsAgreed layout now) (pointed 
       by-run layout now job initiator code deck kept pointed false AreReady may carried
       (λ row leg its.
       let can = steps-restorable now ready in
-      let plain : IsPlain row = ready.plain.rows job row leg its.holder in
       start-by layout now job initiator code deck kept pointed can AreReady row leg its ready
       (λ owned found point got.
       let next : RunRow = row_then layout now job initiator code deck kept pointed can row leg its owned found point got in
       let sets : Named TableSet = sets_then layout now job initiator code deck kept pointed can row leg its owned found point got in
       ready-moved layout now kept pointed ready job row next sets now.library its.holder.row_at refl
       (λ name apart. start-left layout now job initiator code deck kept pointed can row leg its owned found point got name (apart row leg its.holder))
-      (λ fellow there. (record { unasked = plain.unasked; own = plain.own }, ready-outside sets next fellow refl refl))
+      (λ fellow there. ready-outside sets next fellow refl refl)
       (λ queued. refl)))
 
   pub ready-entry : (job initiator : ℕ) (code : Code) (deck : Option Job) → may_come layout now (Restarted job initiator code true, deck) ≡ true → carries layout now (Restarted job initiator code true) deck ≡ true → AreReady (office_after (Restarted job initiator code true, deck) now)
@@ -211,13 +189,12 @@ module _ (layout : Layout) (now : Office) (kept : IsAgreed layout now) (pointed 
       by-run layout now job initiator code deck kept pointed true AreReady may carried
       (λ row leg its.
       let can = entries-restorable now ready in
-      let plain : IsPlain row = ready.plain.rows job row leg its.holder in
       entry-by layout now job initiator code deck kept pointed can AreReady row leg its ready
       (λ owned found effect got entry there.
       let next : RunRow = row_back layout now job initiator code deck kept pointed can row leg its owned found effect got entry there in
       let sets : Named TableSet = sets_then_back layout now job initiator code deck kept pointed can row leg its owned found effect got entry there in
       let check : IsCheck now.tables.sets row leg effect = (ready.runs job row leg its.holder).check effect its.within got in
-      let back = restarted-ready row leg effect now.tables.sets its.within (check-unwritten row (step_now row) layout.eligible.items code effect got its.verdict) (ready.runs job row leg its.holder) check (points-of job row leg its.holder) initiator next.count next.passed in
+      let back = restarted-ready row leg effect now.tables.sets its.within (check-unwritten row (step_now row) layout.eligible.items code effect got its.verdict) (ready.runs job row leg its.holder) check initiator next.count next.passed in
       let mine : IsReady sets next leg =
       subst (λ (e : KeptEntry). IsReady (put_back e.point.marks (output_names row.job.root owned) (names_of row.job.root owned) now.tables.sets) (record next { place = Some (Within (step_now row) e.point.writes) }) leg)
       (some-one check.entry entry (kept_at now.tables.sets effect.set effect.kept.id) (kept-entry now.tables.sets effect.set effect.kept.id check.entry check.keeps) there)
@@ -225,5 +202,5 @@ module _ (layout : Layout) (now : Office) (kept : IsAgreed layout now) (pointed 
       (some-one check.owned owned (step_of_run row (step_now row)) check.found_step found) back) in
       ready-moved layout now kept pointed ready job row next sets now.library its.holder.row_at refl
       (λ name apart. entry-left layout now job initiator code deck kept pointed can row leg its owned found effect got entry there name (apart row leg its.holder))
-      (λ fellow later. (record { unasked = plain.unasked; own = plain.own }, its-leg job row leg (IsReady sets next) its.holder mine fellow later.leg_at))
+      (λ fellow later. its-leg job row leg (IsReady sets next) its.holder mine fellow later.leg_at)
       (not-queued next refl)))

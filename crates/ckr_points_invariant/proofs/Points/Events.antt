@@ -182,7 +182,7 @@ module _ (layout : Layout) (now : Office) (kept : IsAgreed layout now) (pointed 
     agreed : IsAgreed layout behind
     agreed =
         kept-commit layout now job row row_then leg owned writes lengths kept running
-        (record { number = refl; deck = refl; job = refl; own_from = refl; rcs = refl; passed = refl; stands = refl; holds = running.holder.holds; made = λ owned step. refl }) carried are
+        (record { number = refl; deck = refl; job = refl; own_from = refl; rcs = refl; passed = refl; lost = refl; stands = refl; holds = running.holder.holds; made = λ owned step. refl; carried = refl }) carried are
 
     holds_then : IsHolder behind job row_then leg
     holds_then = record {

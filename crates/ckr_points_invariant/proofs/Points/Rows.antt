@@ -14,13 +14,14 @@ use Rattle.ckr_meaning.specs.declared.place.Place.{Place}
 use Rattle.ckr_meaning.specs.declared.place.Place.TheVariants.{Before, Opened, Within}
 use Rattle.ckr_points_library.specs.Commit.{output_names}
 use Rattle.ckr_points.specs.declared.run.RunState.TheVariants.{Ended as EndedRun}
+use Rattle.ckr_points.specs.Marks.{has_passed}
 use Rattle.ckr_points.specs.Restart.{after_abnormal, after_ended, after_passed_ended, by_step, place_of}
 use Rattle.ckr_points.specs.Rows.{KeptEntry, RunRow, StartPoint, TableSet, TablesModel, run_of, standing_of, step_of_run, with_row, with_run}
 use Rattle.ckr_points.specs.Tables.{after_commit, after_dispositions, after_step_ended, committed, earlier_made, own_made, run_disposals}
 use Rattle.ckr_points_invariant.specs.Invariant.{PointsHold, step_now}
 use Rattle.ckr_points_invariant.proofs.Points.Sets as sets
 
-all_set : {X : Type 0} (P : X → Type 0) (xs : List X) (place : ℕ) (x : X) → P x → AllByRecursion P xs → AllByRecursion P (slice_set xs place x)
+pub all_set : {X : Type 0} (P : X → Type 0) (xs : List X) (place : ℕ) (x : X) → P x → AllByRecursion P xs → AllByRecursion P (slice_set xs place x)
 all_set P [] zero x one each = tt
 all_set P [] (suc place) x one each = tt
 all_set P (first ∷ rest) zero x one each = (one, each.1)
@@ -83,8 +84,8 @@ module _ (R : ℕ → ℕ → List StartPoint → Type 0) (E : List KeptEntry �
 
   pub passed-holds : (tables : TablesModel) (row : RunRow) → Hold tables → RowHolds row → Hold (after_passed_ended row tables)
   passed-holds tables row holds mine =
-      run-holds (record row { state = EndedRun; initiator = None; code = None; passed = []; in_effect = None }) (record tables { sets = passed_ended row.passed tables.sets }) mine
-      (sets-hold tables (passed_ended row.passed tables.sets) (sets.passed_ended-holds E none fewer row.passed tables.sets holds.entries) holds)
+      run-holds (record row { state = EndedRun; initiator = None; code = None; passed = []; lost = []; in_effect = None }) (record tables { sets = passed_ended (has_passed row) tables.sets }) mine
+      (sets-hold tables (passed_ended (has_passed row) tables.sets) (sets.passed_ended-holds E none fewer (has_passed row) tables.sets holds.entries) holds)
 
   pub abnormal-holds : (row : RunRow) (place : Place) (tables : TablesModel) → Hold tables → RowHolds row → Hold (after_abnormal row place tables)
   abnormal-holds row (Before step) tables holds mine = passed-holds tables row holds mine

@@ -14,8 +14,7 @@ use Rattle.ckr_meaning.specs.EffectiveJob.{is_among}
 use Rattle.ckr_meaning.specs.LibrarySet.{LibrarySet, Library}
 use Rattle.ckr_points.specs.Marks.{present_at, put_back}
 use Rattle.ckr_points.specs.Rows.{TableSet, cut_set}
-use Rattle.ckr_points_invariant.specs.Invariant.{AreAlike, Shape, counted, set_shape, table_shape}
-use Rattle.ckr_points_invariant.specs.Points.{IsMarkOf, present_shape}
+use Rattle.ckr_points_invariant.specs.Invariant.{AreAlike, IsMarkOf, Shape, counted, present_shape, set_shape, table_shape}
 use Rattle.ckr_points_invariant.proofs.Writes.Likeness.{BareAlike, bare}
 use Rattle.ckr_points_invariant.proofs.PutBack.Sets.{back_to, put_back-marked, put_back-none, to_length}
 

@@ -31,6 +31,7 @@ use Rattle.ckr_points.specs.Tables.{own_made}
 use Rattle.ckr_points_library.specs.Commit.{output_names}
 use Rattle.ckr_points_invariant.specs.Invariant.{AreStamped, IsAgreed, IsHolder, IsKept, IsMarkedShort, set_shape, step_now}
 use Rattle.ckr_points_invariant.specs.Points.{AreEntryPoints, ArePointed, AreStepPoints, IsPointAt}
+use Rattle.ckr_points_invariant.proofs.Decks.Events.{row-orderly, with-orderly}
 use Rattle.ckr_points_invariant.proofs.Holders.Moves.{moved, standing-is}
 use Rattle.ckr_points_invariant.proofs.Holders.Rows.{run-same}
 use Rattle.ckr_points_invariant.proofs.Marks.Changes as marks
@@ -131,7 +132,7 @@ module _ (layout : Layout) (now : Office) (job initiator : ℕ) (code : Code) (d
         (subst (λ step. IsPointAt now.legs job (Opened step) point.marks point.passed) (equal-true point.step (step_now row) (find-passes (λ (one : StartPoint). one.step == step_now row) row.points point got))
         (subst (λ run. IsPointAt now.legs run (Opened point.step) point.marks point.passed) (kept.numbered job row its.holder.row_at) point_is))
 
-    abbrev restorable : IsRestorable now.tables.sets row leg 0 point.marks point.passed
+    abbrev restorable : IsRestorable row leg 0
     restorable = can.since job row leg point its.holder its.within got (start-unwritten row (step_now row) layout.eligible.items code point got its.verdict)
 
     abbrev pub row_then : RunRow
@@ -198,7 +199,7 @@ module _ (layout : Layout) (now : Office) (job initiator : ℕ) (code : Code) (d
         point-of now job leg (Within (step_now row) entry.point.writes) entry.point.marks entry.point.passed its.holder.leg_at
         (can.points job row leg effect entry its.holder its.within got there)
 
-    abbrev entry_restorable : IsRestorable now.tables.sets row leg entry.point.writes entry.point.marks entry.point.passed
+    abbrev entry_restorable : IsRestorable row leg entry.point.writes
     entry_restorable = can.since job row leg effect entry its.holder its.within got there (check-unwritten row (step_now row) layout.eligible.items code effect got its.verdict)
 
     abbrev pub row_back : RunRow
@@ -302,6 +303,7 @@ module _ (layout : Layout) (now : Office) (job initiator : ℕ) (code : Code) (d
       (λ owned found point got. record {
         events = agreed-start layout now job initiator code deck kept.events pointed can row leg its owned found point got;
         stamps = stamped-start layout now job initiator code deck kept.events pointed can row leg its owned found point got kept.stamps;
+        decks = with-orderly (row_then layout now job initiator code deck kept.events pointed can row leg its owned found point got) now.tables (row-orderly now.tables job row kept.decks its.holder.row_at) kept.decks;
       }))
 
   pub entry-keeps : IsKept layout now → ArePointed now → AreEntriesRestorable now → may_come layout now (Restarted job initiator code true, deck) ≡ true → carries layout now (Restarted job initiator code true) deck ≡ true → IsKept layout (office_after (Restarted job initiator code true, deck) now)
@@ -312,6 +314,7 @@ module _ (layout : Layout) (now : Office) (job initiator : ℕ) (code : Code) (d
       (λ owned found effect got entry there. record {
         events = agreed-entry layout now job initiator code deck kept.events pointed can row leg its owned found effect got entry there;
         stamps = stamped-entry layout now job initiator code deck kept.events pointed can row leg its owned found effect got entry there kept.stamps;
+        decks = with-orderly (row_back layout now job initiator code deck kept.events pointed can row leg its owned found effect got entry there) now.tables (row-orderly now.tables job row kept.decks its.holder.row_at) kept.decks;
       }))
 
   pub start-pointed : IsKept layout now → ArePointed now → AreStepsRestorable now → may_come layout now (Restarted job initiator code false, deck) ≡ true → carries layout now (Restarted job initiator code false) deck ≡ true → ArePointed (office_after (Restarted job initiator code false, deck) now)

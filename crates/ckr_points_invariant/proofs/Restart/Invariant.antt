@@ -1,9 +1,8 @@
 -- The events stay kept where a run goes back to the start of its step, or to its checkpoint in effect.
-use Rattle.std.proofs.Common.{◌≡◌, ◌≤◌, ◌<◌, ℕ, Bool, zero, suc, true, false, cond, ◌&&◌, ◌||◌, List, [], ◌∷◌, drop, refl, ap, sym, ◌∙◌, subst, Option, Some, None, arith}
-use Rattle.std.specs.Prelude.{◌==◌, slice_get}
+use Rattle.std.proofs.Common.{◌≡◌, ◌≤◌, ◌<◌, ℕ, Bool, true, false, cond, ◌&&◌, List, [], refl, ap, sym, ◌∙◌, subst, Option, Some, None, arith}
+use Rattle.std.specs.Prelude.{◌==◌}
 use Rattle.std.specs.Option.{option_map, option_map_or, is_none, is_some}
 use Rattle.std.proofs.lemmas.Bool.{false≢true}
-use Rattle.std.proofs.lemmas.List.Folds.{list_any-append}
 use Rattle.std.proofs.lemmas.Option.{same_Some}
 use Rattle.ckr_base.proofs.Bools.{and-false, bool-cases}
 use Rattle.ckr_base.proofs.Numbers.{equal-true}
@@ -12,8 +11,8 @@ use Rattle.ckr_base.proofs.Sequences.{find-passes}
 use Rattle.ckr_entry.specs.declared.point.Mark.{Mark}
 use Rattle.ckr_entry.specs.declared.point.Passed.{Passed}
 use Rattle.ckr_entry.specs.declared.point.Present.{Present}
-use Rattle.ckr_library.specs.NameMaps.{Name, Named, same_name, entry_at}
-use Rattle.ckr_meaning.specs.EffectiveJob.{Effective, OwnedStep, flaws_in, is_among, names_of, names_of_steps, step_at}
+use Rattle.ckr_library.specs.NameMaps.{Name, Named, entry_at}
+use Rattle.ckr_meaning.specs.EffectiveJob.{Effective, OwnedStep, flaws_in, is_among, names_of, step_at}
 use Rattle.ckr_meaning.specs.JobRun.{at, start_at, walk_before}
 use Rattle.ckr_meaning.specs.LibrarySet.{Library, LibrarySet}
 use Rattle.ckr_meaning.specs.StepRun.{StepStart, opened_at, placed_at, within_at}
@@ -23,26 +22,26 @@ use Rattle.ckr_volumes.specs.declared.layout.Layout.{Layout}
 use Rattle.ckr_points_library.specs.Commit.{output_names}
 use Rattle.ckr_points.specs.declared.run.RunState.TheVariants.{On}
 use Rattle.ckr_points.specs.Follows.{is_in_state, own_step}
-use Rattle.ckr_points.specs.Marks.{deck_names, made_names, point_at, present_at, put_back, put_back_passed, removed_all, with_point}
+use Rattle.ckr_points.specs.Marks.{carried_marks, made_names, point_at, present_at, put_back, removed_all, with_point}
 use Rattle.ckr_points.specs.Office.{Leg, Office, is_holder, leg_of}
 use Rattle.ckr_points.specs.Payload.{is_formed_step, rewrites_nothing, writes_in}
 use Rattle.ckr_points.specs.Restart.{effect_restarted, place_of, point_restarted, row_on, step_in}
 use Rattle.ckr_points.specs.Rows.{EffectPoint, RunRow, StartPoint, TableSet}
 use Rattle.ckr_points.specs.Soundness.{AreLaidOut}
 use Rattle.ckr_points.specs.Tables.{own_made}
-use Rattle.ckr_points_invariant.specs.Invariant.{AreAlike, IsAgreed, IsAtPlace, IsUnderWay, IsWithinStep, Leaves, Shape, set_shape, step_now, table_shape}
-use Rattle.ckr_points_invariant.specs.Points.{IsMarkOf, IsPointAt, names_from, present_shape}
+use Rattle.ckr_points_invariant.specs.Invariant.{AreAlike, IsAgreed, IsAtPlace, IsMarkOf, IsUnderWay, IsWithinStep, Leaves, Shape, present_shape, set_shape, step_now, table_shape}
+use Rattle.ckr_points_invariant.specs.Points.{IsPointAt}
 use Rattle.ckr_points_invariant.proofs.Holders.Moves.{Among, kept-goes_on, moved}
 use Rattle.ckr_points_invariant.proofs.Holders.Places.{outputs-among, place-next}
 use Rattle.ckr_points_invariant.proofs.Holders.SharedSets.{at-left, step_left}
-use Rattle.ckr_points_invariant.proofs.Marks.Points.{own_made-out, point_at-other}
+use Rattle.ckr_points_invariant.proofs.Marks.Points.{carried-again, carried-same, own_made-out, point_at-other}
+use Rattle.ckr_points_invariant.proofs.Select.Invariant.{among-step}
 use Rattle.ckr_points_invariant.proofs.Soundness.{at-passed}
 use Rattle.ckr_points_invariant.proofs.Start.Openings.{opened-none}
 use Rattle.ckr_points_invariant.proofs.Steps.Commits.{IsRunning, alike_within, formed_step, found_leg, has_next, in_reach, its_start, now, place_so, under_way}
 use Rattle.ckr_points_invariant.proofs.Steps.Walks.{at-opened, at-within, start_at-of}
 use Rattle.ckr_points_invariant.specs.Readiness.{HasPoint}
 use Rattle.ckr_points_invariant.specs.Restorability.{IsRestorable}
-use Rattle.ckr_points_invariant.proofs.PutBack.Passed.{all-removed-there, passed-back}
 use Rattle.ckr_points_invariant.proofs.PutBack.Sets.{at-removed_all, back_to, put_back-apart, put_back-laid, put_back-marked, put_back-none, removed_all-laid, to_catalog}
 use Rattle.ckr_points_invariant.proofs.OtherRuns.Outputs.{not-output}
 use Rattle.ckr_points_invariant.proofs.Restart.Libraries.{opened-made, put_back-within, within-other}
@@ -53,18 +52,6 @@ pub point-of : (office : Office) (number : ℕ) (leg : Leg) (place : Place) (mar
 point-of office number leg place marks passed led point =
     subst (λ (its : Leg). HasPoint its place marks passed) (some-one point.leg leg (leg_of office number) point.led led)
     (record { marked = point.marked; passed_on = point.passed_on })
-
-among_from : (root place : ℕ) (steps : List OwnedStep) (owned : OwnedStep) (name : Name) → slice_get steps place ≡ Some owned → is_among (names_of root owned) name ≡ true → is_among (names_of_steps root (drop place steps)) name ≡ true
-among_from root place [] owned name found among = absurd (some-not-none owned (sym found))
-among_from root zero (first ∷ rest) owned name found among =
-    list_any-append (same_name name) (names_of root first) (names_of_steps root rest)
-    ∙ ap (λ b. b || is_among (names_of_steps root rest) name) (ap (λ (its : OwnedStep). is_among (names_of root its) name) (same_Some first owned found) ∙ among)
-among_from root (suc place) (first ∷ rest) owned name found among = among_from root place rest owned name found among
-
--- the names of a step are among those from it on
-names_from-step : (job : Effective) (step : ℕ) (owned : OwnedStep) (name : Name) → step_at job step ≡ Some owned → is_among (names_of job.root owned) name ≡ true → is_among (names_from job step) name ≡ true
-names_from-step job zero owned name found among = absurd (some-not-none owned (sym found))
-names_from-step job (suc place) owned name found among = among_from job.root place job.steps owned name found among
 
 -- what isn't there isn't put back
 put_back-absent : (marks : List Mark) (outputs needed : List Name) (sets : Named TableSet) (name : Name) → entry_at sets name ≡ None → entry_at (put_back marks outputs needed sets) name ≡ None
@@ -198,7 +185,7 @@ module _ (layout : Layout) (office : Office) (number : ℕ) (row : RunRow) (leg 
         by (Some table) e named =
             let alike : Some (table_shape table) ≡ option_map set_shape (entry_at (at leg.job leg.start place).sets name) = sym (ap (option_map table_shape) e) ∙ alike_now name among ∙ ap (option_map set_shape) (sym same_there) in
             marked-same table (stays (there_by (entry_at (at leg.job leg.start place).sets name) alike)) named e (entry_at (at leg.job leg.start place).sets name) alike (present_at marks name) refl
-            (has.marked name (subst (λ n. is_among (names_from leg.job n) name ≡ true) (sym here) (names_from-step leg.job step owned name leg_step named)))
+            (has.marked name (among-step leg.job step owned name leg_step named))
             ∙ sym e
           where
             there_by : (set : Option LibrarySet) → Some (table_shape table) ≡ option_map set_shape set → is_some set ≡ true
@@ -215,11 +202,13 @@ module _ (layout : Layout) (office : Office) (number : ℕ) (row : RunRow) (leg 
     pub own_from : next.earlier_step ≡ row.earlier_step
     pub rcs : next.rcs ≡ row.rcs
     pub passed : next.passed ≡ row.passed
+    pub lost : next.lost ≡ row.lost
     pub on : is_in_state On next ≡ true
     pub holds : is_holder next.state ≡ true
     pub stands : next.place ≡ Some place
     pub here : step_in place ≡ step
     pub made : (its : OwnedStep) (number : ℕ) → number < step_now row → own_made next its number ≡ own_made row its number
+    pub carried : carried_marks next ≡ carried_marks row
     pub within : IsWithinStep next leg place
 
   place_next : (next : RunRow) (place : Place) → GoesBack next place → place_of next ≡ place
@@ -241,8 +230,11 @@ module _ (layout : Layout) (office : Office) (number : ℕ) (row : RunRow) (leg 
               own_from = goes.own_from;
               rcs = goes.rcs;
               passed = goes.passed;
+              deck = goes.deck;
+              lost = goes.lost;
               step = ap step_in stands ∙ goes.here ∙ sym step_is;
               made = goes.made;
+              carried = carried-same row next goes.carried;
             })
             (λ off. absurd (false≢true (sym off ∙ goes.on)))
             (subst (IsWithinStep next leg) (sym stands) goes.within) at_place;
@@ -272,19 +264,16 @@ module _ (layout : Layout) (office : Office) (number : ℕ) (row : RunRow) (leg 
   writes_so : writes_in (place_of row) ≡ writes
   writes_so = ap writes_in running.stands
 
-  module _ (from : ℕ) (marks : List Mark) (passed : List Passed) (can : IsRestorable office.tables.sets row leg from marks passed) where
+  module _ (from : ℕ) (marks : List Mark) (passed : List Passed) (can : IsRestorable row leg from) where
     below_so : from ≤ writes
     below_so = subst (λ n. from ≤ n) writes_so can.behind
 
     unwritten_so : rewrites_nothing start from writes ≡ true
     unwritten_so = ap (rewrites_nothing start from) (sym writes_so) ∙ can.unwritten start start_so
 
-    abbrev named : List Name
-    named = deck_names row.job.root row.number row.deck
-
   -- ---- at the start of the step
 
-  module _ (point : StartPoint) (initiator : ℕ) (got : point_at row.points step ≡ Some point) (has : HasPoint leg (Opened step) point.marks point.passed) (can : IsRestorable office.tables.sets row leg 0 point.marks point.passed) where
+  module _ (point : StartPoint) (initiator : ℕ) (got : point_at row.points step ≡ Some point) (has : HasPoint leg (Opened step) point.marks point.passed) (can : IsRestorable row leg 0) where
     abbrev made_here : List Name
     made_here = own_made row owned step
 
@@ -300,14 +289,14 @@ module _ (layout : Layout) (office : Office) (number : ℕ) (row : RunRow) (leg 
       in_effect = None;
       place = Some (Opened step);
       count = point.count;
-      passed = put_back_passed point.marks (deck_names job.root row.number row.deck) (start_sets job) point.passed;
+      passed = point.passed;
     }
 
     opened_is : (at leg.job leg.start (Opened step)).sets ≡ opened_at start
     opened_is = at-opened leg.job leg.start step owned leg_step
 
     marked_so : (name : Name) → is_among names name ≡ true → IsMarkOf (present_at point.marks name) (entry_at (opened_at start) name)
-    marked_so name named = subst (λ (library : Library). IsMarkOf (present_at point.marks name) (entry_at library name)) opened_is (has.marked name (names_from-step leg.job step owned name leg_step named))
+    marked_so name named = subst (λ (library : Library). IsMarkOf (present_at point.marks name) (entry_at library name)) opened_is (has.marked name (among-step leg.job step owned name leg_step named))
 
     -- a name that the step doesn't make is alike to what it opened
     start-kept : (name : Name) → Among leg name → is_among names name ≡ true → is_none (entry_at start.standing.sets name) ≡ false → AreAlike (start_sets leg.job) (opened_at start) name
@@ -344,14 +333,6 @@ module _ (layout : Layout) (office : Office) (number : ℕ) (row : RunRow) (leg 
     point_step : point.step ≡ step
     point_step = equal-true point.step step (find-passes (λ (one : StartPoint). one.step == step) row.points point got)
 
-    passed-start : put_back_passed point.marks (deck_names row.job.root row.number row.deck) (start_sets row.job) point.passed ≡ row.passed
-    passed-start =
-        ap (λ (removed : List Name). put_back_passed point.marks (deck_names row.job.root row.number row.deck) (sets_back row.job point.marks removed) point.passed)
-        (ap (λ (o : Option StartPoint). option_map_or (λ (point : StartPoint). made_names point.marks (names_of row.job.root owned)) o []) got)
-        ∙ passed-back (deck_names row.job.root row.number row.deck) (output_names row.job.root owned) (names_of row.job.root owned) point.marks (removed_all (made_names point.marks (names_of row.job.root owned)) office.tables.sets) point.passed
-        (all-removed-there (deck_names row.job.root row.number row.deck) (output_names row.job.root owned) (names_of row.job.root owned) point.marks office.tables.sets point.passed (can.there owned own_so))
-        ∙ passed_so (Opened step) point.marks point.passed refl has
-
     start_goes : GoesBack (start_row leg.job) (Opened step)
     start_goes = record {
       number_so = refl;
@@ -359,7 +340,8 @@ module _ (layout : Layout) (office : Office) (number : ℕ) (row : RunRow) (leg 
       job = refl;
       own_from = refl;
       rcs = refl;
-      passed = ap (λ (job : Effective). put_back_passed point.marks (deck_names job.root row.number row.deck) (start_sets job) point.passed) same_job ∙ passed-start;
+      passed = passed_so (Opened step) point.marks point.passed refl has;
+      lost = refl;
       on = refl;
       holds = refl;
       stands = refl;
@@ -367,6 +349,7 @@ module _ (layout : Layout) (office : Office) (number : ℕ) (row : RunRow) (leg 
       made = λ its other below.
           ap (λ (o : Option StartPoint). option_map_or (λ (point : StartPoint). made_names point.marks (names_of row.job.root its)) o [])
           (point_at-other (point_restarted point) row.points other (λ e. absurd (let a = e ∙ point_step in let b = step_is in omega (arith, a, b, below))));
+      carried = carried-again row (point_restarted point) point (ap (point_at row.points) point_step ∙ got) refl;
       within = λ its at_step. subst (λ s. flaws_in (placed_at s) ≡ []) (same_Some start its (sym (start_at-of leg.job leg.start step owned leg_step) ∙ at_step)) way.flawless;
     }
 
@@ -395,7 +378,7 @@ module _ (layout : Layout) (office : Office) (number : ℕ) (row : RunRow) (leg 
 
   -- ---- at a checkpoint
 
-  module _ (effect : EffectPoint) (from count : ℕ) (marks : List Mark) (passed : List Passed) (initiator : ℕ) (has : HasPoint leg (Within step from) marks passed) (can : IsRestorable office.tables.sets row leg from marks passed) where
+  module _ (effect : EffectPoint) (from count : ℕ) (marks : List Mark) (passed : List Passed) (initiator : ℕ) (has : HasPoint leg (Within step from) marks passed) (can : IsRestorable row leg from) where
     abbrev pub entry_sets : Effective → Named TableSet
     entry_sets job = sets_back job marks []
 
@@ -404,7 +387,7 @@ module _ (layout : Layout) (office : Office) (number : ℕ) (row : RunRow) (leg 
       in_effect = Some (effect_restarted effect);
       place = Some (Within step from);
       count = count;
-      passed = put_back_passed marks (deck_names job.root row.number row.deck) (entry_sets job) passed;
+      passed = passed;
     }
 
     within_is : (at leg.job leg.start (Within step from)).sets ≡ within_at start from
@@ -416,14 +399,9 @@ module _ (layout : Layout) (office : Office) (number : ℕ) (row : RunRow) (leg 
         bool-cases (is_among names name)
         (λ named.
         back-here from marks (below_so from marks passed can) (unwritten_so from marks passed can) [] name among named refl
-        (subst (λ (library : Library). IsMarkOf (present_at marks name) (entry_at library name)) within_is (has.marked name (names_from-step leg.job step owned name leg_step named))))
+        (subst (λ (library : Library). IsMarkOf (present_at marks name) (entry_at library name)) within_is (has.marked name (among-step leg.job step owned name leg_step named))))
         (back-elsewhere from marks (below_so from marks passed can) (unwritten_so from marks passed can) [] (λ other out. refl) name among)
         ∙ ap (λ library. option_map set_shape (entry_at library name)) (sym within_is)
-
-    passed-entry : put_back_passed marks (deck_names row.job.root row.number row.deck) (entry_sets row.job) passed ≡ row.passed
-    passed-entry =
-        passed-back (deck_names row.job.root row.number row.deck) (output_names row.job.root owned) (names_of row.job.root owned) marks office.tables.sets passed (can.there owned own_so)
-        ∙ passed_so (Within step from) marks passed refl has
 
     entry_goes : GoesBack (entry_row leg.job) (Within step from)
     entry_goes = record {
@@ -432,12 +410,14 @@ module _ (layout : Layout) (office : Office) (number : ℕ) (row : RunRow) (leg 
       job = refl;
       own_from = refl;
       rcs = refl;
-      passed = ap (λ (job : Effective). put_back_passed marks (deck_names job.root row.number row.deck) (entry_sets job) passed) same_job ∙ passed-entry;
+      passed = passed_so (Within step from) marks passed refl has;
+      lost = refl;
       on = refl;
       holds = refl;
       stands = refl;
       here = refl;
       made = λ its other below. refl;
+      carried = refl;
       within = λ its at_step.
           subst (λ s. IsUnderWay (entry_row leg.job) s from) (same_Some start its (sym (start_at-of leg.job leg.start step owned leg_step) ∙ at_step))
           (record {

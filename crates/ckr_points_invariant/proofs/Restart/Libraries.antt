@@ -22,8 +22,7 @@ use Rattle.ckr_points.specs.Marks.{present_at, put_back}
 use Rattle.ckr_points.specs.Payload.{is_formed_step, rewrites_nothing, writes_between}
 use Rattle.ckr_points.specs.Rows.{TableSet}
 use Rattle.ckr_points.specs.Soundness.{IsPrefix}
-use Rattle.ckr_points_invariant.specs.Invariant.{AreAlike, Shape, counted, set_shape, table_shape}
-use Rattle.ckr_points_invariant.specs.Points.{IsMarkOf}
+use Rattle.ckr_points_invariant.specs.Invariant.{AreAlike, IsMarkOf, Shape, counted, set_shape, table_shape}
 use Rattle.ckr_points_invariant.proofs.Holders.SharedSets.{Unmade, made_all-left}
 use Rattle.ckr_points_invariant.proofs.Rewrite.Sets.{updated-out}
 use Rattle.ckr_points_invariant.proofs.StepEnd.Disposals.{names_made-placed}

@@ -35,7 +35,7 @@ use Rattle.ckr_points_invariant.proofs.Library.Extents.{laid-changed, stands_as}
 use Rattle.ckr_points_invariant.proofs.Holders.Moves.{Among}
 use Rattle.ckr_points_invariant.proofs.Rewrite.Invariant.{have_lengths-same, rewritten-alike, rewritten-long, updated-name, within-next}
 use Rattle.ckr_points_invariant.proofs.Writes.Roles.{target, target-named}
-use Rattle.ckr_points_invariant.proofs.Steps.Events.{is-behind, led-by, on-holds, row-rewritten-made, step-by}
+use Rattle.ckr_points_invariant.proofs.Steps.Events.{is-behind, led-by, on-holds, row-rewritten-carried, row-rewritten-made, step-by}
 use Rattle.ckr_points_invariant.proofs.Start.Event.{changed-by, running-so}
 use Rattle.ckr_points_invariant.proofs.Writes.Likeness.{commit-alike, committed-other}
 
@@ -131,9 +131,11 @@ module _ (layout : Layout) (office : Office) (job : ℕ) (row : RunRow) (leg : L
         own_from = refl;
         rcs = refl;
         passed = refl;
+        lost = refl;
         stands = refl;
         holds = running.holder.holds;
         made = λ its step. row-rewritten-made row (step_now row) its step;
+        carried = row-rewritten-carried row (step_now row);
       }))
       (nat_le-true writes (length (work_at start).writes) (and-first (nat_le writes (length (work_at start).writes)) _ carried))
       (λ name out. ap (option_map table_shape) (outside_so name out)) inside_so

@@ -55,7 +55,7 @@ module _ (layout : Layout) (office : Office) (job : ℕ) (row : RunRow) (leg : L
   pub kept_then : IsAgreed layout (committed_office office row owned writes lengths)
   kept_then =
       kept-commit layout office job row row_then leg owned writes lengths kept running
-      (record { number = refl; deck = refl; job = refl; own_from = refl; rcs = refl; passed = refl; stands = refl; holds = running.holder.holds; made = λ owned step. refl }) carried are
+      (record { number = refl; deck = refl; job = refl; own_from = refl; rcs = refl; passed = refl; lost = refl; stands = refl; holds = running.holder.holds; made = λ owned step. refl; carried = refl }) carried are
 
   pub running_then : IsRunning (committed_office office row owned writes lengths) job row_then leg owned (step_now row) writes
   running_then = record {

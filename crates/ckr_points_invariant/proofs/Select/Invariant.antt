@@ -188,9 +188,13 @@ module _ (layout : Layout) (office : Office) (row : RunRow) (initiator : ℕ) (k
     owners = subst (λ (job : Effective). list_all (λ owned. keeps_points chosen.tables row.number owned.owner) job.steps ≡ true) (sym waits.job) (owns_all chosen.tables row.number row.deck row.deck.steps);
     ahead = λ number owned name from found among.
         let mine : is_among (names_of_job row.job) name ≡ true = among-step row.job number owned name found among in (mine, own name ∙ mine);
+    own = λ name mine. sym (own name) ∙ mine;
+    carried = λ name among other. absurd (false≢true (sym other ∙ own name ∙ among));
     later = λ number owned from found. owns number owned found;
     lent = λ owned name found apart. absurd (apart (owns 1 owned found));
-    entered = λ name out. ap (λ passed. is_among (passed_made passed) name) waits.passed;
+    unreached = λ name gone. absurd (false≢true (sym (ap (λ lost. is_among lost name) waits.lost) ∙ gone));
+    none_lost = λ plain. waits.lost;
+    entered = λ name out stays. ap (λ passed. is_among (passed_made passed) name) waits.passed;
     waits = λ e. absurd (false≢true (sym e));
     within = tt;
   }
@@ -215,6 +219,7 @@ module _ (layout : Layout) (office : Office) (row : RunRow) (initiator : ℕ) (k
           own = waiting.own;
           rcs = waiting.rcs;
           passed = waiting.passed;
+          lost = waiting.lost;
         });
     legs =
         all_legs (IsKnownLeg chosen) leg office.legs (record { found = led_here; listed = is_some-from (run_of chosen.tables row.number) next row_here })

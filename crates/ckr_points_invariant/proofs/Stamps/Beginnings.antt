@@ -39,10 +39,12 @@ use Rattle.ckr_points_invariant.proofs.Steps.Walks.{at-before, at-opened, at-wit
 pub record IsAsBefore (old set : LibrarySet) : Type 0 where
   pub stamp : old.stamp ≡ set.stamp
   pub content : old.content ≡ set.content
+  pub lrecl : old.lrecl ≡ set.lrecl
+  pub space : old.space ≡ set.space
   pub records : old.records ≡ set.records
 
 as_before : (set : LibrarySet) → IsAsBefore set set
-as_before set = record { stamp = refl; content = refl; records = refl }
+as_before set = record { stamp = refl; content = refl; lrecl = refl; space = refl; records = refl }
 
 abbrev CameFrom : Name → Library → LibrarySet → Type 0
 CameFrom name library set = (old : LibrarySet) × (entry_at library name ≡ Some old) × IsAsBefore old set
@@ -53,7 +55,7 @@ marked_from name other on library set e =
   where
     by : (same : Bool) (entry : Option LibrarySet) → entry_at library name ≡ entry → cond same (option_map (record_ways.marked on) entry) entry ≡ Some set → CameFrom name library set
     by true None e its = absurd (some-not-none set (sym its))
-    by true (Some old) e its = (old, e, subst (IsAsBefore old) (same_Some (record_ways.marked on old) set its) (record { stamp = refl; content = refl; records = refl }))
+    by true (Some old) e its = (old, e, subst (IsAsBefore old) (same_Some (record_ways.marked on old) set its) (record { stamp = refl; content = refl; lrecl = refl; space = refl; records = refl }))
     by false entry e its = (set, e ∙ its, as_before set)
 
 without_from : (name other : Name) (library : Library) (set : LibrarySet) → entry_at (without_entry other library) name ≡ Some set → entry_at library name ≡ Some set
@@ -75,7 +77,7 @@ disposed_from name [] standing set e = (set, e, as_before set)
 disposed_from name (one ∷ rest) standing set e =
     let later = disposed_from name rest (disposed_one record_ways one standing) set e in
     let first = after_from name one.after one.name standing.sets later.0 later.1 in
-    (first.0, first.1, record { stamp = first.2.stamp ∙ later.2.stamp; content = first.2.content ∙ later.2.content; records = first.2.records ∙ later.2.records })
+    (first.0, first.1, record { stamp = first.2.stamp ∙ later.2.stamp; content = first.2.content ∙ later.2.content; lrecl = first.2.lrecl ∙ later.2.lrecl; space = first.2.space ∙ later.2.space; records = first.2.records ∙ later.2.records })
 
 pub disposed-from : (start : StepStart) (abnormal : Bool) (library : Library) (name : Name) (set : LibrarySet) → entry_at (disposed_at start abnormal library).sets name ≡ Some set → (old : LibrarySet) × (entry_at library name ≡ Some old) × IsAsBefore old set
 unfolding disposed_at
@@ -95,6 +97,8 @@ begun-as office name old set same begun = record {
   last = begun.last;
   found = ap (λ stamp. entry_at (library_at_stamp office stamp) name) (sym same.stamp) ∙ begun.found;
   content = begun.content ∙ same.content;
+  lrecl = begun.lrecl ∙ same.lrecl;
+  space = begun.space ∙ same.space;
   begins = ap (λ records. take (length records) begun.last.records) (sym same.records) ∙ begun.begins ∙ same.records;
 }
 
@@ -168,6 +172,8 @@ module _ (office : Office) (leg : Leg) (number : ℕ) (led : leg_of office numbe
             ∙ ap (λ (o : Option StepStart). option_map_or (λ start. within_at start (stamped_writes (work_at start).writes set.stamp.rewrites)) o []) (start_at-of leg.job leg.start step owned found))
             ∙ its.found;
         content = its.content;
+        lrecl = its.lrecl;
+        space = its.space;
         begins = its.begins;
       }
 

@@ -41,6 +41,8 @@ pub record IsOfStep (start : StepStart) (name : Name) (set : LibrarySet) : Type 
   pub last : LibrarySet
   pub found : entry_at (within_at start (stamped_writes (work_at start).writes set.stamp.rewrites)) name ≡ Some last
   pub content : last.content ≡ set.content
+  pub lrecl : last.lrecl ≡ set.lrecl
+  pub space : last.space ≡ set.space
   pub begins : IsPrefix set.records last.records
 
 abbrev pub Outcome : StepStart → Name → LibrarySet → Type 0
@@ -64,6 +66,8 @@ module _ (start : StepStart) (name : Name) (formed : is_formed_step start.root s
           last = last.other;
           found = ap (λ n. entry_at (within_at start (stamped_writes (work_at start).writes n)) name) (ap (λ (stamp : Stamp). stamp.rewrites) mine) ∙ last.at_name;
           content = last.grown.content;
+          lrecl = last.grown.lrecl;
+          space = last.grown.space;
           begins = last.grown.records;
         }
 
@@ -184,6 +188,8 @@ module _ (start : StepStart) (name : Name) (formed : is_formed_step start.root s
               ∙ ap (λ n. entry_at (within_at start (length (up_to_rewrites n (work_at start).writes))) name) (sym is)
               ∙ sym (within-up_to start name formed its out writes) ∙ at_name;
           content = refl;
+          lrecl = refl;
+          space = refl;
           begins = prefix-same set.records;
         })
 

@@ -54,6 +54,8 @@ begun-legs office other name set same begun = record {
   last = begun.last;
   found = ap (λ library. entry_at library name) (same-library office other set.stamp same) ∙ begun.found;
   content = begun.content;
+  lrecl = begun.lrecl;
+  space = begun.space;
   begins = begun.begins;
 }
 

@@ -56,7 +56,7 @@ kept-held layout office job writes code lengths deck kept may carried =
     let running : IsRunning office job row leg owned (step_now row) (writes_in (place_of row)) = running-so layout office job row leg owned holder (running-within office.tables row leg (kept.places job row leg holder) runs) found in
     changed-by layout office job row owned (λ row owned step. after_held row owned step code writes lengths.items office.tables) e found
     (kept-commit layout office job row (record row { state = HeldRun; initiator = None; code = Some code; place = Some (Within (step_now row) writes) }) leg owned writes lengths.items kept running
-    (record { number = refl; deck = refl; job = refl; own_from = refl; rcs = refl; passed = refl; stands = refl; holds = refl; made = λ owned step. refl })
+    (record { number = refl; deck = refl; job = refl; own_from = refl; rcs = refl; passed = refl; lost = refl; stands = refl; holds = refl; made = λ owned step. refl; carried = refl })
     (carried-of layout office job row leg owned (step_now row) (λ row. commits office.tables.sets row writes lengths.items) kept holder refl found carried) are))))
 
 -- ---- started

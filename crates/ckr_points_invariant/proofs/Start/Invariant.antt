@@ -28,7 +28,7 @@ use Rattle.ckr_points_invariant.proofs.Library.Likeness.{each-known, known-alike
 use Rattle.ckr_points_invariant.proofs.Steps.Commits.{its_start}
 use Rattle.ckr_points_invariant.proofs.Library.Extents.{made_all-laid}
 use Rattle.ckr_points_invariant.proofs.Holders.Rows.{run-other, run-same}
-use Rattle.ckr_points_invariant.proofs.Marks.Points.{absent-now, among-filter, point_at-new, point_at-other}
+use Rattle.ckr_points_invariant.proofs.Marks.Points.{absent-now, among-filter, point_at-new, point_at-other, carried-taken}
 use Rattle.ckr_points_invariant.proofs.Holders.Moves.{Among, kept-goes_on, moved, standing-is}
 use Rattle.ckr_points_invariant.proofs.Start.Openings.{opened-known, opened-none, opened-twice}
 use Rattle.ckr_points_invariant.proofs.Holders.Places.{HasNext, IsSameRun, place-next}
@@ -144,10 +144,13 @@ module _ (layout : Layout) (office : Office) (number : ℕ) (row : RunRow) (leg 
     own_from = refl;
     rcs = refl;
     passed = refl;
+    deck = refl;
+    lost = refl;
     step = sym now;
     made = λ its at_step below.
         ap (λ (o : Option StartPoint). option_map_or (λ point. made_names point.marks (names_of row.job.root its)) o [])
         (point_at-other (start_point row step opened) row.points at_step (λ e. absurd (omega (arith, below, now, e))));
+    carried = carried-taken row (start_point row step opened) opened refl;
   }
 
   made_now : (name : Name) → is_among (names_of leg.job.root owned) name ≡ true → is_among (own_made next owned step) name ≡ is_none (entry_at the_start.standing.sets name)

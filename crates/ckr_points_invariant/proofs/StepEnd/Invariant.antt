@@ -14,14 +14,17 @@ use Rattle.ckr_meaning.specs.LibrarySet.{LibrarySet, record_ways}
 use Rattle.ckr_meaning.specs.Dispositions.{Disposal, Stock, disposed_all}
 use Rattle.ckr_meaning.specs.EffectiveJob.{Effective, OwnedStep, disposals_of, is_among, name_of, names_made, placed_from, names_of, step_at}
 use Rattle.ckr_meaning.specs.declared.place.Place.TheVariants.{Before}
-use Rattle.ckr_meaning.specs.JobRun.{Walk, all_go_on, is_bypassed, step_walked, walk_before, walk_from}
+use Rattle.ckr_meaning.specs.JobRun.{Walk, all_go_on, at, is_bypassed, step_walked, walk_before, walk_from}
 use Rattle.ckr_meaning.specs.StepRun.{StepStart, disposed_at, placed_at, within_at, work_at}
+use Rattle.ckr_meaning.proofs.OtherNames.{disposed_at-other}
 use Rattle.ckr_volumes.specs.declared.layout.Layout.{Layout}
 use Rattle.ckr_points.specs.declared.run.RunState.TheVariants.{On}
 use Rattle.ckr_points.specs.Tables.{after_dispositions, earlier_made, own_made, run_disposal, run_disposals, step_made, steps_made}
 use Rattle.ckr_points.specs.Follows.{is_in_state}
-use Rattle.ckr_points_invariant.specs.Invariant.{AreAlike, IsAtPlace, IsAgreed, IsUnderWay, set_shape, step_now, table_shape}
+use Rattle.ckr_points_invariant.specs.Invariant.{AreAlike, HasMarkOf, IsAtPlace, IsAgreed, IsUnderWay, set_shape, step_now, table_shape}
+use Rattle.ckr_points.specs.Marks.{carried_marks, mark_at, own_names}
 use Rattle.ckr_points.specs.Office.{Leg, Office, is_holder, passed_made}
+use Rattle.ckr_points.specs.Restart.{place_of}
 use Rattle.ckr_points.specs.Rows.{RunRow, TableSet, TablesModel, standing_of, table_ways}
 use Rattle.ckr_points.specs.Soundness.{AreLaidOut}
 use Rattle.ckr_points_invariant.proofs.Library.Likeness.{disposed_all-alike, disposed_all-passed, placed-apart}
@@ -31,8 +34,8 @@ use Rattle.ckr_points_invariant.proofs.Library.Extents.{disposed_all-laid}
 use Rattle.ckr_points_invariant.proofs.Marks.Points.{own_made-out}
 use Rattle.ckr_points_invariant.proofs.Holders.Moves.{Among, kept-goes_on, moved}
 use Rattle.ckr_points_invariant.proofs.Library.PassedList.{apart-unmade, disposed-apart, disposed-made}
-use Rattle.ckr_points_invariant.proofs.Holders.Places.{HasNext, lent-same, own_made-is, owners-same, steps_made-same}
-use Rattle.ckr_points_invariant.proofs.Steps.Walks.{at-before, goes_on-behind, start_of, step_walked-earlier, step_walked-rcs, step_walked-standing, walk_before-behind}
+use Rattle.ckr_points_invariant.proofs.Holders.Places.{HasNext, lent-same, other-out, own_made-is, owners-same, steps_made-same}
+use Rattle.ckr_points_invariant.proofs.Steps.Walks.{at-before, at-within, goes_on-behind, start_of, step_walked-earlier, step_walked-rcs, step_walked-standing, walk_before-behind}
 
 steps_made-append : (tables : TablesModel) (row : RunRow) (first : ℕ) (steps : List OwnedStep) (owned : OwnedStep) → steps_made tables row first (steps ++ owned ∷ []) ≡ steps_made tables row first steps ++ (step_made tables row owned (first + length steps) ++ [])
 steps_made-append tables row first [] owned = ap (λ n. step_made tables row owned n ++ []) (let e : first ≡ first + 0 = omega arith in e)
@@ -110,9 +113,9 @@ module _ (layout : Layout) (office : Office) (number : ℕ) (row : RunRow) (leg 
   pub disposed-outside : (abnormal : Bool) (name : Name) → is_among leg.reach name ≡ false → entry_at (disposed abnormal).sets name ≡ entry_at office.tables.sets name
   disposed-outside abnormal name out = disposed-apart table_ways (disposals abnormal) (standing_of row office.tables) name (apart_so abnormal name out)
 
-  pub disposed-enters : (abnormal : Bool) (name : Name) → is_among leg.reach name ≡ false → is_among (passed_made (disposed abnormal).passed) name ≡ false
-  disposed-enters abnormal name out =
-      disposed-made table_ways name (disposals abnormal) (standing_of row office.tables) (apart-unmade (disposals abnormal) name (apart_so abnormal name out)) (at_place.entered name out)
+  pub disposed-enters : (abnormal : Bool) (name : Name) → is_among leg.reach name ≡ false → is_among row.lost name ≡ false → is_among (passed_made (disposed abnormal).passed) name ≡ false
+  disposed-enters abnormal name out stays =
+      disposed-made table_ways name (disposals abnormal) (standing_of row office.tables) (apart-unmade (disposals abnormal) name (apart_so abnormal name out)) (at_place.entered name out stays)
 
   pub disposed-laid : (abnormal : Bool) → AreLaidOut layout (disposed abnormal).sets
   disposed-laid abnormal = disposed_all-laid layout (disposals abnormal) (standing_of row office.tables) kept.extents
@@ -120,7 +123,7 @@ module _ (layout : Layout) (office : Office) (number : ℕ) (row : RunRow) (leg 
   -- ---- a normal end
 
   -- by its point, the step made what it makes
-  made_is : (name : Name) → is_among (own_made row owned step) name ≡ is_among (names_made (placed_at the_start)) name
+  pub made_is : (name : Name) → is_among (own_made row owned step) name ≡ is_among (names_made (placed_at the_start)) name
   unfolding placed_at
   made_is name =
       bool-cases (is_among (names_of leg.job.root owned) name)
@@ -199,6 +202,14 @@ module _ (layout : Layout) (office : Office) (number : ℕ) (row : RunRow) (leg 
     positive zero e = absurd (some-not-none owned (sym e))
     positive (suc before) e = (before, refl)
 
+    -- a name that isn't the run's own is there as it was in the step
+    other_behind : (name : Name) → is_among (own_names row) name ≡ false → entry_at (at leg.job leg.start (place_of row)).sets name ≡ entry_at (at leg.job leg.start (Before (suc step))).sets name
+    other_behind name other =
+        ap (λ place. entry_at (at leg.job leg.start place).sets name) running.stands
+        ∙ ap (λ library. entry_at library name) (at-within leg.job leg.start step writes owned leg_step)
+        ∙ sym (disposed_at-other the_start false (within_at the_start writes) name (other-out office.tables row leg name at_place other owned (ap (step_at leg.job) step_is ∙ leg_step)))
+        ∙ ap (λ (standing : Stock LibrarySet). entry_at standing.sets name) (sym (at-before leg.job leg.start (suc step) ∙ standing_behind))
+
     place_behind : IsAtPlace gone.tables next leg
     place_behind = record {
       job = at_place.job;
@@ -214,8 +225,12 @@ module _ (layout : Layout) (office : Office) (number : ℕ) (row : RunRow) (leg 
       earlier = let its = positive step running.found in earlier_step its.0 its.1;
       owners = owners-same office.tables gone.tables row next has refl refl row.job.steps at_place.owners;
       ahead = λ other its name from found among. at_place.ahead other its name (omega (arith, step_is, from)) found among;
+      own = at_place.own;
+      carried = λ name among other. subst (HasMarkOf (mark_at (carried_marks row) name)) (other_behind name other) (at_place.carried name among other);
       later = λ other its from found. at_place.later other its (omega (arith, step_is, from)) found;
       lent = λ its name found apart. absurd (apart (at_place.later (suc step) its (omega (arith, step_is)) found));
+      unreached = at_place.unreached;
+      none_lost = at_place.none_lost;
       entered = disposed-enters false;
       waits = λ off. absurd (false≢true (sym off ∙ on));
       within = tt;

@@ -5,7 +5,7 @@ use Rattle.std.specs.Option.{option_map_or}
 use Rattle.std.proofs.lemmas.Bool.{false≢true}
 use Rattle.ckr_base.proofs.Bools.{and-first, and-second, or-cases}
 use Rattle.ckr_base.proofs.Options.{is_some-true, option-cases}
-use Rattle.ckr_library.specs.NameMaps.{Name}
+use Rattle.ckr_entry.specs.declared.point.Mark.{Mark}
 use Rattle.ckr_meaning.specs.EffectiveJob.{Effective, OwnedStep, names_of}
 use Rattle.ckr_meaning.specs.declared.place.Place.{Place}
 use Rattle.ckr_meaning.specs.declared.place.Place.TheVariants.{Before, Opened, Within}
@@ -17,10 +17,11 @@ use Rattle.ckr_points.specs.Follows.{are_lengths, is_in_state, is_running, is_wi
 use Rattle.ckr_points.specs.Payload.{commits, writes_in}
 use Rattle.ckr_points_invariant.specs.Invariant.{IsAtPlace, IsHolder, IsAgreed, step_now}
 use Rattle.ckr_points_library.specs.Commit.{output_names}
-use Rattle.ckr_points.specs.Marks.{made_names, point_at}
+use Rattle.ckr_points.specs.Marks.{carried_marks, made_names, point_at}
 use Rattle.ckr_points.specs.Office.{Leg, Office, is_holder, leg_of}
 use Rattle.ckr_points.specs.Restart.{place_of, step_in}
 use Rattle.ckr_points.specs.Rows.{RunRow, StartPoint, TablesModel, run_of, step_of_run, with_run}
+use Rattle.ckr_points_invariant.proofs.Marks.Points.{carried-same}
 use Rattle.ckr_points_invariant.proofs.Steps.Commits.{GoesBehind, IsRunning, its_start, kept-committed}
 
 -- ---- states and places
@@ -86,9 +87,11 @@ pub record IsRowOf (row next : RunRow) (step writes : ℕ) : Type 0 where
   pub own_from : next.earlier_step ≡ row.earlier_step
   pub rcs : next.rcs ≡ row.rcs
   pub passed : next.passed ≡ row.passed
+  pub lost : next.lost ≡ row.lost
   pub stands : place_of next ≡ Within step writes
   pub holds : is_holder next.state ≡ true
   pub made : (owned : OwnedStep) (step : ℕ) → own_made next owned step ≡ own_made row owned step
+  pub carried : carried_marks next ≡ carried_marks row
 
 pub is-behind : (layout : Layout) (office : Office) (job : ℕ) (row next : RunRow) (leg : Leg) (owned : OwnedStep) (from to : ℕ) (kept : IsAgreed layout office) (running : IsRunning office job row leg owned (step_now row) from) → IsRowOf row next (step_now row) to → GoesBehind layout office job row leg owned (step_now row) from kept running next to
 is-behind layout office job row next leg owned from to kept running its = record {
@@ -98,8 +101,11 @@ is-behind layout office job row next leg owned from to kept running its = record
     own_from = its.own_from;
     rcs = its.rcs;
     passed = its.passed;
+    deck = its.deck;
+    lost = its.lost;
     step = ap step_in its.stands;
     made = λ owned step below. its.made owned step;
+    carried = carried-same row next its.carried;
   };
   deck = its.deck;
   holds = its.holds;
@@ -107,29 +113,32 @@ is-behind layout office job row next leg owned from to kept running its = record
   made = its.made owned (step_now row);
 }
 
--- points that a rewrite marks have the marks that they had
-made_rewritten : (step : ℕ) (points : List StartPoint) (its : ℕ) (names : List Name) → option_map_or (λ (point : StartPoint). made_names point.marks names) (point_at (map (point_rewritten step) points) its) [] ≡ option_map_or (λ (point : StartPoint). made_names point.marks names) (point_at points its) []
-made_rewritten step [] its names = refl
-made_rewritten step (first ∷ rest) its names =
+-- points that a rewrite marks tell by their marks what they told
+told_rewritten : {A : Type 0} (tell : List Mark → A) (none : A) (step : ℕ) (points : List StartPoint) (its : ℕ) → option_map_or (λ (point : StartPoint). tell point.marks) (point_at (map (point_rewritten step) points) its) none ≡ option_map_or (λ (point : StartPoint). tell point.marks) (point_at points its) none
+told_rewritten tell none step [] its = refl
+told_rewritten tell none step (first ∷ rest) its =
     elim (first.step == step) as
     (λ b.
-    option_map_or (λ (point : StartPoint). made_names point.marks names) (point_at ((if b then record first { rewritten = true } else first) ∷ map (point_rewritten step) rest) its) []
-    ≡ option_map_or (λ (point : StartPoint). made_names point.marks names) (cond (first.step == its) (Some first) (point_at rest its)) []) [
-      | true ↦ by (record first { rewritten = true }) refl refl (made_rewritten step rest its names)
-      | false ↦ by first refl refl (made_rewritten step rest its names)
+    option_map_or (λ (point : StartPoint). tell point.marks) (point_at ((if b then record first { rewritten = true } else first) ∷ map (point_rewritten step) rest) its) none
+    ≡ option_map_or (λ (point : StartPoint). tell point.marks) (cond (first.step == its) (Some first) (point_at rest its)) none) [
+      | true ↦ by (record first { rewritten = true }) refl refl (told_rewritten tell none step rest its)
+      | false ↦ by first refl refl (told_rewritten tell none step rest its)
     ]
   where
-    by : (point : StartPoint) → point.step ≡ first.step → point.marks ≡ first.marks → option_map_or (λ (point : StartPoint). made_names point.marks names) (point_at (map (point_rewritten step) rest) its) [] ≡ option_map_or (λ (point : StartPoint). made_names point.marks names) (point_at rest its) [] → option_map_or (λ (point : StartPoint). made_names point.marks names) (cond (point.step == its) (Some point) (point_at (map (point_rewritten step) rest) its)) [] ≡ option_map_or (λ (point : StartPoint). made_names point.marks names) (cond (first.step == its) (Some first) (point_at rest its)) []
+    by : (point : StartPoint) → point.step ≡ first.step → point.marks ≡ first.marks → option_map_or (λ (point : StartPoint). tell point.marks) (point_at (map (point_rewritten step) rest) its) none ≡ option_map_or (λ (point : StartPoint). tell point.marks) (point_at rest its) none → option_map_or (λ (point : StartPoint). tell point.marks) (cond (point.step == its) (Some point) (point_at (map (point_rewritten step) rest) its)) none ≡ option_map_or (λ (point : StartPoint). tell point.marks) (cond (first.step == its) (Some first) (point_at rest its)) none
     by point at_step marks others =
-        ap (λ n. option_map_or (λ (point : StartPoint). made_names point.marks names) (cond (n == its) (Some point) (point_at (map (point_rewritten step) rest) its)) []) at_step
+        ap (λ n. option_map_or (λ (point : StartPoint). tell point.marks) (cond (n == its) (Some point) (point_at (map (point_rewritten step) rest) its)) none) at_step
         ∙ here (first.step == its)
       where
-        here : (b : Bool) → option_map_or (λ (point : StartPoint). made_names point.marks names) (cond b (Some point) (point_at (map (point_rewritten step) rest) its)) [] ≡ option_map_or (λ (point : StartPoint). made_names point.marks names) (cond b (Some first) (point_at rest its)) []
-        here true = ap (λ marks. made_names marks names) marks
+        here : (b : Bool) → option_map_or (λ (point : StartPoint). tell point.marks) (cond b (Some point) (point_at (map (point_rewritten step) rest) its)) none ≡ option_map_or (λ (point : StartPoint). tell point.marks) (cond b (Some first) (point_at rest its)) none
+        here true = ap tell marks
         here false = others
 
 pub row-rewritten-made : (row : RunRow) (step : ℕ) (owned : OwnedStep) (its : ℕ) → own_made (row_rewritten step row) owned its ≡ own_made row owned its
-row-rewritten-made row step owned its = made_rewritten step row.points its (names_of row.job.root owned)
+row-rewritten-made row step owned its = told_rewritten (λ marks. made_names marks (names_of row.job.root owned)) [] step row.points its
+
+pub row-rewritten-carried : (row : RunRow) (step : ℕ) → carried_marks (row_rewritten step row) ≡ carried_marks row
+row-rewritten-carried row step = told_rewritten (λ marks. marks) [] step row.points row.earlier_step
 
 -- ---- committed
 

@@ -6,15 +6,18 @@ use Rattle.std.proofs.lemmas.Bool.{false≢true}
 use Rattle.ckr_base.specs.declared.programs.Finish.TheVariants.{Returned}
 use Rattle.ckr_base.proofs.Options.{some-not-none}
 use Rattle.ckr_base.proofs.Sequences.{length-take, take-next}
+use Rattle.ckr_library.specs.NameMaps.{Name, entry_at}
 use Rattle.ckr_meaning.specs.declared.place.Place.{Place}
 use Rattle.ckr_meaning.specs.declared.place.Place.TheVariants.{Before, Opened, Within}
 use Rattle.ckr_meaning.specs.LibrarySet.{Library, LibrarySet}
 use Rattle.ckr_meaning.specs.Dispositions.{Stock}
-use Rattle.ckr_meaning.specs.EffectiveJob.{Effective, OwnedStep, flaws_in, names_made, step_at}
+use Rattle.ckr_meaning.specs.EffectiveJob.{Effective, OwnedStep, flaws_in, is_among, names_made, names_of, step_at}
 use Rattle.ckr_meaning.specs.StepRun.{StepStart, disposed_at, end_at, end_by, opened_at, placed_at, within_at, work_at}
 use Rattle.ckr_meaning.specs.JobRun.{Walk, all_go_on, at, cut_at, end_from, end_in, end_of_job, end_unless, ended_with, is_bypassed, job_run, place_of_end, rc_of, start_at, start_in, step_walked, walk_before, walk_from, walked, walked_by, walked_one, with_sets}
 use Rattle.ckr_meaning.proofs.JobEnds.{all_go_on-more, all_go_on-step, end_from-step, end_or, go_on_unless}
+use Rattle.ckr_meaning.proofs.OtherNames.{opened_at-other, within_at-other}
 use Rattle.ckr_meaning.proofs.Walks.{walk_before-next}
+use Rattle.ckr_points.specs.Restart.{step_in}
 
 -- ---- one step more
 
@@ -79,6 +82,34 @@ at-within job library number writes owned found =
 pub at-before : (job : Effective) (library : Library) (number : ℕ) → (at job library (Before number)) ≡ (walk_before job library number).standing
 unfolding at
 at-before job library number = refl
+
+-- a name that the step doesn't have is there as it was before the step
+pub at-elsewhere : (job : Effective) (library : Library) (place : Place) (name : Name) → ((owned : OwnedStep) → step_at job (step_in place) ≡ Some owned → is_among (names_of job.root owned) name ≡ false)
+    → entry_at (at job library place).sets name ≡ entry_at (walk_before job library (step_in place)).standing.sets name
+unfolding at start_at
+at-elsewhere job library (Before number) name out = refl
+at-elsewhere job library (Opened number) name out = by (step_at job number) refl
+  where
+    by : (step : Option OwnedStep) → step_at job number ≡ step
+        → (let standing : Stock LibrarySet = option_map_or (λ (start : StepStart). with_sets (opened_at start) start.standing) (option_map (λ owned. start_in job.root number owned (walk_before job library number)) step) (walk_before job library number).standing in entry_at standing.sets name)
+        ≡ entry_at (walk_before job library number).standing.sets name
+    by None e = refl
+    by (Some owned) e = opened_at-other (start_of job library number owned) name (out owned e)
+at-elsewhere job library (Within number writes) name out = by (step_at job number) refl
+  where
+    by : (step : Option OwnedStep) → step_at job number ≡ step
+        → (let standing : Stock LibrarySet = option_map_or (λ (start : StepStart). with_sets (within_at start writes) start.standing) (option_map (λ owned. start_in job.root number owned (walk_before job library number)) step) (walk_before job library number).standing in entry_at standing.sets name)
+        ≡ entry_at (walk_before job library number).standing.sets name
+    by None e = refl
+    by (Some owned) e = within_at-other (start_of job library number owned) writes name (out owned e)
+
+-- and so it is at each place of the step
+pub at-same-step : (job : Effective) (library : Library) (one other : Place) (name : Name) → step_in other ≡ step_in one → ((owned : OwnedStep) → step_at job (step_in one) ≡ Some owned → is_among (names_of job.root owned) name ≡ false)
+    → entry_at (at job library one).sets name ≡ entry_at (at job library other).sets name
+at-same-step job library one other name same out =
+    at-elsewhere job library one name out
+    ∙ ap (λ n. entry_at (walk_before job library n).standing.sets name) (sym same)
+    ∙ sym (at-elsewhere job library other name (λ owned found. out owned (ap (step_at job) (sym same) ∙ found)))
 
 -- ---- the end
 

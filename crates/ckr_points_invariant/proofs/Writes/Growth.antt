@@ -44,15 +44,19 @@ prefix-on first second third one other =
 pub record GrowsTo (one other : LibrarySet) : Type 0 where
   pub stamp : other.stamp ≡ one.stamp
   pub content : other.content ≡ one.content
+  pub lrecl : other.lrecl ≡ one.lrecl
+  pub space : other.space ≡ one.space
   pub records : IsPrefix one.records other.records
 
 pub grows-same : (one : LibrarySet) → GrowsTo one one
-grows-same one = record { stamp = refl; content = refl; records = prefix-same one.records }
+grows-same one = record { stamp = refl; content = refl; lrecl = refl; space = refl; records = prefix-same one.records }
 
 grows-on : (one other third : LibrarySet) → GrowsTo one other → GrowsTo other third → GrowsTo one third
 grows-on one other third first second = record {
   stamp = second.stamp ∙ first.stamp;
   content = second.content ∙ first.content;
+  lrecl = second.lrecl ∙ first.lrecl;
+  space = second.space ∙ first.space;
   records = prefix-on one.records other.records third.records first.records second.records;
 }
 
@@ -68,8 +72,8 @@ module _ (start : StepStart) (name : Name) where
   IsNotUpdated = (place : ℕ) (to : Name) → output_name start (InPlace place) ≡ Some to → same_name name to ≡ false
 
   written_set_grown : IsNotUpdated → (output : Output) (image : List ℕ) (to : Name) (set : LibrarySet) → output_name start output ≡ Some to → same_name name to ≡ true → GrowsTo set (written_set start output image set)
-  written_set_grown kept Main image to set e same = record { stamp = refl; content = refl; records = prefix-more set.records (fitted set.lrecl image ∷ []) }
-  written_set_grown kept Rejects image to set e same = record { stamp = refl; content = refl; records = prefix-more set.records (fitted set.lrecl image ∷ []) }
+  written_set_grown kept Main image to set e same = record { stamp = refl; content = refl; lrecl = refl; space = refl; records = prefix-more set.records (fitted set.lrecl image ∷ []) }
+  written_set_grown kept Rejects image to set e same = record { stamp = refl; content = refl; lrecl = refl; space = refl; records = prefix-more set.records (fitted set.lrecl image ∷ []) }
   written_set_grown kept (InPlace place) image to set e same = absurd (false≢true (sym (kept place to e) ∙ same))
 
   written-grown : IsNotUpdated → (write : Write) (library : Library) (set : LibrarySet) → entry_at library name ≡ Some set → HasGrown name set (written_one start write library)

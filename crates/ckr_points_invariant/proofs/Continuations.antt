@@ -1,0 +1,9 @@
+pub mod Freshness
+pub mod NamesInCommon
+pub mod Fronts
+pub mod DeckNames
+pub mod Libraries
+pub mod Needed
+pub mod CarriedPoint
+pub mod Reached
+pub mod Follows

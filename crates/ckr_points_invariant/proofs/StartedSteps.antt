@@ -1,0 +1,7 @@
+pub mod ReturnCodes
+pub mod Runs
+pub mod Offices
+pub mod Rows
+pub mod StepEvents
+pub mod RunEvents
+pub mod SoundEvents

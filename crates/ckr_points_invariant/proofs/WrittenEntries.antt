@@ -1,0 +1,10 @@
+pub mod Sets
+pub mod Entries
+pub mod Offices
+pub mod Growth
+pub mod Checkpoints
+pub mod Starts
+pub mod Restarts
+pub mod StepEvents
+pub mod RunEvents
+pub mod SoundEvents

@@ -1,0 +1,156 @@
+-- What holds of each data set under its name goes on to hold through what an event does to data sets: they are cut, marked, stamped and
+-- removed, and none comes with an entry.
+use Rattle.std.proofs.Common.{◌≡◌, ℕ, Bool, true, false, cond, List, [], ◌∷◌, if◌then◌else◌, refl, ap, sym, ◌∙◌, subst, Option, Some, None}
+use Rattle.std.specs.Prelude.{nat_le}
+use Rattle.std.specs.Option.{option_map}
+use Rattle.std.proofs.lemmas.Option.{same_Some}
+use Rattle.ckr_base.proofs.Bools.{bool-cases}
+use Rattle.ckr_base.proofs.Options.{option-cases, some-not-none}
+use Rattle.ckr_entry.specs.declared.point.Mark.{Mark}
+use Rattle.ckr_entry.specs.declared.point.Passed.{Passed}
+use Rattle.ckr_entry.specs.declared.point.Present.{Present}
+use Rattle.ckr_events.specs.declared.event.Made.{Made}
+use Rattle.ckr_jcl.specs.declared.deck.After.{After}
+use Rattle.ckr_jcl.specs.declared.deck.After.TheVariants.{Delete, Keep, Pass, Catlg, Uncatlg}
+use Rattle.ckr_jcl.specs.declared.deck.Status.{Status}
+use Rattle.ckr_jcl.specs.declared.deck.Status.TheVariants.{New, Old, Shr, Mod}
+use Rattle.ckr_library.specs.declared.sets.Stamp.{Stamp}
+use Rattle.ckr_library.specs.NameMaps.{Name, Named, same_name, entry_at, with_changed, with_entry, without_entry}
+use Rattle.ckr_library.proofs.Named.{at-with_changed, at-with_entry, at-without_entry}
+use Rattle.ckr_meaning.specs.Allotments.{AllotmentModel, found, made, refused, DdAllotment, is_output, opened_all, opened_by, opened_one}
+use Rattle.ckr_meaning.specs.Dispositions.{Disposal, Stock, disposed_all, disposed_one, passed_ended, sets_after}
+use Rattle.ckr_meaning.specs.EffectiveJob.{is_among}
+use Rattle.ckr_points.specs.Marks.{present_at, put_back, removed_all}
+use Rattle.ckr_points.specs.Rows.{TableSet, cut_set, table_ways}
+use Rattle.ckr_points.specs.Tables.{committed, fresh_table, made_table, made_tables, parts_from, table_rewritten}
+use Rattle.ckr_points_invariant.proofs.PutBack.Sets.{at-removed_all, back_to, changed_if, put_back-marked, put_back-none, to_catalog, to_length}
+
+-- what is there behind a change was there before
+pub changed-was : {X Y : Type 0} (change : X → Y) (entry : Option X) (y : Y) → option_map change entry ≡ Some y → (old : X) × (entry ≡ Some old) × (change old ≡ y)
+changed-was change None y e = absurd (some-not-none y (sym e))
+changed-was change (Some old) y e = (old, refl, same_Some (change old) y e)
+
+-- it goes on through each change of a data set, and holds of one without entries
+pub record GoesOnThrough (E : Name → TableSet → Type 0) : Type 0 where
+  pub cut : (name : Name) (table : TableSet) (most : ℕ) → E name table → E name (cut_set most table)
+  pub marked : (name : Name) (table : TableSet) (on : Bool) → E name table → E name (table_ways.marked on table)
+  pub stamped : (name : Name) (table : TableSet) (stamp : Stamp) → E name table → E name (table_ways.stamped stamp table)
+  pub fresh : (name : Name) (table : TableSet) → table.entries ≡ [] → E name table
+
+-- it holds of each data set
+abbrev pub EachHas : (Name → TableSet → Type 0) → Named TableSet → Type 0
+EachHas E sets = (name : Name) (table : TableSet) → entry_at sets name ≡ Some table → E name table
+
+module _ (E : Name → TableSet → Type 0) (through : GoesOnThrough E) where
+  pub changed-has : (to : Name) (change : TableSet → TableSet) (sets : Named TableSet) → ((name : Name) (table : TableSet) → E name table → E name (change table)) → EachHas E sets → EachHas E (with_changed to change sets)
+  changed-has to change sets keeps each name table e =
+      bool-cases (same_name name to)
+      (λ same.
+      let old = changed-was change (entry_at sets name) table (sym (ap (λ b. cond b (option_map change (entry_at sets name)) (entry_at sets name)) same) ∙ sym (at-with_changed to name change sets) ∙ e) in
+      subst (E name) old.2 (keeps name old.0 (each name old.0 old.1)))
+      (λ apart. each name table (sym (ap (λ b. cond b (option_map change (entry_at sets name)) (entry_at sets name)) apart) ∙ sym (at-with_changed to name change sets) ∙ e))
+
+  without-has : (to : Name) (sets : Named TableSet) → EachHas E sets → EachHas E (without_entry to sets)
+  without-has to sets each name table e =
+      bool-cases (same_name name to)
+      (λ same. absurd (some-not-none table (sym e ∙ at-without_entry to name sets ∙ ap (λ b. cond b None (entry_at sets name)) same)))
+      (λ apart. each name table (sym (ap (λ b. cond b None (entry_at sets name)) apart) ∙ sym (at-without_entry to name sets) ∙ e))
+
+  with-has : (to : Name) (fresh : TableSet) (sets : Named TableSet) → fresh.entries ≡ [] → EachHas E sets → EachHas E (with_entry to fresh sets)
+  with-has to fresh sets none each name table e =
+      bool-cases (same_name name to)
+      (λ same.
+      subst (E name) (same_Some fresh table (sym (ap (λ b. cond b (Some fresh) (entry_at sets name)) same) ∙ sym (at-with_entry to name fresh sets) ∙ e)) (through.fresh name fresh none))
+      (λ apart. each name table (sym (ap (λ b. cond b (Some fresh) (entry_at sets name)) apart) ∙ sym (at-with_entry to name fresh sets) ∙ e))
+
+  -- ---- a step starts
+
+  opened-has : (stamp : Stamp) (status : Status) (name : Name) (table : TableSet) → E name table → E name (opened_by table_ways stamp status table)
+  opened-has stamp New name table its = through.stamped name table stamp its
+  opened-has stamp Old name table its = through.stamped name (cut_set 0 table) stamp (through.cut name table 0 its)
+  opened-has stamp Shr name table its = through.stamped name table stamp its
+  opened-has stamp Mod name table its = through.stamped name table stamp its
+
+  opened_one-has : (stamp : Stamp) (placed : DdAllotment) (allotment : AllotmentModel) (output : Bool) (sets : Named TableSet) → EachHas E sets → EachHas E (opened_one table_ways stamp placed allotment output sets)
+  opened_one-has stamp placed found true sets each = changed-has placed.name (opened_by table_ways stamp placed.dd.disp.status) sets (opened-has stamp placed.dd.disp.status) each
+  opened_one-has stamp placed found false sets each = each
+  opened_one-has stamp placed made output sets each = each
+  opened_one-has stamp placed (refused flaw) output sets each = each
+
+  pub opened_all-has : (stamp : Stamp) (all : List DdAllotment) (sets : Named TableSet) → EachHas E sets → EachHas E (opened_all table_ways stamp all sets)
+  opened_all-has stamp [] sets each = each
+  opened_all-has stamp (placed ∷ rest) sets each = opened_all-has stamp rest _ (opened_one-has stamp placed placed.allotment (is_output placed.dd.role) sets each)
+
+  made_one-has : (stamp : Stamp) (items : List Made) (placed : DdAllotment) (allotment : AllotmentModel) (sets : Named TableSet) → EachHas E sets → EachHas E (made_table stamp items placed allotment sets)
+  made_one-has stamp items placed found sets each = each
+  made_one-has stamp items placed made sets each = with-has placed.name (fresh_table stamp placed (parts_from placed.number items)) sets refl each
+  made_one-has stamp items placed (refused flaw) sets each = each
+
+  pub made_all-has : (stamp : Stamp) (items : List Made) (all : List DdAllotment) (sets : Named TableSet) → EachHas E sets → EachHas E (made_tables stamp items all sets)
+  made_all-has stamp items [] sets each = each
+  made_all-has stamp items (placed ∷ rest) sets each = made_all-has stamp items rest _ (made_one-has stamp items placed placed.allotment sets each)
+
+  -- ---- it writes
+
+  pub committed-has : (names : List Name) (lengths : List ℕ) (sets : Named TableSet) → EachHas E sets → EachHas E (committed names lengths sets)
+  committed-has [] lengths sets each = each
+  committed-has (name ∷ names) [] sets each = each
+  committed-has (name ∷ names) (now ∷ lengths) sets each =
+      committed-has names lengths (with_changed name (cut_set now) sets) (changed-has name (cut_set now) sets (λ name table. through.cut name table now) each)
+
+  pub rewritten-has : (to : Name) (owner step : ℕ) (sets : Named TableSet) → EachHas E sets → EachHas E (with_changed to (table_rewritten owner step) sets)
+  rewritten-has to owner step sets each = changed-has to (table_rewritten owner step) sets (λ name table its. through.stamped name table _ its) each
+
+  -- ---- it ends
+
+  after-has : (after : After) (to : Name) (sets : Named TableSet) → EachHas E sets → EachHas E (sets_after table_ways after to sets)
+  after-has Delete to sets each = without-has to sets each
+  after-has Keep to sets each = each
+  after-has Pass to sets each = each
+  after-has Catlg to sets each = changed-has to (table_ways.marked true) sets (λ name table its. through.marked name table true its) each
+  after-has Uncatlg to sets each = changed-has to (table_ways.marked false) sets (λ name table its. through.marked name table false its) each
+
+  pub disposed_all-has : (disposals : List Disposal) (standing : Stock TableSet) → EachHas E standing.sets → EachHas E (disposed_all table_ways disposals standing).sets
+  disposed_all-has [] standing each = each
+  disposed_all-has (one ∷ rest) standing each = disposed_all-has rest (disposed_one table_ways one standing) (after-has one.after one.name standing.sets each)
+
+  ended-has : (goes : Bool) (to : Name) (sets : Named TableSet) → EachHas E sets → EachHas E (if goes then without_entry to sets else sets)
+  ended-has true to sets each = without-has to sets each
+  ended-has false to sets each = each
+
+  pub passed_ended-has : (passed : List Passed) (sets : Named TableSet) → EachHas E sets → EachHas E (passed_ended passed sets)
+  passed_ended-has [] sets each = each
+  passed_ended-has (one ∷ rest) sets each = passed_ended-has rest _ (ended-has one.made one.name sets each)
+
+  -- ---- it goes back
+
+  length-has : (present : Present) (name : Name) (table : TableSet) → E name table → E name (to_length present table)
+  length-has present name table its = by (nat_le present.length table.set.length)
+    where
+      by : (b : Bool) → E name (if b then cut_set present.length table else table)
+      by true = through.cut name table present.length its
+      by false = its
+
+  output-has : (output : Bool) (present : Present) (name : Name) (table : TableSet) → E name table → E name (changed_if output (to_length present) table)
+  output-has true present name table its = length-has present name table its
+  output-has false present name table its = its
+
+  needed-has : (needed : Bool) (present : Present) (name : Name) (table : TableSet) → E name table → E name (changed_if needed (to_catalog present) table)
+  needed-has true present name table its = through.marked name table present.cataloged its
+  needed-has false present name table its = its
+
+  pub put_back-has : (marks : List Mark) (outputs needed : List Name) (sets : Named TableSet) → EachHas E sets → EachHas E (put_back marks outputs needed sets)
+  put_back-has marks outputs needed sets each name table e =
+      option-cases (present_at marks name)
+      (λ none. each name table (sym (put_back-none marks outputs needed sets name none) ∙ e))
+      (λ present has.
+      let old = changed-was (back_to (is_among outputs name) (is_among needed name) present) (entry_at sets name) table (sym (put_back-marked marks outputs needed sets present name has) ∙ e) in
+      subst (E name) old.2
+      (needed-has (is_among needed name) present name (changed_if (is_among outputs name) (to_length present) old.0)
+      (output-has (is_among outputs name) present name old.0 (each name old.0 old.1))))
+
+  pub removed_all-has : (names : List Name) (sets : Named TableSet) → EachHas E sets → EachHas E (removed_all names sets)
+  removed_all-has names sets each name table e =
+      bool-cases (is_among names name)
+      (λ gone. absurd (some-not-none table (sym e ∙ at-removed_all names sets name ∙ ap (λ b. cond b None (entry_at sets name)) gone)))
+      (λ left. each name table (sym (ap (λ b. cond b None (entry_at sets name)) left) ∙ sym (at-removed_all names sets name) ∙ e))
