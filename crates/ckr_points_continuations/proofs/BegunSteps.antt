@@ -1,0 +1,110 @@
+-- What runs keep of the steps that they began, where one is selected that continues another one: it has begun the step at which it continues,
+-- as that one had, and the other runs keep theirs.
+use Rattle.std.proofs.Common.{◌≡◌, ◌≢◌, ℕ, false, cond, List, refl, ap, sym, ◌∙◌, subst, Option, Some, None, arith}
+use Rattle.std.specs.Prelude.{◌==◌, nat_lt}
+use Rattle.std.specs.Option.{option_map_or}
+use Rattle.std.proofs.lemmas.Bool.{false≢true}
+use Rattle.ckr_base.proofs.Bools.{bool-cases, or-not-first}
+use Rattle.ckr_base.proofs.Numbers.{equal-true, number-cases}
+use Rattle.ckr_base.proofs.Options.{some-not-none}
+use Rattle.ckr_base.proofs.Sequences.{filter-twice, find-passes}
+use Rattle.ckr_library.specs.NameMaps.{Name, Named}
+use Rattle.ckr_meaning.specs.EffectiveJob.{OwnedStep, is_among}
+use Rattle.ckr_meaning.specs.JobRun.{is_bypassed}
+use Rattle.ckr_meaning.specs.LibrarySet.{Library}
+use Rattle.ckr_points.specs.Marks.{point_at}
+use Rattle.ckr_points.specs.Office.{Leg, Office}
+use Rattle.ckr_points.specs.Restart.{carried_point, rcs_before, step_in}
+use Rattle.ckr_points.specs.RuleCases.{is_ended}
+use Rattle.ckr_points.specs.Rows.{RunRow, StartPoint, TableSet, TablesModel, run_of}
+use Rattle.ckr_points_invariant.specs.Invariant.{step_now}
+use Rattle.ckr_points_invariant.specs.StartedSteps.{HasBegunSteps, IsBegunStep}
+use Rattle.ckr_points_invariant.proofs.Holders.Rows.{PointsStay, queued-is}
+use Rattle.ckr_points_invariant.proofs.StartedSteps.Runs.{steps-stay}
+use Rattle.ckr_points_continuations.specs.EarlierRun.{Coming, IsEarlier, leg_from, leg_then, row_then, tables_then}
+use Rattle.ckr_points_continuations.proofs.Steps as steps
+use Rattle.ckr_points_continuations.proofs.Walks as walks
+
+module _ (now : Office) (row other : RunRow) (start : Library) (reach : List Name) (step : ℕ) (point : StartPoint) (earlier : IsEarlier now row other (leg_from other start reach) step point)
+    (initiator : ℕ) (coming : Coming) (stands : step_in coming.place ≡ step) (sets : Named TableSet) where
+  abbrev pub next : RunRow
+  next = row_then now row other step point initiator coming
+
+  abbrev pub leg : Leg
+  leg = leg_then now next (leg_from other start reach)
+
+  abbrev pub tables : TablesModel
+  tables = tables_then now next sets
+
+  abbrev begins : OwnedStep
+  begins = walks.owned now row other start reach step point earlier initiator coming
+
+  -- ---- the run itself
+
+  -- the codes that it took over are of the steps before this one
+  codes : rcs_before step next.rcs ≡ next.rcs
+  codes = filter-twice (λ (at : ℕ × ℕ). nat_lt at.0 step) other.rcs
+
+  -- it has begun the step at which it continues
+  pub step-begun : IsBegunStep tables next leg step
+  step-begun =
+      let here = walks.step-here now row other start reach step point earlier initiator coming in
+      let rcs = walks.rcs now row other start reach step point earlier initiator coming in
+      record {
+        owned = begins;
+        found = here;
+        begun = earlier.begun.begun;
+        goes_on = walks.goes_on now row other start reach step point earlier initiator coming;
+        runs = ap (λ rcs. is_bypassed rcs begins) (sym rcs) ∙ walks.runs now row other start reach step point earlier initiator coming;
+        flawless = walks.flawless now row other start reach step point earlier initiator coming;
+        rcs = codes ∙ rcs;
+        earlier = λ name.
+            ap (λ names. is_among names name) (steps.earlier-stays now row other start reach step point earlier initiator coming stands sets)
+            ∙ earlier.begun.earlier name
+            ∙ ap (λ names. is_among names name) (sym (walks.earlier-names now row other start reach step point earlier initiator coming));
+        made = λ name.
+            ap (λ names. is_among names name) (steps.made-stays now row other start reach step point earlier initiator coming stands sets step begins (omega arith) here)
+            ∙ earlier.begun.made name
+            ∙ sym (walks.made-names now row other start reach step point earlier initiator coming name);
+      }
+
+  -- and has a point of no other one
+  only-point : (number : ℕ) (its : StartPoint) → point_at next.points number ≡ Some its → step ≡ number
+  only-point number its got =
+      bool-cases (point.step == number)
+      (λ here. sym (equal-true point.step step (find-passes (λ (one : StartPoint). one.step == step) other.points point earlier.has)) ∙ equal-true point.step number here)
+      (λ apart. absurd (some-not-none its (sym got ∙ ap (λ b. cond b (Some (carried_point leg.job now.tables.sets point)) None) apart)))
+
+  -- so it has its steps
+  pub begun-steps : HasBegunSteps tables next leg
+  begun-steps = record {
+    job = refl;
+    formed = steps.formed now row other start reach step point earlier initiator coming stands sets;
+    owners = steps.owners now row other start reach step point earlier initiator coming stands sets;
+    steps = λ number its got. subst (IsBegunStep tables next leg) (only-point number its got) step-begun;
+    so_far = λ number its got.
+        let same : step ≡ number = only-point number its got in
+        let there : step_now next ≡ step = stands in
+        omega (arith, same, there);
+  }
+
+  -- ---- the other runs
+
+  -- the run waited, so the points of the owners of another run's steps stay
+  points-stay : (number : ℕ) → number ≢ row.number → PointsStay now.tables tables number
+  points-stay number apart owner keeps =
+      number-cases owner row.number
+      (λ here.
+      absurd (false≢true (
+      sym (ap (λ n. option_map_or (λ row. is_ended row.state) (run_of now.tables n) false) here ∙ ap (λ (o : Option RunRow). option_map_or (λ row. is_ended row.state) o false) earlier.row_at ∙ ap is_ended (queued-is row.state earlier.queued))
+      ∙ or-not-first (owner == number) _ keeps (λ e. apart (sym (equal-true owner number e) ∙ here)))))
+      (λ there. steps.rows-stay now row other start reach step point earlier initiator coming stands sets owner there)
+
+  -- another row keeps what it has of its steps
+  pub row-begun : (its : RunRow) (its_leg : Leg) → its.number ≢ row.number → HasBegunSteps now.tables its its_leg → HasBegunSteps tables its its_leg
+  row-begun its its_leg apart begun = steps-stay now.tables tables its (points-stay its.number apart) its_leg begun
+
+  -- and so does each other run, where rows have their numbers
+  pub others-begun : ((number : ℕ) (its : RunRow) → run_of now.tables number ≡ Some its → its.number ≡ number)
+      → (number : ℕ) (its : RunRow) (its_leg : Leg) → number ≢ row.number → run_of now.tables number ≡ Some its → HasBegunSteps now.tables its its_leg → HasBegunSteps tables its its_leg
+  others-begun numbered number its its_leg apart found = row-begun its its_leg (λ same. apart (sym (numbered number its found) ∙ same))

@@ -1,0 +1,4 @@
+pub mod EarlierSteps
+pub mod LaterSteps
+pub mod Places
+pub mod Makings

@@ -1,0 +1,6 @@
+//! What a run begins with that continues another one.
+#![tactic(auto)]
+
+mod laws;
+
+pub use laws::continued_runs_stand_at_their_place;
