@@ -5,6 +5,7 @@ use Rattle.std.specs.List.{AllByRecursion, cons_option}
 use Rattle.std.specs.Option.{option_map, option_map_or}
 use Rattle.std.proofs.lemmas.Bool.{false≢true}
 use Rattle.ckr_base.proofs.Sequences.{find-holds}
+use Rattle.ckr_points.specs.Marks.{has_passed}
 use Rattle.ckr_points_library.specs.declared.cause.Cause.{Cause}
 use Rattle.ckr_points_library.specs.declared.cause.Refusal.{Refusal}
 use Rattle.ckr_points_library.specs.Allocation.{Allocation, allocated_all, allocated_dd, behind as behind_items, then_more, with_new}
@@ -98,8 +99,8 @@ module _ (desk : DeskModel) (is : IsDesk desk) (row : RunRow) (at : run_of desk.
   end-rests : (library : Library) → Rests desk.office (record desk.office { tables = after_passed_ended row desk.office.tables; library = library }) row.number
   end-rests library =
       let was : IsAdmitted row = row-admitted desk is row.number row at in
-      let sets : Named _ = passed_ended row.passed desk.office.tables.sets in
-      let next : RunRow = record row { state = EndedRun; initiator = None; code = None; passed = []; in_effect = None } in
+      let sets : Named _ = passed_ended (has_passed row) desk.office.tables.sets in
+      let next : RunRow = record row { state = EndedRun; initiator = None; code = None; passed = []; lost = []; in_effect = None } in
       record {
         next = next;
         changes = record {

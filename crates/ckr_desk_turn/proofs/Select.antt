@@ -16,7 +16,7 @@ use Rattle.ckr_jcl_decks.specs.Deck.{stored_deck}
 use Rattle.ckr_meaning.specs.LibrarySet.{AreWithinSpace}
 use Rattle.ckr_meaning.specs.declared.place.Place.TheVariants.{Before}
 use Rattle.ckr_meaning.specs.JobRun.{start_at}
-use Rattle.ckr_points_decks.proofs.JobForm.{job_formed}
+use Rattle.ckr_points_decks.proofs.OrderlyDecks.{deck-orderly}
 use Rattle.ckr_points_decks.proofs.KeptCards.{kept_long}
 use Rattle.ckr_points_decks.specs.Cards.{kept_of_stored}
 use Rattle.ckr_points_decks.specs.Form.{is_run}
@@ -193,15 +193,15 @@ front_row [] row (suc place) apart = refl
 front_row (first ∷ rest) row zero apart = refl
 front_row (first ∷ rest) row (suc place) apart = front_row rest row place (λ e. apart (ap suc e))
 
-pub submitted-keeps : (desk : DeskModel) → IsDesk desk → (cards : List ℕ) (first : ℕ) (kept : List ℕ) (deck : Job) → stored_deck cards ≡ Ok deck → is_run deck ≡ true → IsDesk (submitted_desk (first ∷ kept) deck desk)
-submitted-keeps desk is cards first kept deck accepted runs =
+pub submitted-keeps : (desk : DeskModel) → IsDesk desk → (cards : List ℕ) (first : ℕ) (kept : List ℕ) (deck : Job) → suc (length desk.office.tables.runs) ≤ 9999999 → stored_deck cards ≡ Ok deck → is_run deck ≡ true → IsDesk (submitted_desk (first ∷ kept) deck desk)
+submitted-keeps desk is cards first kept deck few accepted runs =
     entered desk is (office_after (SubmittedEvent job (first ∷ kept), Some deck) desk.office) job (queued_run job deck)
     (record {
       mine = last_row desk.office.tables.runs (queued_run job deck);
       others = others;
       legs = λ other apart. refl;
       waits = λ row at on. some-not-none row (sym at ∙ slice_get_past desk.office.tables.runs (length desk.office.tables.runs) (omega arith));
-      kept = next-kept desk.layout desk.office (SubmittedEvent job (first ∷ kept)) (Some deck) refl is.kept is.pointed is.ready (record { may = submitted_comes desk first kept deck; carried = job_formed cards deck job accepted });
+      kept = next-kept desk.layout desk.office (SubmittedEvent job (first ∷ kept)) (Some deck) refl is.kept is.pointed is.ready (record { may = submitted_comes desk first kept deck; carried = deck-orderly cards deck job few accepted });
       plain = runs;
       admitted = record { cards = cards; accepted = accepted; lodged = refl };
       rests = refl;
@@ -218,23 +218,23 @@ submitted-keeps desk is cards first kept deck accepted runs =
     others (suc place) apart = front_row desk.office.tables.runs (queued_run job deck) place (λ e. apart (ap suc e))
 
 -- the cards that its event keeps are at least one
-pub stored-keeps : (desk : DeskModel) → IsDesk desk → (cards : List ℕ) (deck : Job) → 81 ≤ length cards → stored_deck cards ≡ Ok deck → is_run deck ≡ true → IsDesk (submitted_desk (kept_of_stored cards) deck desk)
-stored-keeps desk is cards deck some accepted runs =
+pub stored-keeps : (desk : DeskModel) → IsDesk desk → (cards : List ℕ) (deck : Job) → suc (length desk.office.tables.runs) ≤ 9999999 → 81 ≤ length cards → stored_deck cards ≡ Ok deck → is_run deck ≡ true → IsDesk (submitted_desk (kept_of_stored cards) deck desk)
+stored-keeps desk is cards deck few some accepted runs =
     by (kept_of_stored cards) (kept_long cards)
   where
     by : (kept : List ℕ) → length kept ≡ 80 * (length cards / 81) → IsDesk (submitted_desk kept deck desk)
     by [] long = absurd (omega (arith, long, some))
-    by (first ∷ kept) long = submitted-keeps desk is cards first kept deck accepted runs
+    by (first ∷ kept) long = submitted-keeps desk is cards first kept deck few accepted runs
 
 -- its event may come, and carries what the job gives
-pub stored-comes : (desk : DeskModel) (cards : List ℕ) (deck : Job) → 81 ≤ length cards → stored_deck cards ≡ Ok deck
+pub stored-comes : (desk : DeskModel) (cards : List ℕ) (deck : Job) → suc (length desk.office.tables.runs) ≤ 9999999 → 81 ≤ length cards → stored_deck cards ≡ Ok deck
     → IsNext desk.layout desk.office (SubmittedEvent (suc (length desk.office.tables.runs)) (kept_of_stored cards), Some deck)
-stored-comes desk cards deck some accepted =
+stored-comes desk cards deck few some accepted =
     by (kept_of_stored cards) (kept_long cards)
   where
     by : (kept : List ℕ) → length kept ≡ 80 * (length cards / 81) → IsNext desk.layout desk.office (SubmittedEvent (suc (length desk.office.tables.runs)) kept, Some deck)
     by [] long = absurd (omega (arith, long, some))
-    by (first ∷ kept) long = record { may = submitted_comes desk first kept deck; carried = job_formed cards deck (suc (length desk.office.tables.runs)) accepted }
+    by (first ∷ kept) long = record { may = submitted_comes desk first kept deck; carried = deck-orderly cards deck (suc (length desk.office.tables.runs)) few accepted }
 
 -- ---- selected
 

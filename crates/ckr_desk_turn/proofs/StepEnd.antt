@@ -88,7 +88,7 @@ module _ (desk : DeskModel) (is : IsDesk desk) (run : ℕ) (row : RunRow) (numbe
       (λ row owned step. after_abnormal (record row { place = Some (Within step writes) }) (Within step writes) (after_commit row owned step writes lengths.items desk.office.tables)) held.row_at found
       (subst (λ (o : Option OwnedStep). Rests desk.office (record desk.office { tables = abnormal_by owned o; library = option_map_or (λ row. library_after desk.office row (CodedEnding code rule writes lengths)) (run_of desk.office.tables run) desk.office.library }) run) (sym found)
       (rests-twice desk.office (option_map_or (λ row. library_after desk.office row (CodedEnding code rule writes lengths)) (run_of desk.office.tables run) desk.office.library) run row (record row { place = Some (Within (step_in (place_of row)) writes) })
-      (record row { place = Some (Within (step_in (place_of row)) writes); state = EndedRun; initiator = None; code = None; passed = []; in_effect = None })
+      (record row { place = Some (Within (step_in (place_of row)) writes); state = EndedRun; initiator = None; code = None; passed = []; lost = []; in_effect = None })
       (committed (output_names row.job.root owned) lengths.items desk.office.tables.sets) _ held.row_at its_number its_number ended_plain (record { cards = its_deck.cards; accepted = its_deck.accepted; lodged = refl }) refl refl)))
     where
       abnormal_by : OwnedStep → Option OwnedStep → TablesModel
@@ -101,7 +101,7 @@ module _ (desk : DeskModel) (is : IsDesk desk) (run : ℕ) (row : RunRow) (numbe
           after_passed_ended (record then { passed = done.passed }) (record tables { sets = done.sets }))
           o (after_commit row owned (step_in (place_of row)) writes lengths.items desk.office.tables)
 
-      ended_plain : is_plain_row (record row { place = Some (Within (step_in (place_of row)) writes); state = EndedRun; initiator = None; code = None; passed = []; in_effect = None }) ≡ true
+      ended_plain : is_plain_row (record row { place = Some (Within (step_in (place_of row)) writes); state = EndedRun; initiator = None; code = None; passed = []; lost = []; in_effect = None }) ≡ true
       ended_plain = plain-deck row (row-plain desk is run row held.row_at)
 
   -- what the run leaves keeps to its space

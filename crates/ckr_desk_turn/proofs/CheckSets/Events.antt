@@ -20,7 +20,7 @@ use Rattle.ckr_points_library.specs.Commit.{output_names}
 use Rattle.ckr_points.specs.declared.run.RunState.TheVariants.{Purged as PurgedRun, Released as ReleasedRun}
 use Rattle.ckr_points.specs.Events.{IsNext}
 use Rattle.ckr_points.specs.Office.{Leg, Office, office_after}
-use Rattle.ckr_points.specs.Marks.{point_at, removed_all, with_point}
+use Rattle.ckr_points.specs.Marks.{point_at, removed_all, with_point, has_passed, without_passed}
 use Rattle.ckr_points.specs.Restart.{Back, after_abnormal, after_ended, after_passed_ended, after_put_back, after_restarted, back_to_entry, back_to_start, by_step, effect_restarted, kept_at, place_of, point_restarted, row_on, step_in}
 use Rattle.ckr_points.specs.Rows.{EffectPoint, KeptEntry, RunRow, TablesModel, run_of, standing_of, step_of_run, table_ways, with_run}
 use Rattle.ckr_points.specs.Tables.{after_cancelled, after_checkpointed, after_commit, after_dispositions, after_held, after_rewritten, after_selected, after_step_ended, earlier_made, is_checkpoints, is_updates, name_with_role, own_made, row_rewritten, run_disposals, table_rewritten}
@@ -58,14 +58,14 @@ disposed-have : (tables : TablesModel) (row : RunRow) (owned : OwnedStep) (step 
 disposed-have tables row owned step abnormal each = disposed_all-have (run_disposals row owned (own_made row owned step) (earlier_made tables row step) abnormal) (standing_of row tables) each
 
 passed-has : (tables : TablesModel) (row : RunRow) → Have tables → Have (after_passed_ended row tables)
-passed-has tables row each = passed_ended-have row.passed tables.sets each
+passed-has tables row each = passed_ended-have (has_passed row) tables.sets each
 
 abnormal-has : (tables : TablesModel) (row : RunRow) (place : Place) → Have tables → Have (after_abnormal row place tables)
 abnormal-has tables row (Before step) each = passed-has tables row each
 abnormal-has tables row (Opened step) each = passed-has tables row each
 abnormal-has tables row (Within step writes) each =
     by tables (λ owned. let done = after_dispositions row owned step true tables in after_passed_ended (record row { passed = done.passed }) (record tables { sets = done.sets })) (step_of_run row step) each
-    (λ owned. passed_ended-have (after_dispositions row owned step true tables).passed (after_dispositions row owned step true tables).sets (disposed-have tables row owned step true each))
+    (λ owned. passed_ended-have (without_passed row.lost (after_dispositions row owned step true tables).passed) (after_dispositions row owned step true tables).sets (disposed-have tables row owned step true each))
 
 ended-has : (tables : TablesModel) (row : RunRow) (ending : Ending) → Have tables → Have (after_ended row ending tables)
 ended-has tables row Completed each = passed-has tables row each

@@ -79,7 +79,7 @@ module _ (layout : Layout) (office : Office) (are : AreKept layout office) (row 
     starts : start_at leg.job leg.start (step_now row) ≡ Some its.on.start
     starts = sym (ap (λ (o : Option Leg). option_map_or (λ leg. start_at leg.job leg.start (step_in (place_of row))) o None) running.holder.leg_at) ∙ its.on.held.start_at
 
-    restorable : IsRestorable office.tables.sets row leg check.entry.point.writes check.entry.point.marks check.entry.point.passed
+    restorable : IsRestorable row leg check.entry.point.writes
     restorable = check.since (check-unwritten row (step_now row) layout.eligible.items code effect got (judged-so layout office are row initiator code Checkpoint its true refl))
 
     -- its writes had space

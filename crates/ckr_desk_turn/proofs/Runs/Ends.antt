@@ -18,6 +18,7 @@ use Rattle.ckr_meaning.specs.JobRun.{job_run}
 use Rattle.ckr_meaning.specs.declared.place.Place.{Place}
 use Rattle.ckr_meaning.specs.declared.place.Place.TheVariants.{Before, Opened, Within}
 use Rattle.ckr_meaning.proofs.Room.{job_run-within}
+use Rattle.ckr_points.specs.Marks.{has_passed, without_passed}
 use Rattle.ckr_points_library.specs.Commit.{output_names}
 use Rattle.ckr_points.specs.declared.run.RunState.TheVariants.{Ended as EndedRun, On, Released as ReleasedRun}
 use Rattle.ckr_points.specs.Follows.{ended_follows, is_in_state, is_running, lengths_follow}
@@ -37,7 +38,7 @@ use Rattle.ckr_desk_turn.proofs.Units.Outputs.{distinct-job}
 
 -- the row of a run that has ended
 abbrev ended : RunRow → RunRow
-ended row = record row { state = EndedRun; initiator = None; code = None; passed = []; in_effect = None }
+ended row = record row { state = EndedRun; initiator = None; code = None; passed = []; lost = []; in_effect = None }
 
 has-ended : (row : RunRow) → HasRow row → HasRow (ended row)
 has-ended row was = record {
@@ -51,15 +52,15 @@ ended-renewed tables now sets job row stands its was = record { next = ended row
 
 -- whether or not it was within a step
 abnormal-renewed : (tables now : TablesModel) (job : ℕ) (row : RunRow) (place : Place) → Stands tables now job row → row.number ≡ job → HasRow row → Renewed tables (after_abnormal row place now) job
-abnormal-renewed tables now job row (Before step) stands its was = ended-renewed tables now (passed_ended row.passed now.sets) job row stands its was
-abnormal-renewed tables now job row (Opened step) stands its was = ended-renewed tables now (passed_ended row.passed now.sets) job row stands its was
+abnormal-renewed tables now job row (Before step) stands its was = ended-renewed tables now (passed_ended (has_passed row) now.sets) job row stands its was
+abnormal-renewed tables now job row (Opened step) stands its was = ended-renewed tables now (passed_ended (has_passed row) now.sets) job row stands its was
 abnormal-renewed tables now job row (Within step writes) stands its was = by (step_of_run row step)
   where
-    by : (owned : Option OwnedStep) → Renewed tables (option_map_or (λ owned. let done = after_dispositions row owned step true now in with_run (ended row) (record now { sets = passed_ended done.passed done.sets })) owned now) job
+    by : (owned : Option OwnedStep) → Renewed tables (option_map_or (λ owned. let done = after_dispositions row owned step true now in with_run (ended row) (record now { sets = passed_ended (without_passed row.lost done.passed) done.sets })) owned now) job
     by None = record { next = row; stands = stands; has = was }
     by (Some owned) =
         let done = after_dispositions row owned step true now in
-        ended-renewed tables now (passed_ended done.passed done.sets) job row stands its was
+        ended-renewed tables now (passed_ended (without_passed row.lost done.passed) done.sets) job row stands its was
 
 module _ (layout : Layout) (office : Office) (kept : IsAgreed layout office) (has : HasRows office) where
   -- what the run leaves keeps to its space
@@ -88,7 +89,7 @@ module _ (layout : Layout) (office : Office) (kept : IsAgreed layout office) (ha
       tested-run office.tables job (λ row. ended_follows office.tables row Completed) (follows-of layout office (EndedEvent job Completed) deck may)
       (λ row at passes.
       ended-runs job row Completed deck at (on-holds row.state (and-first (is_in_state On row) _ (and-first _ _ passes)))
-      (ended-renewed office.tables office.tables (passed_ended row.passed office.tables.sets) job row (still job row at) (kept.numbered job row at) (has-row office has job row at)))
+      (ended-renewed office.tables office.tables (passed_ended (has_passed row) office.tables.sets) job row (still job row at) (kept.numbered job row at) (has-row office has job row at)))
 
   pub refused-runs : (job dd cause first second : ℕ) (deck : Option Job) → may_come layout office (EndedEvent job (Allocation dd cause first second), deck) ≡ true → HasRows (office_after (EndedEvent job (Allocation dd cause first second), deck) office)
   refused-runs job dd cause first second deck may =
