@@ -27,7 +27,7 @@ use Rattle.ckr_points_library.specs.Commit.{output_names}
 use Rattle.ckr_points.specs.declared.run.RunState.TheVariants.{On, Held as HeldRun, Released}
 use Rattle.ckr_points.specs.Tables.{after_checkpointed, after_commit, after_dispositions, after_rewritten, after_started, after_step_ended, name_with_role, is_checkpoints, is_updates, run_disposals, own_made, earlier_made, table_rewritten}
 use Rattle.ckr_points.specs.Follows.{are_items, are_lengths, are_made_clear, ended_follows, follows, is_checkpoint, is_empty, is_in_state, is_rewrite, is_running, lengths_follow, may_start, of_run, of_step, started_follows}
-use Rattle.ckr_points.specs.Marks.{point_at, removed_all}
+use Rattle.ckr_points.specs.Marks.{point_at, removed_all, has_passed, without_passed}
 use Rattle.ckr_points.specs.Restart.{after_abnormal, after_ended, after_event, after_restarted, by_step, kept_at, place_of, step_in}
 use Rattle.ckr_points.specs.Rows.{RunRow, TableSet, TablesModel, run_of, standing_of, step_of_run, table_ways}
 use Rattle.ckr_points.specs.Soundness.{AreLaidOut}
@@ -96,16 +96,16 @@ module _ (layout : Layout) (tables : TablesModel) (laid : AreLaidOut layout tabl
       disposed_all-laid layout (run_disposals row owned (own_made row owned step) (earlier_made done row step) false) (standing_of row done) (committed_so row lengths follow owned at step writes)
 
 abnormal_so : (layout : Layout) (tables : TablesModel) → AreLaidOut layout tables.sets → (row : RunRow) (place : Place) → AreLaidOut layout (after_abnormal row place tables).sets
-abnormal_so layout tables laid row (Before step) = passed_ended-laid layout row.passed tables.sets laid
-abnormal_so layout tables laid row (Opened step) = passed_ended-laid layout row.passed tables.sets laid
+abnormal_so layout tables laid row (Before step) = passed_ended-laid layout (has_passed row) tables.sets laid
+abnormal_so layout tables laid row (Opened step) = passed_ended-laid layout (has_passed row) tables.sets laid
 abnormal_so layout tables laid row (Within step writes) =
     by-step (λ (other : TablesModel). AreLaidOut layout other.sets) tables (step_of_run row step) _ laid
     (λ owned at.
     let done = after_dispositions row owned step true tables in
-    passed_ended-laid layout done.passed done.sets (disposed_all-laid layout (run_disposals row owned (own_made row owned step) (earlier_made tables row step) true) (standing_of row tables) laid))
+    passed_ended-laid layout (without_passed row.lost done.passed) done.sets (disposed_all-laid layout (run_disposals row owned (own_made row owned step) (earlier_made tables row step) true) (standing_of row tables) laid))
 
 ended_so : (layout : Layout) (tables : TablesModel) → AreLaidOut layout tables.sets → (row : RunRow) (ending : Ending) → ended_follows tables row ending ≡ true → AreLaidOut layout (after_ended row ending tables).sets
-ended_so layout tables laid row Completed follow = passed_ended-laid layout row.passed tables.sets laid
+ended_so layout tables laid row Completed follow = passed_ended-laid layout (has_passed row) tables.sets laid
 ended_so layout tables laid row (Coded code rule writes lengths) follow =
     by-step (λ (other : TablesModel). AreLaidOut layout other.sets) tables (step_of_run row (step_in (place_of row))) _ laid
     (λ owned at.

@@ -12,6 +12,7 @@ pub mod Units
 pub mod Rewrites
 pub mod OwnEvents
 pub mod Inquiries
+pub mod KeptEntries
 pub mod Rooms
 pub mod OwnSteps
 pub mod PlanCases

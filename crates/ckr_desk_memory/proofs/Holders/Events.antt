@@ -1,14 +1,15 @@
 -- By each event that follows the row of its run alone changes, and what the run's job names: so the holders stay apart.
-use Rattle.std.proofs.Common.{arith, ◌≡◌, ◌≢◌, ◌==◌, ◌+◌, ℕ, zero, suc, Bool, true, false, ◌&&◌, ◌||◌, not, List, [], ◌∷◌, ◌++◌, length, refl, ap, sym, ◌∙◌, subst, Option, Some, None}
-use Rattle.std.specs.Prelude.{nat_eq, slice_get}
+use Rattle.std.proofs.Common.{arith, ◌≡◌, ◌≢◌, ◌==◌, ◌+◌, ℕ, zero, suc, Bool, true, false, ◌&&◌, ◌||◌, not, if◌then◌else◌, List, [], ◌∷◌, ◌++◌, map, length, refl, ap, sym, ◌∙◌, subst, Option, Some, None}
+use Rattle.std.specs.Prelude.{nat_eq, nat_lt, slice_get}
 use Rattle.std.specs.List.{AllByRecursion}
-use Rattle.std.specs.Option.{is_some, option_eq, option_map_or}
+use Rattle.std.specs.Option.{is_none, is_some, option_eq, option_map, option_map_or}
 use Rattle.std.proofs.lemmas.Bool.{false≢true}
 use Rattle.std.proofs.lemmas.Option.{same_Some}
 use Rattle.ckr_base.proofs.Bools.{and-first, and-second, or-cases}
 use Rattle.ckr_base.proofs.Numbers.{equal-true, number-cases}
 use Rattle.ckr_base.proofs.Options.{is_some-true, some-not-none, some-one}
 use Rattle.ckr_base.specs.declared.code.Code.{Code}
+use Rattle.ckr_entry.specs.declared.point.Passed.{Passed}
 use Rattle.ckr_events.specs.Jobs.{job_of}
 use Rattle.ckr_events.specs.declared.event.Ending.{Ending}
 use Rattle.ckr_events.specs.declared.event.Ending.TheVariants.{Allocation, Coded, Completed}
@@ -24,16 +25,16 @@ use Rattle.ckr_meaning.specs.Dispositions.{Stock, passed_ended}
 use Rattle.ckr_meaning.specs.EffectiveJob.{Effective, OwnedStep, flaws_in, is_among, names_of, names_of_job, placed_in}
 use Rattle.ckr_meaning.specs.declared.place.Place.{Place}
 use Rattle.ckr_meaning.specs.declared.place.Place.TheVariants.{Before, Opened, Within}
-use Rattle.ckr_base.proofs.Sequences.{get-inside}
+use Rattle.ckr_base.proofs.Sequences.{each-append, find-holds, get-inside}
 use Rattle.ckr_points.specs.declared.run.RunState.{RunState}
 use Rattle.ckr_points.specs.declared.run.RunState.TheVariants.{Queued, On, Held as HeldRun, Released as ReleasedRun, Ended as EndedRun, Denied as DeniedRun, Purged as PurgedRun}
 use Rattle.ckr_points.specs.Follows.{follows, is_checkpoint, is_empty, is_free, is_in_state, is_length_of, is_rewrite, is_running, is_update, is_within, lengths_follow, may_hold, may_restart_again, may_start, of_step, own_step, selected_follows, started_follows, state_number, ended_follows}
 use Rattle.ckr_points.specs.Office.{is_holder, passed_made}
-use Rattle.ckr_points.specs.Marks.{point_at, put_back, removed_all, with_point}
+use Rattle.ckr_points.specs.Marks.{has_passed, point_at, put_back, removed_all, with_point, without_passed}
 use Rattle.ckr_points.specs.Restart.{after_abnormal, after_chosen, after_coded, after_ended, after_event, after_passed_ended, after_put_back, after_restarted, back_to_entry, back_to_start, by_step, effect_restarted, kept_at, place_of, point_restarted, row_on, step_in}
-use Rattle.ckr_points.specs.Rows.{EffectPoint, EntryPoint, RunRow, StartPoint, TableSet, TablesModel, no_tables, run_of, standing_of, step_of_run, table_ways, with_run}
-use Rattle.ckr_points.specs.Tables.{after_submitted, after_cancelled, after_checkpointed, after_commit, after_dispositions, after_held, after_rewritten, after_started, after_step_ended, committed, fresh_effect, is_checkpoints, is_updates, name_with_role, own_made, queued_run, row_rewritten, table_rewritten}
-use Rattle.ckr_points_invariant.proofs.Library.PassedList.{ended-leaves}
+use Rattle.ckr_points.specs.Rows.{EffectPoint, EntryPoint, KeptEntry, RunRow, StartPoint, TableSet, TablesModel, no_tables, run_of, standing_of, step_of_run, table_ways, with_run}
+use Rattle.ckr_points.specs.Tables.{after_submitted, after_cancelled, after_checkpointed, after_commit, after_dispositions, after_held, after_rewritten, after_started, after_step_ended, committed, fresh_effect, is_checkpoints, is_updates, name_with_role, own_made, queued_run, effect_rewritten, point_rewritten, row_rewritten, table_rewritten, with_kept_entry}
+use Rattle.ckr_points_invariant.proofs.Library.PassedList.{ended-stays}
 use Rattle.ckr_points_invariant.proofs.Steps.Events.{on-holds}
 use Rattle.ckr_points_invariant.proofs.WaitingRuns.{tested-run}
 use Rattle.ckr_points_library.specs.Commit.{output_names}
@@ -41,16 +42,17 @@ use Rattle.ckr_points_tables.specs.Invariant.{is_submission}
 use Rattle.ckr_desk_memory.specs.ForwardEvents.{is_forward_event}
 use Rattle.ckr_volumes.specs.declared.layout.Layout.{Layout}
 use Rattle.ckr_desk_memory.proofs.Holders.CheckSets.{length-among, not-among}
+use Rattle.ckr_desk_memory.proofs.Holders.KeptEntries.{kept-changed, kept-committed, kept-of, kept-put_back, none-kept}
 use Rattle.ckr_desk_memory.proofs.Holders.Moves.{RowGoesOn, HasRow, by-own, by-row, holders-go, row-accepted, row-as_is, row-next, row-number}
 use Rattle.ckr_desk_memory.proofs.Holders.Names.{changed-named, names-outside, outputs-changed, step-formed}
-use Rattle.ckr_desk_memory.proofs.Holders.Sets.{committed-outside, disposed-outside, passed-outside, passed_back-outside, put_back-outside, restarted-outside, started-outside, there-changed, there-committed, there-put_back, there-started, updated-outside}
+use Rattle.ckr_desk_memory.proofs.Holders.Sets.{committed-outside, disposed-outside, passed-outside, put_back-outside, restarted-outside, started-outside, there-changed, there-committed, there-put_back, there-started, updated-outside}
 use Rattle.ckr_desk_memory.proofs.Runs.{by-step}
 use Rattle.ckr_desk_memory.specs.Invariant.{IsAcceptedRow, IsPlacedRow, is_in_step}
-use Rattle.ckr_desk_memory.proofs.Invariant.{hand-in_step, in_step-holds, in_step-within, restarts-in_step}
+use Rattle.ckr_desk_memory.proofs.Invariant.{hand-in_step, in_step-holds, in_step-within, not-within, restarts-in_step}
 use Rattle.ckr_desk_memory.proofs.Queue.{held-is}
 use Rattle.ckr_desk_memory.proofs.Starts.Steps.{row-among}
 use Rattle.ckr_desk_turn.specs.Queue.{AreNumbered}
-use Rattle.ckr_desk_memory.specs.Holders.{AreHolders, PassesOwn, changed_names}
+use Rattle.ckr_desk_memory.specs.Holders.{AreHolders, AreOwn, HasOwnEffect, PassesOnOwn, PassesOwn, changed_names}
 
 -- ---- tests
 
@@ -78,6 +80,42 @@ released-holds PurgedRun e = absurd (false≢true e)
 running-holds : (row : RunRow) → is_running row ≡ true → is_holder row.state ≡ true
 running-holds row runs = on-holds row.state (and-first (is_in_state On row) (is_within (place_of row)) runs)
 
+queued-free : (state : RunState) → (state_number state == 1) ≡ true → is_holder state ≡ false
+queued-free Queued e = refl
+queued-free On e = absurd (false≢true e)
+queued-free HeldRun e = absurd (false≢true e)
+queued-free ReleasedRun e = absurd (false≢true e)
+queued-free EndedRun e = refl
+queued-free DeniedRun e = refl
+queued-free PurgedRun e = refl
+
+-- ---- points
+
+points-with : (P : StartPoint → Type 0) (point : StartPoint) (points : List StartPoint) → P point → AllByRecursion P points → AllByRecursion P (with_point point points)
+points-with P point [] one each = (one, tt)
+points-with P point (first ∷ rest) one each = by (points-with P point rest one each.1) (point.step == first.step) (nat_lt point.step first.step)
+  where
+    by : AllByRecursion P (with_point point rest) → (same before : Bool) → AllByRecursion P (if same then point ∷ rest else (if before then point ∷ first ∷ rest else first ∷ with_point point rest))
+    by later true before = (one, each.1)
+    by later false true = (one, each)
+    by later false false = (each.0, later)
+
+points-rewritten : (P : List Passed → Type 0) (step : ℕ) (points : List StartPoint) → AllByRecursion (λ (point : StartPoint). P point.passed) points → AllByRecursion (λ (point : StartPoint). P point.passed) (map (point_rewritten step) points)
+points-rewritten P step [] each = tt
+points-rewritten P step (first ∷ rest) each = (by (first.step == step), points-rewritten P step rest each.1)
+  where
+    by : (same : Bool) → P (if same then record first { rewritten = true } else first).passed
+    by true = each.0
+    by false = each.0
+
+rewritten-effect : {A : Type 0} (before : Option EffectPoint) (effect : EffectPoint) → option_map effect_rewritten before ≡ Some effect → ((was : EffectPoint) → before ≡ Some was → effect_rewritten was ≡ effect → A) → A
+rewritten-effect None effect is use_it = absurd (some-not-none effect (sym is))
+rewritten-effect (Some was) effect is use_it = use_it was refl (same_Some (effect_rewritten was) effect is)
+
+-- a run that holds nothing has no checkpoint in effect
+no-effect : {A : Type 0} {sets : Named TableSet} {row : RunRow} → PassesOnOwn sets row → is_holder row.state ≡ false → (effect : EffectPoint) → row.in_effect ≡ Some effect → A
+no-effect own free effect is = absurd (false≢true (sym free ∙ (own.effect effect is).holds))
+
 -- ---- one run
 
 module _ (tables : TablesModel) (rows : AllByRecursion IsAcceptedRow tables.runs) (numbered : AreNumbered 1 tables.runs) (job : ℕ) (row : RunRow) (at : run_of tables job ≡ Some row) where
@@ -102,7 +140,11 @@ module _ (tables : TablesModel) (rows : AllByRecursion IsAcceptedRow tables.runs
         deck = refl;
         job_is = refl;
         begins = λ was now. and-second (is_in_state Queued row && is_free layout tables initiator) (may_hold tables row) (and-first (is_in_state Queued row && is_free layout tables initiator && may_hold tables row) _ follow);
-        passed = λ own. own;
+        passed = λ own. record {
+          passed = own.passed;
+          points = own.points;
+          effect = λ effect is. no-effect own (queued-free row.state (and-first (is_in_state Queued row) _ (and-first (is_in_state Queued row && is_free layout tables initiator) _ (and-first (is_in_state Queued row && is_free layout tables initiator && may_hold tables row) _ follow)))) effect is;
+        };
         still = λ was name. refl;
         outside = λ own name out. refl;
         changed = λ has owned name holding within found among. absurd (false≢true within);
@@ -118,14 +160,14 @@ module _ (tables : TablesModel) (rows : AllByRecursion IsAcceptedRow tables.runs
     deck = refl;
     job_is = refl;
     begins = λ was now. absurd (false≢true (sym was ∙ now));
-    passed = λ own. own;
+    passed = λ own. record { passed = own.passed; points = own.points; effect = λ effect is. absurd (some-not-none effect (sym is)) };
     still = λ was name. refl;
     outside = λ own name out. refl;
     changed = λ has. has;
   }
 
   -- a run that holds nothing any more
-  over : (r : RunRow) (mid : TablesModel) (was : RunRow) (sets : Named TableSet) → HasRow tables mid job was → r.number ≡ row.number → r.deck ≡ row.deck → r.job ≡ row.job → is_holder r.state ≡ false → (PassesOwn row → PassesOwn r)
+  over : (r : RunRow) (mid : TablesModel) (was : RunRow) (sets : Named TableSet) → HasRow tables mid job was → r.number ≡ row.number → r.deck ≡ row.deck → r.job ≡ row.job → is_holder r.state ≡ false → (PassesOnOwn tables.sets row → PassesOnOwn sets r)
       → (is_holder row.state ≡ false → (name : Name) → entry_at sets name ≡ entry_at tables.sets name)
       → (PassesOwn row → (name : Name) → is_among (names_of_job row.job) name ≡ false → entry_at sets name ≡ entry_at tables.sets name)
       → Goes (with_run r (record mid { sets = sets }))
@@ -144,8 +186,11 @@ module _ (tables : TablesModel) (rows : AllByRecursion IsAcceptedRow tables.runs
     changed = λ has owned name holding within found among. absurd (false≢true (sym gone ∙ holding));
   }
 
-  purged : Goes (with_run (record row { state = PurgedRun }) tables)
-  purged = over (record row { state = PurgedRun }) tables row tables.sets (row-as_is tables job row at) refl refl refl refl (λ own. own) (λ was name. refl) (λ own name out. refl)
+  purged : is_in_state Queued row ≡ true → Goes (with_run (record row { state = PurgedRun }) tables)
+  purged queued =
+      over (record row { state = PurgedRun }) tables row tables.sets (row-as_is tables job row at) refl refl refl refl
+      (λ own. record { passed = own.passed; points = own.points; effect = λ effect is. no-effect own (queued-free row.state queued) effect is })
+      (λ was name. refl) (λ own name out. refl)
 
   started : (layout : Layout) (step : ℕ) (items : List Made) → started_follows layout tables step items row ≡ true → Goes (option_map_or (λ owned. after_started row owned step items tables) (step_of_run row step) tables)
   started layout step items follow =
@@ -161,7 +206,11 @@ module _ (tables : TablesModel) (rows : AllByRecursion IsAcceptedRow tables.runs
         deck = refl;
         job_is = refl;
         begins = λ was now. absurd (false≢true (sym was ∙ now));
-        passed = λ own. own;
+        passed = λ own. record {
+          passed = own.passed;
+          points = points-with (λ point. AreOwn row.job point.passed) _ row.points own.passed own.points;
+          effect = λ effect is. absurd (false≢true (sym (not-within step (place_of row) (and-first (may_start step (place_of row)) _ (and-first (may_start step (place_of row) && is_empty (flaws_in (placed_in table_ways (standing_of row tables) row.job.root owned))) _ passes))) ∙ (own.effect effect is).within));
+        };
         still = λ was name. absurd (false≢true (sym was ∙ on-holds row.state (and-first (is_in_state On row) _ follow)));
         outside = λ own name out. started-outside row owned step name (names-outside row.job step owned name found out) items tables;
         changed = λ has other name holding within its among.
@@ -195,7 +244,25 @@ module _ (tables : TablesModel) (rows : AllByRecursion IsAcceptedRow tables.runs
       deck = refl;
       job_is = refl;
       begins = λ was now. absurd (false≢true (sym was ∙ now));
-      passed = λ own. own;
+      passed = λ own. record {
+        passed = own.passed;
+        points = points-rewritten (λ passed. AreOwn row.job passed) (step_in (place_of row)) row.points own.points;
+        effect = λ effect is.
+            rewritten-effect row.in_effect effect is
+            (λ was e now.
+            subst (HasOwnEffect _ _) now
+            (let its = own.effect was e in
+            record {
+              holds = its.holds;
+              within = refl;
+              owned = its.owned;
+              found = its.found;
+              changes = its.changes;
+              entries =
+                  kept-changed _ (name_with_role row.job.root owned is_updates) was.set (table_rewritten owned.owner (step_in (place_of row))) (committed (output_names row.job.root owned) lengths tables.sets) (λ table each. each)
+                  (kept-committed _ (output_names row.job.root owned) lengths tables.sets was.set its.entries);
+            }));
+      };
       still = λ was name. absurd (false≢true (sym was ∙ running-holds row runs));
       outside = λ own name out.
           updated-outside row.job.root owned name (not_of_step name out) (table_rewritten owned.owner (step_in (place_of row))) (committed (output_names row.job.root owned) lengths tables.sets)
@@ -207,13 +274,17 @@ module _ (tables : TablesModel) (rows : AllByRecursion IsAcceptedRow tables.runs
           ∙ has other name holding (and-second (is_in_state On row) (is_within (place_of row)) runs) its among;
     }
 
-    checkpointed : (kept : Kept) (place bytes taken writes : ℕ) (id : Name) (lengths : List ℕ) → is_running row ≡ true → is_checkpoint tables id lengths place bytes row owned ≡ true
+    checkpointed : (kept : Kept) (place bytes taken writes : ℕ) (id : Name) (lengths : List ℕ) → is_running row ≡ true → is_checkpoint tables id lengths place bytes row owned ≡ true → kept.id ≡ id
         → Goes (after_checkpointed row owned (step_in (place_of row)) kept taken writes lengths tables)
-    checkpointed kept place bytes taken writes id lengths runs checks =
+    checkpointed kept place bytes taken writes id lengths runs checks its_id =
         let set : Name = name_with_role row.job.root owned is_checkpoints in
         let output : is_among (output_names row.job.root owned) set ≡ true =
         length-among set (place + records_of bytes) (output_names row.job.root owned) lengths
         (and-second _ (is_length_of set (place + records_of bytes) (output_names row.job.root owned) lengths) checks) in
+        let fresh : is_none (kept_at tables.sets set kept.id) ≡ true =
+        ap (λ id. is_none (kept_at tables.sets set id)) its_id
+        ∙ tested (entry_at tables.sets set) (λ table. place == table.set.length && is_none (kept_at tables.sets set id)) (and-first _ (is_length_of set (place + records_of bytes) (output_names row.job.root owned) lengths) checks)
+        (λ table there passes. and-second (place == table.set.length) _ passes) in
         record {
           row = row;
           next = record row { count = suc row.count; in_effect = Some (fresh_effect (name_with_role row.job.root owned is_checkpoints) kept); place = Some (Within (step_in (place_of row)) writes) };
@@ -223,7 +294,22 @@ module _ (tables : TablesModel) (rows : AllByRecursion IsAcceptedRow tables.runs
           deck = refl;
           job_is = refl;
           begins = λ was now. absurd (false≢true (sym was ∙ now));
-          passed = λ own. own;
+          passed = λ own. record {
+            passed = own.passed;
+            points = own.points;
+            effect = λ effect is.
+                subst (HasOwnEffect _ _) (same_Some (fresh_effect set kept) effect is)
+                (record {
+                  holds = running-holds row runs;
+                  within = refl;
+                  owned = owned;
+                  found = found;
+                  changes = outputs-changed row.job.root owned set output;
+                  entries =
+                      kept-changed _ set set (with_kept_entry _) (committed (output_names row.job.root owned) lengths tables.sets) (λ table each. each-append _ table.entries _ each ((λ same. own.passed), tt))
+                      (kept-committed _ (output_names row.job.root owned) lengths tables.sets set (none-kept _ kept.id tables.sets set fresh));
+                });
+          };
           still = λ was name. absurd (false≢true (sym was ∙ running-holds row runs));
           outside = λ own name out.
               at-with_changed-other set name _ (committed (output_names row.job.root owned) lengths tables.sets)
@@ -247,16 +333,20 @@ module _ (tables : TablesModel) (rows : AllByRecursion IsAcceptedRow tables.runs
           deck = refl;
           job_is = refl;
           begins = λ was now. absurd (false≢true (sym was ∙ now));
-          passed = λ own name out. passed-outside row owned (step_in (place_of row)) name (not_of_step name out) false done (own name out);
+          passed = λ own. record {
+            passed = λ name out. passed-outside row owned (step_in (place_of row)) name (not_of_step name out) false done (own.passed name out);
+            points = own.points;
+            effect = λ effect is. absurd (some-not-none effect (sym is));
+          };
           still = λ was name. absurd (false≢true (sym was ∙ running-holds row runs));
           outside = λ own name out. disposed-outside row owned (step_in (place_of row)) name (not_of_step name out) false done ∙ behind_outside lengths name out;
           changed = λ has other name holding within its among. absurd (false≢true within);
         }
 
     -- a run that goes back to the start of its step isn't within it any more
-    restarted : (initiator : ℕ) (point : StartPoint) → is_holder row.state ≡ true
+    restarted : (initiator : ℕ) (point : StartPoint) → point_at row.points (step_in (place_of row)) ≡ Some point → is_holder row.state ≡ true
         → Goes (after_put_back (record (row_on initiator row) { points = with_point (point_restarted point) row.points; in_effect = None }) owned (back_to_start row owned (step_in (place_of row)) point) tables)
-    restarted initiator point holds =
+    restarted initiator point began holds =
         let step : ℕ = step_in (place_of row) in
         let sets : Named TableSet = put_back point.marks (output_names row.job.root owned) (names_of row.job.root owned) (removed_all (own_made row owned step) tables.sets) in
         record {
@@ -268,16 +358,23 @@ module _ (tables : TablesModel) (rows : AllByRecursion IsAcceptedRow tables.runs
           deck = refl;
           job_is = refl;
           begins = λ was now. absurd (false≢true (sym was ∙ holds));
-          passed = λ own name out. passed_back-outside row point.marks sets point.passed name accepted.plain out;
+          passed = λ own.
+              let its : AreOwn row.job point.passed = find-holds (λ (point : StartPoint). AreOwn row.job point.passed) (λ point. point.step == step) row.points point own.points began in
+              record {
+                passed = its;
+                points = points-with (λ point. AreOwn row.job point.passed) (point_restarted point) row.points its own.points;
+                effect = λ effect is. absurd (some-not-none effect (sym is));
+              };
           still = λ was name. absurd (false≢true (sym was ∙ holds));
           outside = λ own name out. restarted-outside row owned step name (not_of_step name out) point.marks tables.sets;
           changed = λ has other name holding within its among. absurd (false≢true within);
         }
 
     -- one that goes back to its checkpoint is within the step still, and what this may change is there
-    goes_back : (initiator : ℕ) (effect : EffectPoint) (point : EntryPoint) → is_in_step row ≡ true
-        → Goes (after_put_back (record (row_on initiator row) { in_effect = Some (effect_restarted effect) }) owned (back_to_entry row owned (step_in (place_of row)) point) tables)
-    goes_back initiator effect point inside =
+    goes_back : (initiator : ℕ) (effect : EffectPoint) (entry : KeptEntry) → row.in_effect ≡ Some effect → kept_at tables.sets effect.set effect.kept.id ≡ Some entry → is_in_step row ≡ true
+        → Goes (after_put_back (record (row_on initiator row) { in_effect = Some (effect_restarted effect) }) owned (back_to_entry row owned (step_in (place_of row)) entry.point) tables)
+    goes_back initiator effect entry now kept inside =
+        let point : EntryPoint = entry.point in
         let outputs : List Name = output_names row.job.root owned in
         let sets : Named TableSet = put_back point.marks outputs (names_of row.job.root owned) tables.sets in
         record {
@@ -289,7 +386,22 @@ module _ (tables : TablesModel) (rows : AllByRecursion IsAcceptedRow tables.runs
           deck = refl;
           job_is = refl;
           begins = λ was now. absurd (false≢true (sym was ∙ in_step-holds row inside));
-          passed = λ own name out. passed_back-outside row point.marks sets point.passed name accepted.plain out;
+          passed = λ own.
+              let its : HasOwnEffect tables.sets row effect = own.effect effect now in
+              record {
+                passed = kept-of (λ entry. AreOwn row.job entry.point.passed) effect.kept.id tables.sets effect.set entry its.entries kept;
+                points = own.points;
+                effect = λ later is.
+                    subst (HasOwnEffect _ _) (same_Some (effect_restarted effect) later is)
+                    (record {
+                      holds = refl;
+                      within = refl;
+                      owned = its.owned;
+                      found = its.found;
+                      changes = its.changes;
+                      entries = kept-put_back _ point.marks outputs (names_of row.job.root owned) tables.sets effect.set its.entries;
+                    });
+              };
           still = λ was name. absurd (false≢true (sym was ∙ in_step-holds row inside));
           outside = λ own name out. put_back-outside row owned (step_in (place_of row)) name (not_of_step name out) point.marks tables.sets;
           changed = λ has other name holding within its among.
@@ -308,7 +420,20 @@ module _ (tables : TablesModel) (rows : AllByRecursion IsAcceptedRow tables.runs
       deck = refl;
       job_is = refl;
       begins = λ was now. absurd (false≢true (sym was ∙ in_step-holds row inside));
-      passed = λ own. own;
+      passed = λ own. record {
+        passed = own.passed;
+        points = own.points;
+        effect = λ effect is.
+            let its : HasOwnEffect tables.sets row effect = own.effect effect is in
+            record {
+              holds = refl;
+              within = refl;
+              owned = its.owned;
+              found = its.found;
+              changes = its.changes;
+              entries = kept-committed _ (output_names row.job.root owned) lengths tables.sets effect.set its.entries;
+            };
+      };
       still = λ was name. absurd (false≢true (sym was ∙ in_step-holds row inside));
       outside = λ own name out. behind_outside lengths name out;
       changed = λ has other name holding within its among.
@@ -344,7 +469,13 @@ module _ (tables : TablesModel) (rows : AllByRecursion IsAcceptedRow tables.runs
     deck = refl;
     job_is = refl;
     begins = λ was now. absurd (false≢true (sym was ∙ holds));
-    passed = λ own. own;
+    passed = λ own. record {
+      passed = own.passed;
+      points = own.points;
+      effect = λ effect is.
+          let its : HasOwnEffect tables.sets row effect = own.effect effect is in
+          record { holds = refl; within = its.within; owned = its.owned; found = its.found; changes = its.changes; entries = its.entries };
+    };
     still = λ was name. refl;
     outside = λ own name out. refl;
     changed = λ has owned name holding within found among. has owned name holds within found among;
@@ -355,18 +486,19 @@ module _ (tables : TablesModel) (rows : AllByRecursion IsAcceptedRow tables.runs
       by-step Goes tables (own_step row) _ unmoved
       (λ owned found.
       by-step Goes tables row.in_effect _ unmoved
-      (λ effect now. by-step Goes tables (kept_at tables.sets effect.set effect.kept.id) _ unmoved (λ entry kept. goes_back owned found initiator effect entry.point inside)))
+      (λ effect now. by-step Goes tables (kept_at tables.sets effect.set effect.kept.id) _ unmoved (λ entry kept. goes_back owned found initiator effect entry now kept inside)))
   restarts initiator false inside =
       by-step Goes tables (own_step row) _ unmoved
-      (λ owned found. by-step Goes tables (point_at row.points (step_in (place_of row))) _ unmoved (λ point began. restarted owned found initiator point (in_step-holds row inside)))
+      (λ owned found. by-step Goes tables (point_at row.points (step_in (place_of row))) _ unmoved (λ point began. restarted owned found initiator point began (in_step-holds row inside)))
 
   -- ---- the end of a run
 
   completed : is_holder row.state ≡ true → Goes (after_passed_ended row tables)
   completed holds =
-      over (record row { state = EndedRun; initiator = None; code = None; passed = []; in_effect = None }) tables row (passed_ended row.passed tables.sets) (row-as_is tables job row at) refl refl refl refl (λ own name out. refl)
+      over (record row { state = EndedRun; initiator = None; code = None; passed = []; lost = []; in_effect = None }) tables row (passed_ended (has_passed row) tables.sets) (row-as_is tables job row at) refl refl refl refl
+      (λ own. record { passed = λ name out. refl; points = own.points; effect = λ effect is. absurd (some-not-none effect (sym is)) })
       (λ was name. absurd (false≢true (sym was ∙ holds)))
-      (λ own name out. ended-leaves row.passed tables.sets name (own name out))
+      (λ own name out. ended-stays row.lost row.passed tables.sets name (λ here. own name out))
 
   abbrev disposed_end : RunRow → TablesModel → ℕ → OwnedStep → TablesModel
   disposed_end r mid step owned =
@@ -374,15 +506,22 @@ module _ (tables : TablesModel) (rows : AllByRecursion IsAcceptedRow tables.runs
       after_passed_ended (record r { passed = done.passed }) (record mid { sets = done.sets })
 
   -- with the dispositions of a step, by tables behind its lengths or as they are
-  disposed_over : (r was : RunRow) (mid : TablesModel) (owned : OwnedStep) (step : ℕ) → is_holder row.state ≡ true → r.number ≡ row.number → r.deck ≡ row.deck → r.job ≡ row.job → r.passed ≡ row.passed → HasRow tables mid job was → step_of_run row step ≡ Some owned
+  disposed_over : (r was : RunRow) (mid : TablesModel) (owned : OwnedStep) (step : ℕ) → is_holder row.state ≡ true → r.number ≡ row.number → r.deck ≡ row.deck → r.job ≡ row.job → r.passed ≡ row.passed → r.points ≡ row.points → HasRow tables mid job was → step_of_run row step ≡ Some owned
       → ((name : Name) → is_among (names_of_job row.job) name ≡ false → entry_at mid.sets name ≡ entry_at tables.sets name)
       → Goes (disposed_end r mid step owned)
-  disposed_over r was mid owned step holds number deck same passed has found outside =
-      over (record r { passed = []; state = EndedRun; initiator = None; code = None; in_effect = None }) mid was (passed_ended done.passed done.sets) has number deck same refl (λ own name out. refl)
+  disposed_over r was mid owned step holds number deck same passed points has found outside =
+      over (record r { passed = []; lost = []; state = EndedRun; initiator = None; code = None; in_effect = None }) mid was (passed_ended (without_passed r.lost done.passed) done.sets) has number deck same refl
+      (λ own. record {
+        passed = λ name out. refl;
+        points =
+            subst (λ (job : Effective). AllByRecursion (λ (point : StartPoint). AreOwn job point.passed) r.points) (sym same)
+            (subst (AllByRecursion (λ (point : StartPoint). AreOwn row.job point.passed)) (sym points) own.points);
+        effect = λ effect is. absurd (some-not-none effect (sym is));
+      })
       (λ was name. absurd (false≢true (sym was ∙ holds)))
       (λ own name out.
       let of_step : is_among (names_of r.job.root owned) name ≡ false = ap (λ (job : Effective). is_among (names_of job.root owned) name) same ∙ names-outside row.job step owned name found out in
-      ended-leaves done.passed done.sets name (passed-outside r owned step name of_step true mid (ap (λ passed. is_among (passed_made passed) name) passed ∙ own name out))
+      ended-stays r.lost done.passed done.sets name (λ here. passed-outside r owned step name of_step true mid (ap (λ passed. is_among (passed_made passed) name) passed ∙ own name out))
       ∙ disposed-outside r owned step name of_step true mid
       ∙ outside name out)
     where
@@ -397,7 +536,7 @@ module _ (tables : TablesModel) (rows : AllByRecursion IsAcceptedRow tables.runs
       (λ owned found.
       let there : step_of_run row step ≡ Some owned = ap (λ place. step_of_run row (step_in place)) (sym stands) ∙ found in
       by-some Goes (step_of_run row step) (disposed_end row tables step) tables owned there
-      (disposed_over row row tables owned step holds refl refl refl refl (row-as_is tables job row at) there (λ name out. refl)))
+      (disposed_over row row tables owned step holds refl refl refl refl refl (row-as_is tables job row at) there (λ name out. refl)))
 
   coded : (writes : ℕ) (lengths : List ℕ) → is_holder row.state ≡ true → is_some (own_step row) ≡ true → Goes (after_coded row writes lengths tables)
   coded writes lengths holds some =
@@ -405,7 +544,7 @@ module _ (tables : TablesModel) (rows : AllByRecursion IsAcceptedRow tables.runs
       (λ owned found.
       by-own Goes tables (λ owned step. after_abnormal (record row { place = Some (Within step writes) }) (Within step writes) (after_commit row owned step writes lengths tables)) row owned found
       (by-some Goes (step_of_run row (step_in (place_of row))) (disposed_end (record row { place = Some (Within (step_in (place_of row)) writes) }) (behind owned found writes lengths) (step_in (place_of row))) (behind owned found writes lengths) owned found
-      (disposed_over (record row { place = Some (Within (step_in (place_of row)) writes) }) _ (behind owned found writes lengths) owned (step_in (place_of row)) holds refl refl refl refl (behind_rows owned found writes lengths) found (behind_outside owned found lengths))))
+      (disposed_over (record row { place = Some (Within (step_in (place_of row)) writes) }) _ (behind owned found writes lengths) owned (step_in (place_of row)) holds refl refl refl refl refl (behind_rows owned found writes lengths) found (behind_outside owned found lengths))))
 
   lengths_some : (lengths : List ℕ) → lengths_follow tables row lengths ≡ true → is_some (own_step row) ≡ true
   lengths_some lengths follow = tested (own_step row) _ follow (λ owned found passes. ap is_some found)
@@ -451,7 +590,7 @@ goes-in layout tables rows numbered placed (Checkpointed job id taken writes len
     let kept : Kept = record { id = id; run = job; place = place; bytes = bytes } in
     by-row (λ after. RowGoesOn tables after job) tables job (λ row. by_step (λ owned step. after_checkpointed row owned step kept taken writes lengths.items tables) row tables) row at
     (by-own (λ after. RowGoesOn tables after job) tables (λ owned step. after_checkpointed row owned step kept taken writes lengths.items tables) row owned found
-    (checkpointed tables rows numbered job row at owned found kept place bytes taken writes id lengths.items (and-first (is_running row) _ (and-first (is_running row && lengths_follow tables row lengths.items) _ passes)) checks))))
+    (checkpointed tables rows numbered job row at owned found kept place bytes taken writes id lengths.items (and-first (is_running row) _ (and-first (is_running row && lengths_follow tables row lengths.items) _ passes)) checks refl))))
 goes-in layout tables rows numbered placed (Cancelled job) deck plain other follow =
     tested-run tables job is_running follow
     (λ row at passes. by-row (λ after. RowGoesOn tables after job) tables job (λ row. after_cancelled row tables) row at (cancelled tables rows numbered job row at))
@@ -487,7 +626,7 @@ goes-in layout tables rows numbered placed (Ended job ending) deck plain other f
     (λ row at passes. by-row (λ after. RowGoesOn tables after job) tables job (λ row. after_ended row ending tables) row at (ended tables rows numbered job row at ending passes))
 goes-in layout tables rows numbered placed (Purged job) deck plain other follow =
     tested-run tables job (is_in_state Queued) follow
-    (λ row at passes. by-row (λ after. RowGoesOn tables after job) tables job (λ row. with_run (record row { state = PurgedRun }) tables) row at (purged tables rows numbered job row at))
+    (λ row at passes. by-row (λ after. RowGoesOn tables after job) tables job (λ row. with_run (record row { state = PurgedRun }) tables) row at (purged tables rows numbered job row at passes))
 goes-in layout tables rows numbered placed _ deck plain other follow = absurd (false≢true plain)
 
 -- by each event but a submission one run goes on
@@ -537,7 +676,7 @@ module _ (tables : TablesModel) (deck : Job) (job : ℕ) (are : AreHolders table
         one_of one row here
         (λ new. no_holder row new mine)
         (λ first. one_of other next there (λ new. no_holder next new theirs) (λ second. are.apart one other row next first second apart mine theirs));
-    passed = λ number row at. one_of number row at (λ new. subst PassesOwn new (λ name out. refl)) (are.passed number row);
+    passed = λ number row at. one_of number row at (λ new. subst (PassesOnOwn more.sets) new (record { passed = λ name out. refl; points = tt; effect = λ effect is. absurd (some-not-none effect (sym is)) })) (are.passed number row);
     changed = λ number row at.
         one_of number row at (λ new owned name holding. no_holder row new holding) (are.changed number row);
   }

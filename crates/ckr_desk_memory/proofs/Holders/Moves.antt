@@ -21,7 +21,7 @@ use Rattle.ckr_uses.specs.Uses.{holds, uses_of}
 use Rattle.ckr_desk_memory.proofs.Holders.Names.{changed-alone}
 use Rattle.ckr_desk_memory.specs.Invariant.{IsAcceptedRow}
 use Rattle.ckr_desk_turn.specs.Queue.{AreNumbered}
-use Rattle.ckr_desk_memory.specs.Holders.{AreHolders, HasChanged, HoldApart, PassesOwn, changed_names}
+use Rattle.ckr_desk_memory.specs.Holders.{AreHolders, HasChanged, HasOwnEffect, HoldApart, PassesOnOwn, PassesOwn, changed_names}
 
 -- ---- rows by number
 
@@ -72,7 +72,7 @@ pub record RowGoesOn (tables after : TablesModel) (job : ℕ) : Type 0 where
   pub deck : next.deck ≡ row.deck
   pub job_is : next.job ≡ row.job
   pub begins : is_holder row.state ≡ false → is_holder next.state ≡ true → may_hold tables row ≡ true
-  pub passed : PassesOwn row → PassesOwn next
+  pub passed : PassesOnOwn tables.sets row → PassesOnOwn after.sets next
   pub still : is_holder row.state ≡ false → (name : Name) → entry_at after.sets name ≡ entry_at tables.sets name
   pub outside : PassesOwn row → (name : Name) → is_among (names_of_job row.job) name ≡ false → entry_at after.sets name ≡ entry_at tables.sets name
   pub changed : HasChanged tables.sets row → HasChanged after.sets next
@@ -130,18 +130,36 @@ module _ (tables after : TablesModel) (job : ℕ) (goes : RowGoesOn tables after
   others-keep number its owned name apart at holding found among =
       bool-cases (is_holder goes.row.state)
       (λ was.
-      goes.outside (are.passed job goes.row goes.row_at) name
+      goes.outside (are.passed job goes.row goes.row_at).passed name
       (changed-alone its goes.row (step_in (place_of its)) owned name (row-accepted tables number its rows at) (row-accepted tables job goes.row rows goes.row_at)
       (are.apart number job its goes.row at goes.row_at apart holding was) found among))
       (λ new. goes.still new name)
+
+  others-pass : (number : ℕ) (its : RunRow) → number ≢ job → run_of tables number ≡ Some its → PassesOnOwn after.sets its
+  others-pass number its apart at =
+      let was : PassesOnOwn tables.sets its = are.passed number its at in
+      record {
+        passed = was.passed;
+        points = was.points;
+        effect = λ effect is.
+            let own : HasOwnEffect tables.sets its effect = was.effect effect is in
+            record {
+              holds = own.holds;
+              within = own.within;
+              owned = own.owned;
+              found = own.found;
+              changes = own.changes;
+              entries = λ table there. own.entries table (sym (others-keep number its own.owned effect.set apart at own.holds own.found own.changes) ∙ there);
+            };
+      }
 
   pub holders-go : AreHolders after
   holders-go = record {
     apart = apart_so;
     passed = λ number its at.
         number-cases number job
-        (λ here. subst PassesOwn (next_is number its here at) (goes.passed (are.passed job goes.row goes.row_at)))
-        (λ apart. are.passed number its (before number its apart at));
+        (λ here. subst (PassesOnOwn after.sets) (next_is number its here at) (goes.passed (are.passed job goes.row goes.row_at)))
+        (λ apart. others-pass number its apart (before number its apart at));
     changed = λ number its at.
         number-cases number job
         (λ here. subst (HasChanged after.sets) (next_is number its here at) (goes.changed (are.changed job goes.row goes.row_at)))

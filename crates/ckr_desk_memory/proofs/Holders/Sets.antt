@@ -20,7 +20,7 @@ use Rattle.ckr_meaning.specs.Allotments.{AllotmentModel, DdAllotment, found, mad
 use Rattle.ckr_meaning.specs.Dispositions.{Disposal, Stock}
 use Rattle.ckr_meaning.specs.EffectiveJob.{Effective, OwnedStep, flaws_in, is_among, name_of, names_of, names_of_job, names_of_steps, owned_by, placed_from, placed_in, placed_one, plain_job, stamp_of}
 use Rattle.ckr_points.specs.Follows.{is_update}
-use Rattle.ckr_points.specs.Marks.{deck_names, present_at, put_back, put_back_catalogs, put_back_length, put_back_lengths, put_back_passed, removed_all, still_exists}
+use Rattle.ckr_points.specs.Marks.{present_at, put_back, put_back_catalogs, put_back_length, put_back_lengths, removed_all}
 use Rattle.ckr_points.specs.Office.{passed_made}
 use Rattle.ckr_points.specs.Payload.{is_formed_step}
 use Rattle.ckr_points.specs.Rows.{RunRow, TableSet, TablesModel, cut_set, standing_of, table_ways}
@@ -232,46 +232,3 @@ module _ (row : RunRow) (owned : OwnedStep) (step : ℕ) (name : Name) (out : is
       put_back-outside marks (removed_all (own_made row owned step) sets)
       ∙ at-removed_all (own_made row owned step) sets name
       ∙ ap (λ b. cond b None (entry_at sets name)) (own_made-out row owned step name out)
-
--- ---- what is passed on at a point
-
-any_none : {X : Type 0} (test : X → Bool) (xs : List X) → ((x : X) → test x ≡ false) → list_any test xs ≡ false
-any_none test [] none = refl
-any_none test (first ∷ rest) none = ap (λ b. b || list_any test rest) (none first) ∙ any_none test rest none
-
-deck_names-are : (root run : ℕ) (deck : Job) (steps : List Step) → flat_map (λ step. names_of root (owned_by run deck step)) steps ≡ names_of_steps root (map (owned_by run deck) steps)
-deck_names-are root run deck [] = refl
-deck_names-are root run deck (first ∷ rest) = ap (λ names. names_of root (owned_by run deck first) ++ names) (deck_names-are root run deck rest)
-
--- nothing is put back into the passed list but names of the job's own deck
-pub passed_back-outside : (row : RunRow) (marks : List Mark) (sets : Named TableSet) (passed : List Passed) (name : Name) → row.job ≡ plain_job row.number row.deck → is_among (names_of_job row.job) name ≡ false
-    → is_among (passed_made (put_back_passed marks (deck_names row.job.root row.number row.deck) sets passed)) name ≡ false
-passed_back-outside row marks sets passed name plain out =
-    among-made (filter kept passed) name
-    ∙ any-filter kept (λ (one : Passed). one.made && same_name name one.name) passed
-    ∙ any_none (λ (one : Passed). kept one && (one.made && same_name name one.name)) passed none
-  where
-    named : List Name
-    named = deck_names row.job.root row.number row.deck
-
-    kept : Passed → Bool
-    kept entry = still_exists marks (deck_names row.job.root row.number row.deck) sets entry.name
-
-    unnamed : is_among (deck_names row.job.root row.number row.deck) name ≡ false
-    unnamed =
-        ap (λ names. is_among names name) (deck_names-are row.job.root row.number row.deck row.deck.steps)
-        ∙ ap (λ (job : Effective). is_among (names_of_steps row.job.root job.steps) name) (sym plain) ∙ out
-
-    none : (one : Passed) → (still_exists marks (deck_names row.job.root row.number row.deck) sets one.name && (one.made && same_name name one.name)) ≡ false
-    none one =
-        bool-cases (same_name name one.name)
-        (λ same. neither _ (one.made && same_name name one.name) (ap (λ n. is_among (deck_names row.job.root row.number row.deck) n) (sym (name-same name one.name same)) ∙ unnamed))
-        (λ apart. ap (λ b. still_exists marks (deck_names row.job.root row.number row.deck) sets one.name && (one.made && b)) apart ∙ last (still_exists marks (deck_names row.job.root row.number row.deck) sets one.name) one.made)
-      where
-        last : (a b : Bool) → (a && (b && false)) ≡ false
-        last true true = refl
-        last true false = refl
-        last false b = refl
-
-        neither : (there other : Bool) → is_among (deck_names row.job.root row.number row.deck) one.name ≡ false → ((is_among (deck_names row.job.root row.number row.deck) one.name && there) && other) ≡ false
-        neither there other e = ap (λ b. (b && there) && other) e
