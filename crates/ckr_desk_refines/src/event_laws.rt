@@ -40,7 +40,7 @@ pub fn desks_behind_turns_that_tell_stand()
 /// Behind a deck that is submitted, a run that is purged, and one that is released.
 pub fn desks_behind_calls_stand()
     ensures submitted { (layout : Layout) (old new : JobsView) (before after : List ℕ) (desk : DeskModel) (cards : List ℕ) (deck : Job)
-        → StandsForDesk layout old before desk → 81 ≤ length cards → stored_deck cards ≡ Ok deck → is_run deck ≡ true
+        → StandsForDesk layout old before desk → suc (length desk.office.tables.runs) ≤ 9999999 → 81 ≤ length cards → stored_deck cards ≡ Ok deck → is_run deck ≡ true
         → HaveMoved (SubmittedEvent (suc (length desk.office.tables.runs)) (kept_of_stored cards)) (Some deck) old new → HasSameRecords desk.layout before after
         → StandsForDesk layout new after (submitted_desk (kept_of_stored cards) deck desk) }
     ensures purged { (layout : Layout) (old new : JobsView) (before after : List ℕ) (desk : DeskModel) (job : ℕ) (row : RunRow)
@@ -85,7 +85,7 @@ pub fn events_are_committed()
         → StandsForDesk layout jobs before desk → IsTurnOf desk.layout turn → decide answer (plan_of desk.layout (jobs_of desk) turn) ≡ Tell reply event
         → (image : List ℕ) → HasSameRecords desk.layout before image → HasCommitted desk.layout (behind event None desk).office image }
     ensures submitted { (layout : Layout) (jobs : JobsView) (before : List ℕ) (desk : DeskModel) (cards : List ℕ) (deck : Job)
-        → StandsForDesk layout jobs before desk → 81 ≤ length cards → stored_deck cards ≡ Ok deck → is_run deck ≡ true
+        → StandsForDesk layout jobs before desk → suc (length desk.office.tables.runs) ≤ 9999999 → 81 ≤ length cards → stored_deck cards ≡ Ok deck → is_run deck ≡ true
         → (image : List ℕ) → HasSameRecords desk.layout before image → HasCommitted desk.layout (submitted_desk (kept_of_stored cards) deck desk).office image }
     ensures purged { (layout : Layout) (jobs : JobsView) (before : List ℕ) (desk : DeskModel) (job : ℕ) (row : RunRow)
         → StandsForDesk layout jobs before desk → run_of desk.office.tables job ≡ Some row → row.state ≡ Queued

@@ -1,6 +1,8 @@
 -- A call that is one event with its deck, on a trusted disk.
-use Rattle.std.proofs.Common.{◌≡◌, ◌≤◌, ◌+◌, ◌-◌, ◌++◌, ℕ, suc, List, [], ◌∷◌, true, length, refl, ap, sym, ◌∙◌, subst, ⊎_elim, arith, Option, Some, None, Ok}
+use Rattle.std.proofs.Common.{◌≡◌, ◌≤◌, ◌+◌, ◌-◌, ◌++◌, ℕ, nat_le, suc, List, [], ◌∷◌, true, length, refl, ap, sym, ◌∙◌, subst, ⊎_elim, arith, Option, Some, None, Ok}
 use Rattle.std.proofs.lemmas.Bool.{and_from, le-leb}
+use Rattle.ckr_base.proofs.Bools.{and-first}
+use Rattle.ckr_base.proofs.Numbers.{nat_le-true}
 use Rattle.ckr_base.proofs.Options.{some-not-none}
 use Rattle.ckr_book.specs.Book.{IsBeforeOrAfter, room_of}
 use Rattle.ckr_events.specs.declared.event.Event.{Event}
@@ -40,6 +42,10 @@ use Rattle.ckr_desk.specs.Calls.{HasGoneOn, IsLeftBy, may_keep}
 use Rattle.ckr_desk.specs.Rewrite.{OpensSame}
 use Rattle.ckr_desk.specs.Soundness.{HasKept, IsTrusted, office_on, state_of}
 use Rattle.ckr_desk.specs.State.{RoomyDesk, DeskView, need_of}
+
+-- the number of a run that may be submitted has at most seven digits
+pub submittable-small : (number : ℕ) (deck : Job) → is_submittable number deck ≡ true → number ≤ 9999999
+submittable-small number deck fits = nat_le-true number 9999999 (and-first (nat_le number 9999999) _ (and-first _ _ (and-first _ _ fits)))
 
 module _ {D : Type 0} (told : Type 0) (content : D → List ℕ) (may_leave : D → List ℕ → Type 0) (size : D → ℕ)
     (old : DeskView D) (trusted : IsTrusted told content may_leave old) where
@@ -135,6 +141,7 @@ module _ {D : Type 0} (told : Type 0) (content : D → List ℕ) (may_leave : D 
       → IsCalled (Submitted (suc (length old.jobs.tables.desk.runs)) (kept_of_stored cards)) (Some deck)
   called-deck cards deck some accepted runs fit is_event =
       let number : suc (length old.jobs.tables.desk.runs) ≡ suc (length desk.office.tables.runs) = ap (λ t. suc (length t.runs)) trusted.stands.tables in
+      let few : suc (length desk.office.tables.runs) ≤ 9999999 = subst (λ n. n ≤ 9999999) number (submittable-small (suc (length old.jobs.tables.desk.runs)) deck fit) in
       record {
         is_event = is_event;
         decked = kept_accepted cards deck some accepted;
@@ -142,16 +149,16 @@ module _ {D : Type 0} (told : Type 0) (content : D → List ℕ) (may_leave : D 
         plain = refl;
         quiet = λ tables. refl;
         takes = λ now image. tt;
-        next = subst (λ n. IsNext layout desk.office (Submitted n (kept_of_stored cards), Some deck)) (sym number) (stored-comes desk cards deck some accepted);
+        next = subst (λ n. IsNext layout desk.office (Submitted n (kept_of_stored cards), Some deck)) (sym number) (stored-comes desk cards deck few some accepted);
         kept = subst (λ n. IsDesk (behind (Submitted n (kept_of_stored cards)) (Some deck) desk)) (sym number)
-            (stored-keeps desk trusted.stands.is_desk cards deck some accepted runs);
+            (stored-keeps desk trusted.stands.is_desk cards deck few some accepted runs);
         stand = λ new moved records.
             subst (λ n. StandsForDesk layout new.jobs (content new.store.disk) (behind (Submitted n (kept_of_stored cards)) (Some deck) desk)) (sym number)
-            (submitted-stands layout old.jobs new.jobs (content old.store.disk) (content new.store.disk) desk cards deck trusted.stands some accepted runs
+            (submitted-stands layout old.jobs new.jobs (content old.store.disk) (content new.store.disk) desk cards deck trusted.stands few some accepted runs
             (subst (λ n. HaveMoved (Submitted n (kept_of_stored cards)) (Some deck) old.jobs new.jobs) number moved) records);
         commits = λ image records.
             subst (λ n. HasCommitted layout (behind (Submitted n (kept_of_stored cards)) (Some deck) desk).office image) (sym number)
-            (submitted-committed layout old.jobs (content old.store.disk) desk cards deck trusted.stands some accepted runs image records);
+            (submitted-committed layout old.jobs (content old.store.disk) desk cards deck trusted.stands few some accepted runs image records);
       }
 
   -- ---- a run that is purged

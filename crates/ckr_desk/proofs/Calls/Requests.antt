@@ -1,8 +1,6 @@
 -- A call that is one event with its deck, or none, on a trusted disk.
-use Rattle.std.proofs.Common.{◌≡◌, ◌==◌, ◌≤◌, ◌++◌, ◌/◌, ℕ, suc, List, [], Bool, true, false, cond, length, refl, ap, sym, ◌∙◌, subst, arith, append-nil, Option, Some, None, Result, Ok, Err, IfErr, OnOk, nat_le}
+use Rattle.std.proofs.Common.{◌≡◌, ◌==◌, ◌≤◌, ◌++◌, ◌/◌, ℕ, suc, List, [], Bool, true, false, cond, length, refl, ap, sym, ◌∙◌, subst, arith, append-nil, Option, Some, None, Result, Ok, Err, IfErr, OnOk}
 use Rattle.std.proofs.lemmas.Bool.{false≢true, le-leb}
-use Rattle.std.proofs.lemmas.Bool.Decides.{nat_tests}
-use Rattle.ckr_base.proofs.Bools.{and-first}
 use Rattle.ckr_book.specs.Book.{room_of}
 use Rattle.ckr_events.specs.declared.event.Event.TheVariants.{Purged, Released}
 use Rattle.ckr_events.specs.Event.{IsEvent}
@@ -26,7 +24,7 @@ use Rattle.ckr_points_decks.specs.declared.submit.Submission.TheVariants.{Accept
 use Rattle.ckr_points_tables.specs.Invariant.{is_submittable}
 use Rattle.ckr_volumes.specs.declared.layout.Layout.{Layout}
 use Rattle.ckr_desk.proofs.Turns.Preparation.{same-unchanged}
-use Rattle.ckr_desk.proofs.Calls.Events.{IsCalled, called-deck, called-kept, called-purged, called-released, called-state, called-trusted}
+use Rattle.ckr_desk.proofs.Calls.Events.{IsCalled, called-deck, called-kept, called-purged, called-released, called-state, called-trusted, submittable-small}
 use Rattle.ckr_desk.proofs.Calls.CardCounts.{accepted-deck, few-accepted}
 use Rattle.ckr_desk.proofs.Images.Soundness.{kept-left}
 use Rattle.ckr_desk.proofs.Calls.Stops.{opens-so}
@@ -205,9 +203,6 @@ module _ {D : Type 0} (told : Type 0) (content : D → List ℕ) (may_leave : D 
 
   -- ---- a deck that is submitted
 
-  is-small : (number : ℕ) (deck : Job) → is_submittable number deck ≡ true → number ≤ 9999999
-  is-small number deck fits = grind (arith, nat_tests, and-first (nat_le number 9999999) _ (and-first _ _ (and-first _ _ fits)))
-
   module _ (cards : List ℕ) (some : 81 ≤ length cards) where
     numbered : (deck : Job) → submission_of cards ≡ Accepted deck → (fits : Bool) → is_submittable (suc (length old.jobs.tables.desk.runs)) deck ≡ fits
         → IsCalledSo (entered cards deck (cond fits (Some (suc (length old.jobs.tables.desk.runs))) None))
@@ -216,7 +211,7 @@ module _ {D : Type 0} (told : Type 0) (content : D → List ℕ) (may_leave : D 
         let its = accepted-deck cards deck is in
         let few = few-accepted cards deck is in
         let long = kept_long cards in
-        let number = is-small (suc (length old.jobs.tables.desk.runs)) deck fits in
+        let number = submittable-small (suc (length old.jobs.tables.desk.runs)) deck fits in
         let told_so = submitted_spelled (suc (length old.jobs.tables.desk.runs)) (kept_of_stored cards) (length cards / 81) (omega (arith, number)) (omega (arith, some)) long (omega (arith, few)) in
         called-deck told content may_leave size old trusted cards deck some its.0 its.1 fits told_so.event
 

@@ -25,7 +25,7 @@ use Rattle.ckr_points_library.specs.Commit.{output_names}
 use Rattle.ckr_points.specs.declared.run.RunState.TheVariants.{Denied as DeniedRun, On, Purged as PurgedRun, Released as ReleasedRun}
 use Rattle.ckr_points.specs.Events.{AreSound, AreSoundFrom}
 use Rattle.ckr_points.specs.Follows.{are_items, are_made_clear, follows, is_empty, is_in_state, made_dds, may_start, started_follows}
-use Rattle.ckr_points.specs.Marks.{point_at, with_point}
+use Rattle.ckr_points.specs.Marks.{point_at, with_point, has_passed, without_passed}
 use Rattle.ckr_points.specs.Office.{Office, no_office, office, office_after, office_from}
 use Rattle.ckr_points.specs.Restart.{Back, Decked, after_abnormal, after_check_restart, after_continued, after_continued_at, after_ended, after_entry_continued, after_event, after_passed_ended, after_put_back, after_restarted, after_step_restart, back_to_entry, back_to_start, by_step, continued_row, deferred_entry, deferred_start, effect_restarted, kept_at, place_of, point_restarted, row_on, step_in, syschk_name}
 use Rattle.ckr_points.specs.Rows.{RunRow, StartPoint, TablesModel, run_of, standing_of, step_of_run, table_ways, with_run}
@@ -65,14 +65,14 @@ step_ended-few most tables row owned step rc writes lengths few =
     disposed-few most (after_commit row owned step writes lengths tables) row owned step false (commit-few most tables row owned step writes lengths few)
 
 abnormal-few : (most : ℕ) (tables : TablesModel) (row : RunRow) (place : Place) → Few most tables → Few most (after_abnormal row place tables)
-abnormal-few most tables row (Before step) few = few-passed_ended most row.passed tables.sets few
-abnormal-few most tables row (Opened step) few = few-passed_ended most row.passed tables.sets few
+abnormal-few most tables row (Before step) few = few-passed_ended most (has_passed row) tables.sets few
+abnormal-few most tables row (Opened step) few = few-passed_ended most (has_passed row) tables.sets few
 abnormal-few most tables row (Within step writes) few =
     by most tables (λ owned. let done = after_dispositions row owned step true tables in after_passed_ended (record row { passed = done.passed }) (record tables { sets = done.sets })) (step_of_run row step) few
-    (λ owned. few-passed_ended most (after_dispositions row owned step true tables).passed (after_dispositions row owned step true tables).sets (disposed-few most tables row owned step true few))
+    (λ owned. few-passed_ended most (without_passed row.lost (after_dispositions row owned step true tables).passed) (after_dispositions row owned step true tables).sets (disposed-few most tables row owned step true few))
 
 ended-few : (most : ℕ) (tables : TablesModel) (row : RunRow) (ending : Ending) → Few most tables → Few most (after_ended row ending tables)
-ended-few most tables row Completed few = few-passed_ended most row.passed tables.sets few
+ended-few most tables row Completed few = few-passed_ended most (has_passed row) tables.sets few
 ended-few most tables row (Coded code rule writes lengths) few =
     by most tables
     (λ owned. after_abnormal (record row { place = Some (Within (step_in (place_of row)) writes) }) (Within (step_in (place_of row)) writes) (after_commit row owned (step_in (place_of row)) writes lengths.items tables))

@@ -18,6 +18,7 @@ use Rattle.ckr_points.specs.Office.{Leg, Office}
 use Rattle.ckr_points.specs.Restart.{place_of}
 use Rattle.ckr_points.specs.Rows.{RunRow, TableSet, cut_set}
 use Rattle.ckr_points_invariant.specs.Invariant.{IsKept, IsMarkedShort, step_now}
+use Rattle.ckr_points_invariant.proofs.Decks.Events.{row-orderly, with-orderly}
 use Rattle.ckr_points_invariant.proofs.Steps.Commits.{IsRunning, found_leg, in_reach, its_start, place_so}
 use Rattle.ckr_points_invariant.proofs.RunEnd.Event.{committed_office, kept_then, running_then}
 use Rattle.ckr_points_invariant.proofs.Marks.Changes.{row-holds}
@@ -62,6 +63,7 @@ module _ (layout : Layout) (office : Office) (job : ℕ) (row : RunRow) (leg : L
         same_library office (after_commit row owned (step_now row) writes lengths office.tables) kept.stamps
         (commit-holds (IsMarkedShort office) office.tables kept.stamps.marks row owned (step_now row) writes lengths
         (row-holds (IsMarkedShort office) office.tables job row kept.stamps.marks running.holder.row_at));
+    decks = with-orderly (record row { place = Some (Within (step_now row) writes) }) office.tables (row-orderly office.tables job row kept.decks running.holder.row_at) kept.decks;
   }
 
   running_so : IsRunning then job (record row { place = Some (Within (step_now row) writes) }) leg owned (step_now row) writes

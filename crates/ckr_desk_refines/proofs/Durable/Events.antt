@@ -12,6 +12,7 @@ use Rattle.ckr_meaning.specs.EffectiveJob.{OwnedStep, step_at}
 use Rattle.ckr_meaning.specs.declared.place.Place.{Place}
 use Rattle.ckr_meaning.specs.declared.place.Place.TheVariants.{Before, Opened, Within}
 use Rattle.ckr_meaning.specs.JobRun.{start_at}
+use Rattle.ckr_points.specs.Marks.{has_passed, without_passed}
 use Rattle.ckr_points.specs.Tables.{after_commit, after_dispositions, after_step_ended, earlier_made, own_made, run_disposals}
 use Rattle.ckr_points.specs.Payload.{carries, start_in_office, writes_in}
 use Rattle.ckr_points.specs.Office.{Leg, Office, leg_of, office_after}
@@ -113,14 +114,14 @@ held-stays layout office image job writes code lengths deck kept may carried nex
 
 -- behind the dispositions of its step, where it was within one
 abnormal-from : (row : RunRow) (place : Place) (tables : TablesModel) (name : Name) (table : TableSet) → entry_at (after_abnormal row place tables).sets name ≡ Some table → StaysFrom tables.sets name table
-abnormal-from row (Before step) tables name table e = ended-from name row.passed tables.sets table e
-abnormal-from row (Opened step) tables name table e = ended-from name row.passed tables.sets table e
+abnormal-from row (Before step) tables name table e = ended-from name (has_passed row) tables.sets table e
+abnormal-from row (Opened step) tables name table e = ended-from name (has_passed row) tables.sets table e
 abnormal-from row (Within step writes) tables name table e = by (step_of_run row step) e
   where
     by : (found : Option OwnedStep) → entry_at (option_map_or (λ owned. let done = after_dispositions row owned step true tables in after_passed_ended (record row { passed = done.passed }) (record tables { sets = done.sets })) found tables).sets name ≡ Some table → StaysFrom tables.sets name table
     by None e = (table, e, part-itself table)
     by (Some owned) e =
-        both-from name (after_dispositions row owned step true tables).passed (run_disposals row owned (own_made row owned step) (earlier_made tables row step) true) (standing_of row tables) table e
+        both-from name (without_passed row.lost (after_dispositions row owned step true tables).passed) (run_disposals row owned (own_made row owned step) (earlier_made tables row step) true) (standing_of row tables) table e
 
 -- a run ends that commits nothing
 ended-stays : (layout : Layout) (office : Office) (image : List ℕ) (job : ℕ) (ending : Ending) (deck : Option Job) → IsKept layout office → IsKept layout (office_after (Ended job ending, deck) office) → HasCommitted layout office image → ((row : RunRow) (name : Name) (table : TableSet) → entry_at (after_ended row ending office.tables).sets name ≡ Some table → StaysFrom office.tables.sets name table) → HasCommitted layout (office_after (Ended job ending, deck) office) image
@@ -134,7 +135,7 @@ ended-stays layout office image job ending deck kept next had from =
 
 pub completed-stays : (layout : Layout) (office : Office) (image : List ℕ) (job : ℕ) (deck : Option Job) → IsKept layout office → IsKept layout (office_after (Ended job Completed, deck) office) → HasCommitted layout office image → HasCommitted layout (office_after (Ended job Completed, deck) office) image
 completed-stays layout office image job deck kept next had =
-    ended-stays layout office image job Completed deck kept next had (λ row name table e. ended-from name row.passed office.tables.sets table e)
+    ended-stays layout office image job Completed deck kept next had (λ row name table e. ended-from name (has_passed row) office.tables.sets table e)
 
 pub refused-stays : (layout : Layout) (office : Office) (image : List ℕ) (job dd cause first second : ℕ) (deck : Option Job) → IsKept layout office → IsKept layout (office_after (Ended job (Allocation dd cause first second), deck) office) → HasCommitted layout office image → HasCommitted layout (office_after (Ended job (Allocation dd cause first second), deck) office) image
 refused-stays layout office image job dd cause first second deck kept next had =

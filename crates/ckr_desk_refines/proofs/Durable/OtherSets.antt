@@ -29,7 +29,7 @@ use Rattle.ckr_points_invariant.proofs.StepEnd.Invariant.{disposals_are, dispose
 use Rattle.ckr_points_invariant.proofs.Holders.Rows.{step-all}
 use Rattle.ckr_points_invariant.proofs.Holders.SharedSets.{LeavesStep, Unmade, Untouched, before_keeps, disposed_all-left, no_output, opened_all-left, placed_at-left, shared_role, step_left, unmade_all, unmade_left, untouched_all}
 use Rattle.ckr_points_invariant.proofs.Holders.Moves.{Among}
-use Rattle.ckr_points_invariant.proofs.Library.PassedList.{disposed-made, ended-leaves}
+use Rattle.ckr_points_invariant.proofs.Library.PassedList.{disposed-made, ended-stays}
 use Rattle.ckr_points_invariant.proofs.Writes.Roles.{formed-roles}
 use Rattle.ckr_points_invariant.proofs.Start.Invariant as starting
 use Rattle.ckr_points_invariant.proofs.Start.Event.{StartsNow}
@@ -128,11 +128,11 @@ module _ (layout : Layout) (office : Office) (number : ℕ) (row : RunRow) (leg 
         | inr shared ↦ step_left name leg.job leg.start place_so.formed shared step owned at_step
       ]
 
-  -- it hasn't passed it on as made
-  never-entered : is_among (passed_made row.passed) name ≡ false
-  never-entered =
+  -- it hasn't passed it on as made, or has lost it
+  never-entered : is_among row.lost name ≡ false → is_among (passed_made row.passed) name ≡ false
+  never-entered stays =
       elim left [
-        | inl out ↦ place_so.entered name out
+        | inl out ↦ place_so.entered name out stays
         | inr shared ↦
             ap (λ passed. is_among (passed_made passed) name) place_so.passed
             ∙ (before_keeps name leg.job leg.start place_so.formed shared (step_now row)).free
@@ -140,7 +140,7 @@ module _ (layout : Layout) (office : Office) (number : ℕ) (row : RunRow) (leg 
 
   -- its end leaves it
   pub ended-left : entry_at (after_passed_ended row office.tables).sets name ≡ entry_at office.tables.sets name
-  ended-left = ended-leaves row.passed office.tables.sets name never-entered
+  ended-left = ended-stays row.lost row.passed office.tables.sets name never-entered
 
 -- ---- a step starts
 
@@ -191,24 +191,24 @@ module _ (layout : Layout) (office : Office) (number : ℕ) (row : RunRow) (leg 
       ap (λ all. entry_at (disposed_all table_ways all (standing_of row office.tables)).sets name) (disposals_are layout office number row leg owned step writes kept running abnormal)
       ∙ disposed_all-left name table_ways earlier abnormal (placed_at start) (standing_of row office.tables) (placed_at-left name start running-leaves)
 
-  disposed_enters : (abnormal : Bool) → is_among (passed_made (after_dispositions row owned step abnormal office.tables).passed) name ≡ false
-  disposed_enters abnormal = by left
+  disposed_enters : (abnormal : Bool) → is_among row.lost name ≡ false → is_among (passed_made (after_dispositions row owned step abnormal office.tables).passed) name ≡ false
+  disposed_enters abnormal stays = by left
     where
       by : IsLeft leg name → is_among (passed_made (after_dispositions row owned step abnormal office.tables).passed) name ≡ false
-      by (inl out) = disposed-enters layout office number row leg owned step writes kept running abnormal name out
+      by (inl out) = disposed-enters layout office number row leg owned step writes kept running abnormal name out stays
       by (inr shared) =
           ap (λ all. is_among (passed_made (disposed_all table_ways all (standing_of row office.tables)).passed) name) (disposals_are layout office number row leg owned step writes kept running abnormal)
           ∙ disposed-made table_ways name (disposals_of earlier abnormal (placed_at start)) (standing_of row office.tables)
           (unmade_left name earlier abnormal (placed_at start)
           (before_keeps name leg.job leg.start (kept.places number row leg running.holder).formed shared step).unmade
           (placed_at-left name start running-leaves))
-          (never-entered layout office number row leg name kept running.holder left)
+          (never-entered layout office number row leg name kept running.holder left stays)
 
   -- its run ends within it
   pub within-left : entry_at (after_abnormal row (Within step writes) office.tables).sets name ≡ entry_at office.tables.sets name
   within-left =
       ap (λ (o : Option OwnedStep). entry_at (option_map_or (λ owned. let done = after_dispositions row owned step true office.tables in after_passed_ended (record row { passed = done.passed }) (record office.tables { sets = done.sets })) o office.tables).sets name) running.found
-      ∙ ended-leaves (after_dispositions row owned step true office.tables).passed (after_dispositions row owned step true office.tables).sets name (disposed_enters true)
+      ∙ ended-stays row.lost (after_dispositions row owned step true office.tables).passed (after_dispositions row owned step true office.tables).sets name (disposed_enters true)
       ∙ disposed-left true
 
 -- a run ends at its place

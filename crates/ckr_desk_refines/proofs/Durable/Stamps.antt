@@ -2,7 +2,6 @@
 use Rattle.std.proofs.Common.{◌≡◌, ℕ, true, List, [], take, length, ap, sym, ◌∙◌, subst, Option, Some}
 use Rattle.std.proofs.lemmas.List.{take-take}
 use Rattle.std.specs.Option.{is_some, option_map, option_map_or}
-use Rattle.std.proofs.lemmas.Option.{same_Some}
 use Rattle.ckr_library.specs.declared.sets.Content.{Content}
 use Rattle.ckr_library.specs.declared.sets.Content.TheVariants.{Plain}
 use Rattle.ckr_library.specs.declared.sets.DataSet.{DataSet}
@@ -14,7 +13,8 @@ use Rattle.ckr_meaning.specs.JobRun.{start_at}
 use Rattle.ckr_points.specs.Office.{Leg, Office, leg_of, library_for, model_records}
 use Rattle.ckr_points.specs.Rows.{TableSet}
 use Rattle.ckr_points.specs.Soundness.{AgreesAt, HasLength, StampedAt, records_at_stamp, stamped_writes}
-use Rattle.ckr_points_invariant.specs.Invariant.{HasBegun, IsKept, Shape, counted, library_at_stamp, set_shape, table_shape}
+use Rattle.ckr_points_invariant.specs.Invariant.{HasBegun, IsKept, Shape, counted, set_shape, table_shape}
+use Rattle.ckr_points_invariant.proofs.Stamps.Sameness.{begun-same}
 use Rattle.ckr_points_invariant.proofs.Soundness.{kept-agrees}
 use Rattle.ckr_points_invariant.proofs.Stamps.Tables.{alike_set, kept-stamped, led-by-begun, library-begun}
 use Rattle.ckr_volumes.specs.declared.layout.Layout.{Layout}
@@ -24,16 +24,6 @@ use Rattle.ckr_volumes.specs.SamePlaces.{same_places}
 use Rattle.ckr_desk_refines.specs.Commits.{HasCommitted}
 use Rattle.ckr_desk_refines.specs.Origins.{IsPartOf, Stems}
 use Rattle.ckr_desk_refines.specs.Origins.Stems.{stays, empty, written}
-
--- ---- two begun data sets of one stamp
-
-pub same-begun : (office : Office) (name : Name) (one two : LibrarySet) → HasBegun office name one → HasBegun office name two → one.stamp ≡ two.stamp → length one.records ≡ length two.records → one.records ≡ two.records
-same-begun office name one two first second stamp long =
-    let last : first.last ≡ second.last = same_Some first.last second.last (sym first.found ∙ ap (λ stamp. entry_at (library_at_stamp office stamp) name) stamp ∙ second.found) in
-    sym first.begins
-    ∙ ap (λ (n : ℕ). take n first.last.records) long
-    ∙ ap (λ (set : LibrarySet). take (length two.records) set.records) last
-    ∙ second.begins
 
 -- ---- the office's records of a data set
 
@@ -78,7 +68,7 @@ as-office layout office name table set kept e plain same begun =
     let here : its.0.content ≡ Plain = ap (λ (shape : Shape). shape.content) (sym its.2) ∙ plain in
     let there : set.content ≡ Plain = ap (λ (shape : Shape). shape.content) (sym same) ∙ plain in
     ap records_at its.1
-    ∙ same-begun office name its.0 set (stands.1 its.0 its.1) begun (ap (λ (shape : Shape). shape.stamp) shapes)
+    ∙ begun-same office name its.0 set (stands.1 its.0 its.1) begun (ap (λ (shape : Shape). shape.stamp) shapes)
     (sym (counted-plain its.0.content (length its.0.records) here) ∙ ap (λ (shape : Shape). shape.length) shapes ∙ counted-plain set.content (length set.records) there)
 
 -- ---- what an image has goes on

@@ -12,8 +12,9 @@ use Rattle.ckr_jcl.specs.declared.deck.Kind.{Kind}
 use Rattle.ckr_jcl.specs.declared.deck.Origin.{Origin}
 use Rattle.ckr_jcl.specs.declared.deck.Origin.TheVariants.{InStream, Sysout, Dummy}
 use Rattle.ckr_jcl.specs.declared.deck.Step.{Step}
+use Rattle.ckr_jcl.specs.Qualifiers.{is_kept_name}
 use Rattle.ckr_jcl_decks.specs.Parts.DdText.{DdText}
-use Rattle.ckr_jcl_decks.specs.Parts.DdValues.{dsn_value, is_kept_name, is_passing, is_referring, passing_name, permanent_name}
+use Rattle.ckr_jcl_decks.specs.Parts.DdValues.{dsn_value, is_passing, is_referring, passing_name, permanent_name}
 use Rattle.ckr_jcl_decks.specs.Parts.DeckText.{dd_text}
 use Rattle.ckr_jcl_decks.specs.Parts.DsnText.{DsnText}
 use Rattle.ckr_jcl_decks.specs.Parts.DsnText.TheVariants.{Permanent, Passing, Referring, IllFormed}

@@ -25,7 +25,7 @@ use Rattle.ckr_meaning.specs.declared.place.Place.TheVariants.{Before, Opened, W
 use Rattle.ckr_points_library.specs.Commit.{output_names}
 use Rattle.ckr_points.specs.declared.run.RunState.TheVariants.{Held as HeldRun, Released as ReleasedRun, Denied as DeniedRun, Ended as EndedRun, Purged as PurgedRun, On, Queued}
 use Rattle.ckr_points.specs.Follows.{are_lengths, follows, is_checkpoint, is_in_state, is_length_of, is_rewrite, is_running, is_within, lengths_follow, may_start, of_step, own_step, selected_follows, started_follows}
-use Rattle.ckr_points.specs.Marks.{marks_now, own_names, present_at, present_of}
+use Rattle.ckr_points.specs.Marks.{marks_now, own_names, present_at, present_of, has_passed}
 use Rattle.ckr_points.specs.Office.{Office, is_holder}
 use Rattle.ckr_points.specs.Restart.{after_abnormal, after_ended, after_event, after_passed_ended, by_step, kept_at, place_of, step_in}
 use Rattle.ckr_points.specs.Rows.{EffectPoint, KeptEntry, RunRow, TableSet, TablesModel, run_of, step_of_run, with_run}
@@ -321,10 +321,10 @@ module _ (layout : Layout) (now : Office) (agreed : IsAgreed layout now) (job : 
 
   passed-none : (base : TablesModel) (was row : RunRow) → row.number ≡ job → effects.HasRow layout now agreed job are base was → Stays (after_passed_ended row base)
   passed-none base was row same has =
-      let next : RunRow = record row { state = EndedRun; initiator = None; code = None; passed = []; in_effect = None } in
+      let next : RunRow = record row { state = EndedRun; initiator = None; code = None; passed = []; lost = []; in_effect = None } in
       effects.by-none layout now agreed job are (after_passed_ended row base) next
-      (effects.row-next layout now agreed job are (record base { sets = passed_ended row.passed base.sets }) was next same
-      (effects.row-sets layout now agreed job are base was (passed_ended row.passed base.sets) has))
+      (effects.row-next layout now agreed job are (record base { sets = passed_ended (has_passed row) base.sets }) was next same
+      (effects.row-sets layout now agreed job are base was (passed_ended (has_passed row) base.sets) has))
       refl
 
   disposed-none : (base : TablesModel) (was row : RunRow) (owned : OwnedStep) (step : ℕ) → row.number ≡ job → effects.HasRow layout now agreed job are base was

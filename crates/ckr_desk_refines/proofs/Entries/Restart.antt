@@ -11,7 +11,7 @@ use Rattle.ckr_library.specs.Catalog.{ends_within}
 use Rattle.ckr_library.specs.NameMaps.{Named}
 use Rattle.ckr_meaning.specs.EffectiveJob.{OwnedStep, names_of}
 use Rattle.ckr_points_library.specs.Commit.{output_names}
-use Rattle.ckr_points.specs.Marks.{deck_names, point_at, present_at, put_back, put_back_passed, removed_all, with_point}
+use Rattle.ckr_points.specs.Marks.{point_at, present_at, put_back, removed_all, with_point}
 use Rattle.ckr_points.specs.Office.{Office}
 use Rattle.ckr_points.specs.Restart.{Back, after_event, after_put_back, after_restarted, back_to_entry, back_to_start, by_step, effect_restarted, kept_at, point_restarted, row_on}
 use Rattle.ckr_points.specs.Rows.{EffectPoint, KeptEntry, RunRow, TableSet, TablesModel, run_of, step_of_run}
@@ -39,7 +39,7 @@ module _ (layout : Layout) (now : Office) (agreed : IsAgreed layout now) (job : 
   row_back row owned back = record row {
     place = Some back.place;
     count = back.count;
-    passed = put_back_passed back.marks (deck_names row.job.root row.number row.deck) (sets_back row owned back) back.passed;
+    passed = back.passed;
   }
 
   has-back : (row next : RunRow) (owned : OwnedStep) (back : Back) → run_of tables job ≡ Some row → next.number ≡ row.number → effects.HasRow layout now agreed job are (after_put_back next owned back tables) (row_back next owned back)

@@ -14,7 +14,7 @@ use Rattle.ckr_meaning.specs.declared.place.Place.{Place}
 use Rattle.ckr_meaning.specs.declared.place.Place.TheVariants.{Before, Opened, Within}
 use Rattle.ckr_points_library.specs.Commit.{output_names}
 use Rattle.ckr_points.specs.declared.run.RunState.TheVariants.{Ended as EndedRun}
-use Rattle.ckr_points.specs.Marks.{deck_names, point_at, put_back, put_back_passed, removed_all, with_point}
+use Rattle.ckr_points.specs.Marks.{point_at, put_back, removed_all, with_point, has_passed}
 use Rattle.ckr_points.specs.Restart.{Back, after_abnormal, after_ended, after_passed_ended, after_put_back, after_restarted, back_to_entry, back_to_start, by_step, effect_restarted, kept_at, place_of, point_restarted, row_on}
 use Rattle.ckr_points.specs.Rows.{RunRow, TableSet, TablesModel, run_of, standing_of, step_of_run, with_row, with_run}
 use Rattle.ckr_points.specs.Tables.{after_commit, after_dispositions, after_step_ended, committed, earlier_made, own_made, run_disposals}
@@ -92,8 +92,8 @@ module _ (jobs : List Effective) (E : TableSet → Type 0) (stays : sets.Stays E
 
   passed-holds : (tables : TablesModel) (row : RunRow) → Hold tables → Fits row → Hold (after_passed_ended row tables)
   passed-holds tables row holds mine =
-      run-holds (record row { state = EndedRun; initiator = None; code = None; passed = []; in_effect = None }) (record tables { sets = passed_ended row.passed tables.sets }) mine
-      (sets-hold tables (passed_ended row.passed tables.sets) (sets.passed_ended-stays E stays row.passed tables.sets holds.each) holds)
+      run-holds (record row { state = EndedRun; initiator = None; code = None; passed = []; lost = []; in_effect = None }) (record tables { sets = passed_ended (has_passed row) tables.sets }) mine
+      (sets-hold tables (passed_ended (has_passed row) tables.sets) (sets.passed_ended-stays E stays (has_passed row) tables.sets holds.each) holds)
 
   abnormal-holds : (row : RunRow) (place : Place) (tables : TablesModel) → Hold tables → Fits row → Hold (after_abnormal row place tables)
   abnormal-holds row (Before step) tables holds mine = passed-holds tables row holds mine
@@ -121,7 +121,7 @@ module _ (jobs : List Effective) (E : TableSet → Type 0) (stays : sets.Stays E
   put_back-holds tables row owned back holds mine =
       let left : Named TableSet = removed_all back.removed tables.sets in
       let there : Named TableSet = put_back back.marks (output_names row.job.root owned) back.needed left in
-      run-holds (record row { place = Some back.place; count = back.count; passed = put_back_passed back.marks (deck_names row.job.root row.number row.deck) there back.passed }) (record tables { sets = there }) mine
+      run-holds (record row { place = Some back.place; count = back.count; passed = back.passed }) (record tables { sets = there }) mine
       (sets-hold tables there
       (sets.put_back-stays E stays back.marks (output_names row.job.root owned) back.needed left (sets.removed_all-stays E stays back.removed tables.sets holds.each)) holds)
 

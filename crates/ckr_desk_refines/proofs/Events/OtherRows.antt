@@ -23,7 +23,7 @@ use Rattle.ckr_points.specs.declared.run.RunState.{RunState}
 use Rattle.ckr_points.specs.declared.run.RunState.TheVariants.{Ended as EndedRun, Held as HeldRun, On, Purged as PurgedRun, Queued, Released as ReleasedRun}
 use Rattle.ckr_points.specs.Tables.{after_commit, after_dispositions, after_held, after_started, after_step_ended, committed, made_tables, queued_run, start_point}
 use Rattle.ckr_points.specs.Follows.{state_number}
-use Rattle.ckr_points.specs.Marks.{deck_names, point_at, put_back, put_back_passed, removed_all, with_point}
+use Rattle.ckr_points.specs.Marks.{point_at, put_back, removed_all, with_point, has_passed}
 use Rattle.ckr_points.specs.Office.{Office, leg_of, office_after}
 use Rattle.ckr_points.specs.Restart.{Back, after_abnormal, after_ended, after_passed_ended, after_put_back, after_restarted, back_to_entry, back_to_start, by_run, effect_restarted, kept_at, place_of, point_restarted, row_on, step_in}
 use Rattle.ckr_points.specs.Rows.{RunRow, TableSet, TablesModel, run_of, standing_of, step_of_run, table_ways, with_run}
@@ -78,7 +78,7 @@ commit-stays run now row owned step writes lengths same =
 
 ended-stays : (run : ℕ) (now tables : TablesModel) (row : RunRow) → row.number ≡ run → RowsStay run now tables → RowsStay run now (after_passed_ended row tables)
 ended-stays run now tables row same stay =
-    put-stays run now (record tables { sets = passed_ended row.passed tables.sets }) (record row { state = EndedRun; initiator = None; code = None; passed = []; in_effect = None }) same stay
+    put-stays run now (record tables { sets = passed_ended (has_passed row) tables.sets }) (record row { state = EndedRun; initiator = None; code = None; passed = []; lost = []; in_effect = None }) same stay
 
 abnormal-stays : (run : ℕ) (now tables : TablesModel) (row : RunRow) (place : Place) → row.number ≡ run → RowsStay run now tables → RowsStay run now (after_abnormal row place tables)
 abnormal-stays run now tables row (Before step) same stay = ended-stays run now tables row same stay
@@ -113,7 +113,7 @@ back-stays : (run : ℕ) (now : TablesModel) (row : RunRow) (owned : OwnedStep) 
 back-stays run now row owned back same =
     let sets : Named TableSet = put_back back.marks (output_names row.job.root owned) back.needed (removed_all back.removed now.sets) in
     put-stays run now (record now { sets = sets })
-    (record row { place = Some back.place; count = back.count; passed = put_back_passed back.marks (deck_names row.job.root row.number row.deck) sets back.passed }) same
+    (record row { place = Some back.place; count = back.count; passed = back.passed }) same
     (λ other apart. refl)
 
 restart-stays : (run : ℕ) (now : TablesModel) (row : RunRow) (owned : OwnedStep) (step initiator : ℕ) (checkpoint : Bool) → row.number ≡ run → RowsStay run now (after_restarted row owned step initiator checkpoint now)

@@ -110,21 +110,21 @@ turn-waits layout old new image desk turn answer job code stands its waits waite
 
 -- ---- the other calls
 
-pub submitted-committed : (layout : Layout) (jobs : JobsView) (before : List ℕ) (desk : DeskModel) (cards : List ℕ) (deck : Job) → StandsForDesk layout jobs before desk → 81 ≤ length cards → stored_deck cards ≡ Ok deck → is_run deck ≡ true
+pub submitted-committed : (layout : Layout) (jobs : JobsView) (before : List ℕ) (desk : DeskModel) (cards : List ℕ) (deck : Job) → StandsForDesk layout jobs before desk → suc (length desk.office.tables.runs) ≤ 9999999 → 81 ≤ length cards → stored_deck cards ≡ Ok deck → is_run deck ≡ true
     → (image : List ℕ) → HasSameRecords desk.layout before image → HasCommitted desk.layout (submitted (kept_of_stored cards) deck desk).office image
-submitted-committed layout jobs before desk cards deck stands some accepted runs image same =
-    let later : IsDesk (submitted (kept_of_stored cards) deck desk) = stored-keeps desk stands.is_desk cards deck some accepted runs in
+submitted-committed layout jobs before desk cards deck stands few some accepted runs image same =
+    let later : IsDesk (submitted (kept_of_stored cards) deck desk) = stored-keeps desk stands.is_desk cards deck few some accepted runs in
     committed-moves desk.layout (submitted (kept_of_stored cards) deck desk).office before image later.kept same
     (submitted-stays desk.layout desk.office before (suc (length desk.office.tables.runs)) (kept_of_stored cards) (Some deck) stands.is_desk.kept later.kept stands.committed)
 
-pub submitted-stands : (layout : Layout) (old new : JobsView) (before after : List ℕ) (desk : DeskModel) (cards : List ℕ) (deck : Job) → StandsForDesk layout old before desk → 81 ≤ length cards → stored_deck cards ≡ Ok deck → is_run deck ≡ true
+pub submitted-stands : (layout : Layout) (old new : JobsView) (before after : List ℕ) (desk : DeskModel) (cards : List ℕ) (deck : Job) → StandsForDesk layout old before desk → suc (length desk.office.tables.runs) ≤ 9999999 → 81 ≤ length cards → stored_deck cards ≡ Ok deck → is_run deck ≡ true
     → HaveMoved (Submitted (suc (length desk.office.tables.runs)) (kept_of_stored cards)) (Some deck) old new → HasSameRecords desk.layout before after → StandsForDesk layout new after (submitted (kept_of_stored cards) deck desk)
-submitted-stands layout old new before after desk cards deck stands some accepted runs moved same =
+submitted-stands layout old new before after desk cards deck stands few some accepted runs moved same =
     let out : EntersOut desk.office (submitted (kept_of_stored cards) deck desk).office = submitted-enters desk.office (kept_of_stored cards) deck in
     entered-stands layout old new before after desk (Submitted (suc (length desk.office.tables.runs)) (kept_of_stored cards)) (Some deck) stands moved same refl
-    (stored-keeps desk stands.is_desk cards deck some accepted runs) out.enters moved.running refl moved.points
+    (stored-keeps desk stands.is_desk cards deck few some accepted runs) out.enters moved.running refl moved.points
     (out-stands desk.office (submitted (kept_of_stored cards) deck desk).office out old.points)
-    (submitted-committed layout old before desk cards deck stands some accepted runs after same)
+    (submitted-committed layout old before desk cards deck stands few some accepted runs after same)
 
 pub purged-committed : (layout : Layout) (jobs : JobsView) (before : List ℕ) (desk : DeskModel) (job : ℕ) (row : RunRow) → StandsForDesk layout jobs before desk → run_of desk.office.tables job ≡ Some row → row.state ≡ Queued
     → (image : List ℕ) → HasSameRecords desk.layout before image → HasCommitted desk.layout (purged job desk).office image
