@@ -10,6 +10,8 @@ mod decks;
 #[cfg(test)]
 mod follows;
 #[cfg(test)]
+mod freshness;
+#[cfg(test)]
 mod inputs;
 #[cfg(test)]
 mod matching;
@@ -23,6 +25,8 @@ mod queue;
 mod restarts;
 #[cfg(test)]
 mod rules;
+#[cfg(test)]
+mod statements;
 #[cfg(test)]
 mod steps;
 #[cfg(test)]
