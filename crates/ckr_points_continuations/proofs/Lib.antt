@@ -18,3 +18,5 @@ pub mod PointsBehind
 pub mod WrittenEntries
 pub mod Agreement
 pub mod ReachedNames
+pub mod OfficesBehind
+pub mod SelectedRuns

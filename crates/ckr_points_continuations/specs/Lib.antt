@@ -1,1 +1,3 @@
 pub mod EarlierRun
+pub mod OfficeBehind
+pub mod JobNames

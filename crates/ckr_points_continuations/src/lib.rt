@@ -3,4 +3,4 @@
 
 mod laws;
 
-pub use laws::continued_runs_stand_at_their_place;
+pub use laws::{continued_runs_stand_at_their_place, selections_of_continued_runs_agree};

@@ -20,7 +20,7 @@ use Rattle.ckr_points_invariant.proofs.Continuations.Follows.{MayContinue}
 use Rattle.ckr_points_invariant.proofs.Library.PassedList.{made-without}
 use Rattle.ckr_points_continuations.specs.EarlierRun.{Coming, leg_from, leg_then, row_then}
 use Rattle.ckr_points_continuations.proofs.LostNames.{kept-exists}
-use Rattle.ckr_points_continuations.proofs.ReachedNames.JobNames.{AreKin, BeginsAtRoot, HasJobName, IsNamedByDeck, IsReachNamed}
+use Rattle.ckr_points_continuations.specs.JobNames.{AreKin, BeginsAtRoot, HasJobName, IsNamedByDeck, IsReachNamed}
 use Rattle.ckr_points_continuations.proofs.ReachedNames.Statements.{step-names-same}
 use Rattle.ckr_points_continuations.proofs.ReachedNames.OwnSteps.{among-at, among-rest, first-same, names-owned, own-steps, step-either}
 

@@ -36,7 +36,7 @@ use Rattle.ckr_points_invariant.proofs.Decks.Events.{row-orderly}
 use Rattle.ckr_points_invariant.proofs.Decks.Names.{orderly-dds, orderly-number}
 use Rattle.ckr_points_invariant.proofs.Holders.Rows.{holder-ended, queued-is, step-all}
 use Rattle.ckr_points_continuations.specs.EarlierRun.{Coming, leg_from, leg_then, row_then}
-use Rattle.ckr_points_continuations.proofs.ReachedNames.JobNames.{AreKin, BeginsAtRoot, HasJobName, IsReachNamed}
+use Rattle.ckr_points_continuations.specs.JobNames.{AreKin, BeginsAtRoot, HasJobName, IsReachNamed}
 use Rattle.ckr_points_continuations.proofs.ReachedNames.OwnSteps.{names-owned}
 use Rattle.ckr_points_continuations.proofs.ReachedNames.DeckNames.{own-named, owner-kin, reached-so, root-kin}
 

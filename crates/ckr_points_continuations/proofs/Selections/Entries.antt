@@ -87,7 +87,7 @@ module _ (layout : Layout) (now : Office) (job initiator before step : ℕ) (id 
       (written.sets set in-table.0 in-table.1).written in-table.2
 
   -- its writes are some of the step's
-  few-writes : entry.point.writes ≤ length (work_at (start_by its_leg earlier-start.begun.owned step)).writes
+  pub few-writes : entry.point.writes ≤ length (work_at (start_by its_leg earlier-start.begun.owned step)).writes
   few-writes =
       let run_is : entry.point.run ≡ suc before = of-run.0 ∙ earlier.other_is layout now job initiator before step (Some id) its start reach kept orderly begun pointed led covers in
       let same_leg : written-so.leg ≡ its_leg = some-one written-so.leg its_leg (leg_of now entry.point.run) written-so.leg_at (ap (leg_of now) run_is ∙ led) in
@@ -101,7 +101,7 @@ module _ (layout : Layout) (now : Office) (job initiator before step : ℕ) (id 
   -- ---- where it comes to
 
   -- with the checkpoint in effect
-  abbrev row_at_entry : RunRow
+  abbrev pub row_at_entry : RunRow
   row_at_entry = record row_before { in_effect = Some (fresh_effect set entry.kept) }
 
   abbrev pub back : Back

@@ -1,0 +1,73 @@
+-- The office behind the selection of a continued run, where no other holder reaches a name that it reaches: all that is proved of it.
+use Rattle.std.proofs.Common.{◌≡◌, ℕ, suc, true, false, [], List, ◌++◌, sym, subst, Option, Some}
+use Rattle.std.specs.Option.{is_some}
+use Rattle.ckr_base.proofs.Options.{some-one}
+use Rattle.ckr_entry.specs.declared.point.Mark.{Mark}
+use Rattle.ckr_library.specs.NameMaps.{Name}
+use Rattle.ckr_meaning.specs.EffectiveJob.{OwnedStep, is_among, names_of_job}
+use Rattle.ckr_meaning.specs.JobRun.{at}
+use Rattle.ckr_meaning.specs.LibrarySet.{Library}
+use Rattle.ckr_volumes.specs.declared.layout.Layout.{Layout}
+use Rattle.ckr_points.specs.Marks.{mark_at, own_names}
+use Rattle.ckr_points.specs.Office.{Leg, Office, leg_of}
+use Rattle.ckr_points.specs.Restart.{step_in}
+use Rattle.ckr_points.specs.Rows.{RunRow}
+use Rattle.ckr_points_invariant.specs.Invariant.{AreAlike, IsHolder, IsKept}
+use Rattle.ckr_points_invariant.specs.Points.{ArePointed}
+use Rattle.ckr_points_invariant.specs.StartedSteps.{AreBegunSteps}
+use Rattle.ckr_points_invariant.proofs.Continuations.Follows.{MayContinue}
+use Rattle.ckr_points_continuations.specs.EarlierRun.{Coming, IsContinued, IsPutBack, leg_from, leg_then, row_then, sets_then}
+use Rattle.ckr_points_continuations.specs.OfficeBehind.{AgreesBehind}
+use Rattle.ckr_points_continuations.proofs.Agreement as agreement
+use Rattle.ckr_points_continuations.proofs.Continued.{agrees-continued, place-continued}
+use Rattle.ckr_points_continuations.proofs.Offices as offices
+use Rattle.ckr_points_continuations.proofs.Places.{comes-stands, most}
+use Rattle.ckr_points_continuations.proofs.PointsBehind.{pointed-behind, stamped-behind}
+use Rattle.ckr_points_continuations.proofs.Steps as steps
+
+module _ (layout : Layout) (now : Office) (job initiator before step : ℕ) (id : Option Name) (its : MayContinue layout now.tables job initiator (suc before) step id) (start : Library) (reach : List Name)
+    (kept : IsKept layout now) (begun : AreBegunSteps now) (pointed : ArePointed now) (led : leg_of now (suc before) ≡ Some (leg_from its.other start reach))
+    (covers : (name : Name) → is_some (mark_at its.point.marks name) ≡ is_among (names_of_job its.other.job) name) (coming : Coming) (marks : List Mark) (needed removed others : List Name)
+    (continued : IsContinued now its.row its.other start reach step its.point initiator coming marks needed removed others) where
+  abbrev next : RunRow
+  next = row_then now its.row its.other step its.point initiator coming
+
+  abbrev leg : Leg
+  leg = leg_then now next (leg_from its.other start reach)
+
+  abbrev behind : Office
+  behind = agreement.behind layout now job initiator before step id its start reach kept begun pointed led covers coming marks needed removed
+
+  same-step : its.owned ≡ continued.earlier.begun.owned
+  same-step = some-one its.owned continued.earlier.begun.owned _ its.found continued.earlier.begun.found
+
+  stands : step_in coming.place ≡ step
+  stands = comes-stands step (most now its.row its.other start reach step its.point continued.earlier initiator coming []) coming.place continued.comes
+
+  back : IsPutBack now next its.other its.owned start coming marks needed removed (own_names next ++ others)
+  back = subst (λ (owned : OwnedStep). IsPutBack now next its.other owned start coming marks needed removed (own_names next ++ others)) (sym same-step) continued.back
+
+  alike : (name : Name) → is_among leg.reach name ≡ true → AreAlike behind.tables.sets (at leg.job leg.start coming.place).sets name
+  alike name among =
+      subst (λ (owned : OwnedStep). AreAlike (sets_then now its.other owned marks needed removed) (at leg.job leg.start coming.place).sets name) (sym same-step)
+      (agrees-continued now its.row its.other start reach step its.point initiator coming marks needed removed others continued name among)
+
+  new : (name : Name) → is_among (own_names next) name ≡ true → is_among (names_of_job its.other.job) name ≡ false → AreAlike now.tables.sets now.library name
+  new name mine out = continued.left name (steps.own now its.row its.other start reach step its.point continued.earlier initiator coming stands behind.tables.sets name mine)
+
+  pub agrees-behind : ((number : ℕ) (row : RunRow) (its_leg : Leg) (name : Name) → IsHolder now number row its_leg → is_among leg.reach name ≡ true → is_among its_leg.reach name ≡ false) → AgreesBehind layout behind
+  agrees-behind alone = record {
+    extents = agreement.extents-behind layout now job initiator before step id its start reach kept begun pointed led covers coming marks needed removed;
+    numbered = agreement.numbered-behind layout now job initiator before step id its start reach kept begun pointed led covers coming marks needed removed;
+    waiting = agreement.waiting-behind layout now job initiator before step id its start reach kept begun pointed led covers coming marks needed removed;
+    legs = agreement.legs-behind-known layout now job initiator before step id its start reach kept begun pointed led covers coming marks needed removed;
+    led = agreement.led-behind layout now job initiator before step id its start reach kept begun pointed led covers coming marks needed removed;
+    places =
+        agreement.places-behind layout now job initiator before step id its start reach kept begun pointed led covers coming marks needed removed
+        (place-continued now its.row its.other start reach step its.point initiator coming marks needed removed others continued behind.tables.sets);
+    held = agreement.held-behind layout now job initiator before step id its start reach kept begun pointed led covers coming marks needed removed alone (own_names next ++ others) back stands alike;
+    free = agreement.free-behind layout now job initiator before step id its start reach kept begun pointed led covers coming marks needed removed alone (own_names next ++ others) back stands;
+    stamps = stamped-behind layout now job initiator before step id its start reach kept begun pointed led covers coming marks needed removed stands;
+    pointed = pointed-behind layout now job initiator before step id its start reach kept begun pointed led covers coming marks needed removed new;
+    begun = offices.begun-behind layout now job initiator before step id its start reach kept begun pointed led covers coming behind.tables.sets stands;
+  }
