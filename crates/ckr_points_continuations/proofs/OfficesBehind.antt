@@ -17,6 +17,8 @@ use Rattle.ckr_points_invariant.specs.Points.{ArePointed}
 use Rattle.ckr_points_invariant.specs.StartedSteps.{AreBegunSteps}
 use Rattle.ckr_points_invariant.proofs.Continuations.Follows.{MayContinue}
 use Rattle.ckr_points_continuations.specs.EarlierRun.{Coming, IsContinued, IsPutBack, leg_from, leg_then, row_then, sets_then}
+use Rattle.ckr_points_invariant.proofs.Decks.Events.{with-orderly}
+use Rattle.ckr_points_continuations.specs.JobNames.{IsReachNamed}
 use Rattle.ckr_points_continuations.specs.OfficeBehind.{AgreesBehind}
 use Rattle.ckr_points_continuations.proofs.Agreement as agreement
 use Rattle.ckr_points_continuations.proofs.Continued.{agrees-continued, place-continued}
@@ -55,8 +57,9 @@ module _ (layout : Layout) (now : Office) (job initiator before step : ℕ) (id 
   new : (name : Name) → is_among (own_names next) name ≡ true → is_among (names_of_job its.other.job) name ≡ false → AreAlike now.tables.sets now.library name
   new name mine out = continued.left name (steps.own now its.row its.other start reach step its.point continued.earlier initiator coming stands behind.tables.sets name mine)
 
-  pub agrees-behind : ((number : ℕ) (row : RunRow) (its_leg : Leg) (name : Name) → IsHolder now number row its_leg → is_among leg.reach name ≡ true → is_among its_leg.reach name ≡ false) → AgreesBehind layout behind
-  agrees-behind alone = record {
+  pub agrees-behind : ((number : ℕ) (row : RunRow) (its_leg : Leg) (name : Name) → IsHolder now number row its_leg → is_among leg.reach name ≡ true → is_among its_leg.reach name ≡ false)
+      → ((number : ℕ) (row : RunRow) (its_leg : Leg) → IsHolder behind number row its_leg → IsReachNamed behind row its_leg) → AgreesBehind layout behind
+  agrees-behind alone named = record {
     extents = agreement.extents-behind layout now job initiator before step id its start reach kept begun pointed led covers coming marks needed removed;
     numbered = agreement.numbered-behind layout now job initiator before step id its start reach kept begun pointed led covers coming marks needed removed;
     waiting = agreement.waiting-behind layout now job initiator before step id its start reach kept begun pointed led covers coming marks needed removed;
@@ -70,4 +73,6 @@ module _ (layout : Layout) (now : Office) (job initiator before step : ℕ) (id 
     stamps = stamped-behind layout now job initiator before step id its start reach kept begun pointed led covers coming marks needed removed stands;
     pointed = pointed-behind layout now job initiator before step id its start reach kept begun pointed led covers coming marks needed removed new;
     begun = offices.begun-behind layout now job initiator before step id its start reach kept begun pointed led covers coming behind.tables.sets stands;
+    decks = with-orderly next (record now.tables { sets = behind.tables.sets }) continued.earlier.orderly kept.decks;
+    named = named;
   }

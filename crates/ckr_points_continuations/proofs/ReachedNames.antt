@@ -3,3 +3,4 @@ pub mod Statements
 pub mod OwnSteps
 pub mod DeckNames
 pub mod OtherHolders
+pub mod NamesBehind

@@ -10,9 +10,10 @@ use Rattle.ckr_points.specs.Office.{Leg, Office, is_holder, leg_of, standing_at}
 use Rattle.ckr_points.specs.Rows.{RunRow, run_of}
 use Rattle.ckr_points.specs.Soundness.{AreLaidOut}
 use Rattle.ckr_points.specs.declared.run.RunState.TheVariants.{Queued}
-use Rattle.ckr_points_invariant.specs.Invariant.{AreAlike, AreStamped, IsAtPlace, IsFree, IsHolder, IsKnownLeg, IsWaiting}
+use Rattle.ckr_points_invariant.specs.Invariant.{AreAlike, AreOrderly, AreStamped, IsAtPlace, IsFree, IsHolder, IsKnownLeg, IsWaiting}
 use Rattle.ckr_points_invariant.specs.Points.{ArePointed}
 use Rattle.ckr_points_invariant.specs.StartedSteps.{AreBegunSteps}
+use Rattle.ckr_points_continuations.specs.JobNames.{IsReachNamed}
 
 pub record AgreesBehind (layout : Layout) (office : Office) : Type 0 where
   pub extents : AreLaidOut layout office.tables.sets
@@ -27,3 +28,5 @@ pub record AgreesBehind (layout : Layout) (office : Office) : Type 0 where
   pub stamps : AreStamped office
   pub pointed : ArePointed office
   pub begun : AreBegunSteps office
+  pub decks : AreOrderly office.tables
+  pub named : (number : ℕ) (row : RunRow) (leg : Leg) → IsHolder office number row leg → IsReachNamed office row leg

@@ -47,8 +47,8 @@ pub fn continued_runs_stand_at_their_place()
 
 /// Behind the event that selects a run to continue another one, at the start of a step or at a checkpoint, the office agrees with its jobs:
 /// each holder stands at its place, of each name that a holder reaches the tables have what its job has there, and every other name is as the
-/// ended jobs left it; each point says what its run's job has, and each run keeps what it had as it began its steps. It rests on what the
-/// events keep, on points that mark the names of their jobs and no other, and on the job names of runs and the names that they reach (IBM
+/// ended jobs left it; each point says what its run's job has, each run keeps what it had as it began its steps, and each holder reaches
+/// names of its deck alone. It rests on what the events keep, on points that mark the names of their jobs and no other, and on the job names of runs and the names that they reach (IBM
 /// GC28-6708, deferred restarts).
 pub fn selections_of_continued_runs_agree()
     ensures start { (layout : Layout) (now : Office) (job initiator before step : ℕ) (its : MayContinue layout now.tables job initiator (suc before) step None) (start : Library) (reach : List Name)

@@ -24,6 +24,7 @@ use Rattle.ckr_points_continuations.specs.OfficeBehind.{AgreesBehind}
 use Rattle.ckr_points_continuations.proofs.Agreement as agreement
 use Rattle.ckr_points_continuations.proofs.OfficesBehind.{agrees-behind}
 use Rattle.ckr_points_continuations.specs.JobNames.{AreKin, BeginsAtRoot, IsReachNamed}
+use Rattle.ckr_points_continuations.proofs.ReachedNames.NamesBehind.{named-behind}
 use Rattle.ckr_points_continuations.proofs.ReachedNames.OtherHolders as holders
 use Rattle.ckr_points_continuations.proofs.Reaches.{making-told}
 use Rattle.ckr_points_continuations.proofs.Selections.Earlier as earlier
@@ -69,4 +70,5 @@ module _ (layout : Layout) (now : Office) (job initiator before step : ℕ) (id 
       subst (λ tables. AgreesBehind layout (office_selected now job tables)) (sym (entries.tables-behind layout now job initiator before step id its start reach kept.events kept.decks begun pointed led covers written entry found entry_covers deck))
       (agrees-behind layout now job initiator before step (Some id) its start reach kept begun pointed led covers coming entry.point.marks its_back.needed its_back.removed
       (deck_names its.other.job.root its.row.number its.row.deck)
-      (entries.continued-entry layout now job initiator before step id its start reach kept.events kept.decks begun pointed led covers written entry found entry_covers left making) alone)
+      (entries.continued-entry layout now job initiator before step id its start reach kept.events kept.decks begun pointed led covers written entry found entry_covers left making) alone
+      (named-behind layout now job initiator before step (Some id) its start reach kept begun pointed led covers coming entry.point.marks its_back.needed its_back.removed kin (sets_back (entries.row_at_entry layout now job initiator before step id its start reach kept.events kept.decks begun pointed led covers written entry found entry_covers) its.owned its_back now.tables.sets) refl named))

@@ -25,6 +25,7 @@ use Rattle.ckr_points_continuations.specs.OfficeBehind.{AgreesBehind}
 use Rattle.ckr_points_continuations.proofs.Agreement as agreement
 use Rattle.ckr_points_continuations.proofs.OfficesBehind.{agrees-behind}
 use Rattle.ckr_points_continuations.specs.JobNames.{AreKin, BeginsAtRoot, IsReachNamed}
+use Rattle.ckr_points_continuations.proofs.ReachedNames.NamesBehind.{named-behind}
 use Rattle.ckr_points_continuations.proofs.ReachedNames.OtherHolders as holders
 use Rattle.ckr_points_continuations.proofs.Reaches.{making-told}
 use Rattle.ckr_points_continuations.proofs.Selections.Earlier as earlier
@@ -67,4 +68,5 @@ module _ (layout : Layout) (now : Office) (job initiator before step : ℕ) (its
       subst (λ tables. AgreesBehind layout (office_selected now job tables)) (sym (starts.tables-behind layout now job initiator before step its start reach kept.events kept.decks begun pointed led covers deck))
       (agrees-behind layout now job initiator before step None its start reach kept begun pointed led covers coming its.point.marks its_back.needed its_back.removed
       (deck_names its.other.job.root its.row.number its.row.deck)
-      (starts.continued-start layout now job initiator before step its start reach kept.events kept.decks begun pointed led covers dds left making) alone)
+      (starts.continued-start layout now job initiator before step its start reach kept.events kept.decks begun pointed led covers dds left making) alone
+      (named-behind layout now job initiator before step None its start reach kept begun pointed led covers coming its.point.marks its_back.needed its_back.removed kin (sets_back (continued_row its.row its.other step its.point initiator now.tables.sets) its.owned its_back now.tables.sets) refl named))
