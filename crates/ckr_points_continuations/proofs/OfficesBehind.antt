@@ -1,6 +1,8 @@
 -- The office behind the selection of a continued run, where no other holder reaches a name that it reaches: all that is proved of it.
-use Rattle.std.proofs.Common.{◌≡◌, ℕ, suc, true, false, [], List, ◌++◌, sym, subst, Option, Some}
+use Rattle.std.proofs.Common.{◌≡◌, ℕ, suc, true, false, [], List, ◌++◌, ◌∙◌, sym, subst, Option, Some}
 use Rattle.std.specs.Option.{is_some}
+use Rattle.std.proofs.lemmas.Bool.{false≢true}
+use Rattle.ckr_base.proofs.Bools.{bool-cases}
 use Rattle.ckr_base.proofs.Options.{some-one}
 use Rattle.ckr_entry.specs.declared.point.Mark.{Mark}
 use Rattle.ckr_library.specs.NameMaps.{Name}
@@ -14,18 +16,22 @@ use Rattle.ckr_points.specs.Restart.{step_in}
 use Rattle.ckr_points.specs.Rows.{RunRow}
 use Rattle.ckr_points_invariant.specs.Invariant.{AreAlike, IsHolder, IsKept}
 use Rattle.ckr_points_invariant.specs.Points.{ArePointed}
+use Rattle.ckr_points_invariant.specs.Readiness.{AreReady}
 use Rattle.ckr_points_invariant.specs.StartedSteps.{AreBegunSteps}
+use Rattle.ckr_points_invariant.specs.WrittenEntries.{AreWrittenEntries}
+use Rattle.ckr_points_invariant.proofs.WrittenEntries.Offices.{IsGrown}
 use Rattle.ckr_points_invariant.proofs.Continuations.Follows.{MayContinue}
-use Rattle.ckr_points_continuations.specs.EarlierRun.{Coming, IsContinued, IsPutBack, leg_from, leg_then, row_then, sets_then}
+use Rattle.ckr_points_continuations.specs.EarlierRun.{Coming, IsContinued, IsPutBack, leg_from, leg_then, row_then, sets_then, tables_then}
 use Rattle.ckr_points_invariant.proofs.Decks.Events.{with-orderly}
 use Rattle.ckr_points_continuations.specs.JobNames.{IsReachNamed}
 use Rattle.ckr_points_continuations.specs.OfficeBehind.{AgreesBehind}
 use Rattle.ckr_points_continuations.proofs.Agreement as agreement
-use Rattle.ckr_points_continuations.proofs.Continued.{agrees-continued, place-continued}
+use Rattle.ckr_points_continuations.proofs.Continued.{agrees-continued, outside-continued, place-continued}
 use Rattle.ckr_points_continuations.proofs.Offices as offices
 use Rattle.ckr_points_continuations.proofs.Places.{comes-stands, most}
 use Rattle.ckr_points_continuations.proofs.PointsBehind.{pointed-behind, stamped-behind}
 use Rattle.ckr_points_continuations.proofs.Steps as steps
+use Rattle.ckr_points_continuations.proofs.WrittenEntries.Offices.{written-behind}
 
 module _ (layout : Layout) (now : Office) (job initiator before step : ℕ) (id : Option Name) (its : MayContinue layout now.tables job initiator (suc before) step id) (start : Library) (reach : List Name)
     (kept : IsKept layout now) (begun : AreBegunSteps now) (pointed : ArePointed now) (led : leg_of now (suc before) ≡ Some (leg_from its.other start reach))
@@ -57,9 +63,23 @@ module _ (layout : Layout) (now : Office) (job initiator before step : ℕ) (id 
   new : (name : Name) → is_among (own_names next) name ≡ true → is_among (names_of_job its.other.job) name ≡ false → AreAlike now.tables.sets now.library name
   new name mine out = continued.left name (steps.own now its.row its.other start reach step its.point continued.earlier initiator coming stands behind.tables.sets name mine)
 
+  -- entries are as they were written
+  written-so : ((number : ℕ) (row : RunRow) (its_leg : Leg) (name : Name) → IsHolder now number row its_leg → is_among leg.reach name ≡ true → is_among its_leg.reach name ≡ false) → AreReady now → AreWrittenEntries now → IsGrown behind.tables.sets next → AreWrittenEntries behind
+  written-so alone ready written mine =
+      subst (λ (owned : OwnedStep). IsGrown (sets_then now its.other owned marks needed removed) next → AreWrittenEntries (record now { tables = tables_then now next (sets_then now its.other owned marks needed removed); legs = behind.legs })) (sym same-step)
+      (written-behind now its.row its.other start reach step its.point continued.earlier initiator coming marks needed removed behind.legs
+      (offices.other-legs layout now job initiator before step id its start reach kept begun pointed led covers coming behind.tables.sets) layout kept.events ready
+      (offices.alone layout now job initiator before step id its start reach kept begun pointed led covers coming behind.tables.sets) written
+      (λ number row its_leg apart holder name among.
+      outside-continued now its.row its.other start reach step its.point initiator coming marks needed removed others continued name
+      (bool-cases (is_among (own_names next) name)
+      (λ own. absurd (false≢true (sym (alone number row its_leg name holder (steps.own now its.row its.other start reach step its.point continued.earlier initiator coming stands behind.tables.sets name own)) ∙ among)))
+      (λ out. out))))
+      mine
+
   pub agrees-behind : ((number : ℕ) (row : RunRow) (its_leg : Leg) (name : Name) → IsHolder now number row its_leg → is_among leg.reach name ≡ true → is_among its_leg.reach name ≡ false)
-      → ((number : ℕ) (row : RunRow) (its_leg : Leg) → IsHolder behind number row its_leg → IsReachNamed behind row its_leg) → AgreesBehind layout behind
-  agrees-behind alone named = record {
+      → ((number : ℕ) (row : RunRow) (its_leg : Leg) → IsHolder behind number row its_leg → IsReachNamed behind row its_leg) → AreReady now → AreWrittenEntries now → IsGrown behind.tables.sets next → AgreesBehind layout behind
+  agrees-behind alone named ready written mine = record {
     extents = agreement.extents-behind layout now job initiator before step id its start reach kept begun pointed led covers coming marks needed removed;
     numbered = agreement.numbered-behind layout now job initiator before step id its start reach kept begun pointed led covers coming marks needed removed;
     waiting = agreement.waiting-behind layout now job initiator before step id its start reach kept begun pointed led covers coming marks needed removed;
@@ -73,6 +93,7 @@ module _ (layout : Layout) (now : Office) (job initiator before step : ℕ) (id 
     stamps = stamped-behind layout now job initiator before step id its start reach kept begun pointed led covers coming marks needed removed stands;
     pointed = pointed-behind layout now job initiator before step id its start reach kept begun pointed led covers coming marks needed removed new;
     begun = offices.begun-behind layout now job initiator before step id its start reach kept begun pointed led covers coming behind.tables.sets stands;
+    written = written-so alone ready written mine;
     decks = with-orderly next (record now.tables { sets = behind.tables.sets }) continued.earlier.orderly kept.decks;
     named = named;
   }

@@ -13,6 +13,7 @@ use Rattle.ckr_points.specs.declared.run.RunState.TheVariants.{Queued}
 use Rattle.ckr_points_invariant.specs.Invariant.{AreAlike, AreOrderly, AreStamped, IsAtPlace, IsFree, IsHolder, IsKnownLeg, IsWaiting}
 use Rattle.ckr_points_invariant.specs.Points.{ArePointed}
 use Rattle.ckr_points_invariant.specs.StartedSteps.{AreBegunSteps}
+use Rattle.ckr_points_invariant.specs.WrittenEntries.{AreWrittenEntries}
 use Rattle.ckr_points_continuations.specs.JobNames.{IsReachNamed}
 
 pub record AgreesBehind (layout : Layout) (office : Office) : Type 0 where
@@ -28,5 +29,6 @@ pub record AgreesBehind (layout : Layout) (office : Office) : Type 0 where
   pub stamps : AreStamped office
   pub pointed : ArePointed office
   pub begun : AreBegunSteps office
+  pub written : AreWrittenEntries office
   pub decks : AreOrderly office.tables
   pub named : (number : ℕ) (row : RunRow) (leg : Leg) → IsHolder office number row leg → IsReachNamed office row leg

@@ -1,5 +1,5 @@
 //! A run that continues another one, as it is selected. Each law is the contract of a function that does nothing.
-ghost use Rattle.std.specs.Prelude.{◌≡◌, ℕ, suc, true, false, List, None, Option, Some};
+ghost use Rattle.std.specs.Prelude.{◌≡◌, ◌≤◌, ℕ, suc, true, false, List, None, Option, Some};
 ghost use Rattle.std.specs.List.{list_all};
 ghost use Rattle.std.specs.Option.{is_some};
 ghost use Rattle.ckr_entry.specs.declared.point.Mark.{Mark};
@@ -17,6 +17,7 @@ ghost use Rattle.ckr_points.specs.Restart.{kept_at, syschk_name};
 ghost use Rattle.ckr_points.specs.Rows.{KeptEntry, RunRow, StartPoint, TableSet};
 ghost use Rattle.ckr_points_invariant.specs.Invariant.{AreAlike, IsAtPlace, IsHolder, IsKept};
 ghost use Rattle.ckr_points_invariant.specs.Points.{ArePointed};
+ghost use Rattle.ckr_points_invariant.specs.Readiness.{AreReady};
 ghost use Rattle.ckr_points_invariant.specs.StartedSteps.{AreBegunSteps, HasBegunSteps};
 ghost use Rattle.ckr_points_invariant.specs.WrittenEntries.{AreWrittenEntries};
 ghost use Rattle.ckr_points_invariant.proofs.Continuations.Follows.{MayContinue};
@@ -54,13 +55,13 @@ pub fn selections_of_continued_runs_agree()
     ensures start { (layout : Layout) (now : Office) (job initiator before step : ℕ) (its : MayContinue layout now.tables job initiator (suc before) step None) (start : Library) (reach : List Name)
         → IsKept layout now → AreBegunSteps now → ArePointed now → leg_of now (suc before) ≡ Some (leg_from its.other start reach)
         → ((name : Name) → is_some (mark_at its.point.marks name) ≡ is_among (names_of_job its.other.job) name) → list_all is_orderly_dd its.owned.step.dds ≡ true
-        → AreKin now its.other → BeginsAtRoot its.other.job → ((number : ℕ) (row : RunRow) (leg : Leg) → IsHolder now number row leg → IsReachNamed now row leg)
+        → AreKin now its.other → BeginsAtRoot its.other.job → ((number : ℕ) (row : RunRow) (leg : Leg) → IsHolder now number row leg → IsReachNamed now row leg) → AreReady now → AreWrittenEntries now
         → (deck : Option Job) → AgreesBehind layout (office_after (Selected job initiator (suc before) step None, deck) now) }
     ensures checkpoint { (layout : Layout) (now : Office) (job initiator before step : ℕ) (id : Name) (its : MayContinue layout now.tables job initiator (suc before) step (Some id)) (start : Library) (reach : List Name)
         → IsKept layout now → AreBegunSteps now → ArePointed now → leg_of now (suc before) ≡ Some (leg_from its.other start reach)
         → ((name : Name) → is_some (mark_at its.point.marks name) ≡ is_among (names_of_job its.other.job) name) → AreWrittenEntries now
         → (entry : KeptEntry) → kept_at now.tables.sets (syschk_name its.row.deck) id ≡ Some entry
         → ((name : Name) → is_some (mark_at entry.point.marks name) ≡ is_among (names_of_job its.other.job) name)
-        → AreKin now its.other → BeginsAtRoot its.other.job → ((number : ℕ) (row : RunRow) (leg : Leg) → IsHolder now number row leg → IsReachNamed now row leg)
+        → AreKin now its.other → BeginsAtRoot its.other.job → ((number : ℕ) (row : RunRow) (leg : Leg) → IsHolder now number row leg → IsReachNamed now row leg) → AreReady now → 1 ≤ entry.kept.bytes
         → (deck : Option Job) → AgreesBehind layout (office_after (Selected job initiator (suc before) step (Some id), deck) now) }
 {}

@@ -2,6 +2,7 @@
 use Rattle.std.proofs.Common.{◌≡◌, ℕ, suc, true, false, List, refl, sym, subst, Option, Some, None}
 use Rattle.std.specs.List.{list_all}
 use Rattle.std.specs.Option.{is_some}
+use Rattle.std.proofs.lemmas.Bool.{false≢true}
 use Rattle.ckr_events.specs.declared.event.Event.TheVariants.{Selected}
 use Rattle.ckr_jcl.specs.declared.deck.Job.{Job}
 use Rattle.ckr_library.specs.NameMaps.{Name}
@@ -17,7 +18,9 @@ use Rattle.ckr_points.specs.Restart.{Back, continued_row, sets_back}
 use Rattle.ckr_points.specs.Rows.{RunRow}
 use Rattle.ckr_points_invariant.specs.Invariant.{AreAlike, IsHolder, IsKept}
 use Rattle.ckr_points_invariant.specs.Points.{ArePointed}
+use Rattle.ckr_points_invariant.specs.Readiness.{AreReady}
 use Rattle.ckr_points_invariant.specs.StartedSteps.{AreBegunSteps}
+use Rattle.ckr_points_invariant.specs.WrittenEntries.{AreWrittenEntries}
 use Rattle.ckr_points_invariant.proofs.Continuations.Follows.{MayContinue}
 use Rattle.ckr_points_invariant.proofs.Continuations.Freshness.{DeterminesMaking}
 use Rattle.ckr_points_continuations.specs.EarlierRun.{Coming, leg_from, leg_then, row_then}
@@ -34,7 +37,8 @@ use Rattle.ckr_points_continuations.proofs.Selections.Starts as starts
 module _ (layout : Layout) (now : Office) (job initiator before step : ℕ) (its : MayContinue layout now.tables job initiator (suc before) step None) (start : Library) (reach : List Name)
     (kept : IsKept layout now) (begun : AreBegunSteps now) (pointed : ArePointed now) (led : leg_of now (suc before) ≡ Some (leg_from its.other start reach))
     (covers : (name : Name) → is_some (mark_at its.point.marks name) ≡ is_among (names_of_job its.other.job) name) (dds : list_all is_orderly_dd its.owned.step.dds ≡ true)
-    (kin : AreKin now its.other) (begins : BeginsAtRoot its.other.job) (named : (number : ℕ) (row : RunRow) (leg : Leg) → IsHolder now number row leg → IsReachNamed now row leg) where
+    (kin : AreKin now its.other) (begins : BeginsAtRoot its.other.job) (named : (number : ℕ) (row : RunRow) (leg : Leg) → IsHolder now number row leg → IsReachNamed now row leg) (ready : AreReady now)
+    (written : AreWrittenEntries now) where
   abbrev coming : Coming
   coming = starts.coming layout now job initiator before step its start reach kept.events kept.decks begun pointed led covers
 
@@ -69,4 +73,5 @@ module _ (layout : Layout) (now : Office) (job initiator before step : ℕ) (its
       (agrees-behind layout now job initiator before step None its start reach kept begun pointed led covers coming its.point.marks its_back.needed its_back.removed
       (deck_names its.other.job.root its.row.number its.row.deck)
       (starts.continued-start layout now job initiator before step its start reach kept.events kept.decks begun pointed led covers dds left making) alone
-      (named-behind layout now job initiator before step None its start reach kept begun pointed led covers coming its.point.marks its_back.needed its_back.removed kin (sets_back (continued_row its.row its.other step its.point initiator now.tables.sets) its.owned its_back now.tables.sets) refl named))
+      (named-behind layout now job initiator before step None its start reach kept begun pointed led covers coming its.point.marks its_back.needed its_back.removed kin (sets_back (continued_row its.row its.other step its.point initiator now.tables.sets) its.owned its_back now.tables.sets) refl named)
+      ready written (λ within. absurd (false≢true within)))
