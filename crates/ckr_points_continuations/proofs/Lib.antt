@@ -20,3 +20,4 @@ pub mod Agreement
 pub mod ReachedNames
 pub mod OfficesBehind
 pub mod SelectedRuns
+pub mod ReadyRuns

@@ -48,8 +48,9 @@ pub fn continued_runs_stand_at_their_place()
 
 /// Behind the event that selects a run to continue another one, at the start of a step or at a checkpoint, the office agrees with its jobs:
 /// each holder stands at its place, of each name that a holder reaches the tables have what its job has there, and every other name is as the
-/// ended jobs left it; each point says what its run's job has, each run keeps what it had as it began its steps, and each holder reaches
-/// names of its deck alone. It rests on what the events keep, on points that mark the names of their jobs and no other, and on the job names of runs and the names that they reach (IBM
+/// ended jobs left it; each point says what its run's job has, each run keeps what it had as it began its steps, data sets keep their
+/// entries, and each holder reaches names of its deck alone. At the start of a step all runs are ready to restart then. It rests on what the
+/// events keep, on points that mark the names of their jobs and no other, and on the job names of runs and the names that they reach (IBM
 /// GC28-6708, deferred restarts).
 pub fn selections_of_continued_runs_agree()
     ensures start { (layout : Layout) (now : Office) (job initiator before step : ℕ) (its : MayContinue layout now.tables job initiator (suc before) step None) (start : Library) (reach : List Name)
@@ -57,6 +58,11 @@ pub fn selections_of_continued_runs_agree()
         → ((name : Name) → is_some (mark_at its.point.marks name) ≡ is_among (names_of_job its.other.job) name) → list_all is_orderly_dd its.owned.step.dds ≡ true
         → AreKin now its.other → BeginsAtRoot its.other.job → ((number : ℕ) (row : RunRow) (leg : Leg) → IsHolder now number row leg → IsReachNamed now row leg) → AreReady now → AreWrittenEntries now
         → (deck : Option Job) → AgreesBehind layout (office_after (Selected job initiator (suc before) step None, deck) now) }
+    ensures ready { (layout : Layout) (now : Office) (job initiator before step : ℕ) (its : MayContinue layout now.tables job initiator (suc before) step None) (start : Library) (reach : List Name)
+        → IsKept layout now → AreBegunSteps now → ArePointed now → leg_of now (suc before) ≡ Some (leg_from its.other start reach)
+        → ((name : Name) → is_some (mark_at its.point.marks name) ≡ is_among (names_of_job its.other.job) name) → list_all is_orderly_dd its.owned.step.dds ≡ true
+        → AreKin now its.other → BeginsAtRoot its.other.job → ((number : ℕ) (row : RunRow) (leg : Leg) → IsHolder now number row leg → IsReachNamed now row leg) → AreReady now → AreWrittenEntries now
+        → (deck : Option Job) → AreReady (office_after (Selected job initiator (suc before) step None, deck) now) }
     ensures checkpoint { (layout : Layout) (now : Office) (job initiator before step : ℕ) (id : Name) (its : MayContinue layout now.tables job initiator (suc before) step (Some id)) (start : Library) (reach : List Name)
         → IsKept layout now → AreBegunSteps now → ArePointed now → leg_of now (suc before) ≡ Some (leg_from its.other start reach)
         → ((name : Name) → is_some (mark_at its.point.marks name) ≡ is_among (names_of_job its.other.job) name) → AreWrittenEntries now

@@ -23,13 +23,15 @@ use Rattle.ckr_points_invariant.specs.StartedSteps.{AreBegunSteps}
 use Rattle.ckr_points_invariant.specs.WrittenEntries.{AreWrittenEntries}
 use Rattle.ckr_points_invariant.proofs.Continuations.Follows.{MayContinue}
 use Rattle.ckr_points_invariant.proofs.Continuations.Freshness.{DeterminesMaking}
-use Rattle.ckr_points_continuations.specs.EarlierRun.{Coming, leg_from, leg_then, row_then}
+use Rattle.ckr_points_continuations.specs.EarlierRun.{Coming, leg_from, leg_then, row_then, sets_then}
 use Rattle.ckr_points_continuations.specs.OfficeBehind.{AgreesBehind}
+use Rattle.ckr_points_invariant.proofs.PlainRuns.Readiness.{ready-outside}
 use Rattle.ckr_points_continuations.proofs.Agreement as agreement
 use Rattle.ckr_points_continuations.proofs.OfficesBehind.{agrees-behind}
 use Rattle.ckr_points_continuations.specs.JobNames.{AreKin, BeginsAtRoot, IsReachNamed}
 use Rattle.ckr_points_continuations.proofs.ReachedNames.NamesBehind.{named-behind}
 use Rattle.ckr_points_continuations.proofs.ReachedNames.OtherHolders as holders
+use Rattle.ckr_points_continuations.proofs.ReadyRuns.{ready-behind}
 use Rattle.ckr_points_continuations.proofs.Reaches.{making-told}
 use Rattle.ckr_points_continuations.proofs.Selections.Earlier as earlier
 use Rattle.ckr_points_continuations.proofs.Selections.Starts as starts
@@ -75,3 +77,12 @@ module _ (layout : Layout) (now : Office) (job initiator before step : ℕ) (its
       (starts.continued-start layout now job initiator before step its start reach kept.events kept.decks begun pointed led covers dds left making) alone
       (named-behind layout now job initiator before step None its start reach kept begun pointed led covers coming its.point.marks its_back.needed its_back.removed kin (sets_back (continued_row its.row its.other step its.point initiator now.tables.sets) its.owned its_back now.tables.sets) refl named)
       ready written (λ within. absurd (false≢true within)))
+
+  -- All runs are ready to restart then.
+  pub start-ready : (deck : Option Job) → AreReady (office_after (Selected job initiator (suc before) step None, deck) now)
+  start-ready deck =
+      subst (λ tables. AreReady (office_selected now job tables)) (sym (starts.tables-behind layout now job initiator before step its start reach kept.events kept.decks begun pointed led covers deck))
+      (ready-behind layout now job initiator before step None its start reach kept begun pointed led covers coming its.point.marks its_back.needed its_back.removed alone
+      (starts.named layout now job initiator before step its start reach kept.events kept.decks begun pointed led covers)
+      (starts.back-start layout now job initiator before step its start reach kept.events kept.decks begun pointed led covers dds) refl ready
+      (ready-outside (sets_then now its.other its.owned its.point.marks its_back.needed its_back.removed) next leg refl (ready.waits job its.row its.row_at its.queued)))

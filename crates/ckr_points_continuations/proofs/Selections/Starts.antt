@@ -117,7 +117,7 @@ module _ (layout : Layout) (now : Office) (job initiator before step : ℕ) (its
         (step-here now its.row its.other start reach step its.point earlier-start initiator coming ∙ ap Some (sym same-step))
         (listed name (and-second (is_marked_absent its.point.marks name) _ (sym (among-filter (is_marked_absent its.point.marks) (sysout_names its.other.job.root its.owned) name) ∙ among)))
 
-    back-start : IsPutBack now next its.other its.owned start coming its.point.marks back.needed back.removed named
+    pub back-start : IsPutBack now next its.other its.owned start coming its.point.marks back.needed back.removed named
     back-start = record {
       all = earlier-start.marks;
       are = needed-start row_before.job step its.point.marks (sysout_names its.other.job.root its.owned) sysout;
