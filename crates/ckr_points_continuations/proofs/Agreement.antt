@@ -19,7 +19,7 @@ use Rattle.ckr_points_library.specs.Commit.{output_names}
 use Rattle.ckr_points.specs.declared.run.RunState.TheVariants.{Queued}
 use Rattle.ckr_points.specs.Follows.{is_in_state}
 use Rattle.ckr_points.specs.Marks.{mark_at, own_names, removed_all}
-use Rattle.ckr_points.specs.Office.{Leg, Office, is_holder, leg_of, standing_at}
+use Rattle.ckr_points.specs.Office.{Leg, Office, is_holder, leg_of, standing_at, continued_leg}
 use Rattle.ckr_points.specs.Restart.{step_in}
 use Rattle.ckr_points.specs.RuleCases.{is_ended}
 use Rattle.ckr_points.specs.Rows.{RunRow, TableSet, run_of}
@@ -32,7 +32,7 @@ use Rattle.ckr_points_invariant.proofs.Holders.Moves.{standing-is}
 use Rattle.ckr_points_invariant.proofs.Holders.Rows.{PointsStay, place-stays, queued-is}
 use Rattle.ckr_points_invariant.proofs.PutBack.Sets.{put_back-laid, removed_all-laid}
 use Rattle.ckr_points_invariant.proofs.Select.Holders.{all_legs}
-use Rattle.ckr_points_continuations.specs.EarlierRun.{Coming, IsEarlier, IsPutBack, leg_from, leg_then, row_then, sets_then}
+use Rattle.ckr_points_continuations.specs.EarlierRun.{Coming, IsEarlier, IsPutBack, leg_from, row_then, sets_then}
 use Rattle.ckr_points_continuations.proofs.DataSets.{back-apart}
 use Rattle.ckr_points_continuations.proofs.Offices as offices
 use Rattle.ckr_points_continuations.proofs.Selections.Earlier as earlier
@@ -45,7 +45,7 @@ module _ (layout : Layout) (now : Office) (job initiator before step : ℕ) (id 
   next = row_then now its.row its.other step its.point initiator coming
 
   abbrev pub leg : Leg
-  leg = leg_then now next (leg_from its.other start reach)
+  leg = continued_leg now next (leg_from its.other start reach)
 
   -- the data sets put back
   abbrev pub sets : Named TableSet

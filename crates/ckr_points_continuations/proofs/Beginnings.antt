@@ -8,13 +8,13 @@ use Rattle.ckr_meaning.specs.LibrarySet.{Library}
 use Rattle.ckr_meaning.specs.StepRun.{StepStart, placed_at, work_at}
 use Rattle.ckr_meaning.specs.declared.place.Place.TheVariants.{Opened, Within}
 use Rattle.ckr_points.specs.Marks.{own_names}
-use Rattle.ckr_points.specs.Office.{Leg, Office}
+use Rattle.ckr_points.specs.Office.{Leg, Office, continued_leg}
 use Rattle.ckr_points.specs.Restart.{carried_point}
 use Rattle.ckr_points.specs.Rows.{RunRow, StartPoint}
 use Rattle.ckr_points_invariant.specs.Invariant.{AreAlike, IsUnderWay, IsWithinStep}
 use Rattle.ckr_points_invariant.specs.Readiness.{HasPoint}
 use Rattle.ckr_points_invariant.proofs.Continuations.Fronts.{place-passed}
-use Rattle.ckr_points_continuations.specs.EarlierRun.{Coming, IsEarlier, leg_from, leg_then, row_then}
+use Rattle.ckr_points_continuations.specs.EarlierRun.{Coming, IsEarlier, leg_from, row_then}
 use Rattle.ckr_points_continuations.proofs.Marks.{all-marked, own-made}
 use Rattle.ckr_points_continuations.proofs.Walks.{flawless, owned, runs, start-same, started, starts, work-same}
 
@@ -24,7 +24,7 @@ module _ (now : Office) (row other : RunRow) (start : Library) (reach : List Nam
   next = row_then now row other step point initiator coming
 
   abbrev leg : Leg
-  leg = leg_then now next (leg_from other start reach)
+  leg = continued_leg now next (leg_from other start reach)
 
   abbrev begins : OwnedStep
   begins = owned now row other start reach step point earlier initiator coming

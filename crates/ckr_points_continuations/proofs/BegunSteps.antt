@@ -13,7 +13,7 @@ use Rattle.ckr_meaning.specs.EffectiveJob.{OwnedStep, is_among}
 use Rattle.ckr_meaning.specs.JobRun.{is_bypassed}
 use Rattle.ckr_meaning.specs.LibrarySet.{Library}
 use Rattle.ckr_points.specs.Marks.{point_at}
-use Rattle.ckr_points.specs.Office.{Leg, Office}
+use Rattle.ckr_points.specs.Office.{Leg, Office, continued_leg}
 use Rattle.ckr_points.specs.Restart.{carried_point, rcs_before, step_in}
 use Rattle.ckr_points.specs.RuleCases.{is_ended}
 use Rattle.ckr_points.specs.Rows.{RunRow, StartPoint, TableSet, TablesModel, run_of}
@@ -21,7 +21,7 @@ use Rattle.ckr_points_invariant.specs.Invariant.{step_now}
 use Rattle.ckr_points_invariant.specs.StartedSteps.{HasBegunSteps, IsBegunStep}
 use Rattle.ckr_points_invariant.proofs.Holders.Rows.{PointsStay, queued-is}
 use Rattle.ckr_points_invariant.proofs.StartedSteps.Runs.{steps-stay}
-use Rattle.ckr_points_continuations.specs.EarlierRun.{Coming, IsEarlier, leg_from, leg_then, row_then, tables_then}
+use Rattle.ckr_points_continuations.specs.EarlierRun.{Coming, IsEarlier, leg_from, row_then, tables_then}
 use Rattle.ckr_points_continuations.proofs.Steps as steps
 use Rattle.ckr_points_continuations.proofs.Walks as walks
 
@@ -31,7 +31,7 @@ module _ (now : Office) (row other : RunRow) (start : Library) (reach : List Nam
   next = row_then now row other step point initiator coming
 
   abbrev pub leg : Leg
-  leg = leg_then now next (leg_from other start reach)
+  leg = continued_leg now next (leg_from other start reach)
 
   abbrev pub tables : TablesModel
   tables = tables_then now next sets

@@ -7,11 +7,11 @@ use Rattle.ckr_meaning.specs.EffectiveJob.{is_among}
 use Rattle.ckr_meaning.specs.JobRun.{at}
 use Rattle.ckr_meaning.specs.LibrarySet.{Library}
 use Rattle.ckr_points.specs.Marks.{own_names}
-use Rattle.ckr_points.specs.Office.{Leg, Office}
+use Rattle.ckr_points.specs.Office.{Leg, Office, continued_leg}
 use Rattle.ckr_points.specs.Rows.{RunRow, StartPoint, TableSet}
 use Rattle.ckr_points_invariant.specs.Invariant.{AreAlike, IsAtPlace}
 use Rattle.ckr_points_invariant.specs.StartedSteps.{HasBegunSteps}
-use Rattle.ckr_points_continuations.specs.EarlierRun.{Coming, IsContinued, leg_from, leg_then, row_then, sets_then, tables_then}
+use Rattle.ckr_points_continuations.specs.EarlierRun.{Coming, IsContinued, leg_from, row_then, sets_then, tables_then}
 use Rattle.ckr_points_continuations.proofs.BegunSteps.{begun-steps}
 use Rattle.ckr_points_continuations.proofs.DataSets.{back-alike, back-apart}
 use Rattle.ckr_points_continuations.proofs.Places.{comes-stands, most, place-then}
@@ -22,7 +22,7 @@ module _ (now : Office) (row other : RunRow) (start : Library) (reach : List Nam
   next = row_then now row other step point initiator coming
 
   abbrev leg : Leg
-  leg = leg_then now next (leg_from other start reach)
+  leg = continued_leg now next (leg_from other start reach)
 
   pub place-continued : (sets : Named TableSet) → IsAtPlace (tables_then now next sets) next leg
   place-continued sets =

@@ -11,7 +11,7 @@ use Rattle.ckr_meaning.specs.EffectiveJob.{OwnedStep, is_among}
 use Rattle.ckr_meaning.specs.JobRun.{at}
 use Rattle.ckr_meaning.specs.LibrarySet.{Library}
 use Rattle.ckr_points.specs.Marks.{is_as_marked, mark_at, own_names, put_back, removed_all, still_exists, without_passed}
-use Rattle.ckr_points.specs.Office.{Leg, Office, passed_made}
+use Rattle.ckr_points.specs.Office.{Leg, Office, passed_made, continued_leg}
 use Rattle.ckr_points.specs.Restart.{step_in}
 use Rattle.ckr_points.specs.Rows.{RunRow, StartPoint, TableSet}
 use Rattle.ckr_points_library.specs.Commit.{output_names}
@@ -20,7 +20,7 @@ use Rattle.ckr_points_invariant.proofs.Continuations.Freshness.{DeterminesMaking
 use Rattle.ckr_points_invariant.proofs.Continuations.Libraries.{back-outside, own-alike, passed-alike}
 use Rattle.ckr_points_invariant.proofs.Holders.Places.{outputs-among}
 use Rattle.ckr_points_invariant.proofs.Library.PassedList.{made-without}
-use Rattle.ckr_points_continuations.specs.EarlierRun.{Coming, IsEarlier, IsPutBack, leg_from, leg_then, row_then}
+use Rattle.ckr_points_continuations.specs.EarlierRun.{Coming, IsEarlier, IsPutBack, leg_from, row_then}
 use Rattle.ckr_points_continuations.proofs.LostNames.{kept-exists}
 use Rattle.ckr_points_continuations.proofs.Marks.{step-own}
 use Rattle.ckr_points_continuations.proofs.Walks.{owned, step-here}
@@ -43,7 +43,7 @@ module _ (now : Office) (row other : RunRow) (start : Library) (reach : List Nam
   next = row_then now row other step point initiator coming
 
   abbrev leg : Leg
-  leg = leg_then now next (leg_from other start reach)
+  leg = continued_leg now next (leg_from other start reach)
 
   abbrev begins : OwnedStep
   begins = owned now row other start reach step point earlier initiator coming

@@ -1,11 +1,9 @@
 -- The marks that a run begins with which continues another one, and what they say of the names of its job.
-use Rattle.std.proofs.Common.{◌≡◌, ◌==◌, ℕ, zero, suc, pred, Bool, true, false, cond, ◌||◌, ◌&&◌, List, [], ◌∷◌, take, drop, refl, ap, sym, ◌∙◌, subst, Option, Some, None, arith}
-use Rattle.std.specs.Prelude.{slice_get}
+use Rattle.std.proofs.Common.{◌≡◌, ◌==◌, ℕ, zero, suc, pred, true, false, cond, ◌||◌, ◌&&◌, List, [], ◌∷◌, take, drop, refl, ap, sym, ◌∙◌, subst, Option, Some, None, arith}
 use Rattle.std.specs.Option.{is_none, is_some, option_map_or}
 use Rattle.std.proofs.lemmas.Bool.{false≢true}
 use Rattle.std.proofs.lemmas.List.Folds.{list_any-append}
-use Rattle.std.proofs.lemmas.Option.{same_Some}
-use Rattle.ckr_base.proofs.Bools.{bool-cases}
+use Rattle.ckr_base.proofs.Bools.{and-true, bool-cases}
 use Rattle.ckr_base.proofs.Options.{some-not-none}
 use Rattle.ckr_base.proofs.Sequences.{find-passes}
 use Rattle.ckr_entry.specs.declared.point.Mark.{Mark}
@@ -16,7 +14,7 @@ use Rattle.ckr_meaning.specs.JobRun.{at}
 use Rattle.ckr_meaning.specs.LibrarySet.{Library, LibrarySet}
 use Rattle.ckr_meaning.specs.declared.place.Place.TheVariants.{Opened}
 use Rattle.ckr_points.specs.Marks.{carried_marks, is_marked_absent, made_names, mark_at, own_names, point_at}
-use Rattle.ckr_points.specs.Office.{Leg, Office}
+use Rattle.ckr_points.specs.Office.{Leg, Office, continued_leg}
 use Rattle.ckr_points.specs.Restart.{carried_point, step_in}
 use Rattle.ckr_points.specs.Rows.{RunRow, StartPoint}
 use Rattle.ckr_points.specs.Tables.{own_made}
@@ -28,7 +26,8 @@ use Rattle.ckr_points_invariant.proofs.Marks.Points.{among-filter}
 use Rattle.ckr_points_invariant.proofs.Select.Invariant.{among-step}
 use Rattle.ckr_points_invariant.proofs.Start.Openings.{opened-none}
 use Rattle.ckr_points_invariant.proofs.Steps.Walks.{at-opened, at-same-step}
-use Rattle.ckr_points_continuations.specs.EarlierRun.{Coming, IsEarlier, leg_from, leg_then, row_then}
+use Rattle.ckr_points_continuations.specs.EarlierRun.{Coming, IsEarlier, leg_from, row_then}
+use Rattle.ckr_points_continuations.proofs.Steps.{among-behind}
 use Rattle.ckr_points_continuations.proofs.Walks.{owned, starts, step-here}
 
 -- ---- names of a front and of the rest
@@ -46,21 +45,13 @@ among-rest root (suc (suc count)) (first ∷ rest) name among out =
     (ap (λ b. b || is_among (names_of_steps root rest) name) (sym other) ∙ sym (list_any-append (same_name name) (names_of root first) (names_of_steps root rest)) ∙ among)
     (ap (λ b. b || is_among (names_of_steps root (take (suc count) rest)) name) (sym other) ∙ sym (list_any-append (same_name name) (names_of root first) (names_of_steps root (take (suc count) rest))) ∙ out))
 
--- those of a step are among those from it on
-among-later : (root before : ℕ) (steps : List OwnedStep) (owned : OwnedStep) (name : Name) → slice_get steps before ≡ Some owned → is_among (names_of root owned) name ≡ true → is_among (names_of_steps root (drop before steps)) name ≡ true
-among-later root before [] owned name found among = absurd (some-not-none owned (sym found))
-among-later root zero (first ∷ rest) owned name found among =
-    list_any-append (same_name name) (names_of root first) (names_of_steps root rest)
-    ∙ ap (λ b. b || is_among (names_of_steps root rest) name) (ap (λ (its : OwnedStep). is_among (names_of root its) name) (same_Some first owned found) ∙ among)
-among-later root (suc before) (first ∷ rest) owned name found among = among-later root before rest owned name found among
-
 module _ (now : Office) (row other : RunRow) (start : Library) (reach : List Name) (step : ℕ) (point : StartPoint) (earlier : IsEarlier now row other (leg_from other start reach) step point)
     (initiator : ℕ) (coming : Coming) where
   abbrev next : RunRow
   next = row_then now row other step point initiator coming
 
   abbrev leg : Leg
-  leg = leg_then now next (leg_from other start reach)
+  leg = continued_leg now next (leg_from other start reach)
 
   abbrev begins : OwnedStep
   begins = owned now row other start reach step point earlier initiator coming
@@ -83,7 +74,7 @@ module _ (now : Office) (row other : RunRow) (start : Library) (reach : List Nam
     where
       by : (number : ℕ) → step_at leg.job number ≡ Some its → is_among (names_of_steps leg.job.root (drop (pred number) leg.job.steps)) name ≡ true
       by zero e = absurd (some-not-none its (sym e))
-      by (suc before) e = among-later leg.job.root before leg.job.steps its name e among
+      by (suc before) e = among-behind leg.job.root before before leg.job.steps its name (omega arith) e among
 
   -- ---- the carried point
 
@@ -126,7 +117,7 @@ module _ (now : Office) (row other : RunRow) (start : Library) (reach : List Nam
         ap (λ (o : Option StartPoint). is_among (option_map_or (λ point. made_names point.marks (names_of next.job.root begins)) o []) name) carried-is
         ∙ among-filter (is_marked_absent carried.marks) (names_of leg.job.root begins) name
         ∙ ap (λ b. is_marked_absent carried.marks name && b) among
-        ∙ front (is_marked_absent carried.marks name)
+        ∙ and-true (is_marked_absent carried.marks name)
         ∙ by (mark_at carried.marks name) (entry_at (at leg.job leg.start (Opened step)).sets name) (all-marked.marked name known) (all-marked.says name known)
         ∙ ap (λ (library : Library). is_none (entry_at library name)) (at-opened leg.job leg.start step begins here)
         ∙ opened-none (starts now row other start reach step point earlier initiator coming) name
@@ -136,10 +127,6 @@ module _ (now : Office) (row other : RunRow) (start : Library) (reach : List Nam
 
         known : is_among (names_of_job leg.job) name ≡ true
         known = among-step leg.job step begins name here among
-
-        front : (b : Bool) → (b && true) ≡ b
-        front true = refl
-        front false = refl
 
         present : (present : Option Present) (set : Option LibrarySet) → IsMarkOf present set → is_none present ≡ is_none set
         present None None says = refl

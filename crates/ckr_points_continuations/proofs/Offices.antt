@@ -20,7 +20,7 @@ use Rattle.ckr_points_invariant.proofs.Holders.Rows.{queued-is, run-other, run-s
 use Rattle.ckr_points_invariant.proofs.Marks.Points.{differs}
 use Rattle.ckr_points_invariant.proofs.Select.Holders.{leg_here, leg_there}
 use Rattle.ckr_points_invariant.proofs.StartedSteps.Offices.{HasItsSteps, IsOnlyRow, begun-only}
-use Rattle.ckr_points_continuations.specs.EarlierRun.{Coming, leg_from, leg_then, row_then, tables_then}
+use Rattle.ckr_points_continuations.specs.EarlierRun.{Coming, leg_from, row_then, tables_then}
 use Rattle.ckr_points_continuations.proofs.BegunSteps.{begun-steps}
 use Rattle.ckr_points_continuations.proofs.Selections.Earlier.{earlier-start}
 
@@ -31,7 +31,7 @@ module _ (layout : Layout) (now : Office) (job initiator before step : ℕ) (id 
   next = row_then now its.row its.other step its.point initiator coming
 
   abbrev pub leg : Leg
-  leg = leg_then now next (leg_from its.other start reach)
+  leg = continued_leg now next (leg_from its.other start reach)
 
   abbrev pub tables : TablesModel
   tables = tables_then now next sets

@@ -11,7 +11,7 @@ use Rattle.ckr_meaning.specs.JobRun.{at}
 use Rattle.ckr_meaning.specs.LibrarySet.{Library}
 use Rattle.ckr_volumes.specs.declared.layout.Layout.{Layout}
 use Rattle.ckr_points.specs.Marks.{mark_at, own_names}
-use Rattle.ckr_points.specs.Office.{Leg, Office, leg_of}
+use Rattle.ckr_points.specs.Office.{Leg, Office, leg_of, continued_leg}
 use Rattle.ckr_points.specs.Restart.{step_in}
 use Rattle.ckr_points.specs.Rows.{RunRow}
 use Rattle.ckr_points_invariant.specs.Invariant.{AreAlike, IsHolder, IsKept}
@@ -21,7 +21,7 @@ use Rattle.ckr_points_invariant.specs.StartedSteps.{AreBegunSteps}
 use Rattle.ckr_points_invariant.specs.WrittenEntries.{AreWrittenEntries}
 use Rattle.ckr_points_invariant.proofs.WrittenEntries.Offices.{IsGrown}
 use Rattle.ckr_points_invariant.proofs.Continuations.Follows.{MayContinue}
-use Rattle.ckr_points_continuations.specs.EarlierRun.{Coming, IsContinued, IsPutBack, leg_from, leg_then, row_then, sets_then, tables_then}
+use Rattle.ckr_points_continuations.specs.EarlierRun.{Coming, IsContinued, IsPutBack, leg_from, row_then, sets_then, tables_then}
 use Rattle.ckr_points_invariant.proofs.Decks.Events.{with-orderly}
 use Rattle.ckr_points_continuations.specs.JobNames.{IsReachNamed}
 use Rattle.ckr_points_continuations.specs.OfficeBehind.{AgreesBehind}
@@ -41,7 +41,7 @@ module _ (layout : Layout) (now : Office) (job initiator before step : ℕ) (id 
   next = row_then now its.row its.other step its.point initiator coming
 
   abbrev leg : Leg
-  leg = leg_then now next (leg_from its.other start reach)
+  leg = continued_leg now next (leg_from its.other start reach)
 
   abbrev behind : Office
   behind = agreement.behind layout now job initiator before step id its start reach kept begun pointed led covers coming marks needed removed

@@ -12,12 +12,12 @@ use Rattle.ckr_meaning.specs.StepRun.{placed_at, work_at}
 use Rattle.ckr_meaning.specs.declared.place.Place.{Place}
 use Rattle.ckr_meaning.specs.declared.place.Place.TheVariants.{Before, Opened, Within}
 use Rattle.ckr_points.specs.Marks.{own_names, without_passed}
-use Rattle.ckr_points.specs.Office.{Leg, Office, passed_made}
+use Rattle.ckr_points.specs.Office.{Leg, Office, passed_made, continued_leg}
 use Rattle.ckr_points.specs.Restart.{step_in}
 use Rattle.ckr_points.specs.Rows.{RunRow, StartPoint, TableSet, TablesModel}
 use Rattle.ckr_points.specs.Tables.{earlier_made, step_made}
 use Rattle.ckr_points_invariant.specs.Invariant.{AreAlike, IsAtPlace, IsWithinStep, step_now}
-use Rattle.ckr_points_continuations.specs.EarlierRun.{ComesTo, Coming, IsEarlier, IsPutBack, leg_from, leg_then, row_then, tables_then}
+use Rattle.ckr_points_continuations.specs.EarlierRun.{ComesTo, Coming, IsEarlier, IsPutBack, leg_from, row_then, tables_then}
 use Rattle.ckr_points_continuations.proofs.Beginnings.{within-opened, within-writes}
 use Rattle.ckr_points_continuations.proofs.LostNames as losses
 use Rattle.ckr_points_continuations.proofs.Marks.{carried-has}
@@ -35,7 +35,7 @@ module _ (now : Office) (row other : RunRow) (start : Library) (reach : List Nam
   next = row_then now row other step point initiator coming
 
   abbrev pub leg : Leg
-  leg = leg_then now next (leg_from other start reach)
+  leg = continued_leg now next (leg_from other start reach)
 
   abbrev pub tables : TablesModel
   tables = tables_then now next sets

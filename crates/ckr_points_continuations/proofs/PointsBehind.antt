@@ -17,7 +17,7 @@ use Rattle.ckr_meaning.specs.declared.place.Place.TheVariants.{Opened, Within}
 use Rattle.ckr_points_library.specs.Commit.{output_names}
 use Rattle.ckr_volumes.specs.declared.layout.Layout.{Layout}
 use Rattle.ckr_points.specs.Marks.{mark_at, own_names}
-use Rattle.ckr_points.specs.Office.{Leg, Office, leg_of}
+use Rattle.ckr_points.specs.Office.{Leg, Office, leg_of, continued_leg}
 use Rattle.ckr_points.specs.Restart.{carried_point, step_in}
 use Rattle.ckr_points.specs.Rows.{KeptEntry, RunRow, StartPoint, TableSet}
 use Rattle.ckr_points_invariant.specs.Invariant.{AreAlike, AreBegun, AreStamped, IsKept, IsMarkedShort, IsReached, MarksHold, PointsHold}
@@ -28,7 +28,7 @@ use Rattle.ckr_points_invariant.proofs.Continuations.Follows.{MayContinue}
 use Rattle.ckr_points_invariant.proofs.Marks.Changes.{Entries, Points, fewer as fewer-marks}
 use Rattle.ckr_points_invariant.proofs.Restart.Points.{back-holds, fewer}
 use Rattle.ckr_points_invariant.proofs.Stamps.Tables.{each-weaker, marks-weaker, table-short}
-use Rattle.ckr_points_continuations.specs.EarlierRun.{Coming, IsEarlier, leg_from, leg_then, row_then, sets_then}
+use Rattle.ckr_points_continuations.specs.EarlierRun.{Coming, IsEarlier, leg_from, row_then, sets_then}
 use Rattle.ckr_points_continuations.proofs.Beginnings.{has-point}
 use Rattle.ckr_points_continuations.proofs.Offices as offices
 use Rattle.ckr_points_continuations.proofs.Selections.Earlier as earlier
@@ -43,7 +43,7 @@ module _ (layout : Layout) (now : Office) (job initiator before step : ℕ) (id 
   next = row_then now its.row its.other step its.point initiator coming
 
   abbrev pub leg : Leg
-  leg = leg_then now next (leg_from its.other start reach)
+  leg = continued_leg now next (leg_from its.other start reach)
 
   -- the data sets put back
   abbrev pub sets : Named TableSet

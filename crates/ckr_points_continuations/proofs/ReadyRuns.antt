@@ -12,7 +12,7 @@ use Rattle.ckr_meaning.specs.LibrarySet.{Library}
 use Rattle.ckr_volumes.specs.declared.layout.Layout.{Layout}
 use Rattle.ckr_points.specs.Follows.{is_in_state, own_step}
 use Rattle.ckr_points.specs.Marks.{mark_at}
-use Rattle.ckr_points.specs.Office.{Leg, Office, leg_of}
+use Rattle.ckr_points.specs.Office.{Leg, Office, leg_of, continued_leg}
 use Rattle.ckr_points.specs.Restart.{step_in}
 use Rattle.ckr_points.specs.Rows.{RunRow, run_of}
 use Rattle.ckr_points.specs.declared.run.RunState.TheVariants.{Queued}
@@ -24,7 +24,7 @@ use Rattle.ckr_points_invariant.specs.StartedSteps.{AreBegunSteps}
 use Rattle.ckr_points_invariant.proofs.Continuations.Follows.{MayContinue}
 use Rattle.ckr_points_invariant.proofs.Holders.Places.{outputs-among}
 use Rattle.ckr_points_invariant.proofs.PlainRuns.Readiness.{ready-same}
-use Rattle.ckr_points_continuations.specs.EarlierRun.{Coming, IsPutBack, leg_from, leg_then, row_then}
+use Rattle.ckr_points_continuations.specs.EarlierRun.{Coming, IsPutBack, leg_from, row_then}
 use Rattle.ckr_points_continuations.proofs.Agreement as agreement
 use Rattle.ckr_points_continuations.proofs.Offices as offices
 
@@ -35,7 +35,7 @@ module _ (layout : Layout) (now : Office) (job initiator before step : ℕ) (id 
   next = row_then now its.row its.other step its.point initiator coming
 
   abbrev leg : Leg
-  leg = leg_then now next (leg_from its.other start reach)
+  leg = continued_leg now next (leg_from its.other start reach)
 
   abbrev behind : Office
   behind = agreement.behind layout now job initiator before step id its start reach kept begun pointed led covers coming marks needed removed

@@ -13,14 +13,14 @@ use Rattle.ckr_library.specs.NameMaps.{Name, Named, entry_at, same_name}
 use Rattle.ckr_meaning.specs.EffectiveJob.{Effective, names_of_job}
 use Rattle.ckr_meaning.specs.LibrarySet.{Library}
 use Rattle.ckr_points.specs.Marks.{mark_at, mark_now, present_of}
-use Rattle.ckr_points.specs.Office.{Leg, Office, leg_of}
+use Rattle.ckr_points.specs.Office.{Leg, Office, leg_of, continued_leg}
 use Rattle.ckr_points.specs.Restart.{carried_point}
 use Rattle.ckr_points.specs.Rows.{RunRow, StartPoint, TableSet}
 use Rattle.ckr_points_invariant.specs.Invariant.{AreStamped, IsMarkedShort, IsShortMark}
 use Rattle.ckr_points_invariant.proofs.Continuations.CarriedPoint.{carried_mark}
 use Rattle.ckr_points_invariant.proofs.Marks.Changes.{marks-hold, point-holds, row-holds}
 use Rattle.ckr_points_invariant.proofs.Stamps.Tables.{short-legs}
-use Rattle.ckr_points_continuations.specs.EarlierRun.{Coming, IsEarlier, leg_from, leg_then, row_then}
+use Rattle.ckr_points_continuations.specs.EarlierRun.{Coming, IsEarlier, leg_from, row_then}
 
 -- ---- a carried point
 
@@ -65,7 +65,7 @@ module _ (now : Office) (row other : RunRow) (start : Library) (reach : List Nam
   next = row_then now row other step point initiator coming
 
   abbrev pub leg : Leg
-  leg = leg_then now next (leg_from other start reach)
+  leg = continued_leg now next (leg_from other start reach)
 
   -- those of the earlier run's point are, where the points are stamped
   pub point-short : AreStamped now → AllByRecursion (IsMarkedShort now) point.marks

@@ -17,13 +17,13 @@ use Rattle.ckr_library.specs.NameMaps.{Name, Named, same_name}
 use Rattle.ckr_meaning.specs.EffectiveJob.{Effective, OwnedStep, is_among, names_of, names_of_steps, owned_by, step_at}
 use Rattle.ckr_meaning.specs.LibrarySet.{Library}
 use Rattle.ckr_points.specs.Marks.{has_passed, made_names, own_names, point_at}
-use Rattle.ckr_points.specs.Office.{Leg, Office, passed_made}
+use Rattle.ckr_points.specs.Office.{Leg, Office, passed_made, continued_leg}
 use Rattle.ckr_points.specs.Payload.{is_formed, is_formed_step}
 use Rattle.ckr_points.specs.Restart.{step_in}
 use Rattle.ckr_points.specs.RuleCases.{is_ended}
 use Rattle.ckr_points.specs.Rows.{RunRow, StartPoint, TableSet, TablesModel, run_of}
 use Rattle.ckr_points.specs.Tables.{earlier_made, step_made, steps_made}
-use Rattle.ckr_points_continuations.specs.EarlierRun.{Coming, IsEarlier, leg_from, leg_then, row_then, tables_then}
+use Rattle.ckr_points_continuations.specs.EarlierRun.{Coming, IsEarlier, leg_from, row_then, tables_then}
 use Rattle.ckr_points_invariant.specs.Invariant.{keeps_points, step_now}
 use Rattle.ckr_points_invariant.proofs.Continuations.Fronts.{same-steps}
 use Rattle.ckr_points_invariant.proofs.Decks.Names.{steps-formed}
@@ -73,7 +73,7 @@ later-formed root run deck (suc count) [] each = refl
 later-formed root run deck (suc count) (first ∷ rest) each = later-formed root run deck count rest each.1
 
 -- the names of a step are among those of the steps from an earlier one on
-among-behind : (root count place : ℕ) (steps : List OwnedStep) (owned : OwnedStep) (name : Name) → count ≤ place → slice_get steps place ≡ Some owned → is_among (names_of root owned) name ≡ true → is_among (names_of_steps root (drop count steps)) name ≡ true
+pub among-behind : (root count place : ℕ) (steps : List OwnedStep) (owned : OwnedStep) (name : Name) → count ≤ place → slice_get steps place ≡ Some owned → is_among (names_of root owned) name ≡ true → is_among (names_of_steps root (drop count steps)) name ≡ true
 among-behind root zero place steps owned name behind found among = among-step (record { root = root; steps = steps }) (suc place) owned name found among
 among-behind root (suc count) place [] owned name behind found among = absurd (some-not-none owned (sym found))
 among-behind root (suc count) zero (first ∷ rest) owned name behind found among = absurd (omega (arith, behind))
@@ -85,7 +85,7 @@ module _ (now : Office) (row other : RunRow) (start : Library) (reach : List Nam
   next = row_then now row other step point initiator coming
 
   abbrev pub leg : Leg
-  leg = leg_then now next (leg_from other start reach)
+  leg = continued_leg now next (leg_from other start reach)
 
   abbrev pub tables : TablesModel
   tables = tables_then now next sets

@@ -9,14 +9,14 @@ use Rattle.ckr_meaning.specs.JobRun.{all_go_on, at, start_at, walk_before, walk_
 use Rattle.ckr_meaning.specs.LibrarySet.{Library}
 use Rattle.ckr_meaning.specs.StepRun.{StepStart, placed_at, work_at}
 use Rattle.ckr_meaning.proofs.Fronts.{begin-goes_on, begin-placed, begin-step, begin-walk, begin-work}
-use Rattle.ckr_points.specs.Office.{Leg, Office}
+use Rattle.ckr_points.specs.Office.{Leg, Office, continued_leg}
 use Rattle.ckr_points.specs.Restart.{step_in}
 use Rattle.ckr_points.specs.Rows.{RunRow, StartPoint}
 use Rattle.ckr_points_invariant.specs.StartedSteps.{start_by}
 use Rattle.ckr_points_invariant.proofs.Continuations.Fronts.{begins-alike}
 use Rattle.ckr_points_invariant.proofs.Soundness.{at-passed}
 use Rattle.ckr_points_invariant.proofs.Steps.Walks.{start_at-of, start_of}
-use Rattle.ckr_points_continuations.specs.EarlierRun.{Coming, IsEarlier, leg_from, leg_then, row_then}
+use Rattle.ckr_points_continuations.specs.EarlierRun.{Coming, IsEarlier, leg_from, row_then}
 
 module _ (now : Office) (row other : RunRow) (start : Library) (reach : List Name) (step : ℕ) (point : StartPoint) (earlier : IsEarlier now row other (leg_from other start reach) step point)
     (initiator : ℕ) (coming : Coming) where
@@ -24,7 +24,7 @@ module _ (now : Office) (row other : RunRow) (start : Library) (reach : List Nam
   next = row_then now row other step point initiator coming
 
   abbrev pub leg : Leg
-  leg = leg_then now next (leg_from other start reach)
+  leg = continued_leg now next (leg_from other start reach)
 
   abbrev pub owned : OwnedStep
   owned = earlier.begun.owned

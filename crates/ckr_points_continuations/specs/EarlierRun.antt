@@ -50,7 +50,7 @@ pub record Coming : Type 0 where
   pub lost : List Name
   pub effect : Option EffectPoint
 
--- the row of the run then, its leg, and the tables
+-- the row of the run then, and the tables
 abbrev pub row_then : Office → RunRow → RunRow → ℕ → StartPoint → ℕ → Coming → RunRow
 row_then now row other step point initiator coming =
     record (continued_row row other step point initiator now.tables.sets) {
@@ -61,11 +61,12 @@ row_then now row other step point initiator coming =
       in_effect = coming.effect;
     }
 
-abbrev pub leg_then : Office → RunRow → Leg → Leg
-leg_then now next leg = continued_leg now next leg
-
 abbrev pub tables_then : Office → RunRow → Named TableSet → TablesModel
 tables_then now next sets = with_run next (record now.tables { sets = sets })
+
+-- the data sets put back
+abbrev pub sets_then : Office → RunRow → OwnedStep → List Mark → List Name → List Name → Named TableSet
+sets_then now other owned marks needed removed = put_back marks (output_names other.job.root owned) needed (removed_all removed now.tables.sets)
 
 -- Where the data sets are put back for it: the marks are those of its place, a needed name is fresh, its own names that are marked are needed or
 -- removed, and no others are; and the passed names that no longer exist then are lost.
@@ -75,17 +76,13 @@ pub record IsPutBack (now : Office) (next other : RunRow) (owned : OwnedStep) (s
   pub judged : fresh other.job.root owned marks needed now.tables.sets ≡ None
   pub needed_own : (name : Name) → is_among needed name ≡ true → is_among (own_names next) name ≡ true
   pub removed_own : (name : Name) → is_among removed name ≡ true → is_among (own_names next) name ≡ true
-  pub lost : coming.lost ≡ lost_names marks named (put_back marks (output_names other.job.root owned) needed (removed_all removed now.tables.sets)) coming.passed
+  pub lost : coming.lost ≡ lost_names marks named (sets_then now other owned marks needed removed) coming.passed
 
 -- a run comes to the start of the step, or within it behind so many of its writes
 abbrev pub ComesTo : ℕ → ℕ → Place → Type 0
 ComesTo step most (Before number) = ⊥
 ComesTo step most (Opened number) = number ≡ step
 ComesTo step most (Within number writes) = (number ≡ step) × (writes ≤ most)
-
--- the data sets put back
-abbrev pub sets_then : Office → RunRow → OwnedStep → List Mark → List Name → List Name → Named TableSet
-sets_then now other owned marks needed removed = put_back marks (output_names other.job.root owned) needed (removed_all removed now.tables.sets)
 
 -- A run continues another one at a step. It comes to its start, or to an entry of it, with the passed list that the earlier run's job has there.
 -- Of the names that it reaches, the tables had what the ended jobs left, made as the earlier run's job made them where the stamp is the same.
@@ -96,7 +93,7 @@ pub record IsContinued (now : Office) (row other : RunRow) (start : Library) (re
   pub passed : coming.passed ≡ (at other.job start coming.place).passed
   pub back : IsPutBack now (row_then now row other step point initiator coming) other earlier.begun.owned start coming marks needed removed
       (own_names (row_then now row other step point initiator coming) ++ others)
-  pub left : (name : Name) → is_among (leg_then now (row_then now row other step point initiator coming) (leg_from other start reach)).reach name ≡ true
+  pub left : (name : Name) → is_among (continued_leg now (row_then now row other step point initiator coming) (leg_from other start reach)).reach name ≡ true
       → AreAlike now.tables.sets now.library name
-  pub making : (name : Name) → is_among (leg_then now (row_then now row other step point initiator coming) (leg_from other start reach)).reach name ≡ true
+  pub making : (name : Name) → is_among (continued_leg now (row_then now row other step point initiator coming) (leg_from other start reach)).reach name ≡ true
       → DeterminesMaking now.tables.sets (at other.job start coming.place).sets name

@@ -11,7 +11,7 @@ ghost use Rattle.ckr_meaning.specs.JobRun.{at};
 ghost use Rattle.ckr_meaning.specs.LibrarySet.{Library};
 ghost use Rattle.ckr_volumes.specs.declared.layout.Layout.{Layout};
 ghost use Rattle.ckr_points.specs.Marks.{mark_at, own_names};
-ghost use Rattle.ckr_points.specs.Office.{Leg, Office, leg_of, office_after};
+ghost use Rattle.ckr_points.specs.Office.{Leg, Office, leg_of, office_after, continued_leg};
 ghost use Rattle.ckr_points.specs.Payload.{is_orderly_dd};
 ghost use Rattle.ckr_points.specs.Restart.{kept_at, syschk_name};
 ghost use Rattle.ckr_points.specs.Rows.{KeptEntry, RunRow, StartPoint, TableSet};
@@ -23,7 +23,7 @@ ghost use Rattle.ckr_points_invariant.specs.WrittenEntries.{AreWrittenEntries};
 ghost use Rattle.ckr_points_invariant.proofs.Continuations.Follows.{MayContinue};
 ghost use Rattle.ckr_points_continuations.specs.JobNames.{AreKin, BeginsAtRoot, IsReachNamed};
 ghost use Rattle.ckr_points_continuations.specs.OfficeBehind.{AgreesBehind};
-ghost use Rattle.ckr_points_continuations.specs.EarlierRun.{leg_from, leg_then, row_then, sets_then, tables_then, Coming, IsContinued};
+ghost use Rattle.ckr_points_continuations.specs.EarlierRun.{leg_from, row_then, sets_then, tables_then, Coming, IsContinued};
 
 /// It stands at its place: its row is what its job is there, behind steps that the earlier run began. Of each name that it reaches the
 /// tables have what its job has at that place, once they are put back, and a name that none of its own steps has is as it was. It has
@@ -32,10 +32,10 @@ ghost use Rattle.ckr_points_continuations.specs.EarlierRun.{leg_from, leg_then, 
 pub fn continued_runs_stand_at_their_place()
     ensures place { (now : Office) (row other : RunRow) (start : Library) (reach : List Name) (step : ℕ) (point : StartPoint) (initiator : ℕ) (coming : Coming) (marks : List Mark) (needed removed others : List Name)
         → IsContinued now row other start reach step point initiator coming marks needed removed others → (sets : Named TableSet)
-        → let next = row_then now row other step point initiator coming in IsAtPlace (tables_then now next sets) next (leg_then now next (leg_from other start reach)) }
+        → let next = row_then now row other step point initiator coming in IsAtPlace (tables_then now next sets) next (continued_leg now next (leg_from other start reach)) }
     ensures agrees { (now : Office) (row other : RunRow) (start : Library) (reach : List Name) (step : ℕ) (point : StartPoint) (initiator : ℕ) (coming : Coming) (marks : List Mark) (needed removed others : List Name)
         → (its : IsContinued now row other start reach step point initiator coming marks needed removed others) → (name : Name)
-        → let leg = leg_then now (row_then now row other step point initiator coming) (leg_from other start reach) in is_among leg.reach name ≡ true
+        → let leg = continued_leg now (row_then now row other step point initiator coming) (leg_from other start reach) in is_among leg.reach name ≡ true
         → AreAlike (sets_then now other its.earlier.begun.owned marks needed removed) (at leg.job leg.start coming.place).sets name }
     ensures outside { (now : Office) (row other : RunRow) (start : Library) (reach : List Name) (step : ℕ) (point : StartPoint) (initiator : ℕ) (coming : Coming) (marks : List Mark) (needed removed others : List Name)
         → (its : IsContinued now row other start reach step point initiator coming marks needed removed others) → (name : Name)
@@ -43,7 +43,7 @@ pub fn continued_runs_stand_at_their_place()
         → entry_at (sets_then now other its.earlier.begun.owned marks needed removed) name ≡ entry_at now.tables.sets name }
     ensures begun { (now : Office) (row other : RunRow) (start : Library) (reach : List Name) (step : ℕ) (point : StartPoint) (initiator : ℕ) (coming : Coming) (marks : List Mark) (needed removed others : List Name)
         → IsContinued now row other start reach step point initiator coming marks needed removed others → (sets : Named TableSet)
-        → let next = row_then now row other step point initiator coming in HasBegunSteps (tables_then now next sets) next (leg_then now next (leg_from other start reach)) }
+        → let next = row_then now row other step point initiator coming in HasBegunSteps (tables_then now next sets) next (continued_leg now next (leg_from other start reach)) }
 {}
 
 /// Behind the event that selects a run to continue another one, at the start of a step or at a checkpoint, the office agrees with its jobs:

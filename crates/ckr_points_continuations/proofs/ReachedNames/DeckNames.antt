@@ -12,17 +12,18 @@ use Rattle.ckr_meaning.specs.EffectiveJob.{is_among, names_of, names_of_steps, o
 use Rattle.ckr_meaning.specs.LibrarySet.{Library}
 use Rattle.ckr_volumes.specs.declared.layout.Layout.{Layout}
 use Rattle.ckr_points.specs.Marks.{deck_names, has_passed, lost_names, own_names}
-use Rattle.ckr_points.specs.Office.{Leg, Office, passed_made}
+use Rattle.ckr_points.specs.Office.{Leg, Office, passed_made, continued_leg}
 use Rattle.ckr_points.specs.Rows.{RunRow, TableSet, run_of}
+use Rattle.ckr_points.proofs.NeededNames.{spliced-from}
 use Rattle.ckr_points_invariant.specs.Invariant.{IsAgreed}
 use Rattle.ckr_points_invariant.proofs.Continuations.DeckNames.{IsNameOf, deck-named}
 use Rattle.ckr_points_invariant.proofs.Continuations.Follows.{MayContinue}
 use Rattle.ckr_points_invariant.proofs.Library.PassedList.{made-without}
-use Rattle.ckr_points_continuations.specs.EarlierRun.{Coming, leg_from, leg_then, row_then}
+use Rattle.ckr_points_continuations.specs.EarlierRun.{Coming, leg_from, row_then}
 use Rattle.ckr_points_continuations.proofs.LostNames.{kept-exists}
 use Rattle.ckr_points_continuations.specs.JobNames.{AreKin, BeginsAtRoot, HasJobName, IsNamedByDeck, IsReachNamed}
 use Rattle.ckr_points_continuations.proofs.ReachedNames.Statements.{step-names-same}
-use Rattle.ckr_points_continuations.proofs.ReachedNames.OwnSteps.{among-at, among-rest, first-same, names-owned, own-steps, step-either}
+use Rattle.ckr_points_continuations.proofs.ReachedNames.OwnSteps.{among-at, among-rest, first-same, names-owned, step-either}
 
 -- ---- the run that is continued
 
@@ -32,7 +33,7 @@ module _ (layout : Layout) (now : Office) (job initiator before step : ℕ) (id 
   next = row_then now its.row its.other step its.point initiator coming
 
   abbrev pub leg : Leg
-  leg = leg_then now next (leg_from its.other start reach)
+  leg = continued_leg now next (leg_from its.other start reach)
 
   abbrev pub root : ℕ
   root = its.other.job.root
@@ -100,7 +101,7 @@ module _ (layout : Layout) (now : Office) (job initiator before step : ℕ) (id 
     own-so among =
         or-cases (is_among (names_of root its.owned) name) _
         (sym (list_any-append (same_name name) (names_of root its.owned) (names_of_steps root (map (owned_by its.row.number its.row.deck) (drop step its.row.deck.steps))))
-        ∙ ap (λ steps. is_among (names_of_steps root steps) name) (sym (own-steps its.other.job step its.row.number its.row.deck its.owned its.found))
+        ∙ ap (λ steps. is_among (names_of_steps root steps) name) (sym (spliced-from its.other.job step its.row.number its.row.deck its.owned its.found))
         ∙ among)
         step-so later-so
 

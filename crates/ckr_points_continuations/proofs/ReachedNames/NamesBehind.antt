@@ -8,13 +8,13 @@ use Rattle.ckr_meaning.specs.EffectiveJob.{is_among, names_of_job}
 use Rattle.ckr_meaning.specs.LibrarySet.{Library}
 use Rattle.ckr_volumes.specs.declared.layout.Layout.{Layout}
 use Rattle.ckr_points.specs.Marks.{deck_names, lost_names, mark_at, own_names}
-use Rattle.ckr_points.specs.Office.{Leg, Office, leg_of}
+use Rattle.ckr_points.specs.Office.{Leg, Office, leg_of, continued_leg}
 use Rattle.ckr_points.specs.Rows.{RunRow, TableSet, run_of}
 use Rattle.ckr_points_invariant.specs.Invariant.{IsHolder, IsKept}
 use Rattle.ckr_points_invariant.specs.Points.{ArePointed}
 use Rattle.ckr_points_invariant.specs.StartedSteps.{AreBegunSteps}
 use Rattle.ckr_points_invariant.proofs.Continuations.Follows.{MayContinue}
-use Rattle.ckr_points_continuations.specs.EarlierRun.{Coming, leg_from, leg_then, row_then, sets_then}
+use Rattle.ckr_points_continuations.specs.EarlierRun.{Coming, leg_from, row_then, sets_then}
 use Rattle.ckr_points_continuations.specs.JobNames.{AreKin, IsReachNamed}
 use Rattle.ckr_points_continuations.proofs.Agreement as agreement
 use Rattle.ckr_points_continuations.proofs.Offices as offices
@@ -28,7 +28,7 @@ module _ (layout : Layout) (now : Office) (job initiator before step : ℕ) (id 
   next = row_then now its.row its.other step its.point initiator coming
 
   abbrev leg : Leg
-  leg = leg_then now next (leg_from its.other start reach)
+  leg = continued_leg now next (leg_from its.other start reach)
 
   abbrev sets : Named TableSet
   sets = sets_then now its.other its.owned marks needed removed

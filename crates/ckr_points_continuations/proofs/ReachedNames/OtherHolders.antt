@@ -21,7 +21,7 @@ use Rattle.ckr_meaning.specs.EffectiveJob.{Effective, OwnedStep, is_among, names
 use Rattle.ckr_meaning.specs.LibrarySet.{Library}
 use Rattle.ckr_volumes.specs.declared.layout.Layout.{Layout}
 use Rattle.ckr_points.specs.Marks.{deck_names, lost_names, own_names}
-use Rattle.ckr_points.specs.Office.{Leg, Office, is_holder, leg_of}
+use Rattle.ckr_points.specs.Office.{Leg, Office, is_holder, leg_of, continued_leg}
 use Rattle.ckr_points.specs.Payload.{is_orderly, is_orderly_at, is_orderly_dd}
 use Rattle.ckr_points.specs.RuleCases.{is_ended}
 use Rattle.ckr_points.specs.Rows.{RunRow, TableSet, TablesModel, run_of}
@@ -35,7 +35,7 @@ use Rattle.ckr_points_invariant.proofs.Continuations.NamesInCommon.{IsWritten, T
 use Rattle.ckr_points_invariant.proofs.Decks.Events.{row-orderly}
 use Rattle.ckr_points_invariant.proofs.Decks.Names.{orderly-dds, orderly-number}
 use Rattle.ckr_points_invariant.proofs.Holders.Rows.{holder-ended, queued-is, step-all}
-use Rattle.ckr_points_continuations.specs.EarlierRun.{Coming, leg_from, leg_then, row_then}
+use Rattle.ckr_points_continuations.specs.EarlierRun.{Coming, leg_from, row_then}
 use Rattle.ckr_points_continuations.specs.JobNames.{AreKin, BeginsAtRoot, HasJobName, IsReachNamed}
 use Rattle.ckr_points_continuations.proofs.ReachedNames.OwnSteps.{names-owned}
 use Rattle.ckr_points_continuations.proofs.ReachedNames.DeckNames.{own-named, owner-kin, reached-so, root-kin}
@@ -124,7 +124,7 @@ module _ (layout : Layout) (now : Office) (kept : IsAgreed layout now) (orderly 
     next = row_then now its.row its.other step its.point initiator coming
 
     abbrev leg : Leg
-    leg = leg_then now next (leg_from its.other start reach)
+    leg = continued_leg now next (leg_from its.other start reach)
 
     -- an owner of its job name that holds nothing
     abbrev Passes : ℕ → Type 0

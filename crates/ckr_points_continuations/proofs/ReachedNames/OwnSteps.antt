@@ -1,6 +1,6 @@
 -- The steps of a run that continues another one, and their names: the steps that it executes itself are the one at which it continues the other
 -- one, and those of its own deck behind it.
-use Rattle.std.proofs.Common.{◌≡◌, ℕ, zero, suc, pred, true, List, [], ◌∷◌, ◌++◌, map, flat_map, take, drop, refl, ap, sym, ◌∙◌, Some}
+use Rattle.std.proofs.Common.{◌≡◌, ℕ, zero, suc, true, List, [], ◌∷◌, ◌++◌, map, flat_map, take, drop, refl, ap, sym, ◌∙◌, Some}
 use Rattle.std.specs.Prelude.{slice_get}
 use Rattle.std.proofs.lemmas.Bool.{or_left, or_right}
 use Rattle.std.proofs.lemmas.List.Folds.{list_any-append}
@@ -36,12 +36,6 @@ pub names-owned : (root run : ℕ) (deck : Job) (steps : List Step) → names_of
 names-owned root run deck [] = refl
 names-owned root run deck (first ∷ rest) = ap (λ names. names_of root (owned_by run deck first) ++ names) (names-owned root run deck rest)
 
--- what stands behind a front that ends with an item
-front-last : {A : Type 0} (before : ℕ) (items others : List A) (item : A) → slice_get items before ≡ Some item → drop before (take (suc before) items ++ others) ≡ item ∷ others
-front-last before [] others item found = absurd (some-not-none item (sym found))
-front-last zero (first ∷ rest) others item found = ap (λ one. one ∷ others) (same_Some first item found)
-front-last (suc before) (first ∷ rest) others item found = front-last before rest others item found
-
 -- what stands at a place stands in the front or behind it
 front-or-behind : {A B : Type 0} (count place : ℕ) (items others : List A) (item : A) → slice_get (take count items ++ others) place ≡ Some item → (slice_get items place ≡ Some item → B) → ((behind : ℕ) → slice_get others behind ≡ Some item → B) → B
 front-or-behind zero place items others item found front rest = rest place found
@@ -56,11 +50,6 @@ owner-is run deck (first ∷ rest) zero owned found = sym (ap (λ (one : OwnedSt
 owner-is run deck (first ∷ rest) (suc place) owned found = owner-is run deck rest place owned found
 
 -- ---- the steps of a run that continues another one
-
--- those that it executes itself
-pub own-steps : (earlier : Effective) (step run : ℕ) (deck : Job) (owned : OwnedStep) → step_at earlier step ≡ Some owned → drop (pred step) (spliced earlier step run deck).steps ≡ owned ∷ map (owned_by run deck) (drop step deck.steps)
-own-steps earlier zero run deck owned found = absurd (some-not-none owned (sym found))
-own-steps earlier (suc before) run deck owned found = front-last before earlier.steps (map (owned_by run deck) (drop (suc before) deck.steps)) owned found
 
 -- each of its steps is one of the earlier job, or its own
 pub step-either : {B : Type 0} (earlier : Effective) (step run : ℕ) (deck : Job) (number : ℕ) (owned : OwnedStep) → step_at (spliced earlier step run deck) number ≡ Some owned → (step_at earlier number ≡ Some owned → B) → (owned.owner ≡ run → B) → B

@@ -10,7 +10,7 @@ use Rattle.ckr_meaning.specs.LibrarySet.{Library}
 use Rattle.ckr_meaning.specs.declared.place.Place.TheVariants.{Within}
 use Rattle.ckr_volumes.specs.declared.layout.Layout.{Layout}
 use Rattle.ckr_points.specs.Marks.{deck_names, mark_at}
-use Rattle.ckr_points.specs.Office.{Leg, Office, leg_of, office_after, office_selected}
+use Rattle.ckr_points.specs.Office.{Leg, Office, leg_of, office_after, office_selected, continued_leg}
 use Rattle.ckr_points.specs.Restart.{Back, kept_at, sets_back, syschk_name}
 use Rattle.ckr_points.specs.Rows.{KeptEntry, RunRow}
 use Rattle.ckr_points_invariant.specs.Invariant.{AreAlike, IsHolder, IsKept}
@@ -20,7 +20,7 @@ use Rattle.ckr_points_invariant.specs.StartedSteps.{AreBegunSteps}
 use Rattle.ckr_points_invariant.specs.WrittenEntries.{AreWrittenEntries}
 use Rattle.ckr_points_invariant.proofs.Continuations.Follows.{IsEntryOf, MayContinue}
 use Rattle.ckr_points_invariant.proofs.Continuations.Freshness.{DeterminesMaking}
-use Rattle.ckr_points_continuations.specs.EarlierRun.{Coming, leg_from, leg_then, row_then, sets_then}
+use Rattle.ckr_points_continuations.specs.EarlierRun.{Coming, leg_from, row_then, sets_then}
 use Rattle.ckr_points_continuations.specs.OfficeBehind.{AgreesBehind}
 use Rattle.ckr_points_invariant.proofs.WrittenEntries.Offices.{IsGrown}
 use Rattle.ckr_points_continuations.proofs.Agreement as agreement
@@ -47,7 +47,7 @@ module _ (layout : Layout) (now : Office) (job initiator before step : ℕ) (id 
   next = row_then now its.row its.other step its.point initiator coming
 
   abbrev leg : Leg
-  leg = leg_then now next (leg_from its.other start reach)
+  leg = continued_leg now next (leg_from its.other start reach)
 
   abbrev its_back : Back
   its_back = entries.back layout now job initiator before step id its start reach kept.events kept.decks begun pointed led covers written entry found entry_covers

@@ -12,7 +12,7 @@ use Rattle.ckr_meaning.specs.LibrarySet.{Library}
 use Rattle.ckr_meaning.specs.declared.place.Place.TheVariants.{Opened}
 use Rattle.ckr_volumes.specs.declared.layout.Layout.{Layout}
 use Rattle.ckr_points.specs.Marks.{deck_names, mark_at}
-use Rattle.ckr_points.specs.Office.{Leg, Office, leg_of, office_after, office_selected}
+use Rattle.ckr_points.specs.Office.{Leg, Office, leg_of, office_after, office_selected, continued_leg}
 use Rattle.ckr_points.specs.Payload.{is_orderly_dd}
 use Rattle.ckr_points.specs.Restart.{Back, continued_row, sets_back}
 use Rattle.ckr_points.specs.Rows.{RunRow}
@@ -23,7 +23,7 @@ use Rattle.ckr_points_invariant.specs.StartedSteps.{AreBegunSteps}
 use Rattle.ckr_points_invariant.specs.WrittenEntries.{AreWrittenEntries}
 use Rattle.ckr_points_invariant.proofs.Continuations.Follows.{MayContinue}
 use Rattle.ckr_points_invariant.proofs.Continuations.Freshness.{DeterminesMaking}
-use Rattle.ckr_points_continuations.specs.EarlierRun.{Coming, leg_from, leg_then, row_then, sets_then}
+use Rattle.ckr_points_continuations.specs.EarlierRun.{Coming, leg_from, row_then, sets_then}
 use Rattle.ckr_points_continuations.specs.OfficeBehind.{AgreesBehind}
 use Rattle.ckr_points_invariant.proofs.PlainRuns.Readiness.{ready-outside}
 use Rattle.ckr_points_continuations.proofs.Agreement as agreement
@@ -48,7 +48,7 @@ module _ (layout : Layout) (now : Office) (job initiator before step : ℕ) (its
   next = row_then now its.row its.other step its.point initiator coming
 
   abbrev leg : Leg
-  leg = leg_then now next (leg_from its.other start reach)
+  leg = continued_leg now next (leg_from its.other start reach)
 
   abbrev its_back : Back
   its_back = starts.back layout now job initiator before step its start reach kept.events kept.decks begun pointed led covers

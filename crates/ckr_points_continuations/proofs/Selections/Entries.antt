@@ -17,7 +17,7 @@ use Rattle.ckr_meaning.specs.StepRun.{work_at}
 use Rattle.ckr_meaning.specs.declared.place.Place.TheVariants.{Opened, Within}
 use Rattle.ckr_volumes.specs.declared.layout.Layout.{Layout}
 use Rattle.ckr_points.specs.Marks.{deck_names, lost_names, mark_at, own_names}
-use Rattle.ckr_points.specs.Office.{Leg, Office, leg_of}
+use Rattle.ckr_points.specs.Office.{Leg, Office, leg_of, continued_leg}
 use Rattle.ckr_points.specs.Restart.{Back, after_entry_continued, after_event, continued_row, deferred_entry, kept_at, syschk_name, sets_back}
 use Rattle.ckr_points.specs.Rows.{KeptEntry, RunRow, TableSet, run_of}
 use Rattle.ckr_points_invariant.specs.Invariant.{AreAlike, AreOrderly, IsAgreed}
@@ -29,7 +29,7 @@ use Rattle.ckr_points_invariant.proofs.Continuations.Freshness.{DeterminesMaking
 use Rattle.ckr_points_invariant.proofs.Continuations.Needed.{needed-entry}
 use Rattle.ckr_points_invariant.proofs.Marks.Points.{among-filter}
 use Rattle.ckr_points_invariant.proofs.Restart.Invariant.{point-of}
-use Rattle.ckr_points_continuations.specs.EarlierRun.{Coming, IsContinued, IsEarlier, IsPutBack, leg_from, leg_then, row_then, sets_then, tables_then}
+use Rattle.ckr_points_continuations.specs.EarlierRun.{Coming, IsContinued, IsEarlier, IsPutBack, leg_from, row_then, sets_then, tables_then}
 use Rattle.ckr_points.specs.Tables.{fresh_effect}
 use Rattle.ckr_points_invariant.specs.Points.{AreEntryPoints}
 use Rattle.ckr_points_invariant.specs.WrittenEntries.{AreWrittenEntries, IsWrittenEntry}
@@ -139,8 +139,8 @@ module _ (layout : Layout) (now : Office) (job initiator before step : ℕ) (id 
   }
 
   -- A run that may be selected continues the earlier one.
-  pub continued-entry : (left : (name : Name) → is_among (leg_then now next its_leg).reach name ≡ true → AreAlike now.tables.sets now.library name)
-      → (making : (name : Name) → is_among (leg_then now next its_leg).reach name ≡ true → DeterminesMaking now.tables.sets (at its.other.job start (Within step entry.point.writes)).sets name)
+  pub continued-entry : (left : (name : Name) → is_among (continued_leg now next its_leg).reach name ≡ true → AreAlike now.tables.sets now.library name)
+      → (making : (name : Name) → is_among (continued_leg now next its_leg).reach name ≡ true → DeterminesMaking now.tables.sets (at its.other.job start (Within step entry.point.writes)).sets name)
       → IsContinued now its.row its.other start reach step its.point initiator coming entry.point.marks back.needed back.removed (deck_names row_before.job.root row_before.number row_before.deck)
   continued-entry left making = record {
     earlier = earlier-start;

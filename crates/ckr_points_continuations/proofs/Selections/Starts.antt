@@ -12,7 +12,7 @@ use Rattle.ckr_meaning.specs.LibrarySet.{Library}
 use Rattle.ckr_meaning.specs.declared.place.Place.TheVariants.{Opened}
 use Rattle.ckr_volumes.specs.declared.layout.Layout.{Layout}
 use Rattle.ckr_points.specs.Marks.{deck_names, is_marked_absent, lost_names, mark_at, own_names, sysout_names}
-use Rattle.ckr_points.specs.Office.{Leg, Office, leg_of}
+use Rattle.ckr_points.specs.Office.{Leg, Office, leg_of, continued_leg}
 use Rattle.ckr_points.specs.Restart.{Back, after_event, continued_row, deferred_start, needed_names, sets_back}
 use Rattle.ckr_points.specs.Rows.{RunRow}
 use Rattle.ckr_points_invariant.specs.Invariant.{AreAlike, AreOrderly, IsAgreed}
@@ -23,7 +23,7 @@ use Rattle.ckr_points_invariant.proofs.Continuations.Follows.{MayContinue, after
 use Rattle.ckr_points_invariant.proofs.Continuations.Freshness.{DeterminesMaking}
 use Rattle.ckr_points_invariant.proofs.Continuations.Needed.{needed-start}
 use Rattle.ckr_points_invariant.proofs.Marks.Points.{among-filter}
-use Rattle.ckr_points_continuations.specs.EarlierRun.{Coming, IsContinued, IsEarlier, IsPutBack, leg_from, leg_then, row_then, sets_then, tables_then}
+use Rattle.ckr_points_continuations.specs.EarlierRun.{Coming, IsContinued, IsEarlier, IsPutBack, leg_from, row_then, sets_then, tables_then}
 use Rattle.ckr_points_continuations.proofs.Marks.{step-own}
 use Rattle.ckr_points_continuations.proofs.Walks.{step-here}
 use Rattle.std.specs.List.{list_all}
@@ -128,8 +128,8 @@ module _ (layout : Layout) (now : Office) (job initiator before step : ℕ) (its
     }
 
     -- A run that may be selected continues the earlier one.
-    pub continued-start : (left : (name : Name) → is_among (leg_then now next its_leg).reach name ≡ true → AreAlike now.tables.sets now.library name)
-        → (making : (name : Name) → is_among (leg_then now next its_leg).reach name ≡ true → DeterminesMaking now.tables.sets (at its.other.job start (Opened step)).sets name)
+    pub continued-start : (left : (name : Name) → is_among (continued_leg now next its_leg).reach name ≡ true → AreAlike now.tables.sets now.library name)
+        → (making : (name : Name) → is_among (continued_leg now next its_leg).reach name ≡ true → DeterminesMaking now.tables.sets (at its.other.job start (Opened step)).sets name)
         → IsContinued now its.row its.other start reach step its.point initiator coming its.point.marks back.needed back.removed (deck_names row_before.job.root row_before.number row_before.deck)
     continued-start left making = record {
       earlier = earlier-start;

@@ -12,9 +12,9 @@ use Rattle.ckr_meaning.specs.LibrarySet.{Library, LibrarySet}
 use Rattle.ckr_meaning.specs.declared.place.Place.{Place}
 use Rattle.ckr_meaning.specs.declared.place.Place.TheVariants.{Before, Opened, Within}
 use Rattle.ckr_meaning.proofs.Fronts.{begin-before, begin-goes_on, later-before}
-use Rattle.ckr_points.specs.Office.{Leg, Office, leg_of}
+use Rattle.ckr_points.specs.Office.{Leg, Office, leg_of, continued_leg}
 use Rattle.ckr_points.specs.Rows.{RunRow, StartPoint}
-use Rattle.ckr_points_continuations.specs.EarlierRun.{Coming, IsEarlier, leg_from, leg_then, row_then}
+use Rattle.ckr_points_continuations.specs.EarlierRun.{Coming, IsEarlier, leg_from, row_then}
 use Rattle.ckr_points_continuations.proofs.Walks as walks
 use Rattle.ckr_points_invariant.specs.Invariant.{AreBegun, AreStamped, HasBegun, IsReached}
 use Rattle.ckr_points_invariant.proofs.Continuations.Fronts.{front-among, library-earlier, library-other, place-earlier, place-other, same-steps}
@@ -49,7 +49,7 @@ module _ (now : Office) (row other : RunRow) (start : Library) (reach : List Nam
   next = row_then now row other step point initiator coming
 
   abbrev pub leg : Leg
-  leg = leg_then now next (leg_from other start reach)
+  leg = continued_leg now next (leg_from other start reach)
 
   alike : BeginAlike step leg.job other.job leg.start start
   alike = walks.alike now row other start reach step point earlier initiator coming

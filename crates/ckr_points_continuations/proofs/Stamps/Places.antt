@@ -13,10 +13,10 @@ use Rattle.ckr_meaning.specs.JobRun.{at}
 use Rattle.ckr_meaning.specs.LibrarySet.{Library, LibrarySet}
 use Rattle.ckr_meaning.specs.declared.place.Place.{Place}
 use Rattle.ckr_meaning.specs.declared.place.Place.TheVariants.{Before, Opened, Within}
-use Rattle.ckr_points.specs.Office.{Leg, Office, leg_of}
+use Rattle.ckr_points.specs.Office.{Leg, Office, leg_of, continued_leg}
 use Rattle.ckr_points.specs.Restart.{step_in}
 use Rattle.ckr_points.specs.Rows.{RunRow, StartPoint}
-use Rattle.ckr_points_continuations.specs.EarlierRun.{Coming, IsEarlier, leg_from, leg_then, row_then}
+use Rattle.ckr_points_continuations.specs.EarlierRun.{Coming, IsEarlier, leg_from, row_then}
 use Rattle.ckr_points_continuations.proofs.Stamps.EarlierSteps.{IsUpTo, begun-up_to, set-behind, stamp-other, up-to-step}
 use Rattle.ckr_points_continuations.proofs.Stamps.LaterSteps.{GoesTo, AreSeated, later-begun, sets_behind}
 use Rattle.ckr_points_continuations.proofs.Steps.{formed, later}
@@ -44,7 +44,7 @@ module _ (now : Office) (row other : RunRow) (start : Library) (reach : List Nam
   next = row_then now row other step point initiator coming
 
   abbrev pub leg : Leg
-  leg = leg_then now next (leg_from other start reach)
+  leg = continued_leg now next (leg_from other start reach)
 
   module _ (behind : Office) (mine : leg_of behind row.number ≡ Some leg) (others : (number : ℕ) → number ≢ row.number → leg_of behind number ≡ leg_of now number) where
     -- just behind the step no data set has a stamp of the run

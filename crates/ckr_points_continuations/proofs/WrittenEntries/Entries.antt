@@ -11,7 +11,7 @@ use Rattle.ckr_meaning.specs.EffectiveJob.{OwnedStep, is_among, names_of, names_
 use Rattle.ckr_meaning.specs.LibrarySet.{Library}
 use Rattle.ckr_points_library.specs.Commit.{output_names}
 use Rattle.ckr_points.specs.Marks.{point_at, present_at}
-use Rattle.ckr_points.specs.Office.{Leg, Office, leg_of}
+use Rattle.ckr_points.specs.Office.{Leg, Office, leg_of, continued_leg}
 use Rattle.ckr_points.specs.Restart.{carried_point, kept_at, step_in}
 use Rattle.ckr_points.specs.Rows.{KeptEntry, RunRow, StartPoint, TableSet}
 use Rattle.ckr_points.specs.Tables.{fresh_effect, is_checkpoints, name_with_role}
@@ -25,7 +25,7 @@ use Rattle.ckr_points_invariant.proofs.Select.Invariant.{among-step}
 use Rattle.ckr_points_invariant.proofs.WrittenEntries.Entries.{written-by}
 use Rattle.ckr_points_invariant.proofs.WrittenEntries.Growth.{IsEffectLong}
 use Rattle.ckr_points_invariant.proofs.WrittenEntries.Offices.{IsGrown}
-use Rattle.ckr_points_continuations.specs.EarlierRun.{Coming, IsEarlier, leg_from, leg_then, row_then, sets_then}
+use Rattle.ckr_points_continuations.specs.EarlierRun.{Coming, IsEarlier, leg_from, row_then, sets_then}
 use Rattle.ckr_points_continuations.proofs.Marks.{carried-is}
 use Rattle.ckr_points_continuations.proofs.Walks as walks
 use Rattle.ckr_points_continuations.proofs.WrittenEntries.Marks.{kept-so, own-longer, within-longer}
@@ -39,7 +39,7 @@ module _ (now : Office) (row other : RunRow) (start : Library) (reach : List Nam
   next = row_then now row other step point initiator coming
 
   abbrev leg : Leg
-  leg = leg_then now next (leg_from other start reach)
+  leg = continued_leg now next (leg_from other start reach)
 
   abbrev owned : OwnedStep
   owned = walks.owned now row other start reach step point earlier initiator coming

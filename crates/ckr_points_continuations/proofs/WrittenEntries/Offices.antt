@@ -13,7 +13,7 @@ use Rattle.ckr_volumes.specs.declared.layout.Layout.{Layout}
 use Rattle.ckr_points_library.specs.Commit.{output_names}
 use Rattle.ckr_points.specs.Follows.{is_within, own_step}
 use Rattle.ckr_points.specs.Marks.{point_at, removed_all}
-use Rattle.ckr_points.specs.Office.{Leg, Office, leg_of}
+use Rattle.ckr_points.specs.Office.{Leg, Office, leg_of, continued_leg}
 use Rattle.ckr_points.specs.Restart.{place_of}
 use Rattle.ckr_points.specs.RuleCases.{is_ended}
 use Rattle.ckr_points.specs.Rows.{KeptEntry, RunRow, StartPoint, TableSet, run_of}
@@ -26,7 +26,7 @@ use Rattle.ckr_points_invariant.proofs.StartedSteps.Offices.{IsOnlyRow}
 use Rattle.ckr_points_invariant.proofs.WrittenEntries.Entries.{entries-through, written-other}
 use Rattle.ckr_points_invariant.proofs.WrittenEntries.Offices.{IsGrown, kept-same}
 use Rattle.ckr_points_invariant.proofs.WrittenEntries.Sets.{put_back-has, removed_all-has}
-use Rattle.ckr_points_continuations.specs.EarlierRun.{Coming, IsEarlier, leg_from, leg_then, row_then, sets_then, tables_then}
+use Rattle.ckr_points_continuations.specs.EarlierRun.{Coming, IsEarlier, leg_from, row_then, sets_then, tables_then}
 
 module _ (now : Office) (row other : RunRow) (start : Library) (reach : List Name) (step : ℕ) (point : StartPoint) (earlier : IsEarlier now row other (leg_from other start reach) step point)
     (initiator : ℕ) (coming : Coming) (marks : List Mark) (needed removed : List Name) where
@@ -34,7 +34,7 @@ module _ (now : Office) (row other : RunRow) (start : Library) (reach : List Nam
   next = row_then now row other step point initiator coming
 
   abbrev pub leg : Leg
-  leg = leg_then now next (leg_from other start reach)
+  leg = continued_leg now next (leg_from other start reach)
 
   abbrev begins : OwnedStep
   begins = earlier.begun.owned
