@@ -1,4 +1,5 @@
 pub mod Tables
+pub mod Denials
 pub mod Follows
 pub mod Freshness
 pub mod Payload

@@ -222,7 +222,8 @@ is_orderly_dd dd = is_orderly_at dd.origin dd.disp
 abbrev pub is_orderly : ℕ → Job → Bool
 is_orderly job deck = nat_le job 9999999 && is_formed (plain_job job deck) && list_all (λ step. list_all is_orderly_dd step.dds) deck.steps
 
--- whether an event carries what the job's run gives at the place that it commits, and a Restarted has the verdict of the rules
+-- whether an event carries what the job's run gives at the place that it commits, the entry of a checkpoint has a byte at least, and a Restarted
+-- has the verdict of the rules
 abbrev pub carries : Layout → Office → Event → Option Job → Bool
 carries layout now (Submitted job cards) deck = option_map_or (is_orderly job) deck false
 carries layout now (Selected job initiator earlier step id) deck = true
@@ -235,7 +236,7 @@ carries layout now (Rewritten job taken writes lengths place image) deck =
     nat_lt from writes && rewrites_nothing start from (pred writes) && carries_lengths now.tables.sets writes lengths.items start
     && carries_taken taken writes start && carries_rewrite now.tables.sets writes place image start)
 carries layout now (Checkpointed job id taken writes lengths place bytes) deck =
-    of_start now job (λ row start. commits now.tables.sets row writes lengths.items start && carries_taken taken writes start)
+    nat_le 1 bytes && of_start now job (λ row start. commits now.tables.sets row writes lengths.items start && carries_taken taken writes start)
 carries layout now (Cancelled job) deck = true
 carries layout now (StepEnded job step rc writes lengths) deck =
     of_start now job

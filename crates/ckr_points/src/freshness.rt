@@ -150,7 +150,8 @@ pub fn fresh(needed: &Needed<'_>, marks: &[Mark], library: &Library) -> Option<D
     requires root { needed.now.root ≤ 9999999 }
     requires owner { needed.now.owner ≤ 9999999 }
     requires run { needed.now.run ≤ 9999999 }
-    ensures { (job : Effective) (step : ℕ) (own : OwnedStep) (deck : Deck) (sets : Named TableSet) → IsNeededBy needed.now job step own deck → library.now.sets ≡ held_sets sets → result ≡ fresh job.root own marks.now (needed_at needed.now.at_start job step own marks.now) sets }
+    ensures value { result ≡ stale_among needed.now library.now.sets marks.now }
+    ensures fresh { (job : Effective) (step : ℕ) (own : OwnedStep) (deck : Deck) (sets : Named TableSet) → IsNeededBy needed.now job step own deck → library.now.sets ≡ held_sets sets → result ≡ fresh job.root own marks.now (needed_at needed.now.at_start job step own marks.now) sets }
 {
     first_stale(needed, marks, library)
 }
