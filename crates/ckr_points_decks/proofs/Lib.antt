@@ -12,4 +12,5 @@ pub mod Origins
 pub mod DeckTests
 pub mod Repeats
 pub mod Roles
+pub mod SyschkNames
 pub mod Texts

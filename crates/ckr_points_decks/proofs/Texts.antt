@@ -7,7 +7,7 @@ use Rattle.ckr_cards.specs.Card.{cards_in_bytes}
 use Rattle.ckr_cards.specs.Statement.{is_dd, is_exec, name_in, statements_of}
 use Rattle.ckr_jcl.specs.declared.deck.Job.{Job}
 use Rattle.ckr_jcl.specs.declared.deck.Kind.{Kind}
-use Rattle.ckr_jcl_decks.specs.Parts.DdRule.TheVariants.{LeftOut, WrongUse, WrongSpace, WrongRecords}
+use Rattle.ckr_jcl_decks.specs.Parts.DdRule.TheVariants.{IllNamed, LeftOut, WrongUse, WrongSpace, WrongRecords}
 use Rattle.ckr_jcl_decks.specs.Parts.DdText.{DdText}
 use Rattle.ckr_jcl_decks.specs.Parts.StepText.{StepText}
 use Rattle.ckr_jcl_decks.specs.Parts.JobText.{JobText}
@@ -16,7 +16,7 @@ use Rattle.ckr_jcl_decks.specs.Parts.Faults.{faults_of, nothing_seen, seen_behin
 use Rattle.ckr_jcl_decks.specs.Least.{IsFaultAt, HasNone, AreSound, IsDeckJob}
 use Rattle.ckr_jcl_decks.specs.Parts.DeckText.{closed, current_step, dd_in, dd_text, deck_text, job_text, role_in, step_text, with_dd, with_statement, with_step}
 use Rattle.ckr_jcl_decks.specs.Parts.DdFaults.{breaks}
-use Rattle.ckr_jcl_decks.specs.DeckFaults.{dd_in_steps, dd_or_syschk, deck_faults, faults_of_names, faults_of_uses, limit_fault, missing_dd, repeated_name}
+use Rattle.ckr_jcl_decks.specs.DeckFaults.{checkpoint_fault, dd_in_steps, dd_or_syschk, deck_faults, faults_of_names, faults_of_uses, limit_fault, missing_dd, repeated_name}
 use Rattle.ckr_jcl_decks.specs.Deck.{job_of, stored_deck}
 use Rattle.ckr_jcl_decks.proofs.Refusals.{job_law}
 
@@ -85,8 +85,10 @@ read_deck seen first rest whole =
 
 -- a deck of so many cards has no fault
 pub record IsFaultless (cards : ℕ) (job : JobText) : Type 0 where
+  pub checkpoint : checkpoint_fault job ≡ None
   pub needed : missing_dd job ≡ None
   pub left_out : dd_or_syschk (breaks LeftOut) job ≡ None
+  pub ill_named : dd_or_syschk (breaks IllNamed) job ≡ None
   pub repeated : repeated_name job ≡ None
   pub uses : dd_in_steps (breaks WrongUse) job.steps ≡ None
   pub spaces : dd_in_steps (breaks WrongSpace) job.steps ≡ None
@@ -115,8 +117,10 @@ faultless cards job none =
     let from_22 = rows_none _ _ from_21 in
     let from_23 = rows_none _ _ from_22 in
     record {
+      checkpoint = own_none 13 (checkpoint_fault job) _ from_13;
       needed = own_none 16 (missing_dd job) _ from_16;
       left_out = own_none 17 (dd_or_syschk (breaks LeftOut) job) _ from_17;
+      ill_named = own_none 18 (dd_or_syschk (breaks IllNamed) job) _ from_18;
       repeated = own_none 19 (repeated_name job) _ from_19;
       uses = own_none 20 (dd_in_steps (breaks WrongUse) job.steps) _ from_20;
       spaces = own_none 21 (dd_in_steps (breaks WrongSpace) job.steps) _ from_21;

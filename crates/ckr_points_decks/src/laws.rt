@@ -5,6 +5,7 @@ ghost use Rattle.ckr_jcl.specs.declared.deck.Job.{Job as JobOfDeck};
 ghost use Rattle.ckr_jcl_decks.specs.Deck.{stored_deck};
 ghost use Rattle.ckr_meaning.specs.EffectiveJob.{HasDistinctNames, plain_job};
 ghost use Rattle.ckr_points.specs.Payload.{is_formed, is_orderly};
+ghost use Rattle.ckr_points.specs.Syschk.{names_its_set};
 ghost use Rattle.ckr_points_decks.specs.DeckLimits.{FitsAllocation, HasCheckParts, HasNamesOnce, IsFormed, IsWithinLimits};
 ghost use Rattle.ckr_points_decks.specs.Cards.{kept_deck, kept_of_stored};
 
@@ -35,10 +36,12 @@ pub fn names_stand_once_in_each_step()
 /// The DDs of an accepted deck have the roles that their step's program has for their names, what a step writes, updates or checkpoints
 /// isn't SHR, what it updates is an OLD data set, and no data set name stands twice in a step. It is an orderly deck of each run whose number
 /// has at most seven digits: no name that it writes has the desk's own qualifiers, and what goes to SYSOUT is kept at both ends of its step.
+/// Its SYSCHK, where it is given, names a data set.
 pub fn accepted_decks_are_formed()
     ensures each { (cards : List ℕ) (job : JobOfDeck) → stored_deck cards ≡ Ok job → AllByRecursion IsFormed job.steps }
     ensures job { (cards : List ℕ) (job : JobOfDeck) (run : ℕ) → stored_deck cards ≡ Ok job → is_formed (plain_job run job) ≡ true }
     ensures orderly { (cards : List ℕ) (job : JobOfDeck) (run : ℕ) → run ≤ 9999999 → stored_deck cards ≡ Ok job → is_orderly run job ≡ true }
+    ensures syschk { (cards : List ℕ) (job : JobOfDeck) → stored_deck cards ≡ Ok job → names_its_set job.syschk ≡ true }
 {}
 
 /// What checkpoints are taken by in a step of an accepted deck: IDS is at most 8 bytes of names, where it is given, and a data set for
