@@ -44,7 +44,7 @@ module _ (layout : Layout) (now : Office) where
   denied job rule name deck kept may = record { events = kept-denied layout now job rule name deck kept.events may; stamps = stamped-denied now job rule name deck kept.stamps; decks = orderly-next now.tables (Denied job rule name) deck tt kept.decks }
 
   pub selected : (job initiator step : ℕ) (id : Option Name) (deck : Option Job) → IsKept layout now → may_come layout now (Selected job initiator 0 step id, deck) ≡ true → IsKept layout (office_after (Selected job initiator 0 step id, deck) now)
-  selected job initiator step id deck kept may = record { events = kept-selected layout now job initiator step id deck kept.events may; stamps = stamped-selected layout now job initiator step id deck kept may; decks = orderly-next now.tables (Selected job initiator 0 step id) deck tt kept.decks }
+  selected job initiator step id deck kept may = record { events = kept-selected layout now job initiator step id deck kept.events kept.decks may; stamps = stamped-selected layout now job initiator step id deck kept may; decks = orderly-next now.tables (Selected job initiator 0 step id) deck tt kept.decks }
 
   pub started : (job step : ℕ) (items : ArrayVec Made) (deck : Option Job) → IsKept layout now → may_come layout now (Started job step items, deck) ≡ true → carries layout now (Started job step items) deck ≡ true → IsKept layout (office_after (Started job step items, deck) now)
   started job step items deck kept may carried = record { events = kept-start layout now job step items deck kept.events may carried; stamps = stamped-start layout now job step items deck kept may carried; decks = orderly-next now.tables (Started job step items) deck tt kept.decks }

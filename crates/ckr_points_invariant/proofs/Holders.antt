@@ -1,3 +1,7 @@
+pub mod JobNames
+pub mod NamesInCommon
+pub mod DeckNames
+pub mod CommonNames
 pub mod End
 pub mod Rows
 pub mod SharedSets

@@ -1,5 +1,6 @@
 pub mod WaitingRuns
 pub mod EventLaws
+pub mod KeptEvents
 pub mod EventList
 pub mod SoundEvents
 pub mod RowChanges
@@ -22,7 +23,7 @@ pub mod PutBack
 pub mod Restart
 pub mod PassedNames
 pub mod OtherRuns
-pub mod PlainRuns
+pub mod Readiness
 pub mod Continuations
 pub mod StartedSteps
 pub mod WrittenEntries

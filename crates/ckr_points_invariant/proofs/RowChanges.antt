@@ -1,6 +1,6 @@
 -- The events stay kept where a run's row changes alone, and where a checkpoint is taken.
 use Rattle.std.proofs.Common.{◌≡◌, ℕ, suc, Bool, true, false, cond, ◌&&◌, List, [], ◌∷◌, ◌++◌, flat_map, refl, ap, sym, ◌∙◌, subst, Option, Some, None}
-use Rattle.std.specs.Prelude.{◌==◌}
+use Rattle.std.specs.Prelude.{◌==◌, nat_le}
 use Rattle.std.specs.List.{AllByRecursion}
 use Rattle.std.specs.Option.{option_map, option_map_or}
 use Rattle.std.proofs.lemmas.Bool.{false≢true}
@@ -39,6 +39,7 @@ use Rattle.ckr_points_invariant.proofs.Decks.Events.{orderly-next, row-orderly, 
 use Rattle.ckr_points_invariant.proofs.WaitingRuns.{follows-of, tested-run}
 use Rattle.ckr_points_invariant.proofs.Steps.Commits.{IsRunning, carried-of, its_start}
 use Rattle.ckr_points_invariant.proofs.Library.Extents.{laid-changed}
+use Rattle.ckr_points_invariant.proofs.Holders.JobNames.{uses-stay}
 use Rattle.ckr_points_invariant.proofs.Holders.Rows.{place-stays, run-other, run-same}
 use Rattle.ckr_points_invariant.proofs.Marks.Changes.{EachEntryHolds, all-back, all-front, holds-run, holds-sets, row-holds}
 use Rattle.ckr_points_invariant.proofs.Holders.Moves.{kept-goes_on, standing-is}
@@ -200,7 +201,11 @@ shaped layout office sets kept same laid =
       places = λ number row leg holder.
           let before : IsHolder office number row leg = record { row_at = holder.row_at; holds = holder.holds; leg_at = holder.leg_at } in
           place-stays office.tables other.tables row (λ owner keeps. refl) leg (kept.places number row leg before);
-      uses = λ number row leg holder. kept.uses number row leg (record { row_at = holder.row_at; holds = holder.holds; leg_at = holder.leg_at });
+      uses = λ number row leg holder.
+          uses-stay office.tables other.tables (record { named = λ number name has. has; ended = λ number over. over }) row row refl refl leg refl
+          (kept.uses number row leg (record { row_at = holder.row_at; holds = holder.holds; leg_at = holder.leg_at }));
+      alone = λ one other row next leg fellow name here there.
+          kept.alone one other row next leg fellow name (record { row_at = here.row_at; holds = here.holds; leg_at = here.leg_at }) (record { row_at = there.row_at; holds = there.holds; leg_at = there.leg_at });
       left = λ one other row next leg fellow name here there.
           kept.left one other row next leg fellow name (record { row_at = here.row_at; holds = here.holds; leg_at = here.leg_at }) (record { row_at = there.row_at; holds = there.holds; leg_at = there.leg_at });
       since = λ number row leg name holder. kept.since number row leg name (record { row_at = holder.row_at; holds = holder.holds; leg_at = holder.leg_at });
@@ -283,7 +288,7 @@ checkpointed layout office job taken writes place bytes id lengths deck kept may
     let entry : Kept = record { id = id; run = job; place = place; bytes = bytes } in
     let commit : commits office.tables.sets row writes lengths.items start ≡ true =
     and-first (commits office.tables.sets row writes lengths.items start) (carries_taken taken writes start)
-    (carried-of layout office job row leg owned (step_now row) (λ row start. commits office.tables.sets row writes lengths.items start && carries_taken taken writes start) kept.events holder refl found carried)
+    (carried-of layout office job row leg owned (step_now row) (λ row start. commits office.tables.sets row writes lengths.items start && carries_taken taken writes start) kept.events holder refl found (and-second (nat_le 1 bytes) _ carried))
     in
     subst (λ (o : Option RunRow). IsKept layout (record office { tables = option_map_or (λ row. by_step (λ owned step. after_checkpointed row owned step entry taken writes lengths.items office.tables) row office.tables) o office.tables })) (sym e)
     (subst (λ (o : Option OwnedStep). IsKept layout (record office { tables = option_map_or (λ owned. after_checkpointed row owned (step_now row) entry taken writes lengths.items office.tables) o office.tables })) (sym found)

@@ -1,4 +1,4 @@
--- Sound events among which none goes back are kept.
+-- An event by which no run goes back keeps the events.
 use Rattle.std.proofs.Common.{◌≡◌, false, not, zero, suc, List, [], ◌∷◌, ◌++◌, refl, sym, Option}
 use Rattle.std.specs.List.{list_all}
 use Rattle.std.proofs.lemmas.Bool.{and_from, false≢true, not-true}
@@ -37,26 +37,3 @@ module _ (layout : Layout) (now : Office) where
   kept-next (Ended job (Coded code rule writes lengths)) deck on kept next = coded layout now job rule writes code lengths deck kept next.may next.carried
   kept-next (Ended job (Allocation dd cause first second)) deck on kept next = allocation layout now job dd cause first second deck kept next.may
   kept-next (Purged job) deck on kept next = purged layout now job deck kept next.may
-
--- so do all of them, one after the other
-kept_from : (layout : Layout) (events : List Decked) (now : Office) → AreSoundFrom layout now events → NoneGoesBack events → IsKept layout now → IsKept layout (office_from events now)
-kept_from layout [] now are on kept = kept
-kept_from layout (event ∷ rest) now are on kept =
-    kept_from layout rest (office_after event now) are.1 (and-second (not (goes_back event.0)) _ on)
-    (kept-next layout now event.0 event.1 (not-true (goes_back event.0) (and-first (not (goes_back event.0)) _ on)) kept (record { may = are.0.may; carried = are.0.carried }))
-
-pub sound-kept : (layout : Layout) (events : List Decked) → AreSound layout events → NoneGoesBack events → IsKept layout (office events)
-sound-kept layout events are on = kept_from layout events no_office are on (no_events layout)
-
-pub front_on : (front more : List Decked) → NoneGoesBack (front ++ more) → NoneGoesBack front
-front_on [] more on = refl
-front_on (event ∷ rest) more on =
-    and_from (not (goes_back event.0)) (list_all (λ (event : Decked). not (goes_back event.0)) rest) (and-first (not (goes_back event.0)) _ on)
-    (front_on rest more (and-second (not (goes_back event.0)) _ on))
-
--- at every prefix
-pub prefix-kept : (layout : Layout) (front more : List Decked) → AreSound layout (front ++ more) → NoneGoesBack (front ++ more) → IsKept layout (office front)
-prefix-kept layout front more are on = sound-kept layout front (sound-front layout front more are) (front_on front more on)
-
-pub prefix-sound : (layout : Layout) (front more : List Decked) → AreSound layout (front ++ more) → NoneGoesBack (front ++ more) → IsSoundOffice layout (office front)
-prefix-sound layout front more are on = sound layout (office front) (prefix-kept layout front more are on)

@@ -1,4 +1,5 @@
 pub mod ReturnCodes
+pub mod Kin
 pub mod Runs
 pub mod Offices
 pub mod Rows

@@ -6,7 +6,7 @@ use Rattle.std.proofs.lemmas.Bool.{false≢true}
 use Rattle.std.proofs.lemmas.Option.{slice_get_past}
 use Rattle.ckr_base.proofs.Bools.{and-first, and-second}
 use Rattle.ckr_base.proofs.Numbers.{equal-true}
-use Rattle.ckr_base.proofs.Options.{option-cases, some-not-none}
+use Rattle.ckr_base.proofs.Options.{option-cases, some-not-none, some-one}
 use Rattle.ckr_base.proofs.Sequences.{find-holds}
 use Rattle.ckr_events.specs.declared.event.Event.{Event}
 use Rattle.ckr_events.specs.declared.event.Event.TheVariants.{Denied, Purged, Selected, Submitted}
@@ -22,7 +22,7 @@ use Rattle.ckr_points.specs.Tables.{after_selected, after_submitted, queued_run}
 use Rattle.ckr_points.specs.Follows.{follows, is_empty, is_in_state, may_hold, is_free, may_restart, of_run, same_restart, selected_follows}
 use Rattle.ckr_points.specs.Payload.{carries, is_formed}
 use Rattle.ckr_points.specs.RuleCases.{is_ended}
-use Rattle.ckr_points_invariant.specs.Invariant.{IsAgreed, IsKnownLeg, IsWaiting}
+use Rattle.ckr_points_invariant.specs.Invariant.{AreOrderly, IsAgreed, IsKnownLeg, IsWaiting}
 use Rattle.ckr_points.specs.Office.{Leg, Office, is_holder, leg_by, leg_of, no_office, office_after, office_selected, with_leg}
 use Rattle.ckr_points.specs.Rows.{RunRow, TablesModel, run_of, with_row, with_run}
 use Rattle.ckr_points.specs.Soundness.{may_come, names_first_rule}
@@ -53,8 +53,9 @@ kept-none layout = record {
   led = λ number row e holds. absurd (some-not-none row (sym e ∙ no_row number));
   places = λ number row leg holder. absurd (some-not-none leg (sym holder.leg_at));
   uses = λ number row leg holder. absurd (some-not-none leg (sym holder.leg_at));
+  alone = λ one other row next leg fellow name holder there apart given mine. absurd (some-not-none leg (sym holder.leg_at));
   left = λ one other row next leg fellow name holder there apart mine its. absurd (some-not-none leg (sym holder.leg_at));
-  since = λ number row leg name holder mine leaves. absurd (some-not-none leg (sym holder.leg_at));
+  since = λ number row leg name holder none mine leaves. absurd (some-not-none leg (sym holder.leg_at));
   held = λ number row leg name holder mine. absurd (some-not-none leg (sym holder.leg_at));
   free = λ name free. refl;
 }
@@ -88,6 +89,7 @@ submitted-waits layout office deck kept formed = record {
   here = get_last office.tables.runs _;
   there = λ other apart. others other apart;
   same = refl;
+  deck = λ row row_at. absurd (some-not-none row (sym row_at ∙ past));
   over = refl;
   before = ap (λ (o : Option RunRow). option_map_or (λ row. is_ended row.state) o false) past;
   alone = alone;
@@ -123,6 +125,7 @@ dropped layout office row state kept row_at queued over busy =
       here = run-same office.tables (record row { state = state }) row row.number row_at refl;
       there = λ other apart. run-other office.tables (record row { state = state }) other apart;
       same = refl;
+      deck = λ its at. ap (λ (row : RunRow). row.deck) (some-one row its (run_of office.tables row.number) row_at at);
       over = over;
       before = ap (λ (o : Option RunRow). option_map_or (λ row. is_ended row.state) o false) row_at ∙ ap is_ended (queued-is row.state queued);
       alone = (kept.waiting row.number row row_at queued).alone;
@@ -178,7 +181,7 @@ by-selected Q layout office job initiator step id deck kept may each =
     ∙ ap (λ earlier. let now : Office = record office { tables = with_run next office.tables; legs = with_leg (leg_by office next earlier) office.legs } in now) waits.earlier))
     (each row row_at queued (no_restart layout office.tables initiator step id row passes) (and-second (is_in_state Queued row && is_free layout office.tables initiator) _ ready)))
 
-pub kept-selected : (layout : Layout) (office : Office) (job initiator step : ℕ) (id : Option Name) (deck : Option Job) → IsAgreed layout office → may_come layout office (Selected job initiator 0 step id, deck) ≡ true → IsAgreed layout (office_after (Selected job initiator 0 step id, deck) office)
-kept-selected layout office job initiator step id deck kept may =
+pub kept-selected : (layout : Layout) (office : Office) (job initiator step : ℕ) (id : Option Name) (deck : Option Job) → IsAgreed layout office → AreOrderly office.tables → may_come layout office (Selected job initiator 0 step id, deck) ≡ true → IsAgreed layout (office_after (Selected job initiator 0 step id, deck) office)
+kept-selected layout office job initiator step id deck kept orderly may =
     by-selected (IsAgreed layout) layout office job initiator step id deck kept may
-    (λ row row_at queued plain free. kept-chosen layout office row initiator kept row_at queued plain free)
+    (λ row row_at queued plain free. kept-chosen layout office row initiator kept row_at queued plain free orderly)

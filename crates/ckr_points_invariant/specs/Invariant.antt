@@ -1,8 +1,8 @@
 -- When the events are kept: what the tables keep from event to event beside what is sound, so that it follows for one more event.
 use Rattle.std.specs.Prelude.{◌≡◌, ◌≢◌, ◌≤◌, ◌<◌, ℕ, pred, ◌==◌, Bool, true, false, ◌||◌, List, [], flat_map, take, length, Option, None, Some}
 use Rattle.std.specs.Option.{option_map, option_map_or, is_some, is_none}
-use Rattle.std.specs.List.{list_all, list_any, AllByRecursion}
-use Rattle.ckr_uses.specs.Uses.{is_of, is_shared, leaves, uses_of}
+use Rattle.std.specs.List.{list_all, AllByRecursion}
+use Rattle.ckr_uses.specs.Uses.{is_shared, leaves}
 use Rattle.ckr_entry.specs.declared.point.Mark.{Mark}
 use Rattle.ckr_entry.specs.declared.point.Present.{Present}
 use Rattle.ckr_jcl.specs.declared.deck.Dd.{Dd}
@@ -21,12 +21,12 @@ use Rattle.ckr_points.specs.declared.run.RunState.TheVariants.{Queued, On}
 use Rattle.ckr_points.specs.Tables.{earlier_made, own_made, step_made}
 use Rattle.ckr_points.specs.Follows.{is_in_state, is_within}
 use Rattle.ckr_points.specs.Payload.{is_formed, is_orderly, writes_in}
-use Rattle.ckr_points.specs.RuleCases.{is_ended}
 use Rattle.ckr_points.specs.Marks.{carried_marks, mark_at, own_names}
 use Rattle.ckr_points.specs.Office.{Leg, Office, is_holder, leg_of, passed_made, standing_at}
 use Rattle.ckr_points.specs.Restart.{place_of, step_in}
 use Rattle.ckr_points.specs.Rows.{KeptEntry, RunRow, StartPoint, TableSet, TablesModel, run_of}
 use Rattle.ckr_points.specs.Soundness.{AreLaidOut, IsPrefix, stamped_writes}
+use Rattle.ckr_points_invariant.specs.JobNames.{HasUses, keeps_points}
 
 -- a data set as the tables and a library both have it; one of checkpoints has no length here
 pub record Shape : Type 0 where
@@ -113,14 +113,12 @@ IsWithinStep row leg (Within step writes) = (start : StepStart) → start_at leg
 abbrev pub step_now : RunRow → ℕ
 step_now row = step_in (place_of row)
 
--- a run's own steps, and those of runs that ended, keep their points
-abbrev pub keeps_points : TablesModel → ℕ → ℕ → Bool
-keeps_points tables number owner = owner == number || option_map_or (λ row. is_ended row.state) (run_of tables owner) false
-
 -- the row of a holder is what its job is behind the steps before its place
 pub record IsAtPlace (tables : TablesModel) (row : RunRow) (leg : Leg) : Type 0 where
   pub job : leg.job ≡ row.job
   pub begun : 1 ≤ step_now row
+  -- a run that continues another one is in the step at which it did, or past it
+  pub past : row.earlier_step ≤ step_now row
   pub formed : is_formed leg.job ≡ true
   pub goes_on : all_go_on leg.job.root 1 (take (pred (step_now row)) leg.job.steps) (walk_from leg.start) ≡ true
   pub rcs : row.rcs ≡ (walk_before leg.job leg.start (step_now row)).rcs
@@ -156,11 +154,6 @@ leaves_dd root owned name dd = leaves name (name_of root owned dd) (is_shared dd
 abbrev pub Leaves : Effective → Name → Type 0
 Leaves job name = list_all (λ owned. list_all (leaves_dd job.root owned name) owned.step.dds) job.steps ≡ true
 
--- a holder's reach is in its uses
-pub record HasUses (row : RunRow) (leg : Leg) : Type 0 where
-  pub plain : row.deck.restart ≡ None → leg.job ≡ plain_job row.number row.deck
-  pub named : (name : Name) → is_among leg.reach name ≡ true → list_any (is_of name) (uses_of row.number row.deck) ≡ true
-
 -- no holder has the name in its reach
 abbrev pub IsFree : Office → Name → Type 0
 IsFree office name = (number : ℕ) (row : RunRow) (leg : Leg) → IsHolder office number row leg → is_among leg.reach name ≡ false
@@ -190,11 +183,14 @@ pub record IsAgreed (layout : Layout) (office : Office) : Type 0 where
   pub legs : AllByRecursion (IsKnownLeg office) office.legs
   pub led : (number : ℕ) (row : RunRow) → run_of office.tables number ≡ Some row → is_holder row.state ≡ true → is_some (leg_of office number) ≡ true
   pub places : (number : ℕ) (row : RunRow) (leg : Leg) → IsHolder office number row leg → IsAtPlace office.tables row leg
-  pub uses : (number : ℕ) (row : RunRow) (leg : Leg) → IsHolder office number row leg → HasUses row leg
-  -- two holders share the names that they have in common, and what a holder shares is as it was and as the ended jobs left it
+  pub uses : (number : ℕ) (row : RunRow) (leg : Leg) → IsHolder office number row leg → HasUses office.tables row leg
+  -- no other holder reaches a name of one with RESTART
+  pub alone : (one other : ℕ) (row next : RunRow) (leg fellow : Leg) (name : Name) → IsHolder office one row leg → IsHolder office other next fellow
+      → one ≢ other → is_some row.deck.restart ≡ true → is_among leg.reach name ≡ true → is_among fellow.reach name ≡ false
+  -- two holders share the names that they have in common, and what one without RESTART shares is as it was and as the ended jobs left it
   pub left : (one other : ℕ) (row next : RunRow) (leg fellow : Leg) (name : Name) → IsHolder office one row leg → IsHolder office other next fellow
       → one ≢ other → is_among leg.reach name ≡ true → is_among fellow.reach name ≡ true → Leaves leg.job name
-  pub since : (number : ℕ) (row : RunRow) (leg : Leg) (name : Name) → IsHolder office number row leg → is_among leg.reach name ≡ true
+  pub since : (number : ℕ) (row : RunRow) (leg : Leg) (name : Name) → IsHolder office number row leg → row.deck.restart ≡ None → is_among leg.reach name ≡ true
       → Leaves leg.job name → entry_at leg.start name ≡ entry_at office.library name
   pub held : (number : ℕ) (row : RunRow) (leg : Leg) (name : Name) → IsHolder office number row leg → is_among leg.reach name ≡ true
       → AreAlike office.tables.sets (standing_at office leg).sets name

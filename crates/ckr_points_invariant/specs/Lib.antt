@@ -1,4 +1,5 @@
 pub mod Invariant
+pub mod JobNames
 pub mod Continuations
 pub mod Points
 pub mod Counts
@@ -7,3 +8,4 @@ pub mod PlainRuns
 pub mod Readiness
 pub mod StartedSteps
 pub mod WrittenEntries
+pub mod KeptEvents

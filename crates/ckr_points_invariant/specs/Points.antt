@@ -2,6 +2,7 @@
 -- at that place.
 use Rattle.std.specs.Prelude.{◌≡◌, ◌==◌, ℕ, true, List, find, Some}
 use Rattle.std.specs.List.{AllByRecursion}
+use Rattle.std.specs.Option.{is_some}
 use Rattle.ckr_entry.specs.declared.point.Mark.{Mark}
 use Rattle.ckr_entry.specs.declared.point.Passed.{Passed}
 use Rattle.ckr_library.specs.NameMaps.{Name, entry_at}
@@ -9,16 +10,17 @@ use Rattle.ckr_meaning.specs.EffectiveJob.{is_among, names_of_job}
 use Rattle.ckr_meaning.specs.JobRun.{at}
 use Rattle.ckr_meaning.specs.declared.place.Place.{Place}
 use Rattle.ckr_meaning.specs.declared.place.Place.TheVariants.{Opened, Within}
-use Rattle.ckr_points.specs.Marks.{present_at}
+use Rattle.ckr_points.specs.Marks.{mark_at, present_at}
 use Rattle.ckr_points.specs.Office.{Leg, Office}
 use Rattle.ckr_points.specs.Rows.{KeptEntry, StartPoint}
 use Rattle.ckr_points_invariant.specs.Invariant.{IsMarkOf, PointsHold}
 
--- A point of a run says what its job has at a place: of each name of the job its mark is what the library has there, and the passed list is
--- that of the place.
+-- A point of a run says what its job has at a place: it marks each name of the job and no other, as the library has it there, and the passed
+-- list is that of the place.
 pub record IsPointAt (legs : List Leg) (run : ℕ) (place : Place) (marks : List Mark) (passed : List Passed) : Type 0 where
   pub leg : Leg
   pub led : find (λ leg. leg.number == run) legs ≡ Some leg
+  pub covers : (name : Name) → is_some (mark_at marks name) ≡ is_among (names_of_job leg.job) name
   pub marked : (name : Name) → is_among (names_of_job leg.job) name ≡ true → IsMarkOf (present_at marks name) (entry_at (at leg.job leg.start place).sets name)
   pub passed_on : passed ≡ (at leg.job leg.start place).passed
 

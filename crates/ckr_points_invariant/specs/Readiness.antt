@@ -19,15 +19,10 @@ use Rattle.ckr_points.specs.Office.{Leg, Office}
 use Rattle.ckr_points.specs.Payload.{carries_taken}
 use Rattle.ckr_points.specs.Restart.{place_of, step_in}
 use Rattle.ckr_points.specs.Rows.{EffectPoint, KeptEntry, RunRow, StartPoint, TableSet, run_of}
-use Rattle.ckr_points_invariant.specs.Invariant.{IsHolder, IsMarkOf, step_now}
-use Rattle.ckr_points_invariant.specs.Restorability.{IsRestorable}
+use Rattle.ckr_points_invariant.specs.Invariant.{IsHolder, step_now}
+use Rattle.ckr_points_invariant.specs.Restorability.{HasPoint, IsRestorable}
 
 -- ---- a run
-
--- what a point says of the job of a leg
-pub record HasPoint (leg : Leg) (place : Place) (marks : List Mark) (passed : List Passed) : Type 0 where
-  pub marked : (name : Name) → is_among (names_of_job leg.job) name ≡ true → IsMarkOf (present_at marks name) (entry_at (at leg.job leg.start place).sets name)
-  pub passed_on : passed ≡ (at leg.job leg.start place).passed
 
 -- a data set keeps the entry, which ends within it
 pub record KeepsEntry (sets : Named TableSet) (set id : Name) (entry : KeptEntry) : Type 0 where
@@ -37,7 +32,7 @@ pub record KeepsEntry (sets : Named TableSet) (set id : Name) (entry : KeptEntry
   pub ends : ends_within table.set.length entry.kept ≡ true
 
 -- The checkpoint in effect: its data set is an output of the step, and keeps its entry, also when it is put back to the entry's mark of it.
--- The entry says what the run's job has there, with the records that its program had taken.
+-- The entry says of the step what the run's job has there, with the records that its program had taken.
 pub record IsCheck (sets : Named TableSet) (row : RunRow) (leg : Leg) (effect : EffectPoint) : Type 0 where
   pub owned : OwnedStep
   pub found_step : own_step row ≡ Some owned

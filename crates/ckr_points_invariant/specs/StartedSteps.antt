@@ -9,12 +9,13 @@ use Rattle.ckr_meaning.specs.JobRun.{all_go_on, is_bypassed, start_in, walk_befo
 use Rattle.ckr_meaning.specs.StepRun.{StepStart, placed_at}
 use Rattle.ckr_points.specs.Marks.{point_at}
 use Rattle.ckr_points.specs.Office.{Leg, Office, leg_of}
-use Rattle.ckr_points.specs.Payload.{is_formed}
+use Rattle.ckr_points.specs.Payload.{is_formed, is_orderly_dd}
 use Rattle.ckr_points.specs.Restart.{rcs_before}
 use Rattle.ckr_points.specs.RuleCases.{was_selected}
 use Rattle.ckr_points.specs.Rows.{RunRow, StartPoint, TablesModel, run_of}
 use Rattle.ckr_points.specs.Tables.{earlier_made, step_made}
-use Rattle.ckr_points_invariant.specs.Invariant.{keeps_points, step_now}
+use Rattle.ckr_points_invariant.specs.Invariant.{step_now}
+use Rattle.ckr_points_invariant.specs.JobNames.{AreKin, keeps_points}
 
 -- a step as the job of a leg starts it
 abbrev pub start_by : Leg → OwnedStep → ℕ → StepStart
@@ -33,10 +34,13 @@ pub record IsBegunStep (tables : TablesModel) (row : RunRow) (leg : Leg) (step :
   pub earlier : (name : Name) → is_among (earlier_made tables row step) name ≡ is_among (walk_before leg.job leg.start step).earlier name
   pub made : (name : Name) → is_among (step_made tables row owned step) name ≡ is_among (names_made (placed_at (start_by leg owned step))) name
 
--- A run that was selected began each step of which it has a point. It is in the last of them, or has come past it.
+-- A run that was selected began each step of which it has a point. It is in the last of them, or has come past it. Its job is one of orderly
+-- decks, and the root and the owners of its steps are kin.
 pub record HasBegunSteps (tables : TablesModel) (row : RunRow) (leg : Leg) : Type 0 where
   pub job : leg.job ≡ row.job
   pub formed : is_formed leg.job ≡ true
+  pub orderly : list_all (λ owned. list_all is_orderly_dd owned.step.dds) leg.job.steps ≡ true
+  pub kin : AreKin tables row
   pub owners : list_all (λ owned. keeps_points tables row.number owned.owner) row.job.steps ≡ true
   pub steps : (step : ℕ) (point : StartPoint) → point_at row.points step ≡ Some point → IsBegunStep tables row leg step
   pub so_far : (step : ℕ) (point : StartPoint) → point_at row.points step ≡ Some point → step ≤ step_now row

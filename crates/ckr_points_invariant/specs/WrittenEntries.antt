@@ -15,6 +15,7 @@ use Rattle.ckr_points.specs.Marks.{is_marked_absent, point_at, present_at}
 use Rattle.ckr_points.specs.Office.{Leg, Office, is_holder, leg_of}
 use Rattle.ckr_points.specs.Payload.{carries_taken, rewrites_nothing}
 use Rattle.ckr_points.specs.Restart.{kept_at, place_of}
+use Rattle.ckr_points.specs.RuleCases.{was_selected}
 use Rattle.ckr_points.specs.Rows.{EffectPoint, KeptEntry, RunRow, StartPoint, TableSet, run_of}
 use Rattle.ckr_points.specs.Tables.{is_checkpoints, name_with_role}
 use Rattle.ckr_points_invariant.specs.Invariant.{IsHolder, step_now}
@@ -42,11 +43,16 @@ pub record IsBehindPoint (row : RunRow) (leg : Leg) (owned : OwnedStep) (set : N
   pub unwritten : point.rewritten ≡ false → rewrites_nothing (start_by leg owned entry.point.step) 0 entry.point.writes ≡ true
   pub entered : is_holder row.state ≡ true → HasEntered row entry.point.step
 
--- An entry is of a step of its run's job, whose data set for checkpoints it stands in. It ends within its own mark of that data set, and its
--- writes are those for the records taken. The step has a point, and if the entry takes room, it stands behind that.
+-- An entry is of a step of its run's job, whose data set for checkpoints it stands in. It tells the names of the job and of the step, and the run
+-- executed that step itself. The entry ends within its own mark of that data set, and its writes are those for the records taken. It has a byte at
+-- least, and stands behind the point of the step.
 pub record IsEntryOf (row : RunRow) (leg : Leg) (set : Name) (entry : KeptEntry) : Type 0 where
   pub owned : OwnedStep
   pub found : step_at row.job entry.point.step ≡ Some owned
+  pub selected : was_selected row ≡ true
+  pub job_name : entry.point.job ≡ row.deck.name
+  pub step_name : entry.point.step_name ≡ owned.step.name
+  pub executed : row.earlier_step ≤ entry.point.step
   pub named : check_set row owned ≡ set
   pub output : is_among (output_names row.job.root owned) set ≡ true
   pub back : (present : Present) → present_at entry.point.marks set ≡ Some present → ends_within present.length entry.kept ≡ true
@@ -54,7 +60,8 @@ pub record IsEntryOf (row : RunRow) (leg : Leg) (set : Name) (entry : KeptEntry)
   pub done : entry.point.writes ≤ length (work_at (start_by leg owned entry.point.step)).writes
   pub point : StartPoint
   pub has : point_at row.points entry.point.step ≡ Some point
-  pub stands : 1 ≤ entry.kept.bytes → IsBehindPoint row leg owned set entry point
+  pub room : 1 ≤ entry.kept.bytes
+  pub stands : IsBehindPoint row leg owned set entry point
 
 -- the run that wrote an entry was selected
 pub record IsWrittenEntry (office : Office) (set : Name) (entry : KeptEntry) : Type 0 where

@@ -1,8 +1,7 @@
 //! What the tables keep from event to event. Each law is the contract of a function that does nothing.
-ghost use Rattle.std.specs.Prelude.{◌≡◌, ℕ, false, List, [], ◌∷◌, ◌++◌, Option, IsTrue};
+ghost use Rattle.std.specs.Prelude.{◌≡◌, ℕ, List, [], ◌∷◌, ◌++◌, Option, IsTrue};
 ghost use Rattle.arrayvec.specs.ArrayVec.{ArrayVec};
 ghost use Rattle.ckr_base.specs.declared.code.Code.{Code};
-ghost use Rattle.ckr_events.specs.declared.event.Event.{Event};
 ghost use Rattle.ckr_events.specs.declared.event.Event.TheVariants.{Cancelled, Checkpointed, Denied, Ended, Held, Purged, Released, Rewritten, Selected, Started, StepEnded, Submitted};
 ghost use Rattle.ckr_events.specs.declared.event.Ending.TheVariants.{Allocation, Coded, Completed};
 ghost use Rattle.ckr_events.specs.declared.event.Made.{Made};
@@ -10,10 +9,9 @@ ghost use Rattle.ckr_jcl.specs.declared.deck.Job.{Job};
 ghost use Rattle.ckr_library.specs.NameMaps.{Name};
 ghost use Rattle.ckr_volumes.specs.declared.layout.Layout.{Layout};
 ghost use Rattle.ckr_points.specs.Payload.{carries};
-ghost use Rattle.ckr_points_invariant.specs.Continuations.{NoneGoesBack, goes_back};
+ghost use Rattle.ckr_points_invariant.specs.Continuations.{NoneGoesBack};
 ghost use Rattle.ckr_points_invariant.specs.Counts.{AreCounted};
 ghost use Rattle.ckr_points_invariant.specs.Invariant.{IsKept};
-ghost use Rattle.ckr_points_invariant.specs.Points.{ArePointed};
 ghost use Rattle.ckr_points.specs.Events.{AreSound, IsNext};
 ghost use Rattle.ckr_points.specs.Office.{Office, no_office, office, office_after};
 ghost use Rattle.ckr_points.specs.Restart.{Decked};
@@ -39,15 +37,10 @@ pub fn events_go_on()
     ensures front { (layout : Layout) (front more : List Decked) → AreSound layout (front ++ more) → AreSound layout front }
 {}
 
-/// At every prefix of sound events by which no run goes back the tables agree with what the jobs leave, and the events are kept. And each
-/// point, of the steps of all runs and of the entries of all data sets, says what its run's job has at that place. Each run has counted the
-/// entries that it wrote, the point of each step those that its run had written before it started, and each entry those and itself.
-pub fn sound_events_are_kept()
-    ensures prefix { (layout : Layout) (front more : List Decked) → AreSound layout (front ++ more) → NoneGoesBack (front ++ more) → IsSoundOffice layout (office front) }
-    ensures kept { (layout : Layout) (front more : List Decked) → AreSound layout (front ++ more) → NoneGoesBack (front ++ more) → IsKept layout (office front) }
-    ensures all { (layout : Layout) (events : List Decked) → AreSound layout events → NoneGoesBack events → IsKept layout (office events) }
-    ensures points { (layout : Layout) (front more : List Decked) → AreSound layout (front ++ more) → NoneGoesBack (front ++ more) → ArePointed (office front) }
-    ensures counts { (layout : Layout) (front more : List Decked) → AreSound layout (front ++ more) → NoneGoesBack (front ++ more) → AreCounted front (office front) }
+/// At every prefix of sound events by which no run goes back each run has counted the entries that it wrote, the point of each step those
+/// that its run had written before it started, and each entry those and itself.
+pub fn entries_are_counted()
+    ensures { (layout : Layout) (front more : List Decked) → AreSound layout (front ++ more) → NoneGoesBack (front ++ more) → AreCounted front (office front) }
 {}
 
 /// The events stay kept where a deck is submitted.
@@ -98,9 +91,4 @@ pub fn ended_keeps_the_events()
     ensures completed { (layout : Layout) (now : Office) (job : ℕ) (deck : Option Job) → IsKept layout now → IsTrue (may_come layout now (Ended job Completed, deck)) → IsKept layout (office_after (Ended job Completed, deck) now) }
     ensures coded { (layout : Layout) (now : Office) (job rule writes : ℕ) (code : Code) (lengths : ArrayVec ℕ) (deck : Option Job) → IsKept layout now → IsTrue (may_come layout now (Ended job (Coded code rule writes lengths), deck)) → IsTrue (carries layout now (Ended job (Coded code rule writes lengths)) deck) → IsKept layout (office_after (Ended job (Coded code rule writes lengths), deck) now) }
     ensures allocation { (layout : Layout) (now : Office) (job dd cause first second : ℕ) (deck : Option Job) → IsKept layout now → IsTrue (may_come layout now (Ended job (Allocation dd cause first second), deck)) → IsKept layout (office_after (Ended job (Allocation dd cause first second), deck) now) }
-{}
-
-/// One more event by which no run goes back leaves each point as what its run's job has at that place.
-pub fn points_stay_what_the_jobs_have()
-    ensures { (layout : Layout) (now : Office) (event : Event) (deck : Option Job) → goes_back event ≡ false → IsKept layout now → ArePointed now → IsNext layout now (event, deck) → ArePointed (office_after (event, deck) now) }
 {}

@@ -17,7 +17,6 @@ ghost use Rattle.ckr_points.specs.Rows.{EffectPoint, KeptEntry, RunRow, StartPoi
 ghost use Rattle.ckr_points.specs.Soundness.{IsSoundOffice, may_come};
 ghost use Rattle.ckr_points_invariant.specs.Invariant.{IsHolder, IsKept, step_now};
 ghost use Rattle.ckr_points_invariant.specs.Points.{ArePointed};
-ghost use Rattle.ckr_points_invariant.specs.PlainRuns.{NoneContinues, continues};
 ghost use Rattle.ckr_points_invariant.specs.Readiness.{AreReady};
 ghost use Rattle.ckr_points_invariant.specs.Restorability.{AreEntriesRestorable, AreStepsRestorable, LeavesTheRest, StandsAt};
 
@@ -48,26 +47,8 @@ pub fn restarts_leave_the_rest()
     ensures checkpoint { (layout : Layout) (now : Office) (job initiator : ℕ) (code : Code) (deck : Option Job) → IsKept layout now → ArePointed now → AreEntriesRestorable now → IsTrue (may_come layout now (Restarted job initiator code true, deck)) → IsTrue (carries layout now (Restarted job initiator code true) deck) → LeavesTheRest now job (office_after (Restarted job initiator code true, deck) now).tables.sets }
 {}
 
-/// Where no run continues another one and all are ready, what restarts rest on holds. It is so where there are no events.
+/// Where all runs are ready, what restarts rest on holds.
 pub fn ready_runs_can_restart()
     ensures step { (now : Office) → AreReady now → AreStepsRestorable now }
     ensures checkpoint { (now : Office) → AreReady now → AreEntriesRestorable now }
-    ensures none { AreReady no_office }
-{}
-
-/// One more event by which no run continues another one keeps the events, leaves each point as what its run's job has at that place, and
-/// leaves all runs ready to restart.
-pub fn events_leave_runs_ready()
-    ensures kept { (layout : Layout) (now : Office) (event : Event) (deck : Option Job) → continues event ≡ false → IsKept layout now → ArePointed now → AreReady now → IsNext layout now (event, deck) → IsKept layout (office_after (event, deck) now) }
-    ensures points { (layout : Layout) (now : Office) (event : Event) (deck : Option Job) → continues event ≡ false → IsKept layout now → ArePointed now → AreReady now → IsNext layout now (event, deck) → ArePointed (office_after (event, deck) now) }
-    ensures ready { (layout : Layout) (now : Office) (event : Event) (deck : Option Job) → continues event ≡ false → IsKept layout now → ArePointed now → AreReady now → IsNext layout now (event, deck) → AreReady (office_after (event, deck) now) }
-{}
-
-/// At every prefix of sound events by which no run continues another one the tables agree with what the jobs leave, each run once and
-/// without its restarts. The events are kept, each point is what its run's job has at that place, and all runs are ready to restart.
-pub fn sound_events_are_kept_through_restarts()
-    ensures prefix { (layout : Layout) (front more : List Decked) → AreSound layout (front ++ more) → NoneContinues (front ++ more) → IsSoundOffice layout (office front) }
-    ensures kept { (layout : Layout) (front more : List Decked) → AreSound layout (front ++ more) → NoneContinues (front ++ more) → IsKept layout (office front) }
-    ensures points { (layout : Layout) (front more : List Decked) → AreSound layout (front ++ more) → NoneContinues (front ++ more) → ArePointed (office front) }
-    ensures ready { (layout : Layout) (front more : List Decked) → AreSound layout (front ++ more) → NoneContinues (front ++ more) → AreReady (office front) }
 {}

@@ -1,9 +1,9 @@
 -- One more event keeps what is counted.
 use Rattle.std.proofs.Common.{◌≡◌, ◌≢◌, ℕ, zero, suc, true, false, not, ◌&&◌, if◌then◌else◌, List, [], ◌∷◌, ◌++◌, map, length, refl, ap, sym, ◌∙◌, subst, append_assoc, append-nil, arith, Option, Some, None}
 use Rattle.std.specs.Prelude.{◌==◌, nat_lt}
-use Rattle.std.specs.List.{AllByRecursion}
+use Rattle.std.specs.List.{AllByRecursion, list_all}
 use Rattle.std.specs.Option.{option_map_or}
-use Rattle.std.proofs.lemmas.Bool.{false≢true, not-true}
+use Rattle.std.proofs.lemmas.Bool.{and_from, false≢true, not-true}
 use Rattle.std.proofs.lemmas.Option.{slice_get_past}
 use Rattle.arrayvec.specs.ArrayVec.{ArrayVec}
 use Rattle.ckr_base.proofs.Bools.{and-first, and-second, bool-cases}
@@ -39,12 +39,12 @@ use Rattle.ckr_points_invariant.proofs.Counts.Lists.{all-except, comes-last, cou
 use Rattle.ckr_points_invariant.proofs.Points.Rows as rows
 use Rattle.ckr_points_invariant.proofs.Points.Sets as sets
 use Rattle.ckr_points_invariant.proofs.Select.Invariant.{led_there, next as next_row, waits}
-use Rattle.ckr_points_invariant.proofs.SoundEvents.{front_on, kept-next}
-use Rattle.ckr_points_invariant.proofs.EventLaws.{no_events}
 use Rattle.ckr_points_invariant.proofs.EventList.{sound-front}
 use Rattle.ckr_points_invariant.proofs.WaitingRuns.{by-selected, follows-of, no_leg, tested-run}
 use Rattle.ckr_points_invariant.proofs.Stamps.Tables.{each-weaker}
 use Rattle.ckr_points_invariant.proofs.Steps.Events.{led-by, on-holds, step-by}
+use Rattle.ckr_points_invariant.specs.KeptEvents.{AreKept}
+use Rattle.ckr_points_invariant.proofs.KeptEvents.{next-kept, none-kept}
 
 -- ---- points of one run
 
@@ -311,16 +311,22 @@ module _ (layout : Layout) (now : Office) (events : List Decked) (kept : IsAgree
 
 -- ---- all of them, one after the other
 
-counted_from : (layout : Layout) (before events : List Decked) (now : Office) → AreSoundFrom layout now events → NoneGoesBack events → IsKept layout now → AreCounted before now → AreCounted (before ++ events) (office_from events now)
-counted_from layout before [] now are on kept counted = subst (λ all. AreCounted all now) (sym (append-nil before)) counted
-counted_from layout before (event ∷ rest) now are on kept counted =
-    let next : IsNext layout now (event.0, event.1) = record { may = are.0.may; carried = are.0.carried } in
+front_on : (front more : List Decked) → NoneGoesBack (front ++ more) → NoneGoesBack front
+front_on [] more on = refl
+front_on (event ∷ rest) more on =
+    and_from (not (goes_back event.0)) (list_all (λ (event : Decked). not (goes_back event.0)) rest) (and-first (not (goes_back event.0)) _ on)
+    (front_on rest more (and-second (not (goes_back event.0)) _ on))
+
+counted_from : (layout : Layout) (before events : List Decked) (now : Office) → AreSoundFrom layout now events → NoneGoesBack events → AreKept layout now → AreCounted before now → AreCounted (before ++ events) (office_from events now)
+counted_from layout before [] now sound on are counted = subst (λ all. AreCounted all now) (sym (append-nil before)) counted
+counted_from layout before (event ∷ rest) now sound on are counted =
+    let next : IsNext layout now (event.0, event.1) = record { may = sound.0.may; carried = sound.0.carried } in
     let ahead : goes_back event.0 ≡ false = not-true (goes_back event.0) (and-first (not (goes_back event.0)) _ on) in
     subst (λ all. AreCounted all (office_from rest (office_after event now))) (append_assoc before (event ∷ []) rest)
-    (counted_from layout (before ++ event ∷ []) rest (office_after event now) are.1 (and-second (not (goes_back event.0)) _ on)
-    (kept-next layout now event.0 event.1 ahead kept next) (counted-next layout now before kept.events counted event.0 event.1 ahead next))
+    (counted_from layout (before ++ event ∷ []) rest (office_after event now) sound.1 (and-second (not (goes_back event.0)) _ on)
+    (next-kept layout now are event.0 event.1 next) (counted-next layout now before are.kept.events counted event.0 event.1 ahead next))
 
 pub sound-counted : (layout : Layout) (front more : List Decked) → AreSound layout (front ++ more) → NoneGoesBack (front ++ more) → AreCounted front (office front)
-sound-counted layout front more are on =
-    counted_from layout [] front no_office (sound-front layout front more are) (front_on front more on) (no_events layout)
+sound-counted layout front more sound on =
+    counted_from layout [] front no_office (sound-front layout front more sound) (front_on front more on) (none-kept layout)
     (record { points = record { rows = tt; entries = tt }; unled = λ run none. refl })

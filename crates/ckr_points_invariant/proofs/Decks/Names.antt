@@ -6,6 +6,7 @@ use Rattle.std.specs.List.{AllByRecursion, cons_option, filter_map, list_all, li
 use Rattle.std.specs.Option.{is_some, option_and_then, option_map}
 use Rattle.std.proofs.lemmas.Bool.{false≢true, not-true}
 use Rattle.std.proofs.lemmas.List.{append_cancel_left}
+use Rattle.std.proofs.lemmas.List.Folds.{list_all-map}
 use Rattle.ckr_base.proofs.Bools.{and-first, and-second, bool-cases, bool-same}
 use Rattle.ckr_jcl.specs.declared.deck.After.{After}
 use Rattle.ckr_jcl.specs.declared.deck.After.TheVariants.{Keep}
@@ -23,7 +24,7 @@ use Rattle.ckr_library.specs.NameMaps.{Name, same_name}
 use Rattle.ckr_library.proofs.Named.{name-itself, name-same}
 use Rattle.ckr_uses.specs.SetNames.{name_under, origin_name, qualified, run_name}
 use Rattle.ckr_uses.specs.Uses.{are_distinct}
-use Rattle.ckr_meaning.specs.EffectiveJob.{names_of, owned_by, plain_job}
+use Rattle.ckr_meaning.specs.EffectiveJob.{OwnedStep, names_of, owned_by, plain_job}
 use Rattle.ckr_meaning.specs.StepRun.{dd_named}
 use Rattle.ckr_points.specs.Payload.{has_role, has_set, is_formed, is_formed_step, is_keep, is_new, is_orderly, is_orderly_dd}
 
@@ -194,6 +195,10 @@ formed-same root owner number deck step orderly =
 abbrev IsFormedAnywhere : Job → Step → Type 0
 IsFormedAnywhere deck step = (root owner : ℕ) → is_formed_step root (owned_by owner deck step) ≡ true
 
+-- steps as a run owns them have the DDs that they have in the deck
+pub owned-orderly : (run : ℕ) (deck : Job) (steps : List Step) → list_all (λ (step : Step). list_all is_orderly_dd step.dds) steps ≡ true → list_all (λ (owned : OwnedStep). list_all is_orderly_dd owned.step.dds) (map (owned_by run deck) steps) ≡ true
+owned-orderly run deck steps each = list_all-map (λ (owned : OwnedStep). list_all is_orderly_dd owned.step.dds) (owned_by run deck) steps ∙ each
+
 module _ (number : ℕ) (deck : Job) (orderly : is_orderly number deck ≡ true) where
   pub orderly-number : nat_le number 9999999 ≡ true
   orderly-number = and-first (nat_le number 9999999) _ (and-first (nat_le number 9999999 && is_formed (plain_job number deck)) _ orderly)
@@ -203,6 +208,10 @@ module _ (number : ℕ) (deck : Job) (orderly : is_orderly number deck ≡ true)
 
   pub orderly-dds : list_all (λ (step : Step). list_all is_orderly_dd step.dds) deck.steps ≡ true
   orderly-dds = and-second (nat_le number 9999999 && is_formed (plain_job number deck)) _ orderly
+
+  -- so are the steps of the job of a run that continues no other one
+  pub plain-orderly : list_all (λ (owned : OwnedStep). list_all is_orderly_dd owned.step.dds) (plain_job number deck).steps ≡ true
+  plain-orderly = owned-orderly number deck deck.steps orderly-dds
 
   -- each step is formed, whatever the root and the owner
   pub steps-formed : AllByRecursion (λ step. (root owner : ℕ) → is_formed_step root (owned_by owner deck step) ≡ true) deck.steps

@@ -19,10 +19,11 @@ use Rattle.ckr_points.specs.Rows.{RunRow, TableSet, run_of}
 use Rattle.ckr_points.specs.Soundness.{AreLaidOut}
 use Rattle.ckr_points_invariant.proofs.Library.Entries.{at-taken_over}
 use Rattle.ckr_points_invariant.proofs.Holders.SharedSets.{job_run-left}
-use Rattle.ckr_points_invariant.proofs.Holders.Moves.{Among, held-there, moved, of_later, place-there, row_is_next, still-led, still-legs, still-numbered, still-waiting, to_later}
+use Rattle.ckr_points_invariant.proofs.Holders.Moves.{Among, held-there, moved, of_later, place-there, row_is_next, still-led, still-legs, still-numbered, still-waiting, to_later, uses-there, without-restart}
 
 pub record EndsSo (layout : Layout) (office : Office) (row next : RunRow) (leg : Leg) (cut : Option Place) (sets : Named TableSet) : Type 0 where
   pub same : next.number ≡ row.number
+  pub deck : next.deck ≡ row.deck
   pub over : is_holder next.state ≡ false
   pub busy : is_in_state Queued next ≡ false
   pub outside : (name : Name) → is_among leg.reach name ≡ false → entry_at sets name ≡ entry_at office.tables.sets name
@@ -63,7 +64,8 @@ module _ (layout : Layout) (office : Office) (number : ℕ) (row next : RunRow) 
   ends_same : (other : ℕ) (its : RunRow) (fellow : Leg) (name : Name) → other ≢ number → IsHolder office other its fellow → Among leg name → Among fellow name → entry_at (job_run leg.job leg.start cut) name ≡ entry_at office.library name
   ends_same other its fellow name apart there mine among =
       let leaves : Leaves leg.job name = kept.left number other row its leg fellow name holder there (λ e. apart (sym e)) mine among in
-      job_run-left name leg.job leg.start (kept.places number row leg holder).formed leaves cut ∙ kept.since number row leg name holder mine leaves
+      job_run-left name leg.job leg.start (kept.places number row leg holder).formed leaves cut
+      ∙ kept.since number row leg name holder (without-restart layout office number other row its leg fellow name kept holder there (λ e. apart (sym e)) mine among) mine leaves
 
   common_so : (other : ℕ) (its : RunRow) (fellow : Leg) (name : Name) → other ≢ number → IsHolder office other its fellow → Among leg name → Among fellow name → AreAlike sets office.library name
   common_so other its fellow name apart there mine among =
@@ -84,11 +86,13 @@ module _ (layout : Layout) (office : Office) (number : ℕ) (row next : RunRow) 
     led = still-led layout office number row next leg sets left_then kept holder numbered_so ends.busy;
     places = λ other its fellow there.
         place-there layout office number row next leg sets left_then kept holder numbered_so ends.busy other its fellow (other_one other its fellow there) (before other its fellow there);
-    uses = λ other its fellow there. kept.uses other its fellow (before other its fellow there);
+    uses = λ other its fellow there.
+        uses-there layout office number row next leg sets left_then kept holder numbered_so ends.busy ends.deck other its fellow (before other its fellow there);
+    alone = λ one other its theirs mine fellow name here there. kept.alone one other its theirs mine fellow name (before one its mine here) (before other theirs fellow there);
     left = λ one other its theirs mine fellow name here there apart among shared.
         kept.left one other its theirs mine fellow name (before one its mine here) (before other theirs fellow there) apart among shared;
-    since = λ other its fellow name there among leaves.
-        kept.since other its fellow name (before other its fellow there) among leaves
+    since = λ other its fellow name there none among leaves.
+        kept.since other its fellow name (before other its fellow there) none among leaves
         ∙ kept_library other its fellow name (other_one other its fellow there) (before other its fellow there) among;
     held = λ other its fellow name there among.
         held-there layout office number row next leg sets left_then kept holder numbered_so ends.busy (λ name out. ap (option_map table_shape) (ends.outside name out)) common_so other its fellow name (other_one other its fellow there) (before other its fellow there) among;

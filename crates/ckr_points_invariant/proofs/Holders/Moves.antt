@@ -1,18 +1,18 @@
 -- The events stay kept where one holder goes on, or ends, and what it changes lies in its reach.
-use Rattle.std.proofs.Common.{◌≡◌, ◌≢◌, ℕ, true, false, ap, sym, ◌∙◌, subst, Option, Some}
+use Rattle.std.proofs.Common.{◌≡◌, ◌≢◌, ℕ, true, false, ap, sym, ◌∙◌, subst, refl, Option, None, Some}
 use Rattle.std.specs.Prelude.{◌==◌}
-use Rattle.std.specs.List.{AllByRecursion, list_any}
+use Rattle.std.specs.List.{AllByRecursion}
 use Rattle.std.specs.Option.{option_map, option_map_or, is_some}
 use Rattle.std.proofs.lemmas.Bool.{false≢true}
 use Rattle.ckr_base.proofs.Bools.{bool-cases, or-not-first}
 use Rattle.ckr_base.proofs.Numbers.{equal-true, number-cases}
 use Rattle.ckr_base.proofs.Sequences.{each-implies}
-use Rattle.ckr_base.proofs.Options.{is_some-from, some-one}
-use Rattle.ckr_uses.specs.Uses.{is_of, uses_of}
+use Rattle.ckr_base.proofs.Options.{is_some-from, option-cases, some-one}
+use Rattle.ckr_jcl.specs.declared.deck.Job.{Job}
 use Rattle.ckr_library.specs.NameMaps.{Name, Named, entry_at}
 use Rattle.ckr_meaning.specs.LibrarySet.{Library, LibrarySet}
 use Rattle.ckr_meaning.specs.Dispositions.{Stock}
-use Rattle.ckr_meaning.specs.EffectiveJob.{is_among, plain_job}
+use Rattle.ckr_meaning.specs.EffectiveJob.{Effective, is_among}
 use Rattle.ckr_meaning.specs.declared.place.Place.{Place}
 use Rattle.ckr_meaning.specs.declared.place.Place.TheVariants.{Before}
 use Rattle.ckr_meaning.specs.JobRun.{at}
@@ -20,13 +20,15 @@ use Rattle.ckr_volumes.specs.declared.layout.Layout.{Layout}
 use Rattle.ckr_points.specs.declared.run.RunState.TheVariants.{Queued}
 use Rattle.ckr_points.specs.Follows.{is_in_state}
 use Rattle.ckr_points.specs.RuleCases.{is_ended}
-use Rattle.ckr_points_invariant.specs.Invariant.{AreAlike, HasUses, IsAtPlace, IsHolder, IsAgreed, IsKnownLeg, IsWaiting, Leaves, set_shape, table_shape}
+use Rattle.ckr_points_invariant.specs.Invariant.{AreAlike, IsAtPlace, IsHolder, IsAgreed, IsKnownLeg, IsWaiting, Leaves, set_shape, table_shape}
 use Rattle.ckr_points.specs.Office.{Leg, Office, is_holder, leg_of, standing_at}
 use Rattle.ckr_points.specs.Restart.{place_of}
 use Rattle.ckr_points.specs.Rows.{RunRow, TableSet, run_of, with_run}
 use Rattle.ckr_points.specs.Soundness.{AreLaidOut}
+use Rattle.ckr_points_invariant.proofs.Holders.JobNames.{KeepsJobNames, one-row-keeps, uses-stay}
 use Rattle.ckr_points_invariant.proofs.Holders.Rows.{PointsStay, holder-ended, holder-waits, leg-number, place-stays, run-other, run-same}
 use Rattle.ckr_points_invariant.proofs.Holders.SharedSets.{at-left}
+use Rattle.ckr_points_invariant.specs.JobNames.{HasUses}
 
 -- the office with a run's row, with these data sets and this library
 abbrev pub moved : RunRow → Named TableSet → Library → Office → Office
@@ -44,11 +46,18 @@ standing-is office number row leg row_at leg_at =
     ap (λ (o : Option RunRow). option_map_or (λ row. at leg.job leg.start (place_of row)) o (at leg.job leg.start (Before 1)))
     (ap (run_of office.tables) (leg-number office number leg leg_at) ∙ row_at)
 
+-- a holder that has a name in common with another one is without RESTART
+pub without-restart : (layout : Layout) (office : Office) (one other : ℕ) (row next : RunRow) (leg fellow : Leg) (name : Name) → IsAgreed layout office → IsHolder office one row leg → IsHolder office other next fellow → one ≢ other → Among leg name → Among fellow name → row.deck.restart ≡ None
+without-restart layout office one other row next leg fellow name kept here there apart mine its =
+    option-cases row.deck.restart (λ none. none)
+    (λ restart has. absurd (false≢true (sym (kept.alone one other row next leg fellow name here there apart (ap is_some has) mine) ∙ its)))
+
 -- another holder that has the name in its reach leaves it as the ended jobs left it
 pub fellow-same : (layout : Layout) (office : Office) (one other : ℕ) (row next : RunRow) (leg fellow : Leg) (name : Name) → IsAgreed layout office → IsHolder office one row leg → IsHolder office other next fellow → one ≢ other → Among leg name → Among fellow name → (place : Place) → entry_at (at leg.job leg.start place).sets name ≡ entry_at office.library name
 fellow-same layout office one other row next leg fellow name kept here there apart mine its place =
     let left : Leaves leg.job name = kept.left one other row next leg fellow name here there apart mine its in
-    at-left name leg.job leg.start (kept.places one row leg here).formed left place ∙ kept.since one row leg name here mine left
+    at-left name leg.job leg.start (kept.places one row leg here).formed left place
+    ∙ kept.since one row leg name here (without-restart layout office one other row next leg fellow name kept here there apart mine its) mine left
 
 module _ (layout : Layout) (office : Office) (number : ℕ) (row next : RunRow) (leg : Leg) (sets : Named TableSet) (library : Library)
     (kept : IsAgreed layout office) (holder : IsHolder office number row leg) (same : next.number ≡ number) (busy : is_in_state Queued next ≡ false) where
@@ -125,8 +134,12 @@ module _ (layout : Layout) (office : Office) (number : ℕ) (row next : RunRow) 
       (subst (PointsStay office.tables later.tables) (sym (kept.numbered other its there.row_at)) (points-stay other apart))
       fellow (kept.places other its fellow there)
 
-  uses-there : (other : ℕ) (its : RunRow) (fellow : Leg) → other ≢ number → IsHolder later other its fellow → HasUses its fellow
-  uses-there other its fellow apart there = kept.uses other its fellow (of_later other its fellow apart there)
+  module _ (deck : next.deck ≡ row.deck) where
+    pub names-stay : KeepsJobNames office.tables later.tables
+    names-stay = one-row-keeps office.tables later.tables number row next holder.row_at row_here deck (holder-ended row.state holder.holds) row_there
+
+    pub uses-there : (other : ℕ) (its : RunRow) (fellow : Leg) → IsHolder office other its fellow → HasUses later.tables its fellow
+    uses-there other its fellow there = uses-stay office.tables later.tables names-stay its its refl refl fellow refl (kept.uses other its fellow there)
 
   -- what holds of each of its fellows that has a name in common: the name is as the ended jobs left it
   module _ (outside : (name : Name) → is_among leg.reach name ≡ false → option_map table_shape (entry_at sets name) ≡ option_map table_shape (entry_at office.tables.sets name))
@@ -181,14 +194,14 @@ module _ (layout : Layout) (office : Office) (number : ℕ) (row next : RunRow) 
   before : (other : ℕ) (its : RunRow) (fellow : Leg) → other ≢ number → IsHolder gone other its fellow → IsHolder office other its fellow
   before = of_later layout office number row next leg sets office.library kept holder numbered_so busy_so
 
-  -- a holder of the later office, as it was before: a row with the same leg
-  former : (other : ℕ) (its : RunRow) (fellow : Leg) → IsHolder gone other its fellow → (old : RunRow) × IsHolder office other old fellow
+  -- a holder of the later office, as it was before: a row with the same deck and the same leg
+  former : (other : ℕ) (its : RunRow) (fellow : Leg) → IsHolder gone other its fellow → (old : RunRow) × IsHolder office other old fellow × (its.deck ≡ old.deck)
   former other its fellow there =
       number-cases other number
       (λ here.
       let so = was its fellow (subst (λ n. IsHolder gone n its fellow) here there) in
-      (row, subst (λ n. IsHolder office n row fellow) (sym here) (subst (IsHolder office number row) so.1 holder)))
-      (λ apart. (its, before other its fellow apart there))
+      (row, subst (λ n. IsHolder office n row fellow) (sym here) (subst (IsHolder office number row) so.1 holder), ap (λ (r : RunRow). r.deck) (sym so.0) ∙ goes.deck))
+      (λ apart. (its, before other its fellow apart there, refl))
 
   common_so : (other : ℕ) (its : RunRow) (fellow : Leg) (name : Name) → other ≢ number → IsHolder office other its fellow → Among leg name → Among fellow name → AreAlike sets office.library name
   common_so other its fellow name apart there mine among =
@@ -199,6 +212,11 @@ module _ (layout : Layout) (office : Office) (number : ℕ) (row next : RunRow) 
   at_number P here other its fellow e there =
       let so = was its fellow (subst (λ n. IsHolder gone n its fellow) e there) in
       subst (λ r. P r fellow) so.0 (subst (P next) so.1 here)
+
+  uses_here : HasUses gone.tables next leg
+  uses_here =
+      uses-stay office.tables gone.tables (names-stay layout office number row next leg sets office.library kept holder numbered_so busy_so goes.deck) row next goes.same goes.deck leg
+      (ap (λ (job : Effective). job.root) (sym goes.place.job ∙ (kept.places number row leg holder).job)) (kept.uses number row leg holder)
 
   -- the events stay kept
   pub kept-goes_on : IsAgreed layout gone
@@ -214,19 +232,18 @@ module _ (layout : Layout) (office : Office) (number : ℕ) (row next : RunRow) 
         (λ apart. place-there layout office number row next leg sets office.library kept holder numbered_so busy_so other its fellow apart (before other its fellow apart there));
     uses = λ other its fellow there.
         number-cases other number
-        (λ here. at_number HasUses (
-        let uses = kept.uses number row leg holder in
-        record {
-          plain = λ none. uses.plain (ap (λ deck. deck.restart) (sym goes.deck) ∙ none) ∙ ap (λ n. plain_job n row.deck) (sym goes.same) ∙ ap (plain_job next.number) (sym goes.deck);
-          named = λ name among. ap (λ n. list_any (is_of name) (uses_of n next.deck)) goes.same ∙ ap (λ deck. list_any (is_of name) (uses_of row.number deck)) goes.deck ∙ uses.named name among;
-        }) other its fellow here there)
-        (λ apart. kept.uses other its fellow (before other its fellow apart there));
+        (λ here. at_number (HasUses gone.tables) uses_here other its fellow here there)
+        (λ apart. uses-there layout office number row next leg sets office.library kept holder numbered_so busy_so goes.deck other its fellow (before other its fellow apart there));
+    alone = λ one other its theirs mine fellow name here there apart given among.
+        let old = former one its mine here in
+        let their = former other theirs fellow there in
+        kept.alone one other old.0 their.0 mine fellow name old.1 their.1 apart (ap (λ (deck : Job). is_some deck.restart) (sym old.2) ∙ given) among;
     left = λ one other its theirs mine fellow name here there apart among shared.
         let old = former one its mine here in
         let their = former other theirs fellow there in
         kept.left one other old.0 their.0 mine fellow name old.1 their.1 apart among shared;
-    since = λ other its fellow name there among leaves.
-        let old = former other its fellow there in kept.since other old.0 fellow name old.1 among leaves;
+    since = λ other its fellow name there none among leaves.
+        let old = former other its fellow there in kept.since other old.0 fellow name old.1 (ap (λ (deck : Job). deck.restart) (sym old.2) ∙ none) among leaves;
     held = λ other its fellow name there among.
         number-cases other number
         (λ here.

@@ -19,7 +19,7 @@ use Rattle.ckr_points.specs.declared.run.RunState.TheVariants.{On}
 use Rattle.ckr_points.specs.Tables.{earlier_made, own_made, step_made, steps_made}
 use Rattle.ckr_points.specs.Follows.{is_in_state, is_within}
 use Rattle.ckr_points.specs.RuleCases.{is_ended}
-use Rattle.ckr_points_invariant.specs.Invariant.{HasMarkOf, IsAtPlace, IsWithinStep, keeps_points, step_now}
+use Rattle.ckr_points_invariant.specs.Invariant.{HasMarkOf, IsAtPlace, IsWithinStep, step_now}
 use Rattle.ckr_points_library.specs.Commit.{output_names}
 use Rattle.ckr_points.specs.Marks.{carried_marks, made_names, mark_at, own_names, point_at}
 use Rattle.ckr_points.specs.Office.{Leg, passed_made}
@@ -28,6 +28,7 @@ use Rattle.ckr_points.specs.Rows.{RunRow, TablesModel, run_of}
 use Rattle.ckr_points_invariant.proofs.Marks.Points.{KeepsCarried}
 use Rattle.ckr_points_invariant.proofs.Steps.Walks.{at-same-step}
 use Rattle.ckr_points_invariant.proofs.Library.Entries.{among-filter_map, is_name}
+use Rattle.ckr_points_invariant.specs.JobNames.{keeps_points}
 
 -- ---- names of a step
 
@@ -135,6 +136,7 @@ pub place-next : (tables later : TablesModel) (row next : RunRow) (leg : Leg) �
 place-next tables later row next leg has same waits within place = record {
   job = place.job ∙ sym same.job;
   begun = subst (λ n. 1 ≤ n) (sym same.step) place.begun;
+  past = subst (λ n. n ≤ step_now next) (sym same.own_from) (subst (λ n. row.earlier_step ≤ n) (sym same.step) place.past);
   formed = place.formed;
   goes_on = ap (λ n. all_go_on leg.job.root 1 (take (pred n) leg.job.steps) (walk_from leg.start)) same.step ∙ place.goes_on;
   rcs = same.rcs ∙ place.rcs ∙ ap (λ n. (walk_before leg.job leg.start n).rcs) (sym same.step);

@@ -14,10 +14,11 @@ use Rattle.ckr_points.specs.declared.run.RunState.TheVariants.{Queued, On, Held,
 use Rattle.ckr_points.specs.Tables.{step_made, steps_made}
 use Rattle.ckr_points.specs.Follows.{state_number}
 use Rattle.ckr_points.specs.RuleCases.{is_ended}
-use Rattle.ckr_points_invariant.specs.Invariant.{IsAtPlace, keeps_points, step_now}
+use Rattle.ckr_points_invariant.specs.Invariant.{IsAtPlace, step_now}
 use Rattle.ckr_points.specs.Office.{Leg, Office, is_holder, leg_of}
 use Rattle.ckr_points.specs.Rows.{RunRow, TablesModel, run_of, with_row, with_run}
 use Rattle.ckr_points.specs.Marks.{made_names, point_at}
+use Rattle.ckr_points_invariant.specs.JobNames.{keeps_points}
 
 -- ---- rows
 
@@ -98,6 +99,7 @@ module _ (tables other : TablesModel) (row : RunRow) (stay : PointsStay tables o
   place-stays leg place = record {
     job = place.job;
     begun = place.begun;
+    past = place.past;
     formed = place.formed;
     goes_on = place.goes_on;
     rcs = place.rcs;

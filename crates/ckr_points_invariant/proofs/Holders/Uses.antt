@@ -4,10 +4,9 @@ use Rattle.std.specs.List.{cons_option, filter_map, list_all, list_any}
 use Rattle.std.specs.Option.{is_some, option_and_then, option_map, option_to_list}
 use Rattle.std.proofs.lemmas.Bool.{and_from, false≢true, or_left, or_parts}
 use Rattle.std.proofs.lemmas.List.Folds.{list_any-append}
-use Rattle.ckr_base.proofs.Bools.{and-true, bool-cases}
-use Rattle.ckr_base.proofs.Options.{option-cases}
+use Rattle.ckr_base.proofs.Bools.{bool-cases}
 use Rattle.ckr_uses.specs.SetNames.{name_under, run_name}
-use Rattle.ckr_uses.specs.Uses.{holds, holds_at, is_exclusive_of, is_of, is_shared, leaves, use_as, use_in, use_of_syschk, uses_in_step, uses_of, uses_of_dds, written_name}
+use Rattle.ckr_uses.specs.Uses.{holds, holds_at, is_exclusive_of, is_of, is_shared, leaves, use_as, use_in, use_of_syschk, uses_in_step, uses_of, uses_of_dds}
 use Rattle.ckr_uses.proofs.MergedUses.{merged-is}
 use Rattle.ckr_uses.proofs.SharedNames.{holds-names}
 use Rattle.ckr_jcl.specs.declared.deck.Dd.{Dd}
@@ -17,10 +16,11 @@ use Rattle.ckr_jcl.specs.declared.deck.Step.{Step}
 use Rattle.ckr_library.specs.declared.uses.Use.{Use}
 use Rattle.ckr_library.specs.NameMaps.{Name, same_name}
 use Rattle.ckr_meaning.specs.EffectiveJob.{is_among, name_of, names_of, names_of_job, names_of_steps, owned_by, plain_job}
-use Rattle.ckr_points_invariant.specs.Invariant.{HasUses, Leaves, leaves_dd}
+use Rattle.ckr_points_invariant.specs.Invariant.{Leaves, leaves_dd}
 use Rattle.ckr_points.specs.Office.{Leg}
-use Rattle.ckr_points.specs.Rows.{RunRow}
+use Rattle.ckr_points.specs.Rows.{RunRow, TablesModel}
 use Rattle.ckr_points_invariant.proofs.Holders.Moves.{Among}
+use Rattle.ckr_points_invariant.specs.JobNames.{HasUses}
 
 -- the uses of a deck, by its RESTART and its SYSCHK
 abbrev uses_by : ℕ → Job → Option Restart → Option Dd → List Use
@@ -89,45 +89,6 @@ shared-left run deck name plain none =
     ∙ sym (ap (λ restart. list_any (is_exclusive_of name) (uses_by run deck restart deck.syschk)) plain)
     ∙ sym ((merged-is (uses_of_dds run deck)).exclusive name) ∙ none)).0
 
--- ---- a run with RESTART shares nothing
-
-exclusive_dds : (own step : Name) (dds : List Dd) (name : Name) → list_any (is_exclusive_of name) (filter_map (use_in true own step) dds) ≡ list_any (is_of name) (filter_map (use_in true own step) dds)
-exclusive_dds own step [] name = refl
-exclusive_dds own step (dd ∷ dds) name =
-    by (exclusive_dds own step dds name) (name_under dd own own step)
-  where
-    by : list_any (is_exclusive_of name) (filter_map (use_in true own step) dds) ≡ list_any (is_of name) (filter_map (use_in true own step) dds) → (other : Option Name) → list_any (is_exclusive_of name) (cons_option (option_map (use_as true dd) other) (filter_map (use_in true own step) dds)) ≡ list_any (is_of name) (cons_option (option_map (use_as true dd) other) (filter_map (use_in true own step) dds))
-    by rest None = rest
-    by rest (Some other) = ap (λ b. b || list_any (is_exclusive_of name) (filter_map (use_in true own step) dds)) (and-true (same_name name other)) ∙ ap (λ b. same_name name other || b) rest
-
-exclusive_steps : (own : Name) (steps : List Step) (name : Name) → list_any (is_exclusive_of name) (flat_map (uses_in_step true own) steps) ≡ list_any (is_of name) (flat_map (uses_in_step true own) steps)
-exclusive_steps own [] name = refl
-exclusive_steps own (step ∷ steps) name =
-    list_any-append (is_exclusive_of name) (uses_in_step true own step) (flat_map (uses_in_step true own) steps)
-    ∙ ap (λ b. b || list_any (is_exclusive_of name) (flat_map (uses_in_step true own) steps)) (exclusive_dds own step.name step.dds name)
-    ∙ ap (λ b. list_any (is_of name) (uses_in_step true own step) || b) (exclusive_steps own steps name)
-    ∙ sym (list_any-append (is_of name) (uses_in_step true own step) (flat_map (uses_in_step true own) steps))
-
-exclusive_syschk : (syschk : Option Dd) (name : Name) → list_any (is_exclusive_of name) (option_to_list (option_and_then (use_of_syschk true) syschk)) ≡ list_any (is_of name) (option_to_list (option_and_then (use_of_syschk true) syschk))
-exclusive_syschk None name = refl
-exclusive_syschk (Some dd) name = by (written_name dd.origin)
-  where
-    by : (other : Option Name) → list_any (is_exclusive_of name) (option_to_list (option_map (use_as true dd) other)) ≡ list_any (is_of name) (option_to_list (option_map (use_as true dd) other))
-    by None = refl
-    by (Some other) = ap (λ b. b || false) (and-true (same_name name other))
-
-pub restart-exclusive : (run : ℕ) (deck : Job) (restart : Restart) (name : Name) → deck.restart ≡ Some restart → list_any (is_exclusive_of name) (uses_of run deck) ≡ list_any (is_of name) (uses_of run deck)
-unfolding uses_of
-restart-exclusive run deck restart name has =
-    (merged-is (uses_of_dds run deck)).exclusive name
-    ∙ ap (λ restart. list_any (is_exclusive_of name) (uses_by run deck restart deck.syschk)) has
-    ∙ list_any-append (is_exclusive_of name) (flat_map (uses_in_step true deck.name) deck.steps) (option_to_list (option_and_then (use_of_syschk true) deck.syschk))
-    ∙ ap (λ b. b || list_any (is_exclusive_of name) (option_to_list (option_and_then (use_of_syschk true) deck.syschk))) (exclusive_steps deck.name deck.steps name)
-    ∙ ap (λ b. list_any (is_of name) (flat_map (uses_in_step true deck.name) deck.steps) || b) (exclusive_syschk deck.syschk name)
-    ∙ sym (list_any-append (is_of name) (flat_map (uses_in_step true deck.name) deck.steps) (option_to_list (option_and_then (use_of_syschk true) deck.syschk)))
-    ∙ sym (ap (λ restart. list_any (is_of name) (uses_by run deck restart deck.syschk)) has)
-    ∙ sym ((merged-is (uses_of_dds run deck)).same name)
-
 -- ---- two runs that don't hold against each other
 
 exclusive_in_none : (mine theirs one other : Bool) → (mine && theirs && (one || other)) ≡ false → mine ≡ true → theirs ≡ true → (one ≡ false) × (other ≡ false)
@@ -141,9 +102,12 @@ none-exclusive first second name free mine theirs =
     exclusive_in_none (list_any (is_of name) first) (list_any (is_of name) second) (list_any (is_exclusive_of name) first) (list_any (is_exclusive_of name) second)
     (bool-cases (holds_at name first second) (λ at_name. absurd (false≢true (sym free ∙ (holds-names first second).1 (name, at_name)))) (λ e. e)) mine theirs
 
--- a holder leaves a name of its reach that isn't exclusive
-pub holder-leaves : (row : RunRow) (leg : Leg) (name : Name) → HasUses row leg → Among leg name → list_any (is_exclusive_of name) (uses_of row.number row.deck) ≡ false → Leaves leg.job name
-holder-leaves row leg name uses among none =
-    option-cases row.deck.restart
-    (λ plain. subst (λ job. Leaves job name) (sym (uses.plain plain)) (shared-left row.number row.deck name plain none))
-    (λ restart has. absurd (false≢true (sym none ∙ restart-exclusive row.number row.deck restart name has ∙ uses.named name among)))
+-- a holder without RESTART uses the names of its reach
+pub holder-uses : (tables : TablesModel) (row : RunRow) (leg : Leg) (name : Name) → HasUses tables row leg → row.deck.restart ≡ None → Among leg name → list_any (is_of name) (uses_of row.number row.deck) ≡ true
+holder-uses tables row leg name uses plain among =
+    names-used row.number row.deck name plain (ap (λ job. is_among (names_of_job job) name) (sym (uses.plain plain)) ∙ uses.reached plain name among)
+
+-- and leaves one that isn't exclusive
+pub holder-leaves : (tables : TablesModel) (row : RunRow) (leg : Leg) (name : Name) → HasUses tables row leg → row.deck.restart ≡ None → list_any (is_exclusive_of name) (uses_of row.number row.deck) ≡ false → Leaves leg.job name
+holder-leaves tables row leg name uses plain none =
+    subst (λ job. Leaves job name) (sym (uses.plain plain)) (shared-left row.number row.deck name plain none)

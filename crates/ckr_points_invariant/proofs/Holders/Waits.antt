@@ -1,5 +1,5 @@
 -- The events stay kept where the row of a run changes that holds nothing, before it and behind it.
-use Rattle.std.proofs.Common.{◌≡◌, ◌≢◌, ℕ, true, false, List, ap, sym, ◌∙◌, subst, Some, None}
+use Rattle.std.proofs.Common.{◌≡◌, ◌≢◌, ℕ, true, false, List, refl, ap, sym, ◌∙◌, subst, Some, None}
 use Rattle.std.specs.Prelude.{◌==◌}
 use Rattle.std.specs.Option.{option_map, option_map_or, is_some}
 use Rattle.std.proofs.lemmas.Bool.{false≢true}
@@ -7,6 +7,7 @@ use Rattle.ckr_base.proofs.Bools.{or-not-first}
 use Rattle.ckr_base.proofs.Numbers.{equal-true, number-cases}
 use Rattle.ckr_base.proofs.Options.{is_some-from, some-not-none, some-one}
 use Rattle.ckr_base.proofs.Sequences.{each-implies}
+use Rattle.ckr_jcl.specs.declared.deck.Job.{Job}
 use Rattle.ckr_library.specs.NameMaps.{entry_at}
 use Rattle.ckr_meaning.specs.Dispositions.{Stock}
 use Rattle.ckr_meaning.specs.LibrarySet.{LibrarySet}
@@ -17,6 +18,7 @@ use Rattle.ckr_points.specs.RuleCases.{is_ended}
 use Rattle.ckr_points_invariant.specs.Invariant.{IsHolder, IsAgreed, IsKnownLeg, IsWaiting, set_shape}
 use Rattle.ckr_points.specs.Office.{Leg, Office, is_holder, leg_of}
 use Rattle.ckr_points.specs.Rows.{RunRow, run_of}
+use Rattle.ckr_points_invariant.proofs.Holders.JobNames.{KeepsJobNames, others-keep, uses-stay}
 use Rattle.ckr_points_invariant.proofs.Holders.Rows.{PointsStay, place-stays}
 use Rattle.ckr_points_invariant.proofs.Holders.Moves.{standing-is}
 
@@ -25,6 +27,7 @@ pub record WaitsOn (office : Office) (number : ℕ) (next : RunRow) (runs : List
   pub here : run_of (record { sets = office.tables.sets; runs = runs }) number ≡ Some next
   pub there : (other : ℕ) → other ≢ number → run_of (record { sets = office.tables.sets; runs = runs }) other ≡ run_of office.tables other
   pub same : next.number ≡ number
+  pub deck : (row : RunRow) → run_of office.tables number ≡ Some row → next.deck ≡ row.deck
   pub over : is_holder next.state ≡ false
   pub before : option_map_or (λ row. is_ended row.state) (run_of office.tables number) false ≡ false
   pub alone : leg_of office number ≡ None
@@ -51,6 +54,13 @@ module _ (layout : Layout) (office : Office) (number : ℕ) (next : RunRow) (run
       (λ its. absurd (apart (sym its ∙ here)))
       (λ its. absurd (false≢true (sym (ap (λ n. option_map_or (λ row. is_ended row.state) (run_of office.tables n) false) here ∙ waits.before) ∙ or-not-first (owner == other) _ keeps (λ e. its (equal-true owner other e))))))
       (λ there. waits.there owner there)
+
+  -- a run has the job name that it had
+  names_stay : KeepsJobNames office.tables later.tables
+  names_stay =
+      others-keep office.tables later.tables number
+      (λ name has. (next, waits.here, ap (λ (deck : Job). deck.name) (waits.deck has.0 has.1) ∙ has.2))
+      waits.before waits.there
 
   pub kept-waits : IsAgreed layout later
   kept-waits = record {
@@ -85,10 +95,13 @@ module _ (layout : Layout) (office : Office) (number : ℕ) (next : RunRow) (run
         place-stays office.tables later.tables its
         (subst (PointsStay office.tables later.tables) (sym (kept.numbered other its old.row_at)) (stay other (other_one other its fellow old.leg_at)))
         fellow (kept.places other its fellow old);
-    uses = λ other its fellow there. kept.uses other its fellow (of_later other its fellow there);
+    uses = λ other its fellow there.
+        uses-stay office.tables later.tables names_stay its its refl refl fellow refl (kept.uses other its fellow (of_later other its fellow there));
+    alone = λ one other its theirs mine fellow name here there.
+        kept.alone one other its theirs mine fellow name (of_later one its mine here) (of_later other theirs fellow there);
     left = λ one other its theirs mine fellow name here there apart among shared.
         kept.left one other its theirs mine fellow name (of_later one its mine here) (of_later other theirs fellow there) apart among shared;
-    since = λ other its fellow name there among leaves. kept.since other its fellow name (of_later other its fellow there) among leaves;
+    since = λ other its fellow name there. kept.since other its fellow name (of_later other its fellow there);
     held = λ other its fellow name there among.
         let old : IsHolder office other its fellow = of_later other its fellow there in
         kept.held other its fellow name old among

@@ -198,6 +198,11 @@ own_made-out row owned step name out = by (point_at row.points step)
         among-filter (is_marked_absent point.marks) (names_of row.job.root owned) name
         ∙ ap (λ b. is_marked_absent point.marks name && b) out ∙ and-false (is_marked_absent point.marks name)
 
+-- a point that is taken now marks the names of the run's job, and no others
+pub covers-now : (row : RunRow) (sets : Named TableSet) (name : Name) → is_some (mark_at (marks_now row sets) name) ≡ is_among (names_of_job row.job) name
+unfolding own_mark
+covers-now row sets name = mark_at-among (own_mark row sets) (names_of_job row.job) name (own_mark-named row sets)
+
 -- ---- the marks of other names, which a run carries
 
 -- a point that is taken now has of a name that isn't the run's own the mark that the run carries

@@ -1,6 +1,6 @@
 -- One more event keeps what the points hold.
 use Rattle.std.proofs.Common.{◌≡◌, ◌≢◌, ℕ, suc, Bool, true, false, cond, ◌&&◌, if◌then◌else◌, List, [], ◌∷◌, filter, map, refl, ap, sym, ◌∙◌, subst, Option, Some, None}
-use Rattle.std.specs.Prelude.{◌==◌, nat_lt}
+use Rattle.std.specs.Prelude.{◌==◌, nat_lt, nat_le}
 use Rattle.std.specs.Option.{option_map, option_map_or}
 use Rattle.arrayvec.specs.ArrayVec.{ArrayVec}
 use Rattle.ckr_base.specs.declared.code.Code.{Code}
@@ -223,7 +223,7 @@ module _ (layout : Layout) (now : Office) (kept : IsAgreed layout now) (pointed 
       let entry : Kept = record { id = id; run = job; place = place; bytes = bytes } in
       let commit : commits now.tables.sets row writes lengths.items (its_start leg owned (step_now row)) ≡ true =
       and-first (commits now.tables.sets row writes lengths.items (its_start leg owned (step_now row))) (carries_taken taken writes (its_start leg owned (step_now row)))
-      (carried-of layout now job row leg owned (step_now row) (λ row start. commits now.tables.sets row writes lengths.items start && carries_taken taken writes start) kept holder refl found carried)
+      (carried-of layout now job row leg owned (step_now row) (λ row start. commits now.tables.sets row writes lengths.items start && carries_taken taken writes start) kept holder refl found (and-second (nat_le 1 bytes) _ carried))
       in
       subst (λ (o : Option RunRow). PointsHold R E (option_map_or (λ row. by_step (λ owned step. after_checkpointed row owned step entry taken writes lengths.items now.tables) row now.tables) o now.tables)) (sym e)
       (subst (λ (o : Option OwnedStep). PointsHold R E (option_map_or (λ owned. after_checkpointed row owned (step_now row) entry taken writes lengths.items now.tables) o now.tables)) (sym found)
@@ -239,6 +239,7 @@ module _ (layout : Layout) (now : Office) (kept : IsAgreed layout now) (pointed 
     point-there run place marks passed its = record {
       leg = its.leg;
       led = led_there layout now row initiator kept row_at queued plain free run apart ∙ its.led;
+      covers = its.covers;
       marked = its.marked;
       passed_on = its.passed_on;
     }

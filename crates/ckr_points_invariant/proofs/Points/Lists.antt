@@ -1,4 +1,4 @@
--- What points hold at every prefix of sound events among which none goes back.
+-- An event by which no run goes back leaves each point as what its run's job has at that place.
 use Rattle.std.proofs.Common.{◌≡◌, zero, suc, false, not, List, [], ◌∷◌, ◌++◌, sym, Option}
 use Rattle.std.proofs.lemmas.Bool.{false≢true, not-true}
 use Rattle.ckr_base.proofs.Bools.{and-first, and-second}
@@ -9,13 +9,12 @@ use Rattle.ckr_volumes.specs.declared.layout.Layout.{Layout}
 use Rattle.ckr_points.specs.Events.{AreSound, AreSoundFrom, IsNext}
 use Rattle.ckr_points.specs.Office.{Office, no_office, office, office_after, office_from}
 use Rattle.ckr_points.specs.Restart.{Decked}
-use Rattle.ckr_points_invariant.specs.Continuations.{NoneGoesBack, goes_back}
+use Rattle.ckr_points_invariant.specs.Continuations.{goes_back}
 use Rattle.ckr_points_invariant.specs.Invariant.{IsAgreed, IsKept}
 use Rattle.ckr_points_invariant.specs.Points.{ArePointed}
 use Rattle.ckr_points_invariant.proofs.EventLaws.{no_events}
 use Rattle.ckr_points_invariant.proofs.EventList.{sound-front}
 use Rattle.ckr_points_invariant.proofs.Points.Events.{pointed-cancelled, pointed-checked, pointed-denied, pointed-ended, pointed-held, pointed-purged, pointed-released, pointed-rewritten, pointed-selected, pointed-started, pointed-step_end, pointed-submitted}
-use Rattle.ckr_points_invariant.proofs.SoundEvents.{front_on, kept-next}
 
 module _ (layout : Layout) (now : Office) where
   -- one more event keeps it
@@ -34,15 +33,3 @@ module _ (layout : Layout) (now : Office) where
   pointed-next (Released job) deck on kept pointed next = pointed-released layout now kept pointed job deck
   pointed-next (Ended job ending) deck on kept pointed next = pointed-ended layout now kept pointed job ending deck
   pointed-next (Purged job) deck on kept pointed next = pointed-purged layout now kept pointed job deck
-
-pointed_from : (layout : Layout) (events : List Decked) (now : Office) → AreSoundFrom layout now events → NoneGoesBack events → IsKept layout now → ArePointed now → ArePointed (office_from events now)
-pointed_from layout [] now are on kept pointed = pointed
-pointed_from layout (event ∷ rest) now are on kept pointed =
-    let next : IsNext layout now (event.0, event.1) = record { may = are.0.may; carried = are.0.carried } in
-    let ahead : goes_back event.0 ≡ false = not-true (goes_back event.0) (and-first (not (goes_back event.0)) _ on) in
-    pointed_from layout rest (office_after event now) are.1 (and-second (not (goes_back event.0)) _ on)
-    (kept-next layout now event.0 event.1 ahead kept next) (pointed-next layout now event.0 event.1 ahead kept.events pointed next)
-
-pub sound-pointed : (layout : Layout) (front more : List Decked) → AreSound layout (front ++ more) → NoneGoesBack (front ++ more) → ArePointed (office front)
-sound-pointed layout front more are on =
-    pointed_from layout front no_office (sound-front layout front more are) (front_on front more on) (no_events layout) (record { rows = tt; entries = tt })

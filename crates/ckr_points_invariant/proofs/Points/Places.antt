@@ -20,7 +20,7 @@ use Rattle.ckr_points.specs.Rows.{RunRow, TableSet}
 use Rattle.ckr_points_invariant.specs.Invariant.{AreAlike, HasMarkOf, IsAgreed, IsAtPlace, IsHolder, IsMarkOf, Shape, present_shape, set_shape, step_now, table_shape}
 use Rattle.ckr_points_invariant.specs.Points.{IsPointAt}
 use Rattle.ckr_points_invariant.proofs.Holders.Places.{mark-stays, other-out}
-use Rattle.ckr_points_invariant.proofs.Marks.Points.{mark-carried, present-now}
+use Rattle.ckr_points_invariant.proofs.Marks.Points.{covers-now, mark-carried, present-now}
 use Rattle.ckr_points_invariant.proofs.Soundness.{at-passed}
 use Rattle.ckr_points_invariant.proofs.Steps.Walks.{at-same-step}
 
@@ -56,6 +56,7 @@ module _ (layout : Layout) (office : Office) (job : ℕ) (row : RunRow) (leg : L
   point-now place sets here alike = record {
     leg = leg;
     led = ap (leg_of office) (kept.numbered job row holder.row_at) ∙ holder.leg_at;
+    covers = λ name. covers-now row sets name ∙ ap (λ job. is_among (names_of_job job) name) (sym at_place.job);
     marked = marked;
     passed_on = at_place.passed ∙ ap (λ n. (walk_before leg.job leg.start n).standing.passed) (sym here) ∙ sym (at-passed leg.job leg.start place);
   }

@@ -42,8 +42,7 @@ use Rattle.ckr_points_invariant.proofs.Start.Event.{running-so}
 use Rattle.ckr_points_invariant.proofs.Steps.Commits.{IsRunning}
 use Rattle.ckr_points_invariant.proofs.Steps.Events.{led-by, running-holds, running-within}
 use Rattle.ckr_points_invariant.proofs.WaitingRuns.{follows-of, tested-run}
-use Rattle.ckr_points_invariant.specs.Readiness.{HasPoint}
-use Rattle.ckr_points_invariant.specs.Restorability.{AreEntriesRestorable, AreStepsRestorable, IsRestorable, LeavesTheRest, StandsAt}
+use Rattle.ckr_points_invariant.specs.Restorability.{AreEntriesRestorable, AreStepsRestorable, HasPoint, IsRestorable, LeavesTheRest, StandsAt}
 use Rattle.ckr_points_invariant.proofs.Restart.Invariant.{entry-outside, entry-shared, entry_row, entry_sets, kept-entry_back, kept-start_back, point-of, start-outside, start-shared, start_row, start_sets}
 use Rattle.ckr_points_invariant.proofs.Restart.Points.{back-holds, fewer, points-with}
 use Rattle.ckr_points_invariant.proofs.Restart.Verdicts.{check-unwritten, start-unwritten}
@@ -195,9 +194,7 @@ module _ (layout : Layout) (now : Office) (job initiator : ℕ) (code : Code) (d
     running_so = running-so layout now job row leg owned its.holder its.within found
 
     abbrev has_entry : HasPoint leg (Within (step_now row) entry.point.writes) entry.point.marks entry.point.passed
-    has_entry =
-        point-of now job leg (Within (step_now row) entry.point.writes) entry.point.marks entry.point.passed its.holder.leg_at
-        (can.points job row leg effect entry its.holder its.within got there)
+    has_entry = can.points job row leg effect entry its.holder its.within got there
 
     abbrev entry_restorable : IsRestorable row leg entry.point.writes
     entry_restorable = can.since job row leg effect entry its.holder its.within got there (check-unwritten row (step_now row) layout.eligible.items code effect got its.verdict)

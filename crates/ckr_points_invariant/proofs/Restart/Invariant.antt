@@ -12,7 +12,7 @@ use Rattle.ckr_entry.specs.declared.point.Mark.{Mark}
 use Rattle.ckr_entry.specs.declared.point.Passed.{Passed}
 use Rattle.ckr_entry.specs.declared.point.Present.{Present}
 use Rattle.ckr_library.specs.NameMaps.{Name, Named, entry_at}
-use Rattle.ckr_meaning.specs.EffectiveJob.{Effective, OwnedStep, flaws_in, is_among, names_of, step_at}
+use Rattle.ckr_meaning.specs.EffectiveJob.{Effective, OwnedStep, flaws_in, is_among, names_of, names_of_job, step_at}
 use Rattle.ckr_meaning.specs.JobRun.{at, start_at, walk_before}
 use Rattle.ckr_meaning.specs.LibrarySet.{Library, LibrarySet}
 use Rattle.ckr_meaning.specs.StepRun.{StepStart, opened_at, placed_at, within_at}
@@ -22,7 +22,7 @@ use Rattle.ckr_volumes.specs.declared.layout.Layout.{Layout}
 use Rattle.ckr_points_library.specs.Commit.{output_names}
 use Rattle.ckr_points.specs.declared.run.RunState.TheVariants.{On}
 use Rattle.ckr_points.specs.Follows.{is_in_state, own_step}
-use Rattle.ckr_points.specs.Marks.{carried_marks, made_names, point_at, present_at, put_back, removed_all, with_point}
+use Rattle.ckr_points.specs.Marks.{carried_marks, made_names, mark_at, point_at, present_at, put_back, removed_all, with_point}
 use Rattle.ckr_points.specs.Office.{Leg, Office, is_holder, leg_of}
 use Rattle.ckr_points.specs.Payload.{is_formed_step, rewrites_nothing, writes_in}
 use Rattle.ckr_points.specs.Restart.{effect_restarted, place_of, point_restarted, row_on, step_in}
@@ -40,8 +40,7 @@ use Rattle.ckr_points_invariant.proofs.Soundness.{at-passed}
 use Rattle.ckr_points_invariant.proofs.Start.Openings.{opened-none}
 use Rattle.ckr_points_invariant.proofs.Steps.Commits.{IsRunning, alike_within, formed_step, found_leg, has_next, in_reach, its_start, now, place_so, under_way}
 use Rattle.ckr_points_invariant.proofs.Steps.Walks.{at-opened, at-within, start_at-of}
-use Rattle.ckr_points_invariant.specs.Readiness.{HasPoint}
-use Rattle.ckr_points_invariant.specs.Restorability.{IsRestorable}
+use Rattle.ckr_points_invariant.specs.Restorability.{HasPoint, IsRestorable}
 use Rattle.ckr_points_invariant.proofs.PutBack.Sets.{at-removed_all, back_to, put_back-apart, put_back-laid, put_back-marked, put_back-none, removed_all-laid, to_catalog}
 use Rattle.ckr_points_invariant.proofs.OtherRuns.Outputs.{not-output}
 use Rattle.ckr_points_invariant.proofs.Restart.Libraries.{opened-made, put_back-within, within-other}
@@ -51,7 +50,18 @@ use Rattle.ckr_points_invariant.proofs.Restart.Libraries.{opened-made, put_back-
 pub point-of : (office : Office) (number : ℕ) (leg : Leg) (place : Place) (marks : List Mark) (passed : List Passed) → leg_of office number ≡ Some leg → IsPointAt office.legs number place marks passed → HasPoint leg place marks passed
 point-of office number leg place marks passed led point =
     subst (λ (its : Leg). HasPoint its place marks passed) (some-one point.leg leg (leg_of office number) point.led led)
-    (record { marked = point.marked; passed_on = point.passed_on })
+    (record { marked = λ owned name found among. point.marked name (among-step point.leg.job (step_in place) owned name found among); passed_on = point.passed_on })
+
+-- it marks the names of the job and no other
+pub point-covers : (office : Office) (number : ℕ) (leg : Leg) (place : Place) (marks : List Mark) (passed : List Passed) → leg_of office number ≡ Some leg → IsPointAt office.legs number place marks passed → (name : Name) → is_some (mark_at marks name) ≡ is_among (names_of_job leg.job) name
+point-covers office number leg place marks passed led point name =
+    point.covers name ∙ ap (λ (its : Leg). is_among (names_of_job its.job) name) (some-one point.leg leg (leg_of office number) point.led led)
+
+-- and says of each what the job has
+pub point-says : (office : Office) (number : ℕ) (leg : Leg) (place : Place) (marks : List Mark) (passed : List Passed) → leg_of office number ≡ Some leg → IsPointAt office.legs number place marks passed → (name : Name) → is_among (names_of_job leg.job) name ≡ true → IsMarkOf (present_at marks name) (entry_at (at leg.job leg.start place).sets name)
+point-says office number leg place marks passed led point name =
+    subst (λ (its : Leg). is_among (names_of_job its.job) name ≡ true → IsMarkOf (present_at marks name) (entry_at (at its.job its.start place).sets name))
+    (some-one point.leg leg (leg_of office number) point.led led) (point.marked name)
 
 -- what isn't there isn't put back
 put_back-absent : (marks : List Mark) (outputs needed : List Name) (sets : Named TableSet) (name : Name) → entry_at sets name ≡ None → entry_at (put_back marks outputs needed sets) name ≡ None
@@ -185,7 +195,7 @@ module _ (layout : Layout) (office : Office) (number : ℕ) (row : RunRow) (leg 
         by (Some table) e named =
             let alike : Some (table_shape table) ≡ option_map set_shape (entry_at (at leg.job leg.start place).sets name) = sym (ap (option_map table_shape) e) ∙ alike_now name among ∙ ap (option_map set_shape) (sym same_there) in
             marked-same table (stays (there_by (entry_at (at leg.job leg.start place).sets name) alike)) named e (entry_at (at leg.job leg.start place).sets name) alike (present_at marks name) refl
-            (has.marked name (among-step leg.job step owned name leg_step named))
+            (has.marked owned name (ap (step_at leg.job) here ∙ leg_step) named)
             ∙ sym e
           where
             there_by : (set : Option LibrarySet) → Some (table_shape table) ≡ option_map set_shape set → is_some set ≡ true
@@ -296,7 +306,7 @@ module _ (layout : Layout) (office : Office) (number : ℕ) (row : RunRow) (leg 
     opened_is = at-opened leg.job leg.start step owned leg_step
 
     marked_so : (name : Name) → is_among names name ≡ true → IsMarkOf (present_at point.marks name) (entry_at (opened_at start) name)
-    marked_so name named = subst (λ (library : Library). IsMarkOf (present_at point.marks name) (entry_at library name)) opened_is (has.marked name (among-step leg.job step owned name leg_step named))
+    marked_so name named = subst (λ (library : Library). IsMarkOf (present_at point.marks name) (entry_at library name)) opened_is (has.marked owned name leg_step named)
 
     -- a name that the step doesn't make is alike to what it opened
     start-kept : (name : Name) → Among leg name → is_among names name ≡ true → is_none (entry_at start.standing.sets name) ≡ false → AreAlike (start_sets leg.job) (opened_at start) name
@@ -399,7 +409,7 @@ module _ (layout : Layout) (office : Office) (number : ℕ) (row : RunRow) (leg 
         bool-cases (is_among names name)
         (λ named.
         back-here from marks (below_so from marks passed can) (unwritten_so from marks passed can) [] name among named refl
-        (subst (λ (library : Library). IsMarkOf (present_at marks name) (entry_at library name)) within_is (has.marked name (among-step leg.job step owned name leg_step named))))
+        (subst (λ (library : Library). IsMarkOf (present_at marks name) (entry_at library name)) within_is (has.marked owned name leg_step named)))
         (back-elsewhere from marks (below_so from marks passed can) (unwritten_so from marks passed can) [] (λ other out. refl) name among)
         ∙ ap (λ library. option_map set_shape (entry_at library name)) (sym within_is)
 

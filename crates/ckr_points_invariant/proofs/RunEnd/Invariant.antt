@@ -55,9 +55,10 @@ abbrev pub ended_row : RunRow → RunRow
 ended_row row = record row { state = EndedRun; initiator = None; code = None; passed = []; lost = []; in_effect = None }
 
 -- data sets as a standing leaves them, that is alike on the reach; the run ends what it hasn't lost of the passed list
-ends_with : (layout : Layout) (office : Office) (row next : RunRow) (leg : Leg) (cut : Option Place) (lost : List Name) (passed : List Passed) (sets : Named TableSet) (standing : Stock LibrarySet) → next.number ≡ row.number → next.state ≡ EndedRun → job_run leg.job leg.start cut ≡ ended_with standing → passed ≡ standing.passed → ((name : Name) → Among leg name → AreAlike sets standing.sets name) → ((name : Name) → is_among lost name ≡ true → is_among leg.reach name ≡ false) → ((name : Name) → is_among leg.reach name ≡ false → is_among lost name ≡ false → is_among (passed_made passed) name ≡ false) → ((name : Name) → is_among leg.reach name ≡ false → entry_at sets name ≡ entry_at office.tables.sets name) → AreLaidOut layout sets → EndsSo layout office row next leg cut (passed_ended (without_passed lost passed) sets)
-ends_with layout office row next leg cut lost passed sets standing same over ran passes alike unreached entered outside laid = record {
+ends_with : (layout : Layout) (office : Office) (row next : RunRow) (leg : Leg) (cut : Option Place) (lost : List Name) (passed : List Passed) (sets : Named TableSet) (standing : Stock LibrarySet) → next.number ≡ row.number → next.deck ≡ row.deck → next.state ≡ EndedRun → job_run leg.job leg.start cut ≡ ended_with standing → passed ≡ standing.passed → ((name : Name) → Among leg name → AreAlike sets standing.sets name) → ((name : Name) → is_among lost name ≡ true → is_among leg.reach name ≡ false) → ((name : Name) → is_among leg.reach name ≡ false → is_among lost name ≡ false → is_among (passed_made passed) name ≡ false) → ((name : Name) → is_among leg.reach name ≡ false → entry_at sets name ≡ entry_at office.tables.sets name) → AreLaidOut layout sets → EndsSo layout office row next leg cut (passed_ended (without_passed lost passed) sets)
+ends_with layout office row next leg cut lost passed sets standing same deck over ran passes alike unreached entered outside laid = record {
   same = same;
+  deck = deck;
   over = ap is_holder over;
   busy = ap (λ state. state_number state == 1) over;
   outside = λ name out. ended-stays lost passed sets name (entered name out) ∙ outside name out;
@@ -78,7 +79,7 @@ module _ (layout : Layout) (office : Office) (number : ℕ) (row : RunRow) (leg 
   module _ (out : is_within (place_of row) ≡ false) where
     ends_outside : (cut : Option Place) → job_run leg.job leg.start cut ≡ ended_with (at leg.job leg.start (place_of row)) → EndsSo layout office row (ended_row row) leg cut (passed_ended (has_passed row) office.tables.sets)
     ends_outside cut ran =
-        ends_with layout office row (ended_row row) leg cut row.lost row.passed office.tables.sets (at leg.job leg.start (place_of row)) refl refl ran
+        ends_with layout office row (ended_row row) leg cut row.lost row.passed office.tables.sets (at leg.job leg.start (place_of row)) refl refl refl ran
         (at_place.passed ∙ sym (at-passed leg.job leg.start (place_of row)))
         (λ name among. kept.held number row leg name holder among ∙ ap (λ (standing : Stock LibrarySet). option_map set_shape (entry_at standing.sets name)) (standing-is office number row leg holder.row_at holder.leg_at))
         at_place.unreached at_place.entered (λ name out. refl) kept.extents
@@ -105,7 +106,7 @@ module _ (layout : Layout) (office : Office) (number : ℕ) (row : RunRow) (leg 
   ends_within : EndsSo layout office row (ended_row row) leg (Some (Within step writes)) (passed_ended (without_passed row.lost disposed.passed) disposed.sets)
   ends_within =
       ends_with layout office row (ended_row row) leg (Some (Within step writes)) row.lost disposed.passed disposed.sets
-      (disposed_at (its_start leg owned step) true (within_at (its_start leg owned step) writes)) refl refl
+      (disposed_at (its_start leg owned step) true (within_at (its_start leg owned step) writes)) refl refl refl
       (run-cut leg.job leg.start (Within step writes) ∙ cut-within leg.job leg.start step writes owned (found_leg layout office number row leg owned step writes kept running))
       (disposed-passes layout office number row leg owned step writes kept running true)
       (disposed-inside layout office number row leg owned step writes kept running true)

@@ -1,8 +1,10 @@
 -- Runs keep what they began where the row of a holder goes on, of a run that waits goes, and where a run is selected.
 use Rattle.std.proofs.Common.{◌≡◌, ◌≢◌, ℕ, true, false, [], refl, ap, sym, ◌∙◌, subst, Option, Some, None}
+use Rattle.std.specs.List.{list_all}
 use Rattle.std.specs.Option.{option_map_or}
 use Rattle.ckr_base.proofs.Options.{is_some-from, some-not-none, some-one}
 use Rattle.ckr_library.specs.NameMaps.{Named}
+use Rattle.ckr_meaning.specs.EffectiveJob.{Effective}
 use Rattle.ckr_meaning.specs.LibrarySet.{Library}
 use Rattle.ckr_volumes.specs.declared.layout.Layout.{Layout}
 use Rattle.ckr_points.specs.declared.run.RunState.{RunState}
@@ -10,13 +12,17 @@ use Rattle.ckr_points.specs.declared.run.RunState.TheVariants.{Queued}
 use Rattle.ckr_points.specs.Follows.{is_in_state, may_hold}
 use Rattle.ckr_points.specs.Marks.{point_at}
 use Rattle.ckr_points.specs.Office.{Leg, Office, leg_of}
+use Rattle.ckr_points.specs.Payload.{is_orderly_dd}
 use Rattle.ckr_points.specs.RuleCases.{is_ended, was_selected}
 use Rattle.ckr_points.specs.Rows.{RunRow, StartPoint, TableSet, TablesModel, run_of, with_run}
-use Rattle.ckr_points_invariant.specs.Invariant.{IsAgreed, IsAtPlace, IsHolder}
+use Rattle.ckr_points_invariant.specs.Invariant.{AreOrderly, IsAgreed, IsHolder, IsWaiting}
 use Rattle.ckr_points_invariant.specs.StartedSteps.{AreBegunSteps, HasBegunSteps}
+use Rattle.ckr_points_invariant.proofs.Decks.Events.{row-orderly}
+use Rattle.ckr_points_invariant.proofs.Decks.Names.{plain-orderly}
 use Rattle.ckr_points_invariant.proofs.Holders.Places.{HasNext}
 use Rattle.ckr_points_invariant.proofs.Holders.Rows.{holder-ended, queued-is, run-other, run-same}
-use Rattle.ckr_points_invariant.proofs.Select.Invariant.{chosen, kept-chosen, leg, led_here, led_there, next, waits}
+use Rattle.ckr_points_invariant.proofs.Select.Invariant.{chosen, leg, led_here, led_there, next, waits}
+use Rattle.ckr_points_invariant.proofs.StartedSteps.Kin.{kin-plain, owners-plain}
 use Rattle.ckr_points_invariant.proofs.StartedSteps.Offices.{IsOnlyRow, begun-only}
 use Rattle.ckr_points_invariant.proofs.StartedSteps.Runs.{KeepsPoints, steps-next}
 
@@ -103,8 +109,8 @@ module _ (layout : Layout) (now : Office) (kept : IsAgreed layout now) where
     unended = ap (λ (o : Option RunRow). option_map_or (λ row. is_ended row.state) o false) row_at ∙ ap is_ended (queued-is row.state queued);
   }
 
-  pub begun-chosen : (row : RunRow) (initiator : ℕ) (row_at : run_of now.tables row.number ≡ Some row) (queued : is_in_state Queued row ≡ true) (plain : row.deck.restart ≡ None) (may : may_hold now.tables row ≡ true) → AreBegunSteps now → AreBegunSteps (chosen layout now row initiator kept row_at queued plain may)
-  begun-chosen row initiator row_at queued plain may begun =
+  pub begun-chosen : (row : RunRow) (initiator : ℕ) (row_at : run_of now.tables row.number ≡ Some row) (queued : is_in_state Queued row ≡ true) (plain : row.deck.restart ≡ None) (may : may_hold now.tables row ≡ true) → AreOrderly now.tables → AreBegunSteps now → AreBegunSteps (chosen layout now row initiator kept row_at queued plain may)
+  begun-chosen row initiator row_at queued plain may orderly begun =
       begun-only layout now behind row.number kept (only-chosen row initiator row_at queued plain may) begun
       (record {
         led = λ one e selected. is_some-from (leg_of behind row.number) its_leg (led_here layout now row initiator kept row_at queued plain may);
@@ -126,17 +132,21 @@ module _ (layout : Layout) (now : Office) (kept : IsAgreed layout now) where
       here : run_of behind.tables row.number ≡ Some its
       here = run-same now.tables its row row.number row_at refl
 
-      place : IsAtPlace behind.tables its its_leg
-      place = (kept-chosen layout now row initiator kept row_at queued plain may).places row.number its its_leg (record { row_at = here; holds = refl; leg_at = led_here layout now row initiator kept row_at queued plain may })
+      waiting : IsWaiting now row
+      waiting = waits layout now row initiator kept row_at queued plain may
 
       none : (step : ℕ) (point : StartPoint) → point_at row.points step ≡ Some point → ⊥
-      none step point got = some-not-none point (sym got ∙ ap (λ points. point_at points step) (begun.unled row.number row row_at (waits layout now row initiator kept row_at queued plain may).alone))
+      none step point got = some-not-none point (sym got ∙ ap (λ points. point_at points step) (begun.unled row.number row row_at waiting.alone))
 
       mine : HasBegunSteps behind.tables its its_leg
       mine = record {
-        job = place.job;
-        formed = place.formed;
-        owners = place.owners;
+        job = refl;
+        formed = waiting.formed;
+        orderly =
+            ap (λ (job : Effective). list_all (λ owned. list_all is_orderly_dd owned.step.dds) job.steps) waiting.job
+            ∙ plain-orderly row.number row.deck (row-orderly now.tables row.number row orderly row_at);
+        kin = kin-plain behind.tables its waiting.job here;
+        owners = owners-plain behind.tables its waiting.job;
         steps = λ step point got. absurd (none step point got);
         so_far = λ step point got. absurd (none step point got);
       }

@@ -30,10 +30,10 @@ use Rattle.ckr_points.specs.RuleCases.{is_ended}
 use Rattle.ckr_points.specs.Rows.{RunRow, TableSet, TablesModel, run_of, step_of_run, with_run}
 use Rattle.ckr_points.specs.Soundness.{may_come}
 use Rattle.ckr_points.specs.Tables.{after_cancelled, after_commit, after_dispositions, after_submitted, committed, queued_run}
-use Rattle.ckr_points_invariant.specs.Invariant.{IsAgreed, IsHolder, step_now}
+use Rattle.ckr_points_invariant.specs.Invariant.{AreOrderly, IsAgreed, IsHolder, step_now}
 use Rattle.ckr_points_invariant.specs.StartedSteps.{AreBegunSteps}
 use Rattle.ckr_points_invariant.proofs.Holders.Rows.{run-other, run-same}
-use Rattle.ckr_points_invariant.proofs.PlainRuns.RunEvents.{get-last, held-holds, more-others}
+use Rattle.ckr_points_invariant.proofs.Readiness.RunEvents.{get-last, held-holds, more-others}
 use Rattle.ckr_points_invariant.proofs.StartedSteps.Offices.{IsOnlyRow, begun-only}
 use Rattle.ckr_points_invariant.proofs.StartedSteps.Rows.{begun-chosen, begun-gone, begun-moved, begun-with}
 use Rattle.ckr_points_invariant.proofs.Steps.Events.{led-by, on-holds, running-holds, step-by}
@@ -92,10 +92,10 @@ module _ (layout : Layout) (now : Office) (kept : IsAgreed layout now) (begun : 
       tested-run now.tables job (λ row. is_in_state Queued row && is_some row.deck.restart) (follows-of layout now (Denied job rule name) deck may)
       (λ row e passes. by-its-row job row (λ row. with_run (record row { state = DeniedRun }) now.tables) e (begun-gone layout now kept job row DeniedRun begun e (and-first (is_in_state Queued row) _ passes)))
 
-  pub begun-selected : (job initiator step : ℕ) (id : Option Name) (deck : Option Job) → may_come layout now (Selected job initiator 0 step id, deck) ≡ true → AreBegunSteps (office_after (Selected job initiator 0 step id, deck) now)
-  begun-selected job initiator step id deck may =
+  pub begun-selected : AreOrderly now.tables → (job initiator step : ℕ) (id : Option Name) (deck : Option Job) → may_come layout now (Selected job initiator 0 step id, deck) ≡ true → AreBegunSteps (office_after (Selected job initiator 0 step id, deck) now)
+  begun-selected orderly job initiator step id deck may =
       by-selected AreBegunSteps layout now job initiator step id deck kept may
-      (λ row row_at queued plain free. begun-chosen layout now kept row initiator row_at queued plain free begun)
+      (λ row row_at queued plain free. begun-chosen layout now kept row initiator row_at queued plain free orderly begun)
 
   -- ---- a holder's row alone
 
@@ -107,7 +107,7 @@ module _ (layout : Layout) (now : Office) (kept : IsAgreed layout now) (begun : 
       (λ leg holder.
       by-its-row job row (λ row. after_cancelled row now.tables) e
       (begun-moved layout now kept job row (record row { in_effect = None }) leg now.tables.sets now.library begun holder
-      (record { number = refl; job = refl; marks = λ step. refl; rcs = λ step before. refl; step = omega arith }))))
+      (record { number = refl; deck = refl; job = refl; marks = λ step. refl; rcs = λ step before. refl; step = omega arith }))))
 
   pub begun-released : (job : ℕ) (deck : Option Job) → may_come layout now (Released job, deck) ≡ true → AreBegunSteps (office_after (Released job, deck) now)
   begun-released job deck may =
@@ -117,7 +117,7 @@ module _ (layout : Layout) (now : Office) (kept : IsAgreed layout now) (begun : 
       (λ leg holder.
       by-its-row job row (λ row. with_run (record row { state = ReleasedRun }) now.tables) e
       (begun-moved layout now kept job row (record row { state = ReleasedRun }) leg now.tables.sets now.library begun holder
-      (record { number = refl; job = refl; marks = λ step. refl; rcs = λ step before. refl; step = omega arith }))))
+      (record { number = refl; deck = refl; job = refl; marks = λ step. refl; rcs = λ step before. refl; step = omega arith }))))
 
   -- ---- a run ends
 
@@ -126,7 +126,7 @@ module _ (layout : Layout) (now : Office) (kept : IsAgreed layout now) (begun : 
       → AreBegunSteps (record now { tables = with_run (record row { place = place; state = EndedRun; initiator = None; code = None; passed = []; lost = []; in_effect = None }) (record base { sets = sets }); library = library })
   ended-so job row leg base mid place sets library holder was others same =
       begun-with layout now kept job row mid (record row { place = place; state = EndedRun; initiator = None; code = None; passed = []; lost = []; in_effect = None }) leg base sets library holder was refl others begun
-      (record { number = refl; job = refl; marks = λ step. refl; rcs = λ step before. refl; step = let here : step_now (record row { place = place }) ≡ step_now row = same in omega (arith, here) })
+      (record { number = refl; deck = refl; job = refl; marks = λ step. refl; rcs = λ step before. refl; step = let here : step_now (record row { place = place }) ≡ step_now row = same in omega (arith, here) })
 
   ended-by : (job : ℕ) (row : RunRow) (ending : Ending) (deck : Option Job) → run_of now.tables job ≡ Some row → ((library : Library) → AreBegunSteps (record now { tables = after_ended row ending now.tables; library = library })) → AreBegunSteps (office_after (Ended job ending, deck) now)
   ended-by job row ending deck e each =

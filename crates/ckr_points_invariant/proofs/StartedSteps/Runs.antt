@@ -1,6 +1,5 @@
 -- A step that a run began stays so while the points of its owners stay, while its own row goes on, and where it is the one that the run is in.
-use Rattle.std.proofs.Common.{◌≡◌, ◌≤◌, ℕ, pred, true, false, ◌||◌, List, [], take, length, refl, ap, sym, ◌∙◌, subst, Option, Some, None, arith}
-use Rattle.std.specs.Prelude.{◌==◌}
+use Rattle.std.proofs.Common.{◌≡◌, ◌≤◌, ℕ, pred, true, List, [], take, length, refl, ap, sym, ◌∙◌, subst, Option, Some, None, arith}
 use Rattle.std.specs.List.{list_all}
 use Rattle.std.specs.Option.{option_map, option_map_or}
 use Rattle.ckr_base.proofs.Numbers.{number-cases}
@@ -16,17 +15,18 @@ use Rattle.ckr_points.specs.Marks.{made_names, point_at}
 use Rattle.ckr_points.specs.Office.{Leg, Office}
 use Rattle.ckr_points.specs.Payload.{writes_in}
 use Rattle.ckr_points.specs.Restart.{place_of, rcs_before}
-use Rattle.ckr_points.specs.RuleCases.{is_ended}
 use Rattle.ckr_points.specs.Rows.{RunRow, StartPoint, TablesModel, run_of, step_of_run}
 use Rattle.ckr_points.specs.Tables.{own_made, step_made, steps_made}
-use Rattle.ckr_points_invariant.specs.Invariant.{IsAgreed, IsAtPlace, IsHolder, IsUnderWay, keeps_points, step_now}
+use Rattle.ckr_points_invariant.specs.Invariant.{IsAgreed, IsAtPlace, IsHolder, IsUnderWay, step_now}
 use Rattle.ckr_points_invariant.specs.StartedSteps.{HasBegunSteps, IsBegunStep, start_by}
 use Rattle.ckr_points_invariant.proofs.Holders.Places.{HasNext, lent-same, own_made-is, own_made-was, owners-same, steps_made-same}
 use Rattle.ckr_points_invariant.proofs.Holders.Rows.{PointsStay, step-all, step_made-stays, steps_made-stays}
 use Rattle.ckr_points_invariant.proofs.Start.Event.{running-so}
+use Rattle.ckr_points_invariant.proofs.StartedSteps.Kin.{keeps-stays, kin-next, kin-stays}
 use Rattle.ckr_points_invariant.proofs.StartedSteps.ReturnCodes.{short-take, walk-codes}
 use Rattle.ckr_points_invariant.proofs.StepEnd.Invariant.{made_is}
 use Rattle.ckr_points_invariant.proofs.Steps.Commits.{IsRunning, under_way}
+use Rattle.ckr_points_invariant.specs.JobNames.{keeps_points}
 
 -- ---- where the points of the owners stay
 
@@ -48,15 +48,13 @@ module _ (tables other : TablesModel) (row : RunRow) (stay : PointsStay tables o
         ∙ its.made name;
   }
 
-  keeps-stays : (owner : ℕ) → keeps_points tables row.number owner ≡ true → keeps_points other row.number owner ≡ true
-  keeps-stays owner keeps =
-      ap (λ (o : Option RunRow). owner == row.number || option_map_or (λ row. is_ended row.state) o false) (stay owner keeps) ∙ keeps
-
   pub steps-stay : HasBegunSteps tables row leg → HasBegunSteps other row leg
   steps-stay its = record {
     job = its.job;
     formed = its.formed;
-    owners = all-implies (λ owned. keeps_points tables row.number owned.owner) (λ owned. keeps_points other row.number owned.owner) row.job.steps (λ owned. keeps-stays owned.owner) its.owners;
+    orderly = its.orderly;
+    kin = kin-stays tables other row stay its.kin;
+    owners = all-implies (λ owned. keeps_points tables row.number owned.owner) (λ owned. keeps_points other row.number owned.owner) row.job.steps (λ owned. keeps-stays tables other row stay owned.owner) its.owners;
     steps = λ step point got. begun-stays step its.job its.owners (its.steps step point got);
     so_far = its.so_far;
   }
@@ -110,6 +108,7 @@ module _ (tables later : TablesModel) (row next : RunRow) (leg : Leg) (has : Has
 -- a row that keeps what its points mark, and the return codes before the step that it was in
 pub record KeepsPoints (row next : RunRow) : Type 0 where
   pub number : next.number ≡ row.number
+  pub deck : next.deck ≡ row.deck
   pub job : next.job ≡ row.job
   pub marks : (step : ℕ) → marks_at next.points step ≡ marks_at row.points step
   pub rcs : (step : ℕ) → step ≤ step_now row → rcs_before step next.rcs ≡ rcs_before step row.rcs
@@ -126,6 +125,8 @@ pub steps-next : (tables later : TablesModel) (row next : RunRow) (leg : Leg) �
 steps-next tables later row next leg has keeps its = record {
   job = its.job ∙ sym keeps.job;
   formed = its.formed;
+  orderly = its.orderly;
+  kin = kin-next tables later row next has keeps.number keeps.deck keeps.job its.kin;
   owners = subst (λ (job : Effective). list_all (λ owned. keeps_points later next.number owned.owner) job.steps ≡ true) (sym keeps.job) (owners-same tables later row next has keeps.number keeps.job row.job.steps its.owners);
   steps = λ step point got.
       let old = marked-was next.points row.points step point (keeps.marks step) got in

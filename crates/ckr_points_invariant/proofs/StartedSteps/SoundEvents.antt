@@ -1,4 +1,4 @@
--- At every prefix of sound events by which no run continues another one, runs keep what they had when they began their steps.
+-- Runs keep what they had when they began their steps: where there are no events, and behind one more by which no run continues another one.
 use Rattle.std.proofs.Common.{◌≡◌, ℕ, zero, suc, true, false, not, List, [], ◌∷◌, ◌++◌, refl, sym, ◌∙◌, Option, None}
 use Rattle.std.proofs.lemmas.Bool.{false≢true, not-true}
 use Rattle.ckr_base.proofs.Bools.{and-first, and-second}
@@ -18,9 +18,9 @@ use Rattle.ckr_points_invariant.specs.PlainRuns.{NoneContinues, continues}
 use Rattle.ckr_points_invariant.specs.Readiness.{AreReady}
 use Rattle.ckr_points_invariant.specs.StartedSteps.{AreBegunSteps}
 use Rattle.ckr_points_invariant.proofs.EventList.{sound-front}
-use Rattle.ckr_points_invariant.proofs.PlainRuns.SoundEvents.{AreKept, front_on, next-kept, no-events}
 use Rattle.ckr_points_invariant.proofs.StartedSteps.RunEvents.{begun-allocation, begun-cancelled, begun-coded, begun-completed, begun-denied, begun-purged, begun-released, begun-selected, begun-submitted}
 use Rattle.ckr_points_invariant.proofs.StartedSteps.StepEvents.{begun-checkpointed, begun-entry, begun-held, begun-rewritten, begun-start, begun-started, begun-step_end}
+use Rattle.ckr_points_invariant.specs.KeptEvents.{AreKept}
 
 pub none-begun : AreBegunSteps no_office
 none-begun = record {
@@ -36,7 +36,7 @@ none-begun = record {
 -- one more event
 pub next-begun : (layout : Layout) (now : Office) (event : Event) (deck : Option Job) → continues event ≡ false → IsKept layout now → ArePointed now → AreReady now → AreBegunSteps now → IsNext layout now (event, deck) → AreBegunSteps (office_after (event, deck) now)
 next-begun layout now (Submitted job cards) deck on kept pointed ready begun next = begun-submitted layout now kept.events begun job cards deck next.may
-next-begun layout now (Selected job initiator zero step id) deck on kept pointed ready begun next = begun-selected layout now kept.events begun job initiator step id deck next.may
+next-begun layout now (Selected job initiator zero step id) deck on kept pointed ready begun next = begun-selected layout now kept.events begun kept.decks job initiator step id deck next.may
 next-begun layout now (Selected job initiator (suc before) step id) deck on kept pointed ready begun next = absurd (false≢true (sym on))
 next-begun layout now (Denied job rule name) deck on kept pointed ready begun next = begun-denied layout now kept.events begun job rule name deck next.may
 next-begun layout now (Started job step items) deck on kept pointed ready begun next = begun-started layout now kept.events begun job step items deck next.may next.carried
@@ -52,24 +52,3 @@ next-begun layout now (Ended job Completed) deck on kept pointed ready begun nex
 next-begun layout now (Ended job (Coded code rule writes lengths)) deck on kept pointed ready begun next = begun-coded layout now kept.events begun job rule writes code lengths deck next.may
 next-begun layout now (Ended job (Allocation dd cause first second)) deck on kept pointed ready begun next = begun-allocation layout now kept.events begun job dd cause first second deck next.may
 next-begun layout now (Purged job) deck on kept pointed ready begun next = begun-purged layout now kept.events begun job deck next.may
-
--- what goes on from event to event
-record AreKeptBegun (layout : Layout) (now : Office) : Type 0 where
-  pub are : AreKept layout now
-  pub begun : AreBegunSteps now
-
-begun_from : (layout : Layout) (events : List Decked) (now : Office) → AreSoundFrom layout now events → NoneContinues events → AreKeptBegun layout now → AreBegunSteps (office_from events now)
-begun_from layout [] now sound on its = its.begun
-begun_from layout (event ∷ rest) now sound on its =
-    let next : IsNext layout now (event.0, event.1) = record { may = sound.0.may; carried = sound.0.carried } in
-    let off : continues event.0 ≡ false = not-true (continues event.0) (and-first (not (continues event.0)) _ on) in
-    begun_from layout rest (office_after event now) sound.1 (and-second (not (continues event.0)) _ on)
-    (record {
-      are = next-kept layout now event.0 event.1 off its.are.kept its.are.pointed its.are.ready next;
-      begun = next-begun layout now event.0 event.1 off its.are.kept its.are.pointed its.are.ready its.begun next;
-    })
-
--- at every prefix
-pub prefix-begun : (layout : Layout) (front more : List Decked) → AreSound layout (front ++ more) → NoneContinues (front ++ more) → AreBegunSteps (office front)
-prefix-begun layout front more sound on =
-    begun_from layout front no_office (sound-front layout front more sound) (front_on front more on) (record { are = no-events layout; begun = none-begun })

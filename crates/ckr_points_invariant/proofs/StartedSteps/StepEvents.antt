@@ -32,11 +32,12 @@ use Rattle.ckr_points_invariant.specs.StartedSteps.{AreBegunSteps, HasBegunSteps
 use Rattle.ckr_points_invariant.proofs.Holders.Places.{HasNext, owners-same}
 use Rattle.ckr_points_invariant.proofs.Holders.Rows.{run-other, run-same}
 use Rattle.ckr_points_invariant.proofs.Marks.Points.{point_at-new, point_at-other}
-use Rattle.ckr_points_invariant.proofs.PlainRuns.Office.{entries-restorable, steps-restorable}
-use Rattle.ckr_points_invariant.proofs.PlainRuns.Rows.{changed-to}
+use Rattle.ckr_points_invariant.proofs.Readiness.Office.{entries-restorable, steps-restorable}
+use Rattle.ckr_points_invariant.proofs.Readiness.Rows.{changed-to}
 use Rattle.ckr_points_invariant.proofs.Restart.Event.{by-run, entry-by, row_back, row_then, sets_then, sets_then_back, start-by}
 use Rattle.ckr_points_invariant.proofs.Start.Event.{StartsNow, by-start}
 use Rattle.ckr_points_invariant.proofs.Start.Invariant as starting
+use Rattle.ckr_points_invariant.proofs.StartedSteps.Kin.{kin-next}
 use Rattle.ckr_points_invariant.proofs.StartedSteps.ReturnCodes.{codes-behind}
 use Rattle.ckr_points_invariant.proofs.StartedSteps.Rows.{begun-by, begun-moved, begun-with, has-next, row-here}
 use Rattle.ckr_points_invariant.proofs.StartedSteps.Runs.{begun-next, begun-now, marks_at}
@@ -81,6 +82,8 @@ module _ (layout : Layout) (now : Office) (kept : IsAgreed layout now) (begun : 
       (record {
         job = old.job;
         formed = old.formed;
+        orderly = old.orderly;
+        kin = kin-next now.tables later.tables row next has refl refl refl old.kin;
         owners = owners-same now.tables later.tables row next has refl refl row.job.steps old.owners;
         steps = λ number its got.
             number-cases number step
@@ -147,7 +150,7 @@ module _ (layout : Layout) (now : Office) (kept : IsAgreed layout now) (begun : 
       (λ owned found are.
       changed-to AreBegunSteps now job row owned (λ row owned step. after_held row owned step code writes lengths.items now.tables) e found
       (begun-moved layout now kept job row (record row { state = HeldRun; initiator = None; code = Some code; place = Some (Within (step_now row) writes) }) leg (committed (output_names row.job.root owned) lengths.items now.tables.sets) now.library begun holder
-      (record { number = refl; job = refl; marks = λ step. refl; rcs = λ step before. refl; step = omega arith })))))
+      (record { number = refl; deck = refl; job = refl; marks = λ step. refl; rcs = λ step before. refl; step = omega arith })))))
 
   pub begun-rewritten : (job taken writes place : ℕ) (lengths : ArrayVec ℕ) (image : List ℕ) (deck : Option Job) → may_come layout now (Rewritten job taken writes lengths place image, deck) ≡ true → AreBegunSteps (office_after (Rewritten job taken writes lengths place image, deck) now)
   begun-rewritten job taken writes place lengths image deck may =
@@ -161,7 +164,7 @@ module _ (layout : Layout) (now : Office) (kept : IsAgreed layout now) (begun : 
       let done : TablesModel = after_commit (row_rewritten (step_now row) row) owned (step_now row) writes lengths.items now.tables in
       changed-to AreBegunSteps now job row owned (λ row owned step. after_rewritten row owned step writes lengths.items now.tables) e found
       (begun-moved layout now kept job row (record (row_rewritten (step_now row) row) { place = Some (Within (step_now row) writes) }) leg (with_changed (name_with_role row.job.root owned is_updates) (table_rewritten owned.owner (step_now row)) done.sets) now.library begun holder
-      (record { number = refl; job = refl; marks = λ step. marks-rewritten (step_now row) step row.points; rcs = λ step before. refl; step = omega arith })))))
+      (record { number = refl; deck = refl; job = refl; marks = λ step. marks-rewritten (step_now row) step row.points; rcs = λ step before. refl; step = omega arith })))))
 
   pub begun-checkpointed : (job taken writes place bytes : ℕ) (id : Name) (lengths : ArrayVec ℕ) (deck : Option Job) → may_come layout now (Checkpointed job id taken writes lengths place bytes, deck) ≡ true → AreBegunSteps (office_after (Checkpointed job id taken writes lengths place bytes, deck) now)
   begun-checkpointed job taken writes place bytes id lengths deck may =
@@ -178,7 +181,7 @@ module _ (layout : Layout) (now : Office) (kept : IsAgreed layout now) (begun : 
       let done : TablesModel = after_commit counted owned (step_now row) writes lengths.items now.tables in
       changed-to AreBegunSteps now job row owned (λ row owned step. after_checkpointed row owned step entry taken writes lengths.items now.tables) e found
       (begun-moved layout now kept job row (record counted { place = Some (Within (step_now row) writes) }) leg (with_changed set (with_kept_entry (kept_entry entry (entry_point row owned (step_now row) taken writes done.sets))) done.sets) now.library begun holder
-      (record { number = refl; job = refl; marks = λ step. refl; rcs = λ step before. refl; step = omega arith })))))
+      (record { number = refl; deck = refl; job = refl; marks = λ step. refl; rcs = λ step before. refl; step = omega arith })))))
 
   -- ---- a step ends
 
@@ -200,7 +203,7 @@ module _ (layout : Layout) (now : Office) (kept : IsAgreed layout now) (begun : 
       (begun-with layout now kept job row mid next leg done disposed.sets now.library holder
       (run-same (record now.tables { sets = sets }) mid row job e (kept.numbered job row e)) refl
       (λ number differs. run-other (record now.tables { sets = sets }) mid number (λ same. differs (same ∙ kept.numbered job row e))) begun
-      (record { number = refl; job = refl; marks = λ step. refl; rcs = λ step before. codes-behind step (step_now row) rc row.rcs before; step = omega arith })))))
+      (record { number = refl; deck = refl; job = refl; marks = λ step. refl; rcs = λ step before. codes-behind step (step_now row) rc row.rcs before; step = omega arith })))))
 
   -- ---- a run goes back
 
@@ -214,7 +217,7 @@ module _ (layout : Layout) (now : Office) (kept : IsAgreed layout now) (begun : 
         (λ owned found point got.
         begun-moved layout now kept job row (row_then layout now job initiator code deck kept pointed can row leg its owned found point got) leg
         (sets_then layout now job initiator code deck kept pointed can row leg its owned found point got) now.library begun its.holder
-        (record { number = refl; job = refl; marks = λ step. marks-restarted row.points (step_now row) step point got; rcs = λ step before. refl; step = omega arith })))
+        (record { number = refl; deck = refl; job = refl; marks = λ step. marks-restarted row.points (step_now row) step point got; rcs = λ step before. refl; step = omega arith })))
 
     pub begun-entry : (job initiator : ℕ) (code : Code) (deck : Option Job) → may_come layout now (Restarted job initiator code true, deck) ≡ true → carries layout now (Restarted job initiator code true) deck ≡ true → AreBegunSteps (office_after (Restarted job initiator code true, deck) now)
     begun-entry job initiator code deck may carried =
@@ -225,4 +228,4 @@ module _ (layout : Layout) (now : Office) (kept : IsAgreed layout now) (begun : 
         (λ owned found effect got entry there.
         begun-moved layout now kept job row (row_back layout now job initiator code deck kept pointed can row leg its owned found effect got entry there) leg
         (sets_then_back layout now job initiator code deck kept pointed can row leg its owned found effect got entry there) now.library begun its.holder
-        (record { number = refl; job = refl; marks = λ step. refl; rcs = λ step before. refl; step = omega arith })))
+        (record { number = refl; deck = refl; job = refl; marks = λ step. refl; rcs = λ step before. refl; step = omega arith })))

@@ -1,5 +1,5 @@
 -- The events stay kept where a step ends, and what an abnormal end leaves.
-use Rattle.std.proofs.Common.{◌≡◌, ℕ, zero, suc, pred, ◌+◌, Bool, true, false, ◌&&◌, ◌||◌, List, [], ◌∷◌, ◌++◌, take, length, refl, ap, sym, ◌∙◌, subst, Some, None, arith, append_assoc}
+use Rattle.std.proofs.Common.{◌≡◌, ◌≤◌, ℕ, zero, suc, pred, ◌+◌, Bool, true, false, ◌&&◌, ◌||◌, List, [], ◌∷◌, ◌++◌, take, length, refl, ap, sym, ◌∙◌, subst, Some, None, arith, append_assoc}
 use Rattle.std.specs.List.{AllByRecursion, filter_map}
 use Rattle.std.specs.Option.{option_map, is_none}
 use Rattle.std.proofs.lemmas.Bool.{false≢true}
@@ -214,6 +214,7 @@ module _ (layout : Layout) (office : Office) (number : ℕ) (row : RunRow) (leg 
     place_behind = record {
       job = at_place.job;
       begun = omega arith;
+      past = let was : row.earlier_step ≤ step_now row = at_place.past in omega (arith, step_is, was);
       formed = at_place.formed;
       goes_on =
           goes_on-behind leg.job leg.start step owned rc leg_step

@@ -2,7 +2,7 @@
 use Rattle.std.proofs.Common.{◌≡◌, ◌≤◌, ℕ, ◌+◌, Bool, true, false, cond, not, ◌&&◌, List, [], ◌∷◌, length, refl, ap, sym, ◌∙◌, subst, Option, Some, None, arith}
 use Rattle.std.specs.Prelude.{◌==◌, nat_le}
 use Rattle.std.specs.List.{list_all}
-use Rattle.std.specs.Option.{is_none, option_map, option_map_or}
+use Rattle.std.specs.Option.{is_none, is_some, option_map, option_map_or}
 use Rattle.std.proofs.lemmas.Bool.{and_from, false≢true, or_left, or_right}
 use Rattle.std.proofs.lemmas.List.Folds.{list_all-append}
 use Rattle.std.proofs.lemmas.Nat.{le-div}
@@ -19,7 +19,8 @@ use Rattle.ckr_library.proofs.Named.{at-with_changed, at-with_changed-other, nam
 use Rattle.ckr_meaning.specs.EffectiveJob.{Effective, OwnedStep, is_among, names_of, step_at}
 use Rattle.ckr_meaning.specs.LibrarySet.{LibrarySet}
 use Rattle.ckr_meaning.specs.StepRun.{StepStart, opened_at, work_at}
-use Rattle.ckr_meaning.specs.declared.place.Place.TheVariants.{Opened}
+use Rattle.ckr_meaning.specs.declared.place.Place.{Place}
+use Rattle.ckr_meaning.specs.declared.place.Place.TheVariants.{Before, Opened, Within}
 use Rattle.ckr_volumes.specs.declared.layout.Layout.{Layout}
 use Rattle.ckr_points_library.specs.Commit.{output_names}
 use Rattle.ckr_points.specs.Follows.{are_lengths, is_checkpoint, is_length_of, is_within, own_step}
@@ -30,25 +31,25 @@ use Rattle.ckr_points.specs.Restart.{kept_at, place_of}
 use Rattle.ckr_points.specs.Rows.{EffectPoint, KeptEntry, RunRow, StartPoint, TableSet, run_of}
 use Rattle.ckr_points.specs.Tables.{committed, fresh_effect, with_kept_entry}
 use Rattle.ckr_points_invariant.specs.Invariant.{IsAgreed, IsAtPlace, IsUnderWay, step_now, IsMarkOf}
-use Rattle.ckr_points_invariant.specs.Readiness.{HasPoint, IsReady, KeepsEntry}
+use Rattle.ckr_points_invariant.specs.Readiness.{IsReady, KeepsEntry}
 use Rattle.ckr_points_invariant.specs.WrittenEntries.{HasGrown, HasWrittenEntries, IsBehindPoint, IsEntryOf, IsWrittenEntry, check_set, is_behind_mark, is_no_shorter}
 use Rattle.ckr_points_invariant.proofs.Holders.Places.{outputs-among}
 use Rattle.ckr_points_invariant.proofs.Marks.Points.{among-filter}
-use Rattle.ckr_points_invariant.proofs.PlainRuns.Checkpoints as checks
-use Rattle.ckr_points_invariant.proofs.PlainRuns.Readiness.{kept-entry}
-use Rattle.ckr_points_invariant.proofs.Select.Invariant.{among-step}
+use Rattle.ckr_points_invariant.proofs.Readiness.Checkpoints as checks
+use Rattle.ckr_points_invariant.proofs.Readiness.Runs.{kept-entry}
 use Rattle.ckr_points_invariant.proofs.Start.Openings.{opened-none}
 use Rattle.ckr_points_invariant.proofs.Steps.Commits.{IsRunning, found_leg, its_start, place_so, under_way}
 use Rattle.ckr_points_invariant.proofs.Steps.Walks.{at-opened, start_at-of}
 use Rattle.ckr_points_invariant.proofs.WrittenEntries.Growth.{long-changed, long-committed}
 use Rattle.ckr_points_invariant.proofs.WrittenEntries.Offices.{IsGrown}
 use Rattle.ckr_points_invariant.proofs.WrittenEntries.Sets.{EachHas, changed-was}
+use Rattle.ckr_points_invariant.specs.Restorability.{HasPoint}
 
 -- an entry of some bytes takes room
 takes-room : (bytes : ℕ) → 1 ≤ bytes → 1 ≤ records_of bytes
 takes-room bytes some = le-div 1 (bytes + 255) 256 (omega arith) (omega (arith, some))
 
-module _ (layout : Layout) (now : Office) (job : ℕ) (row : RunRow) (leg : Leg) (owned : OwnedStep) (writes taken place bytes : ℕ) (id : Name) (lengths : List ℕ) (kept : IsAgreed layout now)
+module _ (layout : Layout) (now : Office) (job : ℕ) (row : RunRow) (leg : Leg) (owned : OwnedStep) (writes taken place bytes : ℕ) (id : Name) (lengths : List ℕ) (kept : IsAgreed layout now) (some : 1 ≤ bytes)
     (running : IsRunning now job row leg owned (step_now row) (writes_in (place_of row)))
     (carried : commits now.tables.sets row writes lengths (its_start leg owned (step_now row)) ≡ true)
     (told : carries_taken taken writes (its_start leg owned (step_now row)) ≡ true)
@@ -142,14 +143,14 @@ module _ (layout : Layout) (now : Office) (job : ℕ) (row : RunRow) (leg : Leg)
         way = under_way layout now job row leg owned step (writes_in (place_of row)) kept running
 
         marked : IsMarkOf (present_at point.marks set) (entry_at (opened_at start) set)
-        marked = subst (λ library. IsMarkOf (present_at point.marks set) (entry_at library set)) (at-opened leg.job leg.start step owned leg_step) ((pointed point got).marked set (among-step leg.job step owned set leg_step same_names))
+        marked = subst (λ library. IsMarkOf (present_at point.marks set) (entry_at library set)) (at-opened leg.job leg.start step owned leg_step) ((pointed point got).marked owned set leg_step same_names)
 
         gone : (entry : Option LibrarySet) → IsMarkOf None entry → entry ≡ None
         gone None is = refl
         gone (Some there) is = absurd is
 
-    behind_so : 1 ≤ bytes → is_behind_mark point.marks set kept_now ≡ true
-    behind_so some =
+    behind_so : is_behind_mark point.marks set kept_now ≡ true
+    behind_so =
         option-cases (present_at point.marks set)
         (λ none. or_left (is_marked_absent point.marks set) _ (absent_so none))
         (λ present marked.
@@ -157,9 +158,9 @@ module _ (layout : Layout) (now : Office) (job : ℕ) (row : RunRow) (leg : Leg)
         (ap (λ (o : Option Present). option_map_or (λ (present : Present). not (ends_within present.length kept_now)) o false) marked
         ∙ ap not (nat_le-beyond (place + records_of bytes) present.length (let long : present.length ≤ place = long_so present marked in let room : 1 ≤ records_of bytes = takes-room bytes some in omega (arith, long, room)))))
 
-    point_so : 1 ≤ bytes → IsBehindPoint row leg owned set new_entry point
-    point_so some = record {
-      behind = behind_so some;
+    point_so : IsBehindPoint row leg owned set new_entry point
+    point_so = record {
+      behind = behind_so;
       unwritten = λ none. (checks.step_since layout now job row leg owned writes taken place bytes id lengths kept running carried told are check ready point got none).unwritten start (start_at-of leg.job leg.start step owned leg_step);
       entered = λ holds. (omega arith, λ e. within);
     }
@@ -188,10 +189,19 @@ module _ (layout : Layout) (now : Office) (job : ℕ) (row : RunRow) (leg : Leg)
       (and-first (nat_le writes (length (work_at start).writes)) _
       (and-second (nat_le (writes_in (place_of row)) writes && rewrites_nothing start (writes_in (place_of row)) writes) (carries_lengths now.tables.sets writes lengths start) carried))
 
+  -- a run within a step was selected
+  selected-so : (place : Option Place) → option_map_or (λ (place : Place). place) place (Before 1) ≡ Within step (writes_in (place_of row)) → is_some place ≡ true
+  selected-so None at = absurd (false≢true (ap is_within at))
+  selected-so (Some place) at = refl
+
   entry_so : IsEntryOf row leg set new_entry
   entry_so = is_some-true (point_at row.points step) (ready.begun within) (λ point got. record {
     owned = owned;
     found = running.found;
+    selected = selected-so row.place running.stands;
+    job_name = refl;
+    step_name = refl;
+    executed = its_place.past;
     named = refl;
     output = listed;
     back = back;
@@ -199,6 +209,7 @@ module _ (layout : Layout) (now : Office) (job : ℕ) (row : RunRow) (leg : Leg)
     done = some_writes;
     point = point;
     has = got;
+    room = some;
     stands = point_so point got;
   })
 

@@ -1,15 +1,17 @@
 -- What entries keep, where their run's row goes on.
-use Rattle.std.proofs.Common.{◌≡◌, ◌≢◌, ◌≤◌, ℕ, Bool, true, false, cond, List, [], ◌∷◌, filter, refl, ap, sym, ◌∙◌, subst, Some}
+use Rattle.std.proofs.Common.{◌≡◌, ◌≤◌, ◌≢◌, ℕ, Bool, true, false, cond, List, [], ◌∷◌, filter, refl, ap, sym, ◌∙◌, subst, Some}
 use Rattle.std.specs.List.{list_all, AllByRecursion}
 use Rattle.std.proofs.lemmas.Bool.{and_from}
 use Rattle.ckr_base.proofs.Bools.{and-first, and-second, bool-cases}
 use Rattle.ckr_base.proofs.Options.{some-one}
+use Rattle.ckr_jcl.specs.declared.deck.Job.{Job}
 use Rattle.ckr_library.specs.Catalog.{ends_within}
 use Rattle.ckr_library.specs.NameMaps.{Name}
 use Rattle.ckr_meaning.specs.EffectiveJob.{Effective, is_among, step_at}
 use Rattle.ckr_points_library.specs.Commit.{output_names}
 use Rattle.ckr_points.specs.Marks.{point_at}
 use Rattle.ckr_points.specs.Office.{Leg, Office, is_holder, leg_of}
+use Rattle.ckr_points.specs.RuleCases.{was_selected}
 use Rattle.ckr_points.specs.Rows.{KeptEntry, RunRow, StartPoint, run_of}
 use Rattle.ckr_points.specs.Tables.{is_checkpoints, name_with_role}
 use Rattle.ckr_points_invariant.specs.WrittenEntries.{HasEntered, HasWrittenEntries, IsBehindPoint, IsEntryOf, IsWrittenEntry, is_behind_mark}
@@ -81,6 +83,13 @@ pub record KeepsStep (row next : RunRow) (step : ℕ) : Type 0 where
 abbrev pub KeepsItsPoints : RunRow → RunRow → Type 0
 KeepsItsPoints row next = (step : ℕ) (point : StartPoint) → point_at row.points step ≡ Some point → (later : StartPoint) × (point_at next.points step ≡ Some later)
 
+-- a later row of the run has its deck and its job
+pub record KeepsJob (row next : RunRow) : Type 0 where
+  pub job : next.job ≡ row.job
+  pub deck : next.deck ≡ row.deck
+  pub own_from : next.earlier_step ≡ row.earlier_step
+  pub selected : was_selected row ≡ true → was_selected next ≡ true
+
 -- where the points are the same
 pub same-points : (row next : RunRow) → next.points ≡ row.points → KeepsItsPoints row next
 same-points row next same step point got = (point, ap (λ points. point_at points step) same ∙ got)
@@ -91,11 +100,11 @@ same-step row next step same entered = record {
   entered = entered;
 }
 
-module _ (row next : RunRow) (leg : Leg) (set : Name) (entry : KeptEntry) (same_job : next.job ≡ row.job) (holds : is_holder row.state ≡ true) (points : KeepsItsPoints row next) (keeps : 1 ≤ entry.kept.bytes → HasEntered row entry.point.step → KeepsStep row next entry.point.step) (its : IsEntryOf row leg set entry) where
-  behind-next : (later : StartPoint) → point_at next.points entry.point.step ≡ Some later → 1 ≤ entry.kept.bytes → IsBehindPoint next leg its.owned set entry later
-  behind-next later there room =
-      let was : IsBehindPoint row leg its.owned set entry its.point = its.stands room in
-      let stays : KeepsStep row next entry.point.step = keeps room (was.entered holds) in
+module _ (row next : RunRow) (leg : Leg) (set : Name) (entry : KeptEntry) (same_job : KeepsJob row next) (holds : is_holder row.state ≡ true) (points : KeepsItsPoints row next) (keeps : HasEntered row entry.point.step → KeepsStep row next entry.point.step) (its : IsEntryOf row leg set entry) where
+  behind-next : (later : StartPoint) → point_at next.points entry.point.step ≡ Some later → IsBehindPoint next leg its.owned set entry later
+  behind-next later there =
+      let was : IsBehindPoint row leg its.owned set entry its.point = its.stands in
+      let stays : KeepsStep row next entry.point.step = keeps (was.entered holds) in
       let got : HasPointAs next entry.point.step its.point = stays.point its.point its.has in
       subst (IsBehindPoint next leg its.owned set entry) (some-one got.later later (point_at next.points entry.point.step) got.has there)
       (record {
@@ -109,14 +118,19 @@ module _ (row next : RunRow) (leg : Leg) (set : Name) (entry : KeptEntry) (same_
       let later = points entry.point.step its.point its.has in
       record {
         owned = its.owned;
-        found = ap (λ (job : Effective). step_at job entry.point.step) same_job ∙ its.found;
-        named = ap (λ (job : Effective). name_with_role job.root its.owned is_checkpoints) same_job ∙ its.named;
-        output = ap (λ (job : Effective). is_among (output_names job.root its.owned) set) same_job ∙ its.output;
+        found = ap (λ (job : Effective). step_at job entry.point.step) same_job.job ∙ its.found;
+        selected = same_job.selected its.selected;
+        job_name = its.job_name ∙ ap (λ (deck : Job). deck.name) (sym same_job.deck);
+        step_name = its.step_name;
+        executed = subst (λ n. n ≤ entry.point.step) (sym same_job.own_from) its.executed;
+        named = ap (λ (job : Effective). name_with_role job.root its.owned is_checkpoints) same_job.job ∙ its.named;
+        output = ap (λ (job : Effective). is_among (output_names job.root its.owned) set) same_job.job ∙ its.output;
         back = its.back;
         taken = its.taken;
         done = its.done;
         point = later.0;
         has = later.1;
+        room = its.room;
         stands = behind-next later.0 later.1;
       }
 
@@ -141,8 +155,8 @@ written-by now job row leg set entry row_at leg_at here its =
     (subst (λ l. IsEntryOf its.row l set entry) (some-one its.leg leg (leg_of now entry.point.run) its.leg_at (ap (leg_of now) here ∙ leg_at)) its.of_run)
 
 -- an entry of the run whose row changed
-pub written-next : (now later : Office) (job : ℕ) (row next : RunRow) (leg : Leg) (set : Name) (entry : KeptEntry) → run_of now.tables job ≡ Some row → leg_of now job ≡ Some leg → run_of later.tables job ≡ Some next → leg_of later job ≡ Some leg → next.job ≡ row.job → is_holder row.state ≡ true
-    → KeepsItsPoints row next → (1 ≤ entry.kept.bytes → HasEntered row entry.point.step → KeepsStep row next entry.point.step) → entry.point.run ≡ job → IsWrittenEntry now set entry → IsWrittenEntry later set entry
+pub written-next : (now later : Office) (job : ℕ) (row next : RunRow) (leg : Leg) (set : Name) (entry : KeptEntry) → run_of now.tables job ≡ Some row → leg_of now job ≡ Some leg → run_of later.tables job ≡ Some next → leg_of later job ≡ Some leg → KeepsJob row next → is_holder row.state ≡ true
+    → KeepsItsPoints row next → (HasEntered row entry.point.step → KeepsStep row next entry.point.step) → entry.point.run ≡ job → IsWrittenEntry now set entry → IsWrittenEntry later set entry
 written-next now later job row next leg set entry row_at leg_at row_then leg_then same_job holds points keeps here its = record {
   run = its.run;
   row = next;

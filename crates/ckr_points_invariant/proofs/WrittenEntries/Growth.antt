@@ -21,8 +21,8 @@ use Rattle.ckr_points.specs.Rows.{EffectPoint, KeptEntry, RunRow, TableSet, cut_
 use Rattle.ckr_points.specs.Tables.{committed}
 use Rattle.ckr_points_invariant.specs.Readiness.{KeepsEntry}
 use Rattle.ckr_points_invariant.specs.WrittenEntries.{check_set, is_no_shorter}
-use Rattle.ckr_points_invariant.proofs.PlainRuns.Commits.{HasTable, committed-has}
-use Rattle.ckr_points_invariant.proofs.PlainRuns.Readiness.{kept-entry}
+use Rattle.ckr_points_invariant.proofs.Readiness.Commits.{HasTable, committed-has}
+use Rattle.ckr_points_invariant.proofs.Readiness.Runs.{kept-entry}
 use Rattle.ckr_points_invariant.proofs.PutBack.Sets.{back_to, changed_if, put_back-marked, put_back-none, to_catalog}
 use Rattle.ckr_points_invariant.proofs.WrittenEntries.Sets.{changed-was}
 

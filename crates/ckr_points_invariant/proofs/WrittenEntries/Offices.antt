@@ -1,5 +1,5 @@
 -- Entries stay as they were written where an event changes the row of one run, and data sets that it reaches.
-use Rattle.std.proofs.Common.{◌≡◌, ◌≢◌, ◌≤◌, ℕ, true, refl, ap, sym, ◌∙◌, subst, Option, Some, None}
+use Rattle.std.proofs.Common.{◌≡◌, ◌≢◌, ℕ, true, refl, ap, sym, ◌∙◌, subst, Option, Some, None}
 use Rattle.std.specs.List.{AllByRecursion, find}
 use Rattle.std.specs.Option.{option_map_or}
 use Rattle.ckr_base.proofs.Numbers.{number-cases}
@@ -19,10 +19,10 @@ use Rattle.ckr_points_invariant.specs.Points.{ArePointed}
 use Rattle.ckr_points_invariant.specs.Readiness.{AreReady, IsCheck}
 use Rattle.ckr_points_invariant.specs.WrittenEntries.{AreWrittenEntries, HasEntered, HasGrown, HasWrittenEntries, IsWrittenEntry, check_set}
 use Rattle.ckr_points_invariant.proofs.OtherRuns.Sets.{LeavesApart}
-use Rattle.ckr_points_invariant.proofs.PlainRuns.Office.{output-apart}
+use Rattle.ckr_points_invariant.proofs.Readiness.Office.{output-apart}
 use Rattle.ckr_points_invariant.proofs.StartedSteps.Offices.{IsOnlyRow}
 use Rattle.ckr_points_invariant.proofs.StartedSteps.Rows.{only-row, row-here}
-use Rattle.ckr_points_invariant.proofs.WrittenEntries.Entries.{KeepsItsPoints, KeepsStep, each-any, each-with, written-next, written-other}
+use Rattle.ckr_points_invariant.proofs.WrittenEntries.Entries.{KeepsItsPoints, KeepsJob, KeepsStep, each-any, each-with, written-next, written-other}
 use Rattle.ckr_points_invariant.proofs.WrittenEntries.Sets.{EachHas}
 
 -- the entry of an identifier, by the data set
@@ -96,17 +96,17 @@ module _ (layout : Layout) (now : Office) (kept : IsAgreed layout now) (pointed 
         (λ one fellow its. subst (λ (r : RunRow). is_holder r.state ≡ true → IsGrown sets r) (some-one next one (run_of later.tables job) here its.row_at) grown its.holds)
 
     -- an entry of the run, of a step that its later row keeps
-    pub own-entry : (set : Name) (entry : KeptEntry) → next.job ≡ row.job → KeepsItsPoints row next → (1 ≤ entry.kept.bytes → HasEntered row entry.point.step → KeepsStep row next entry.point.step) → entry.point.run ≡ job → IsWrittenEntry now set entry → IsWrittenEntry later set entry
+    pub own-entry : (set : Name) (entry : KeptEntry) → KeepsJob row next → KeepsItsPoints row next → (HasEntered row entry.point.step → KeepsStep row next entry.point.step) → entry.point.run ≡ job → IsWrittenEntry now set entry → IsWrittenEntry later set entry
     own-entry set entry same_job points keeps mine its =
         written-next now later job row next leg set entry holder.row_at holder.leg_at here holder.leg_at same_job holder.holds points keeps mine its
 
-    pub written-on : LeavesApart now job sets → EachHas (HasWrittenEntries now) sets → next.job ≡ row.job → KeepsItsPoints row next → ((step : ℕ) → HasEntered row step → KeepsStep row next step) → (is_holder next.state ≡ true → IsGrown sets next) → AreWrittenEntries later
+    pub written-on : LeavesApart now job sets → EachHas (HasWrittenEntries now) sets → KeepsJob row next → KeepsItsPoints row next → ((step : ℕ) → HasEntered row step → KeepsStep row next step) → (is_holder next.state ≡ true → IsGrown sets next) → AreWrittenEntries later
     written-on left each same_job points keeps grown =
         written-with left each
-        (λ set table there. each-any (λ (entry : KeptEntry). entry.point.run ≡ job → IsWrittenEntry now set entry → IsWrittenEntry later set entry) table.entries (λ entry. own-entry set entry same_job points (λ some. keeps entry.point.step)))
+        (λ set table there. each-any (λ (entry : KeptEntry). entry.point.run ≡ job → IsWrittenEntry now set entry → IsWrittenEntry later set entry) table.entries (λ entry. own-entry set entry same_job points (keeps entry.point.step)))
         grown
 
   -- the tables as they are, with its row and data sets
-  pub written-moved : (job : ℕ) (row next : RunRow) (leg : Leg) (sets : Named TableSet) (library : Library) → IsHolder now job row leg → next.number ≡ row.number → next.job ≡ row.job → LeavesApart now job sets → EachHas (HasWrittenEntries now) sets → KeepsItsPoints row next → ((step : ℕ) → HasEntered row step → KeepsStep row next step) → (is_holder next.state ≡ true → IsGrown sets next) → AreWrittenEntries (record now { tables = with_run next (record now.tables { sets = sets }); library = library })
+  pub written-moved : (job : ℕ) (row next : RunRow) (leg : Leg) (sets : Named TableSet) (library : Library) → IsHolder now job row leg → next.number ≡ row.number → KeepsJob row next → LeavesApart now job sets → EachHas (HasWrittenEntries now) sets → KeepsItsPoints row next → ((step : ℕ) → HasEntered row step → KeepsStep row next step) → (is_holder next.state ≡ true → IsGrown sets next) → AreWrittenEntries (record now { tables = with_run next (record now.tables { sets = sets }); library = library })
   written-moved job row next leg sets library holder same same_job left each points keeps grown =
       written-on job row row next leg now.tables sets library holder holder.row_at same (λ number apart. refl) left each same_job points keeps grown

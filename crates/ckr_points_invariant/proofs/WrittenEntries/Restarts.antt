@@ -34,10 +34,10 @@ use Rattle.ckr_points_invariant.specs.Readiness.{AreReady, IsCheck, KeepsEntry}
 use Rattle.ckr_points_invariant.specs.WrittenEntries.{AreWrittenEntries, HasEntered, HasGrown, HasWrittenEntries, IsBehindPoint, IsEntryOf, IsWrittenEntry, is_behind_mark, is_no_shorter}
 use Rattle.ckr_points_invariant.proofs.Holders.Places.{outputs-among}
 use Rattle.ckr_points_invariant.proofs.Marks.Points.{among-filter, point_at-new, point_at-other}
-use Rattle.ckr_points_invariant.proofs.PlainRuns.Commits.{longer-ends}
-use Rattle.ckr_points_invariant.proofs.PlainRuns.Office.{entries-restorable, steps-restorable}
-use Rattle.ckr_points_invariant.proofs.PlainRuns.Readiness.{kept-entry}
-use Rattle.ckr_points_invariant.proofs.PlainRuns.Restarts.{back-keeps}
+use Rattle.ckr_points_invariant.proofs.Readiness.Commits.{longer-ends}
+use Rattle.ckr_points_invariant.proofs.Readiness.Office.{entries-restorable, steps-restorable}
+use Rattle.ckr_points_invariant.proofs.Readiness.Runs.{kept-entry}
+use Rattle.ckr_points_invariant.proofs.Readiness.Restarts.{back-keeps}
 use Rattle.ckr_points_invariant.proofs.PutBack.Sets.{at-removed_all, back_to, changed_if, put_back-marked, put_back-none, to_catalog}
 use Rattle.ckr_points_invariant.proofs.Restart.Event.{by-run, entry-by, entry-left, row_back, row_then, sets_then, sets_then_back, start-by, start-left}
 use Rattle.ckr_points_invariant.proofs.WrittenEntries.Entries.{KeepsItsPoints, KeepsStep, all-each, all-kept, each-any, each-with, entries-through, same-points, same-step, written-by}
@@ -96,15 +96,15 @@ module _ (layout : Layout) (now : Office) (kept : IsAgreed layout now) (pointed 
     abbrev back : Named TableSet
     back = put_back point.marks outputs needed left
 
-    -- an entry of the step with some bytes is behind the point, in an output of the step
+    -- an entry of the step is behind the point, in an output of the step
     record IsOfStep (set : Name) (entry : KeptEntry) : Type 0 where
       behind : is_behind_mark point.marks set entry.kept ≡ true
       output : is_among outputs set ≡ true
 
-    of-step : (set : Name) (entry : KeptEntry) → entry.point.run ≡ job → entry.point.step ≡ step_now row → 1 ≤ entry.kept.bytes → IsWrittenEntry now set entry → IsOfStep set entry
-    of-step set entry here at_step some its =
+    of-step : (set : Name) (entry : KeptEntry) → entry.point.run ≡ job → entry.point.step ≡ step_now row → IsWrittenEntry now set entry → IsOfStep set entry
+    of-step set entry here at_step its =
         let of_run : IsEntryOf row leg set entry = written-by now job row leg set entry row_at leg_at here its in
-        let was : IsBehindPoint row leg of_run.owned set entry of_run.point = of_run.stands some in
+        let was : IsBehindPoint row leg of_run.owned set entry of_run.point = of_run.stands in
         record {
           behind =
               ap (λ (one : StartPoint). is_behind_mark one.marks set entry.kept)
@@ -118,15 +118,15 @@ module _ (layout : Layout) (now : Office) (kept : IsAgreed layout now) (pointed 
 
     -- none of them is left
     abbrev IsGone : KeptEntry → Type 0
-    IsGone entry = entry.point.run ≡ job → 1 ≤ entry.kept.bytes → entry.point.step ≢ step_now row
+    IsGone entry = entry.point.run ≡ job → entry.point.step ≢ step_now row
 
     gone-marked : (set : Name) (table : TableSet) (present : Present) → present_at point.marks set ≡ Some present → entry_at back set ≡ Some table → HasWrittenEntries now set table → (old : TableSet) → entry_at left set ≡ Some old → AllByRecursion IsGone table.entries
     gone-marked set table present marked there its old was =
         bool-cases (is_among outputs set)
         (λ among.
         each-with (IsWrittenEntry now set) (λ (entry : KeptEntry). ends_within present.length entry.kept ≡ true) IsGone table.entries
-        (λ entry own ends here some at_step.
-        let of_step : IsOfStep set entry = of-step set entry here at_step some own in
+        (λ entry own ends here at_step.
+        let of_step : IsOfStep set entry = of-step set entry here at_step own in
         false≢true
         (sym (ap not ends) ∙ sym (ap (λ (o : Option Present). option_map_or (λ (present : Present). not (ends_within present.length entry.kept)) o false) marked)
         ∙ ap (λ b. b || option_map_or (λ (present : Present). not (ends_within present.length entry.kept)) (present_at point.marks set) false) (sym (present-there point.marks set present marked)) ∙ of_step.behind))
@@ -134,7 +134,7 @@ module _ (layout : Layout) (now : Office) (kept : IsAgreed layout now) (pointed 
         (all-each (λ (entry : KeptEntry). ends_within present.length entry.kept) table.entries
         (subst (λ (one : TableSet). list_all (λ (entry : KeptEntry). ends_within present.length entry.kept) one.entries ≡ true) (cut among)
         (cut-ends (is_among needed set) present old (ends_of old was)))))
-        (λ out. each-with (IsWrittenEntry now set) (IsWrittenEntry now set) IsGone table.entries (λ entry own again here some at_step. false≢true (sym out ∙ (of-step set entry here at_step some own).output)) its.written its.written)
+        (λ out. each-with (IsWrittenEntry now set) (IsWrittenEntry now set) IsGone table.entries (λ entry own again here at_step. false≢true (sym out ∙ (of-step set entry here at_step own).output)) its.written its.written)
       where
         ends_of : (old : TableSet) → entry_at left set ≡ Some old → list_all (λ (entry : KeptEntry). ends_within old.set.length entry.kept) old.entries ≡ true
         ends_of old was = (removed_all-has Has (entries-through now) removed now.tables.sets written.sets set old was).ends
@@ -150,8 +150,8 @@ module _ (layout : Layout) (now : Office) (kept : IsAgreed layout now) (pointed 
     gone-absent : (set : Name) (table : TableSet) → present_at point.marks set ≡ None → entry_at back set ≡ Some table → HasWrittenEntries now set table → AllByRecursion IsGone table.entries
     gone-absent set table none there its =
         each-with (IsWrittenEntry now set) (IsWrittenEntry now set) IsGone table.entries
-        (λ entry own again here some at_step.
-        let of_step : IsOfStep set entry = of-step set entry here at_step some own in
+        (λ entry own again here at_step.
+        let of_step : IsOfStep set entry = of-step set entry here at_step own in
         let absent : is_marked_absent point.marks set ≡ true =
         or-cases (is_marked_absent point.marks set) _ of_step.behind (λ is. is)
         (λ shorter. absurd (false≢true (sym (ap (λ (o : Option Present). option_map_or (λ (present : Present). not (ends_within present.length entry.kept)) o false) none) ∙ shorter))) in
@@ -212,11 +212,11 @@ module _ (layout : Layout) (now : Office) (kept : IsAgreed layout now) (pointed 
       (λ name apart. start-left layout now job initiator code deck kept pointed can row leg its owned found point got name (apart row leg its.holder))
       (put_back-has Has (entries-through now) point.marks (output_names row.job.root owned) (names_of row.job.root owned) _ (removed_all-has Has (entries-through now) (own_made row owned (step_now row)) now.tables.sets written.sets))
       (λ set table there.
-      each-with (λ (entry : KeptEntry). entry.point.run ≡ job → 1 ≤ entry.kept.bytes → entry.point.step ≢ step_now row) (λ (entry : KeptEntry). Unit {0}) (λ (entry : KeptEntry). entry.point.run ≡ job → IsWrittenEntry now set entry → IsWrittenEntry later set entry) table.entries
+      each-with (λ (entry : KeptEntry). entry.point.run ≡ job → entry.point.step ≢ step_now row) (λ (entry : KeptEntry). Unit {0}) (λ (entry : KeptEntry). entry.point.run ≡ job → IsWrittenEntry now set entry → IsWrittenEntry later set entry) table.entries
       (λ entry gone any here.
-      own-entry layout now kept pointed ready written job row row next leg now.tables sets now.library its.holder its.holder.row_at refl (λ number apart. refl) set entry refl
+      own-entry layout now kept pointed ready written job row row next leg now.tables sets now.library its.holder its.holder.row_at refl (λ number apart. refl) set entry (record { job = refl; deck = refl; own_from = refl; selected = λ was. refl })
       (restarted-points job row leg owned point its.holder.row_at its.holder.leg_at found got its.holder.holds next refl)
-      (λ some entered. earlier-keeps job row leg owned point its.holder.row_at its.holder.leg_at found got its.holder.holds next entry.point.step refl (omega arith) (gone here some) entered) here)
+      (λ entered. earlier-keeps job row leg owned point its.holder.row_at its.holder.leg_at found got its.holder.holds next entry.point.step refl (omega arith) (gone here) entered) here)
       (gone-all job row leg owned point its.holder.row_at its.holder.leg_at found got its.holder.holds set table there)
       (each-any (λ (entry : KeptEntry). Unit {0}) table.entries (λ entry. tt)))
       (λ holds inside. absurd (false≢true inside))))
@@ -241,7 +241,7 @@ module _ (layout : Layout) (now : Office) (kept : IsAgreed layout now) (pointed 
       subst (λ (one : KeptEntry). (present : Present) → present_at one.point.marks effect.set ≡ Some present → ends_within present.length one.kept ≡ true) is check.back in
       let among : is_among outputs effect.set ≡ true = ap (λ (step : OwnedStep). is_among (output_names row.job.root step) effect.set) (some-one owned check.owned (own_step row) found check.found_step) ∙ check.among in
       let keeps_then : KeepsEntry sets effect.set effect.kept.id entry = back-keeps entry.point.marks outputs needed now.tables.sets effect.set effect.kept.id entry among back keeps in
-      written-moved layout now kept pointed ready written job row next leg sets now.library its.holder refl refl
+      written-moved layout now kept pointed ready written job row next leg sets now.library its.holder refl (record { job = refl; deck = refl; own_from = refl; selected = λ was. refl })
       (λ name apart. entry-left layout now job initiator code deck kept pointed can row leg its owned found effect got entry there name (apart row leg its.holder))
       (put_back-has Has (entries-through now) entry.point.marks outputs needed now.tables.sets written.sets) (same-points row next refl)
       (λ step entered. same-step row next step refl (λ holds. (entered.0, λ same. refl)))

@@ -35,7 +35,7 @@ use Rattle.ckr_points_invariant.specs.Readiness.{AreReady}
 use Rattle.ckr_points_invariant.specs.WrittenEntries.{AreWrittenEntries, HasGrown, HasWrittenEntries, IsWrittenEntry}
 use Rattle.ckr_points_invariant.proofs.Holders.Rows.{run-other, run-same}
 use Rattle.ckr_points_invariant.proofs.OtherRuns.Sets.{LeavesApart, apart-allocation, apart-coded, apart-completed}
-use Rattle.ckr_points_invariant.proofs.PlainRuns.RunEvents.{held-holds}
+use Rattle.ckr_points_invariant.proofs.Readiness.RunEvents.{held-holds}
 use Rattle.ckr_points_invariant.proofs.Select.Invariant.{chosen, next, waits}
 use Rattle.ckr_points_invariant.proofs.StartedSteps.RunEvents.{by-submitted, none-yet, only-submitted, submitted}
 use Rattle.ckr_points_invariant.proofs.StartedSteps.Rows.{only-chosen, only-gone}
@@ -118,7 +118,7 @@ module _ (layout : Layout) (now : Office) (kept : IsAgreed layout now) (pointed 
       (λ leg holder.
       let later : RunRow = record row { in_effect = None } in
       by-its-row job row (λ row. after_cancelled row now.tables) e
-      (written-moved layout now kept pointed ready written job row later leg now.tables.sets now.library holder refl refl (λ name apart. refl) written.sets (same-points row later refl)
+      (written-moved layout now kept pointed ready written job row later leg now.tables.sets now.library holder refl (record { job = refl; deck = refl; own_from = refl; selected = λ was. was }) (λ name apart. refl) written.sets (same-points row later refl)
       (λ step its. same-step row later step refl (λ holds. its))
       (λ holds inside owned point found got.
       let was : HasGrown now.tables.sets row owned point.marks = written.grown job row leg owned point holder inside found got in
@@ -132,7 +132,7 @@ module _ (layout : Layout) (now : Office) (kept : IsAgreed layout now) (pointed 
       (λ leg holder.
       let later : RunRow = record row { state = ReleasedRun } in
       by-its-row job row (λ row. with_run (record row { state = ReleasedRun }) now.tables) e
-      (written-moved layout now kept pointed ready written job row later leg now.tables.sets now.library holder refl refl (λ name apart. refl) written.sets (same-points row later refl)
+      (written-moved layout now kept pointed ready written job row later leg now.tables.sets now.library holder refl (record { job = refl; deck = refl; own_from = refl; selected = λ was. was }) (λ name apart. refl) written.sets (same-points row later refl)
       (λ step its. same-step row later step refl (λ holds. its))
       (λ holds inside owned point found got.
       let was : HasGrown now.tables.sets row owned point.marks = written.grown job row leg owned point holder inside found got in
@@ -144,11 +144,11 @@ module _ (layout : Layout) (now : Office) (kept : IsAgreed layout now) (pointed 
   Has = HasWrittenEntries now
 
   -- whatever it leaves, its row holds nothing any more
-  ended-so : (job : ℕ) (row : RunRow) (leg : Leg) (base : TablesModel) (mid : RunRow) (place : Option Place) (sets : Named TableSet) (library : Library) → IsHolder now job row leg → run_of base job ≡ Some mid → ((number : ℕ) → number ≢ job → run_of base number ≡ run_of now.tables number) → EachHas Has sets → LeavesApart now job sets
+  ended-so : (job : ℕ) (row : RunRow) (leg : Leg) (base : TablesModel) (mid : RunRow) (place : Option Place) (sets : Named TableSet) (library : Library) → (is_some row.place ≡ true → is_some place ≡ true) → IsHolder now job row leg → run_of base job ≡ Some mid → ((number : ℕ) → number ≢ job → run_of base number ≡ run_of now.tables number) → EachHas Has sets → LeavesApart now job sets
       → AreWrittenEntries (record now { tables = with_run (record row { place = place; state = EndedRun; initiator = None; code = None; passed = []; lost = []; in_effect = None }) (record base { sets = sets }); library = library })
-  ended-so job row leg base mid place sets library holder was others each left =
+  ended-so job row leg base mid place sets library selected holder was others each left =
       let last : RunRow = record row { place = place; state = EndedRun; initiator = None; code = None; passed = []; lost = []; in_effect = None } in
-      written-on layout now kept pointed ready written job row mid last leg base sets library holder was refl others left each refl (same-points row last refl)
+      written-on layout now kept pointed ready written job row mid last leg base sets library holder was refl others left each (record { job = refl; deck = refl; own_from = refl; selected = selected }) (same-points row last refl)
       (λ step its. same-step row last step refl (λ holds. absurd (false≢true holds)))
       (λ holds. absurd (false≢true holds))
 
@@ -168,7 +168,7 @@ module _ (layout : Layout) (now : Office) (kept : IsAgreed layout now) (pointed 
       led-by layout now job row kept e (on-holds row.state (and-first (is_in_state On row) (not (is_within (place_of row))) (and-first (is_in_state On row && not (is_within (place_of row))) _ passes)))
       (λ leg holder.
       ended-by job row Completed deck e
-      (λ library. ended-so job row leg now.tables row row.place (passed_ended (has_passed row) now.tables.sets) library holder e (λ number apart. refl) (passed_ended-has Has (entries-through now) (has_passed row) now.tables.sets written.sets))
+      (λ library. ended-so job row leg now.tables row row.place (passed_ended (has_passed row) now.tables.sets) library (λ was. was) holder e (λ number apart. refl) (passed_ended-has Has (entries-through now) (has_passed row) now.tables.sets written.sets))
       (apart-completed layout now kept job deck may)))
 
   pub written-coded : (job rule writes : ℕ) (code : Code) (lengths : ArrayVec ℕ) (deck : Option Job) → may_come layout now (Ended job (Coded code rule writes lengths), deck) ≡ true → carries layout now (Ended job (Coded code rule writes lengths)) deck ≡ true → AreWrittenEntries (office_after (Ended job (Coded code rule writes lengths), deck) now)
@@ -187,7 +187,7 @@ module _ (layout : Layout) (now : Office) (kept : IsAgreed layout now) (pointed 
       (λ library.
       subst (λ (o : Option OwnedStep). LeavesApart now job (option_map_or (λ owned. after_abnormal mid (Within (step_now row) writes) (after_commit row owned (step_now row) writes lengths.items now.tables)) o now.tables).sets → AreWrittenEntries (record now { tables = option_map_or (λ owned. after_abnormal mid (Within (step_now row) writes) (after_commit row owned (step_now row) writes lengths.items now.tables)) o now.tables; library = library })) (sym found)
       (subst (λ (o : Option OwnedStep). LeavesApart now job (option_map_or (λ owned. let disposed = after_dispositions mid owned (step_now row) true done in after_passed_ended (record mid { passed = disposed.passed }) (record done { sets = disposed.sets })) o done).sets → AreWrittenEntries (record now { tables = option_map_or (λ owned. let disposed = after_dispositions mid owned (step_now row) true done in after_passed_ended (record mid { passed = disposed.passed }) (record done { sets = disposed.sets })) o done; library = library })) (sym found)
-      (ended-so job row leg done mid (Some (Within (step_now row) writes)) (passed_ended (without_passed row.lost disposed.passed) disposed.sets) library holder
+      (ended-so job row leg done mid (Some (Within (step_now row) writes)) (passed_ended (without_passed row.lost disposed.passed) disposed.sets) library (λ was. refl) holder
       (run-same (record now.tables { sets = sets }) mid row job e (kept.numbered job row e))
       (λ number differs. run-other (record now.tables { sets = sets }) mid number (λ same. differs (same ∙ kept.numbered job row e)))
       (passed_ended-has Has (entries-through now) (without_passed row.lost disposed.passed) disposed.sets
@@ -195,8 +195,8 @@ module _ (layout : Layout) (now : Office) (kept : IsAgreed layout now) (pointed 
       (apart-coded layout now kept job rule writes code lengths deck may carried))))
 
   abnormal-so : (job : ℕ) (row : RunRow) (leg : Leg) (place : Place) (library : Library) → IsHolder now job row leg → LeavesApart now job (after_abnormal row place now.tables).sets → AreWrittenEntries (record now { tables = after_abnormal row place now.tables; library = library })
-  abnormal-so job row leg (Before step) library holder = ended-so job row leg now.tables row row.place (passed_ended (has_passed row) now.tables.sets) library holder holder.row_at (λ number apart. refl) (passed_ended-has Has (entries-through now) (has_passed row) now.tables.sets written.sets)
-  abnormal-so job row leg (Opened step) library holder = ended-so job row leg now.tables row row.place (passed_ended (has_passed row) now.tables.sets) library holder holder.row_at (λ number apart. refl) (passed_ended-has Has (entries-through now) (has_passed row) now.tables.sets written.sets)
+  abnormal-so job row leg (Before step) library holder = ended-so job row leg now.tables row row.place (passed_ended (has_passed row) now.tables.sets) library (λ was. was) holder holder.row_at (λ number apart. refl) (passed_ended-has Has (entries-through now) (has_passed row) now.tables.sets written.sets)
+  abnormal-so job row leg (Opened step) library holder = ended-so job row leg now.tables row row.place (passed_ended (has_passed row) now.tables.sets) library (λ was. was) holder holder.row_at (λ number apart. refl) (passed_ended-has Has (entries-through now) (has_passed row) now.tables.sets written.sets)
   abnormal-so job row leg (Within step writes) library holder =
       by (step_of_run row step)
     where
@@ -204,7 +204,7 @@ module _ (layout : Layout) (now : Office) (kept : IsAgreed layout now) (pointed 
       by None left = with-library library
       by (Some owned) left =
           let disposed = after_dispositions row owned step true now.tables in
-          ended-so job row leg now.tables row row.place (passed_ended (without_passed row.lost disposed.passed) disposed.sets) library holder holder.row_at (λ number apart. refl)
+          ended-so job row leg now.tables row row.place (passed_ended (without_passed row.lost disposed.passed) disposed.sets) library (λ was. was) holder holder.row_at (λ number apart. refl)
           (passed_ended-has Has (entries-through now) (without_passed row.lost disposed.passed) disposed.sets (disposed-so row owned step now.tables written.sets)) left
 
   pub written-allocation : (job dd cause first second : ℕ) (deck : Option Job) → may_come layout now (Ended job (Allocation dd cause first second), deck) ≡ true → AreWrittenEntries (office_after (Ended job (Allocation dd cause first second), deck) now)

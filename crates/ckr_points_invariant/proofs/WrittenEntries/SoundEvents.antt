@@ -1,4 +1,4 @@
--- At every prefix of sound events by which no run continues another one, data sets keep their entries as they were written.
+-- Data sets keep their entries as they were written: where there are no events, and behind one more by which no run continues another one.
 use Rattle.std.proofs.Common.{◌≡◌, zero, suc, true, false, not, List, [], ◌∷◌, ◌++◌, sym, Option}
 use Rattle.std.proofs.lemmas.Bool.{false≢true, not-true}
 use Rattle.ckr_base.proofs.Bools.{and-first, and-second}
@@ -17,10 +17,10 @@ use Rattle.ckr_points_invariant.specs.Points.{ArePointed}
 use Rattle.ckr_points_invariant.specs.Readiness.{AreReady}
 use Rattle.ckr_points_invariant.specs.WrittenEntries.{AreWrittenEntries}
 use Rattle.ckr_points_invariant.proofs.EventList.{sound-front}
-use Rattle.ckr_points_invariant.proofs.PlainRuns.SoundEvents.{AreKept, front_on, next-kept, no-events}
 use Rattle.ckr_points_invariant.proofs.WrittenEntries.Restarts.{written-entry, written-start}
 use Rattle.ckr_points_invariant.proofs.WrittenEntries.RunEvents.{written-allocation, written-cancelled, written-coded, written-completed, written-denied, written-purged, written-released, written-selected, written-submitted}
 use Rattle.ckr_points_invariant.proofs.WrittenEntries.StepEvents.{written-checkpointed, written-held, written-rewritten, written-started, written-step_end}
+use Rattle.ckr_points_invariant.specs.KeptEvents.{AreKept}
 
 pub none-written : AreWrittenEntries no_office
 none-written = record {
@@ -47,24 +47,3 @@ next-written layout now (Ended job Completed) deck on kept pointed ready written
 next-written layout now (Ended job (Coded code rule writes lengths)) deck on kept pointed ready written next = written-coded layout now kept.events pointed ready written job rule writes code lengths deck next.may next.carried
 next-written layout now (Ended job (Allocation dd cause first second)) deck on kept pointed ready written next = written-allocation layout now kept.events pointed ready written job dd cause first second deck next.may
 next-written layout now (Purged job) deck on kept pointed ready written next = written-purged layout now kept.events pointed ready written job deck next.may
-
--- what goes on from event to event
-record AreKeptWritten (layout : Layout) (now : Office) : Type 0 where
-  pub are : AreKept layout now
-  pub written : AreWrittenEntries now
-
-written_from : (layout : Layout) (events : List Decked) (now : Office) → AreSoundFrom layout now events → NoneContinues events → AreKeptWritten layout now → AreWrittenEntries (office_from events now)
-written_from layout [] now sound on its = its.written
-written_from layout (event ∷ rest) now sound on its =
-    let next : IsNext layout now (event.0, event.1) = record { may = sound.0.may; carried = sound.0.carried } in
-    let off : continues event.0 ≡ false = not-true (continues event.0) (and-first (not (continues event.0)) _ on) in
-    written_from layout rest (office_after event now) sound.1 (and-second (not (continues event.0)) _ on)
-    (record {
-      are = next-kept layout now event.0 event.1 off its.are.kept its.are.pointed its.are.ready next;
-      written = next-written layout now event.0 event.1 off its.are.kept its.are.pointed its.are.ready its.written next;
-    })
-
--- at every prefix
-pub prefix-written : (layout : Layout) (front more : List Decked) → AreSound layout (front ++ more) → NoneContinues (front ++ more) → AreWrittenEntries (office front)
-prefix-written layout front more sound on =
-    written_from layout front no_office (sound-front layout front more sound) (front_on front more on) (record { are = no-events layout; written = none-written })

@@ -30,7 +30,7 @@ use Rattle.ckr_points_invariant.proofs.Holders.SharedSets.{Unmade}
 use Rattle.ckr_points_invariant.proofs.Library.Likeness.{none-alike}
 use Rattle.ckr_points_invariant.proofs.Marks.Points.{point_at-new, point_at-other, present-now}
 use Rattle.ckr_points_invariant.proofs.OtherRuns.Sets.{LeavesApart}
-use Rattle.ckr_points_invariant.proofs.PlainRuns.Starts.{made_tables-left}
+use Rattle.ckr_points_invariant.proofs.Readiness.Starts.{made_tables-left}
 use Rattle.ckr_points_invariant.proofs.Restart.Libraries.{unmade-all}
 use Rattle.ckr_points_invariant.proofs.Start.Event.{StartsNow}
 use Rattle.ckr_points_invariant.proofs.Start.Invariant as starting
@@ -128,7 +128,7 @@ module _ (layout : Layout) (now : Office) (job : ℕ) (row : RunRow) (leg : Leg)
 
   pub written-step : (pointed : ArePointed now) → AreWrittenEntries now → LeavesApart now job sets → AreWrittenEntries (record now { tables = after_started row owned step items now.tables })
   written-step pointed written left =
-      written-moved layout now kept pointed ready written job row next leg sets now.library starts.holder refl refl left
+      written-moved layout now kept pointed ready written job row next leg sets now.library starts.holder refl (record { job = refl; deck = refl; own_from = refl; selected = λ was. refl }) left
       (made_all-has (HasWrittenEntries now) (entries-through now) (stamp_of owned step) items placed opened
       (opened_all-has (HasWrittenEntries now) (entries-through now) (stamp_of owned step) placed now.tables.sets written.sets))
       started-points entered-keeps (λ holds. started-grown)

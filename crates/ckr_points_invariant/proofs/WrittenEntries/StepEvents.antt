@@ -1,12 +1,13 @@
 -- One more event of a run in its step leaves what data sets keep with their entries.
 use Rattle.std.proofs.Common.{◌≡◌, ◌≤◌, ℕ, suc, Bool, true, false, cond, if◌then◌else◌, ◌&&◌, ◌||◌, List, [], ◌∷◌, ◌++◌, map, refl, ap, sym, ◌∙◌, subst, Option, Some, None, arith}
-use Rattle.std.specs.Prelude.{◌==◌}
+use Rattle.std.specs.Prelude.{◌==◌, nat_le}
 use Rattle.std.specs.Option.{option_map, option_map_or}
 use Rattle.std.proofs.lemmas.Bool.{false≢true}
 use Rattle.std.proofs.lemmas.Option.{same_Some}
 use Rattle.arrayvec.specs.ArrayVec.{ArrayVec}
 use Rattle.ckr_base.specs.declared.code.Code.{Code}
 use Rattle.ckr_base.proofs.Bools.{and-first, and-second}
+use Rattle.ckr_base.proofs.Numbers.{nat_le-true}
 use Rattle.ckr_base.proofs.Options.{some-one}
 use Rattle.ckr_events.specs.declared.event.Event.TheVariants.{Checkpointed, Held, Rewritten, Started, StepEnded}
 use Rattle.ckr_events.specs.declared.event.Made.{Made}
@@ -31,10 +32,10 @@ use Rattle.ckr_points_invariant.specs.Readiness.{AreReady, IsCheck}
 use Rattle.ckr_points_invariant.specs.WrittenEntries.{AreWrittenEntries, HasGrown, HasWrittenEntries}
 use Rattle.ckr_points_invariant.proofs.Holders.Rows.{run-other, run-same}
 use Rattle.ckr_points_invariant.proofs.OtherRuns.Sets.{LeavesApart, apart-checkpointed, apart-held, apart-rewritten, apart-started, apart-step_end}
-use Rattle.ckr_points_invariant.proofs.PlainRuns.Checkpoints.{checked_row, checked_sets}
-use Rattle.ckr_points_invariant.proofs.PlainRuns.Commits.{committed-keeps}
-use Rattle.ckr_points_invariant.proofs.PlainRuns.Office.{step-point}
-use Rattle.ckr_points_invariant.proofs.PlainRuns.Rows.{changed-to}
+use Rattle.ckr_points_invariant.proofs.Readiness.Checkpoints.{checked_row, checked_sets}
+use Rattle.ckr_points_invariant.proofs.Readiness.Commits.{committed-keeps}
+use Rattle.ckr_points_invariant.proofs.Readiness.Office.{step-point}
+use Rattle.ckr_points_invariant.proofs.Readiness.Rows.{changed-to}
 use Rattle.ckr_points_invariant.proofs.Start.Event.{by-start, running-so}
 use Rattle.ckr_points_invariant.proofs.StartedSteps.Runs.{marked-was, marks_at}
 use Rattle.ckr_points_invariant.proofs.StartedSteps.StepEvents.{marks-rewritten}
@@ -128,7 +129,7 @@ module _ (layout : Layout) (now : Office) (kept : IsAgreed layout now) (pointed 
       let sets : Named TableSet = committed (output_names row.job.root owned) lengths.items now.tables.sets in
       changed-to (λ later. LeavesApart now job later.tables.sets → AreWrittenEntries later) now job row owned (λ row owned step. after_held row owned step code writes lengths.items now.tables) e found
       (λ left.
-      written-moved layout now kept pointed ready written job row next leg sets now.library holder refl refl left
+      written-moved layout now kept pointed ready written job row next leg sets now.library holder refl (record { job = refl; deck = refl; own_from = refl; selected = λ was. refl }) left
       (committed-has Has (entries-through now) (output_names row.job.root owned) lengths.items now.tables.sets written.sets) (same-points row next refl)
       (λ step its. same-step row next step refl (λ holds. (its.0, λ same. refl)))
       (λ holds inside other point there got.
@@ -176,7 +177,7 @@ module _ (layout : Layout) (now : Office) (kept : IsAgreed layout now) (pointed 
       let sets : Named TableSet = with_changed updated (table_rewritten owned.owner (step_now row)) behind in
       changed-to (λ later. LeavesApart now job later.tables.sets → AreWrittenEntries later) now job row owned (λ row owned step. after_rewritten row owned step writes lengths.items now.tables) e found
       (λ left.
-      written-moved layout now kept pointed ready written job row next leg sets now.library holder refl refl left
+      written-moved layout now kept pointed ready written job row next leg sets now.library holder refl (record { job = refl; deck = refl; own_from = refl; selected = λ was. refl }) left
       (rewritten-has Has (entries-through now) updated owned.owner (step_now row) behind (committed-has Has (entries-through now) (output_names row.job.root owned) lengths.items now.tables.sets written.sets))
       (λ step point got. let as_it : HasPointAs next step point = rewritten-as row next (step_now row) step point refl got in (as_it.later, as_it.has))
       (λ step its. record { point = λ point got. rewritten-as row next (step_now row) step point refl got; entered = λ holds. (its.0, λ same. refl) })
@@ -201,11 +202,12 @@ module _ (layout : Layout) (now : Office) (kept : IsAgreed layout now) (pointed 
       let check : is_checkpoint now.tables id lengths.items place bytes row owned ≡ true = sym (ap (λ (o : Option OwnedStep). option_map_or (is_checkpoint now.tables id lengths.items place bytes row) o false) found) ∙ and-second (is_running row && lengths_follow now.tables row lengths.items) (of_step row (is_checkpoint now.tables id lengths.items place bytes row)) passes in
       let running : IsRunning now job row leg owned (step_now row) (writes_in (place_of row)) = running-so layout now job row leg owned holder within found in
       let both : (commits now.tables.sets row writes lengths.items (its_start leg owned (step_now row)) && carries_taken taken writes (its_start leg owned (step_now row))) ≡ true =
-      carried-of layout now job row leg owned (step_now row) (λ row start. commits now.tables.sets row writes lengths.items start && carries_taken taken writes start) kept holder refl found carried in
+      carried-of layout now job row leg owned (step_now row) (λ row start. commits now.tables.sets row writes lengths.items start && carries_taken taken writes start) kept holder refl found (and-second (nat_le 1 bytes) _ carried) in
       let commit : commits now.tables.sets row writes lengths.items (its_start leg owned (step_now row)) ≡ true =
       and-first (commits now.tables.sets row writes lengths.items (its_start leg owned (step_now row))) (carries_taken taken writes (its_start leg owned (step_now row))) both in
       let told : carries_taken taken writes (its_start leg owned (step_now row)) ≡ true =
       and-second (commits now.tables.sets row writes lengths.items (its_start leg owned (step_now row))) (carries_taken taken writes (its_start leg owned (step_now row))) both in
+      let some : 1 ≤ bytes = nat_le-true 1 bytes (and-first (nat_le 1 bytes) _ carried) in
       let points = λ (point : StartPoint) (got : point_at row.points (step_now row) ≡ Some point). step-point layout now job row leg point kept pointed holder got in
       let its_ready = ready.runs job row leg holder in
       let grown = λ (inside : is_within (place_of row) ≡ true) (owned : OwnedStep) (point : StartPoint). written.grown job row leg owned point holder inside in
@@ -213,11 +215,11 @@ module _ (layout : Layout) (now : Office) (kept : IsAgreed layout now) (pointed 
       let sets : Named TableSet = checked_sets layout now job row leg owned writes taken place bytes id lengths.items kept running commit told are check its_ready in
       changed-to (λ later. LeavesApart now job later.tables.sets → AreWrittenEntries later) now job row owned (λ row owned step. after_checkpointed row owned step (record { id = id; run = job; place = place; bytes = bytes }) taken writes lengths.items now.tables) e found
       (λ left.
-      written-moved layout now kept pointed ready written job row next leg sets now.library holder refl refl left
-      (checked-has layout now job row leg owned writes taken place bytes id lengths.items kept running commit told are check points its_ready grown
+      written-moved layout now kept pointed ready written job row next leg sets now.library holder refl (record { job = refl; deck = refl; own_from = refl; selected = λ was. refl }) left
+      (checked-has layout now job row leg owned writes taken place bytes id lengths.items kept some running commit told are check points its_ready grown
       (committed-has Has (entries-through now) (output_names row.job.root owned) lengths.items now.tables.sets written.sets)) (same-points row next refl)
       (λ step its. same-step row next step refl (λ holds. (its.0, λ same. refl)))
-      (λ holds. checked-grown layout now job row leg owned writes taken place bytes id lengths.items kept running commit told are check points its_ready grown)))))
+      (λ holds. checked-grown layout now job row leg owned writes taken place bytes id lengths.items kept some running commit told are check points its_ready grown)))))
       (apart-checkpointed layout now kept job taken writes place bytes id lengths deck may)
 
   -- ---- a step ends
@@ -242,7 +244,7 @@ module _ (layout : Layout) (now : Office) (kept : IsAgreed layout now) (pointed 
       (run-same (record now.tables { sets = sets }) mid row job e (kept.numbered job row e)) refl
       (λ number differs. run-other (record now.tables { sets = sets }) mid number (λ same. differs (same ∙ kept.numbered job row e))) left
       (disposed_all-has Has (entries-through now) (run_disposals row owned (own_made row owned (step_now row)) (earlier_made done row (step_now row)) false) (standing_of row done)
-      (committed-has Has (entries-through now) (output_names row.job.root owned) lengths.items now.tables.sets written.sets)) refl (same-points row next refl)
+      (committed-has Has (entries-through now) (output_names row.job.root owned) lengths.items now.tables.sets written.sets)) (record { job = refl; deck = refl; own_from = refl; selected = λ was. refl }) (same-points row next refl)
       (λ number its. same-step row next number refl (λ holds. let under : number ≤ step_now row = its.0 in (omega (arith, under), λ same. absurd (omega (arith, under, same)))))
       (λ holds inside. absurd (false≢true inside))))))
       (apart-step_end layout now kept job step rc writes lengths deck may carried)

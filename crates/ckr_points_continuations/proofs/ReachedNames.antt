@@ -1,6 +1,0 @@
-pub mod JobNames
-pub mod Statements
-pub mod OwnSteps
-pub mod DeckNames
-pub mod OtherHolders
-pub mod NamesBehind

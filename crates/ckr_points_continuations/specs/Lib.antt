@@ -1,3 +1,0 @@
-pub mod EarlierRun
-pub mod OfficeBehind
-pub mod JobNames

@@ -1,0 +1,5 @@
+pub mod Statements
+pub mod OwnSteps
+pub mod DeckNames
+pub mod OtherHolders
+pub mod NamesBehind

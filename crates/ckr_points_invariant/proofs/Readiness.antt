@@ -1,0 +1,12 @@
+pub mod Runs
+pub mod Office
+pub mod Writes
+pub mod Commits
+pub mod Checkpoints
+pub mod Starts
+pub mod Rewrites
+pub mod Restarts
+pub mod Rows
+pub mod StepEvents
+pub mod RunEvents
+pub mod SoundEvents
