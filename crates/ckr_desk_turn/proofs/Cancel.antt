@@ -13,7 +13,6 @@ use Rattle.ckr_points.specs.Office.{Office, office_after}
 use Rattle.ckr_points.specs.Rows.{RunRow, run_of}
 use Rattle.ckr_points.specs.Tables.{after_cancelled}
 use Rattle.ckr_points_invariant.proofs.Holders.Rows.{run-other, run-same}
-use Rattle.ckr_points_invariant.proofs.PlainRuns.SoundEvents.{AreKept}
 use Rattle.ckr_desk_turn.specs.declared.failed_run.FailedRun.{FailedRun}
 use Rattle.ckr_desk_turn.specs.Desk.{DeskModel, DeskStep, behind as desk_behind, cancel_done, start_of, without_run}
 use Rattle.ckr_desk_turn.specs.NextEvents.{Comes, IsWithinStep}
@@ -22,6 +21,7 @@ use Rattle.ckr_desk_turn.proofs.Checkpoints.Events.{cancel-comes}
 use Rattle.ckr_desk_turn.proofs.OtherRuns.{Changes, admitted-then, each_row, failed-there, going-rest, plain-then, row-admitted, row-plain, row-stepped, stepped-then}
 use Rattle.ckr_desk_turn.proofs.Readiness.{kept-on}
 use Rattle.ckr_desk_turn.proofs.Moves.{accounted_so, come-served, come-uncoded, with_change-found}
+use Rattle.ckr_points_invariant.specs.KeptEvents.{AreKept}
 
 module _ (desk : DeskModel) (is : IsDesk desk) (row : RunRow) (number committed : ℕ) (start : StepStart) (within : IsWithinStep desk.office row.number row number committed start) where
   pub cancelled-comes : Comes desk (CancelledEvent row.number)
@@ -92,7 +92,7 @@ module _ (desk : DeskModel) (is : IsDesk desk) (row : RunRow) (number committed 
         (or_left (list_any (λ (step : DeskStep). step.run == row.number) later.running) _ (or_left (row.number == row.number) _ (equal-itself row.number)))
 
     its_events : AreKept desk.layout now
-    its_events = kept-on desk is (CancelledEvent row.number) refl cancelled-comes
+    its_events = kept-on desk is (CancelledEvent row.number) cancelled-comes
 
     later-kept : IsDesk later
     later-kept = record {
@@ -111,6 +111,8 @@ module _ (desk : DeskModel) (is : IsDesk desk) (row : RunRow) (number committed 
       spaced_legs = is.spaced_legs;
       pointed = its_events.pointed;
       ready = its_events.ready;
+      begun = its_events.begun;
+      written = its_events.written;
     }
 
     -- the desk behind it

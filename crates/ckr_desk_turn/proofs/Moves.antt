@@ -58,6 +58,8 @@ module _ (desk : DeskModel) (is : IsDesk desk) (run : ℕ) (progress : StepProgr
     spaced_legs = is.spaced_legs;
     pointed = is.pointed;
     ready = is.ready;
+    begun = is.begun;
+    written = is.written;
   }
 
 -- however much of it is served, a running step has come as far

@@ -99,6 +99,8 @@ has-runs desk is = record {
   spaced_legs = is.spaced_legs;
   pointed = is.pointed;
   ready = is.ready;
+  begun = is.begun;
+  written = is.written;
 }
 
 -- ---- the opening
@@ -160,6 +162,8 @@ module _ (layout : Layout) (office : Office) (kept : IsKept layout office) (has 
     spaced_legs = has.spaced_legs;
     pointed = has.pointed;
     ready = has.ready;
+    begun = has.begun;
+    written = has.written;
   }
     where
       accounted : (place : ℕ) (row : RunRow) → slice_get office.tables.runs place ≡ Some row → is_accounted (opened layout office) row ≡ true

@@ -34,7 +34,6 @@ use Rattle.ckr_points.specs.Restart.{after_abnormal, after_ended, after_passed_e
 use Rattle.ckr_points.specs.Rows.{RunRow, TablesModel, run_of}
 use Rattle.ckr_points.specs.Soundness.{may_come}
 use Rattle.ckr_points_invariant.proofs.Holders.Rows.{run-other, run-same}
-use Rattle.ckr_points_invariant.proofs.PlainRuns.SoundEvents.{AreKept}
 use Rattle.ckr_points_invariant.proofs.Steps.Events.{led-by}
 use Rattle.ckr_desk_turn.specs.Desk.{DeskModel, behind}
 use Rattle.ckr_desk_turn.specs.Invariant.{IsAdmitted, IsDesk}
@@ -43,6 +42,7 @@ use Rattle.ckr_desk_turn.proofs.Readiness.{kept-on}
 use Rattle.ckr_desk_turn.proofs.StepEnd.{Rests}
 use Rattle.ckr_desk_turn.proofs.OtherRuns.{accounted-then, admitted-then, failed-rest, failed-same, going-rest, plain-deck, plain-then, row-admitted, row-plain, running-same, stepped-then, taken_over-within}
 use Rattle.ckr_desk_turn.proofs.Units.Outputs.{distinct-job}
+use Rattle.ckr_points_invariant.specs.KeptEvents.{AreKept}
 
 -- ---- the first DD that isn't allocated
 
@@ -127,7 +127,7 @@ module _ (desk : DeskModel) (is : IsDesk desk) (row : RunRow) (at : run_of desk.
     -- the desk behind it
     pub end-kept : Comes desk (EndedEvent row.number ending) → IsDesk (behind (EndedEvent row.number ending) None desk)
     end-kept comes =
-        let on : AreKept desk.layout later = kept-on desk is (EndedEvent row.number ending) refl comes in
+        let on : AreKept desk.layout later = kept-on desk is (EndedEvent row.number ending) comes in
         let rests : Rests desk.office later row.number = later-rests in
         let then : DeskModel = behind (EndedEvent row.number ending) None desk in
         record {
@@ -142,6 +142,8 @@ module _ (desk : DeskModel) (is : IsDesk desk) (row : RunRow) (at : run_of desk.
           spaced_legs = is.spaced_legs;
           pointed = on.pointed;
           ready = on.ready;
+          begun = on.begun;
+          written = on.written;
         }
 
   -- behind its last step

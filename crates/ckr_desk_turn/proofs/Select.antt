@@ -32,7 +32,8 @@ use Rattle.ckr_points.specs.Soundness.{may_come}
 use Rattle.ckr_points_invariant.proofs.Select.Invariant.{chosen, led_there}
 use Rattle.ckr_points_invariant.proofs.WaitingRuns.{by-selected}
 use Rattle.ckr_points_invariant.proofs.Holders.Rows.{queued-is, run-other, run-same}
-use Rattle.ckr_points_invariant.proofs.PlainRuns.SoundEvents.{AreKept, next-kept}
+use Rattle.ckr_points_invariant.proofs.KeptEvents.{next-kept}
+use Rattle.ckr_desk_turn.proofs.Readiness.{desk-kept}
 use Rattle.ckr_points_invariant.proofs.Select.Holders.{all_legs}
 use Rattle.ckr_desk_turn.specs.declared.failed_run.FailedRun.{FailedRun}
 use Rattle.ckr_desk_turn.specs.Desk.{DeskModel, DeskStep, behind, start_of, submitted as submitted_desk, purged as purged_desk, released as released_desk}
@@ -40,6 +41,7 @@ use Rattle.ckr_desk_turn.specs.Invariant.{IsAdmitted, IsDesk, IsFailed, IsGoing,
 use Rattle.ckr_desk_turn.proofs.NextEvents.BetweenSteps.{purged_comes, released_comes, submitted_comes}
 use Rattle.ckr_desk_turn.proofs.OtherRuns.{Changes, accounted-then, admitted-then, failed-still, going-still, plain-then, row-admitted, row-plain, row-stepped, stepped-then}
 use Rattle.ckr_desk_turn.proofs.Readiness.{kept-on}
+use Rattle.ckr_points_invariant.specs.KeptEvents.{AreKept}
 
 -- ---- the runs on initiators
 
@@ -91,6 +93,8 @@ entered desk is after job next enters = record {
   spaced_legs = enters.spaced_legs;
   pointed = enters.kept.pointed;
   ready = enters.kept.ready;
+  begun = enters.kept.begun;
+  written = enters.kept.written;
 }
   where
     stay : (run : ℕ) (row : RunRow) → run_of desk.office.tables run ≡ Some row → row.state ≡ On → Stays desk.office after run
@@ -132,7 +136,7 @@ purged-keeps desk is job row at queued =
       others = λ other apart. of_tables other ∙ run-other desk.office.tables next other (λ e. apart (e ∙ its));
       legs = λ other apart. refl;
       waits = λ one there on. queued-off one.state (ap (λ (r : RunRow). state_number r.state == 1) (same_Some one row (sym there ∙ at)) ∙ ap (λ s. state_number s == 1) queued) on;
-      kept = kept-on desk is (PurgedEvent job) refl (record { may = purged_comes desk job row at queued; carried = refl });
+      kept = kept-on desk is (PurgedEvent job) (record { may = purged_comes desk job row at queued; carried = refl });
       plain = off_plain plain;
       admitted = record { cards = was.cards; accepted = was.accepted; lodged = refl };
       rests = refl;
@@ -160,7 +164,7 @@ released-keeps desk is job row at held =
       others = λ other apart. of_tables other ∙ run-other desk.office.tables next other (λ e. apart (e ∙ its));
       legs = λ other apart. refl;
       waits = λ one there on. held-off one.state (ap (λ (r : RunRow). state_number r.state == 3) (same_Some one row (sym there ∙ at)) ∙ ap (λ s. state_number s == 3) held) on;
-      kept = kept-on desk is (ReleasedEvent job) refl (record { may = released_comes desk job row at held; carried = refl });
+      kept = kept-on desk is (ReleasedEvent job) (record { may = released_comes desk job row at held; carried = refl });
       plain = off_plain (row-plain desk is job row at);
       admitted = record { cards = was.cards; accepted = was.accepted; lodged = refl };
       rests = refl;
@@ -201,7 +205,7 @@ submitted-keeps desk is cards first kept deck few accepted runs =
       others = others;
       legs = λ other apart. refl;
       waits = λ row at on. some-not-none row (sym at ∙ slice_get_past desk.office.tables.runs (length desk.office.tables.runs) (omega arith));
-      kept = next-kept desk.layout desk.office (SubmittedEvent job (first ∷ kept)) (Some deck) refl is.kept is.pointed is.ready (record { may = submitted_comes desk first kept deck; carried = deck-orderly cards deck job few accepted });
+      kept = next-kept desk.layout desk.office (desk-kept desk is) (SubmittedEvent job (first ∷ kept)) (Some deck) (record { may = submitted_comes desk first kept deck; carried = deck-orderly cards deck job few accepted });
       plain = runs;
       admitted = record { cards = cards; accepted = accepted; lodged = refl };
       rests = refl;
@@ -258,4 +262,4 @@ selected-keeps desk is job initiator may =
       spaced = is.spaced;
       spaced_legs = all_legs (λ (leg : Leg). AreWithinSpace leg.start) _ desk.office.legs is.spaced is.spaced_legs;
     }))
-    (kept-on desk is (SelectedEvent job initiator 0 0 None) refl (record { may = may; carried = refl }))
+    (kept-on desk is (SelectedEvent job initiator 0 0 None) (record { may = may; carried = refl }))

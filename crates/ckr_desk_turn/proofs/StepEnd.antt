@@ -25,7 +25,6 @@ use Rattle.ckr_points.specs.Restart.{after_abnormal, after_passed_ended, by_step
 use Rattle.ckr_points.specs.Rows.{RunRow, TableSet, TablesModel, run_of, step_of_run, with_run}
 use Rattle.ckr_points_invariant.proofs.Steps.Commits.{place_so}
 use Rattle.ckr_points_invariant.proofs.Holders.Rows.{run-other, run-same}
-use Rattle.ckr_points_invariant.proofs.PlainRuns.SoundEvents.{AreKept}
 use Rattle.ckr_desk_turn.specs.declared.failed_run.FailedRun.{FailedRun}
 use Rattle.ckr_desk_turn.specs.Desk.{DeskModel, behind}
 use Rattle.ckr_desk_turn.specs.NextEvents.{Comes, IsWithinStep}
@@ -34,6 +33,7 @@ use Rattle.ckr_desk_turn.proofs.OtherRuns.{Changes, accounted-then, admitted-the
 use Rattle.ckr_desk_turn.proofs.Readiness.{kept-on}
 use Rattle.ckr_desk_turn.proofs.Units.Outputs.{distinct-job}
 use Rattle.ckr_desk_turn.proofs.NextEvents.Holders.{HoldsStep, by-holder, by-spaced, on-holder}
+use Rattle.ckr_points_invariant.specs.KeptEvents.{AreKept}
 
 -- a run whose row changes to one that isn't running
 pub record Rests (office after : Office) (job : ℕ) : Type 0 where
@@ -119,7 +119,7 @@ module _ (desk : DeskModel) (is : IsDesk desk) (run : ℕ) (row : RunRow) (numbe
   pub code-kept : (code : Code) (rule writes : ℕ) (lengths : ArrayVec ℕ) → Comes desk (EndedEvent run (CodedEnding code rule writes lengths)) → IsDesk (behind (EndedEvent run (CodedEnding code rule writes lengths)) None desk)
   code-kept code rule writes lengths comes =
       let rests : Rests desk.office (office_after (EndedEvent run (CodedEnding code rule writes lengths), None) desk.office) run = code-rests code rule writes lengths in
-      let on : AreKept desk.layout (office_after (EndedEvent run (CodedEnding code rule writes lengths), None) desk.office) = kept-on desk is (EndedEvent run (CodedEnding code rule writes lengths)) refl comes in
+      let on : AreKept desk.layout (office_after (EndedEvent run (CodedEnding code rule writes lengths), None) desk.office) = kept-on desk is (EndedEvent run (CodedEnding code rule writes lengths)) comes in
       record {
         kept = on.kept;
         going = going-rest desk.office (office_after (EndedEvent run (CodedEnding code rule writes lengths), None) desk.office) run rests.next rests.changes desk.running is.going;
@@ -132,6 +132,8 @@ module _ (desk : DeskModel) (is : IsDesk desk) (run : ℕ) (row : RunRow) (numbe
         spaced_legs = is.spaced_legs;
         pointed = on.pointed;
         ready = on.ready;
+        begun = on.begun;
+        written = on.written;
       }
 
   -- ---- the run is held with a code
@@ -160,7 +162,7 @@ module _ (desk : DeskModel) (is : IsDesk desk) (run : ℕ) (row : RunRow) (numbe
   pub held-kept : (code : Code) (writes : ℕ) (lengths : ArrayVec ℕ) → Comes desk (HeldEvent run code writes lengths) → IsDesk (behind (HeldEvent run code writes lengths) None desk)
   held-kept code writes lengths comes =
       let rests : Rests desk.office (office_after (HeldEvent run code writes lengths, None) desk.office) run = held-rests code writes lengths in
-      let on : AreKept desk.layout (office_after (HeldEvent run code writes lengths, None) desk.office) = kept-on desk is (HeldEvent run code writes lengths) refl comes in
+      let on : AreKept desk.layout (office_after (HeldEvent run code writes lengths, None) desk.office) = kept-on desk is (HeldEvent run code writes lengths) comes in
       record {
         kept = on.kept;
         going = going-rest desk.office (office_after (HeldEvent run code writes lengths, None) desk.office) run rests.next rests.changes desk.running is.going;
@@ -173,6 +175,8 @@ module _ (desk : DeskModel) (is : IsDesk desk) (run : ℕ) (row : RunRow) (numbe
         spaced_legs = is.spaced_legs;
         pointed = on.pointed;
         ready = on.ready;
+        begun = on.begun;
+        written = on.written;
       }
 
 -- ---- the end of a step
@@ -197,7 +201,7 @@ module _ (desk : DeskModel) (is : IsDesk desk) (run : ℕ) (row : RunRow) (numbe
   pub step_end-kept : (rc writes : ℕ) (lengths : ArrayVec ℕ) → Comes desk (StepEndedEvent run number rc writes lengths) → list_any (λ (one : FailedRun). one.run == run) desk.failed ≡ false → IsDesk (behind (StepEndedEvent run number rc writes lengths) None desk)
   step_end-kept rc writes lengths comes isnt =
       let rests : Rests desk.office (office_after (StepEndedEvent run number rc writes lengths, None) desk.office) run = step_end-rests rc writes lengths in
-      let on : AreKept desk.layout (office_after (StepEndedEvent run number rc writes lengths, None) desk.office) = kept-on desk is (StepEndedEvent run number rc writes lengths) refl comes in
+      let on : AreKept desk.layout (office_after (StepEndedEvent run number rc writes lengths, None) desk.office) = kept-on desk is (StepEndedEvent run number rc writes lengths) comes in
       record {
         kept = on.kept;
         going = going-rest desk.office (office_after (StepEndedEvent run number rc writes lengths, None) desk.office) run rests.next rests.changes desk.running is.going;
@@ -210,4 +214,6 @@ module _ (desk : DeskModel) (is : IsDesk desk) (run : ℕ) (row : RunRow) (numbe
         spaced_legs = is.spaced_legs;
         pointed = on.pointed;
         ready = on.ready;
+        begun = on.begun;
+        written = on.written;
       }

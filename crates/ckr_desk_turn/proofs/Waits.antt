@@ -111,6 +111,8 @@ waiting-kept desk is run code = record {
   spaced_legs = is.spaced_legs;
   pointed = is.pointed;
   ready = is.ready;
+  begun = is.begun;
+  written = is.written;
 }
 
 -- a unit that comes to a code stops its step where it has come to: it needs no more than that it is a running step with the code
@@ -132,6 +134,8 @@ moved-waits desk is run progress code going = record {
   spaced_legs = is.spaced_legs;
   pointed = is.pointed;
   ready = is.ready;
+  begun = is.begun;
+  written = is.written;
 }
   where
     first : DeskStep

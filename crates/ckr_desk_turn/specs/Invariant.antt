@@ -18,6 +18,8 @@ use Rattle.ckr_points.specs.Rows.{RunRow, run_of}
 use Rattle.ckr_points_invariant.specs.Invariant.{IsKept}
 use Rattle.ckr_points_invariant.specs.Points.{ArePointed}
 use Rattle.ckr_points_invariant.specs.Readiness.{AreReady}
+use Rattle.ckr_points_invariant.specs.StartedSteps.{AreBegunSteps}
+use Rattle.ckr_points_invariant.specs.WrittenEntries.{AreWrittenEntries}
 use Rattle.ckr_points_decks.specs.Form.{is_run}
 use Rattle.ckr_desk_turn.specs.declared.failed_run.FailedRun.{FailedRun}
 use Rattle.ckr_desk_turn.specs.declared.reply.Turn.{Turn}
@@ -121,6 +123,8 @@ pub record IsDesk (desk : DeskModel) : Type 0 where
   pub spaced_legs : AllByRecursion (λ (leg : Leg). AreWithinSpace leg.start) desk.office.legs
   pub pointed : ArePointed desk.office
   pub ready : AreReady desk.office
+  pub begun : AreBegunSteps desk.office
+  pub written : AreWrittenEntries desk.office
 
 -- what the events of a desk have brought about beside kept tables, whichever steps are running
 pub record HasRuns (office : Office) : Type 0 where
@@ -131,6 +135,8 @@ pub record HasRuns (office : Office) : Type 0 where
   pub spaced_legs : AllByRecursion (λ (leg : Leg). AreWithinSpace leg.start) office.legs
   pub pointed : ArePointed office
   pub ready : AreReady office
+  pub begun : AreBegunSteps office
+  pub written : AreWrittenEntries office
 
 -- what a turn comes to: its event may come, and the desk behind it is as its events have brought it about
 pub record Keeps (desk : DeskModel) (done : TurnDone) : Type 0 where

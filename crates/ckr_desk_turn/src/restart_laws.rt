@@ -16,9 +16,7 @@ ghost use Rattle.ckr_points.specs.Follows.{is_free, own_step};
 ghost use Rattle.ckr_points.specs.Marks.{point_at};
 ghost use Rattle.ckr_points.specs.Office.{Leg, Office, leg_of, office_after};
 ghost use Rattle.ckr_points.specs.Rows.{EntryPoint, KeptEntry, RunRow, StartPoint, run_of};
-ghost use Rattle.ckr_points_invariant.specs.Invariant.{IsKept};
-ghost use Rattle.ckr_points_invariant.specs.Points.{ArePointed};
-ghost use Rattle.ckr_points_invariant.specs.Readiness.{AreReady};
+ghost use Rattle.ckr_points_invariant.specs.KeptEvents.{AreKept};
 ghost use Rattle.ckr_points_invariant.specs.Restorability.{StandsAt};
 ghost use Rattle.ckr_rules.specs.RuleTables.{rule_number};
 ghost use Rattle.ckr_rules.specs.declared.cases.Rule.{Rule as RuleOfTable};
@@ -72,11 +70,11 @@ pub fn turns_rest_on_the_operators_answer()
 /// was released, and goes on on an initiator that has no run. This is so over any events that are kept and ready for restarts, whatever the
 /// form of the decks.
 pub fn events_of_restarts_may_come()
-    ensures step { (layout : LayoutOfDisk) (office : Office) (row : RunRow) (initiator : ℕ) (code : Code) → IsKept layout office → ArePointed office → AreReady office → IsJudged layout office row initiator code AtStep → IsNext layout office (restart_of row initiator code false, None) }
-    ensures checkpoint { (layout : LayoutOfDisk) (office : Office) (row : RunRow) (initiator : ℕ) (code : Code) → IsKept layout office → ArePointed office → AreReady office → IsJudged layout office row initiator code AtCheckpoint → IsNext layout office (restart_of row initiator code true, None) }
-    ensures step_off { (layout : LayoutOfDisk) (office : Office) (row : RunRow) (initiator : ℕ) (code : Code) → IsKept layout office → ArePointed office → AreReady office → IsJudgedOff layout office row code AtStep → is_free layout office.tables initiator ≡ true
+    ensures step { (layout : LayoutOfDisk) (office : Office) (row : RunRow) (initiator : ℕ) (code : Code) → AreKept layout office → IsJudged layout office row initiator code AtStep → IsNext layout office (restart_of row initiator code false, None) }
+    ensures checkpoint { (layout : LayoutOfDisk) (office : Office) (row : RunRow) (initiator : ℕ) (code : Code) → AreKept layout office → IsJudged layout office row initiator code AtCheckpoint → IsNext layout office (restart_of row initiator code true, None) }
+    ensures step_off { (layout : LayoutOfDisk) (office : Office) (row : RunRow) (initiator : ℕ) (code : Code) → AreKept layout office → IsJudgedOff layout office row code AtStep → is_free layout office.tables initiator ≡ true
         → IsNext layout office (restart_of row initiator code false, None) }
-    ensures checkpoint_off { (layout : LayoutOfDisk) (office : Office) (row : RunRow) (initiator : ℕ) (code : Code) → IsKept layout office → ArePointed office → AreReady office → IsJudgedOff layout office row code AtCheckpoint → is_free layout office.tables initiator ≡ true
+    ensures checkpoint_off { (layout : LayoutOfDisk) (office : Office) (row : RunRow) (initiator : ℕ) (code : Code) → AreKept layout office → IsJudgedOff layout office row code AtCheckpoint → is_free layout office.tables initiator ≡ true
         → IsNext layout office (restart_of row initiator code true, None) }
 {}
 
@@ -90,11 +88,11 @@ pub fn restarts_keep_the_desk()
 /// there, and the entries are counted from the point on. So no disposition of the step was processed. There is such a point: that of the
 /// start of the step, or the entry of the checkpoint in effect, which its data set keeps.
 pub fn restarted_runs_stand_at_their_point()
-    ensures begun { (layout : LayoutOfDisk) (office : Office) (row : RunRow) (initiator : ℕ) (code : Code) → IsKept layout office → ArePointed office → AreReady office → (its : IsJudged layout office row initiator code AtStep) → is_some (point_at row.points its.number) ≡ true }
-    ensures step { (layout : LayoutOfDisk) (office : Office) (row : RunRow) (initiator : ℕ) (code : Code) (leg : Leg) (point : StartPoint) → IsKept layout office → ArePointed office → AreReady office → (its : IsJudged layout office row initiator code AtStep)
+    ensures begun { (layout : LayoutOfDisk) (office : Office) (row : RunRow) (initiator : ℕ) (code : Code) → AreKept layout office → (its : IsJudged layout office row initiator code AtStep) → is_some (point_at row.points its.number) ≡ true }
+    ensures step { (layout : LayoutOfDisk) (office : Office) (row : RunRow) (initiator : ℕ) (code : Code) (leg : Leg) (point : StartPoint) → AreKept layout office → (its : IsJudged layout office row initiator code AtStep)
         → leg_of office row.number ≡ Some leg → point_at row.points its.number ≡ Some point → StandsAt (office_after (restart_of row initiator code false, None) office) row.number leg (Opened its.number) point.count }
-    ensures entered { (layout : LayoutOfDisk) (office : Office) (row : RunRow) (initiator : ℕ) (code : Code) → IsKept layout office → ArePointed office → AreReady office → IsJudged layout office row initiator code AtCheckpoint → is_some (effect_entry office.tables row) ≡ true }
-    ensures checkpoint { (layout : LayoutOfDisk) (office : Office) (row : RunRow) (initiator : ℕ) (code : Code) (leg : Leg) (entry : KeptEntry) → IsKept layout office → ArePointed office → AreReady office → (its : IsJudged layout office row initiator code AtCheckpoint)
+    ensures entered { (layout : LayoutOfDisk) (office : Office) (row : RunRow) (initiator : ℕ) (code : Code) → AreKept layout office → IsJudged layout office row initiator code AtCheckpoint → is_some (effect_entry office.tables row) ≡ true }
+    ensures checkpoint { (layout : LayoutOfDisk) (office : Office) (row : RunRow) (initiator : ℕ) (code : Code) (leg : Leg) (entry : KeptEntry) → AreKept layout office → (its : IsJudged layout office row initiator code AtCheckpoint)
         → leg_of office row.number ≡ Some leg → effect_entry office.tables row ≡ Some entry → StandsAt (office_after (restart_of row initiator code true, None) office) row.number leg (Within its.number entry.point.writes) entry.point.count }
 {}
 
@@ -103,10 +101,10 @@ pub fn restarted_runs_stand_at_their_point()
 pub fn restarted_runs_go_on()
     ensures unmarked { (desk : DeskModel) (job initiator : ℕ) (code : Code) (checkpoint : Bool) → is_failed (jobs_of (behind (RestartedEvent job initiator code checkpoint) None desk)) job ≡ false }
     ensures stopped { (desk : DeskModel) (job initiator : ℕ) (code : Code) → progress_of (behind (RestartedEvent job initiator code false) None desk) job ≡ None }
-    ensures starts { (desk : DeskModel) (row : RunRow) (initiator : ℕ) (code : Code) (next : RunRow) (owned : OwnedStep) → IsKept desk.layout desk.office → ArePointed desk.office → AreReady desk.office → (its : IsJudged desk.layout desk.office row initiator code AtStep)
+    ensures starts { (desk : DeskModel) (row : RunRow) (initiator : ℕ) (code : Code) (next : RunRow) (owned : OwnedStep) → AreKept desk.layout desk.office → (its : IsJudged desk.layout desk.office row initiator code AtStep)
         → run_of (behind (restart_of row initiator code false) None desk).office.tables row.number ≡ Some next → own_step row ≡ Some owned
         → run_plan desk.layout (jobs_of (behind (restart_of row initiator code false) None desk)) None next ≡ start_plan desk.layout (jobs_of (behind (restart_of row initiator code false) None desk)) next owned its.number }
-    ensures going { (layout : LayoutOfDisk) (office : Office) (row : RunRow) (initiator : ℕ) (code : Code) (entry : KeptEntry) → IsKept layout office → ArePointed office → AreReady office → IsJudged layout office row initiator code AtCheckpoint → effect_entry office.tables row ≡ Some entry
+    ensures going { (layout : LayoutOfDisk) (office : Office) (row : RunRow) (initiator : ℕ) (code : Code) (entry : KeptEntry) → AreKept layout office → IsJudged layout office row initiator code AtCheckpoint → effect_entry office.tables row ≡ Some entry
         → IsGoing (office_after (restart_of row initiator code true, None) office) (at_entry row.number entry.point) }
     ensures progress { (desk : DeskModel) (row : RunRow) (initiator : ℕ) (code : Code) (entry : KeptEntry) → run_of desk.office.tables row.number ≡ Some row → effect_entry desk.office.tables row ≡ Some entry
         → progress_of (behind (restart_of row initiator code true) None desk) row.number ≡ Some (at_entry row.number entry.point).progress }

@@ -1,5 +1,5 @@
 -- How many bytes an entry has: as many, whatever the lengths of its data sets are.
-use Rattle.std.proofs.Common.{◌≡◌, ◌+◌, ℕ, suc, Bool, true, false, List, [], ◌∷◌, ◌++◌, length, map, refl, ap, sym, ◌∙◌, Option, Some, None, arith, length-append}
+use Rattle.std.proofs.Common.{◌≤◌, ◌≡◌, ◌+◌, ℕ, suc, Bool, true, false, List, [], ◌∷◌, ◌++◌, length, map, refl, ap, sym, ◌∙◌, Option, Some, None, arith, length-append}
 use Rattle.std.specs.Prelude.{if◌then◌else◌}
 use Rattle.std.specs.Int.{w16, to_be_bytes}
 use Rattle.std.specs.Option.{option_map, option_map_or}
@@ -120,6 +120,19 @@ parts-size front state marks other rest same =
 pub spelling-size : (e : Entry) (one other : List Mark) → length (marks.spell one) ≡ length (marks.spell other) → length (spelling (record e { marks = one })) ≡ length (spelling (record e { marks = other }))
 spelling-size e one other same =
     parts-size (head.spell (parts_of_entry e).0) (state_spell e.state) (marks.spell one) (marks.spell other) (passed.spell e.passed) same
+
+marks-some : (items : List Mark) → 2 ≤ length (marks.spell items)
+marks-some items =
+    let e : length (marks.spell items) ≡ 2 + length (spell_each (mark None).spell items) = length-append (to_be_bytes w16 (length items)) (spell_each (mark None).spell items) in
+    omega (arith, e)
+
+parts-some : (front state marks rest : List ℕ) → 2 ≤ length marks → 1 ≤ length (front ++ (state ++ (marks ++ rest)))
+parts-some front state marks rest some =
+    omega (arith, length-append front (state ++ (marks ++ rest)), length-append state (marks ++ rest), length-append marks rest, some)
+
+-- an entry has a byte at least
+pub spelling-some : (e : Entry) → 1 ≤ length (spelling e)
+spelling-some e = parts-some (head.spell (parts_of_entry e).0) (state_spell e.state) (marks.spell e.marks) (passed.spell e.passed) (marks-some e.marks)
 
 abbrev sets_with : Named TableSet → StepStart → StepProgress → ℕ → Named TableSet
 sets_with sets start step most = committed (output_names start.root start.owned) (lengths_with sets start step.writes most) sets

@@ -44,7 +44,7 @@ use Rattle.ckr_points_invariant.proofs.Points.Lists.{pointed-next}
 use Rattle.ckr_points_invariant.proofs.RowChanges.{checkpointed}
 use Rattle.ckr_points_invariant.proofs.Library.Entries.{among-filter_map, is_name}
 use Rattle.ckr_points_invariant.proofs.Steps.Commits.{IsRunning, alike_within, formed_step, in_reach, its_start, place_so, under_way}
-use Rattle.ckr_desk_turn.specs.Checkpoints.{HasRow, MayCheckpoint, check_set, checkpoint_event, checkpoint_fits, entry_bytes, entry_end, written_entry, entry_place, entry_with, written_event, fits_in, is_check_set, is_in_range, lengths_with, next_entry, next_id, office_behind}
+use Rattle.ckr_desk_turn.specs.Checkpoints.{HasRow, MayCheckpoint, check_set, checkpoint_event, checkpoint_fits, entry_bytes, entry_end, written_entry, entry_place, entry_with, written_event, fits_in, is_check_set, is_in_range, lengths_with, next_entry, next_id, office_behind, entry_ending}
 use Rattle.ckr_desk_turn.specs.Desk.{DeskStep}
 use Rattle.ckr_desk_turn.specs.Invariant.{HasCome, HasComeSo, IsOpen}
 use Rattle.ckr_desk_turn.specs.NextEvents.{IsWithinStep}
@@ -55,6 +55,7 @@ use Rattle.ckr_desk_turn.proofs.Checkpoints.Lengths.{HasRoom, length-of-check, l
 use Rattle.ckr_desk_turn.proofs.NextEvents.Holders.{by-holder, by-spaced, of-run as holder-run, of-start as holder-start, on-holder}
 use Rattle.ckr_desk_turn.proofs.StepEnd.{by-changed}
 use Rattle.ckr_desk_turn.proofs.Units.Outputs.{IsOutput, each_output}
+use Rattle.ckr_desk_turn.proofs.Checkpoints.Bytes.{spelling-some}
 
 checks-output : (role : Role) → is_checkpoints role ≡ true → is_output role ≡ true
 checks-output Reads e = absurd (false≢true e)
@@ -289,7 +290,10 @@ module _ (layout : Layout) (office : Office) (run : ℕ) (row : RunRow) (number 
             ∙ of-run follows_so
             (and_from (is_running row && lengths_follow office.tables row then_lengths) _
             (and_from (is_running row) (lengths_follow office.tables row then_lengths) runs told.follow) told.checked)) refl;
-        carried = ap (λ n. of_start office n carries_so) mine ∙ of-start carries_so told.carried;
+        carried =
+            and_from (nat_le 1 (entry_bytes office.tables.sets row start step)) (of_start office row.number carries_so)
+            (nat_le-from 1 (entry_bytes office.tables.sets row start step) (spelling-some (entry_ending 0 office.tables.sets row start step)))
+            (ap (λ n. of_start office n carries_so) mine ∙ of-start carries_so told.carried);
       }
 
 -- ---- where a checkpoint may be taken

@@ -13,7 +13,6 @@ use Rattle.ckr_points.specs.RuleCases.{rd_in_effect}
 use Rattle.ckr_points.specs.Rows.{EffectPoint, RunRow, TablesModel, run_of}
 use Rattle.ckr_points.specs.Tables.{fresh_effect, is_checkpoints, name_with_role}
 use Rattle.ckr_points_invariant.proofs.Holders.Rows.{run-other}
-use Rattle.ckr_points_invariant.proofs.PlainRuns.SoundEvents.{AreKept}
 use Rattle.ckr_rules.specs.RuleTables.{suppresses}
 use Rattle.ckr_desk_turn.specs.declared.reply.Chkpt.{Chkpt}
 use Rattle.ckr_desk_turn.specs.Checkpoints.{MayCheckpoint, checkpoint_fits, checkpoint_try, checkpoint_unless, checkpointed_by, office_behind, written_event}
@@ -31,6 +30,7 @@ use Rattle.ckr_desk_turn.proofs.Readiness.{kept-on}
 use Rattle.ckr_desk_turn.proofs.RunningSteps.{going-within, nothing-between}
 use Rattle.ckr_desk_turn.proofs.Units.AnyUnit.{found-going}
 use Rattle.ckr_desk_turn.proofs.Moves.{accounted_so, come-served, come-uncoded, going-served, moved-kept}
+use Rattle.ckr_points_invariant.specs.KeptEvents.{AreKept}
 
 -- the row of a run behind its checkpoint: it has written an entry more, which is in effect, and what its step has written is committed
 abbrev pub entered : RunRow → ℕ → Option EffectPoint → RunRow
@@ -119,7 +119,7 @@ module _ (desk : DeskModel) (is : IsDesk desk) (on : DeskStep) (going : IsGoing 
       (or_left (list_any (λ (step : DeskStep). step.run == going.row.number) later.running) _ (or_left (going.row.number == going.row.number) _ (equal-itself going.row.number)))
 
   its_events : AreKept desk.layout now
-  its_events = kept-on desk is (written_event desk.layout desk.office on may) refl (may-come desk.layout desk.office on may)
+  its_events = kept-on desk is (written_event desk.layout desk.office on may) (may-come desk.layout desk.office on may)
 
   written-kept : IsDesk later
   written-kept = record {
@@ -138,6 +138,8 @@ module _ (desk : DeskModel) (is : IsDesk desk) (on : DeskStep) (going : IsGoing 
     spaced_legs = is.spaced_legs;
     pointed = its_events.pointed;
     ready = its_events.ready;
+    begun = its_events.begun;
+    written = its_events.written;
   }
 
   written-keeps : Keeps desk (served_by going.row (checkpoint_try true desk.office.tables going.row going.start on.progress) desk)

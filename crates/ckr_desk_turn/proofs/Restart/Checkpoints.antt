@@ -23,9 +23,8 @@ use Rattle.ckr_points_invariant.specs.Invariant.{step_now}
 use Rattle.ckr_points_invariant.specs.Readiness.{IsCheck}
 use Rattle.ckr_points_invariant.specs.Restorability.{AreEntriesRestorable, IsRestorable, StandsAt}
 use Rattle.ckr_points_invariant.proofs.Holders.Rows.{run-other}
-use Rattle.ckr_points_invariant.proofs.PlainRuns.Office.{entries-restorable}
-use Rattle.ckr_points_invariant.proofs.PlainRuns.Readiness.{kept-entry}
-use Rattle.ckr_points_invariant.proofs.PlainRuns.SoundEvents.{AreKept}
+use Rattle.ckr_points_invariant.proofs.Readiness.Office.{entries-restorable}
+use Rattle.ckr_points_invariant.proofs.Readiness.Runs.{kept-entry}
 use Rattle.ckr_points_invariant.proofs.Restart.Event.{RestartsNow, at-step, entry-stands, holder-entry, restarts-now, row_back, sets_then_back, to-entry}
 use Rattle.ckr_points_invariant.proofs.Restart.Verdicts.{check-there, check-unwritten}
 use Rattle.ckr_points_invariant.proofs.Steps.Commits.{IsRunning, its_start, under_way}
@@ -38,6 +37,7 @@ use Rattle.ckr_desk_turn.specs.Restarts.{restart_of}
 use Rattle.ckr_desk_turn.proofs.OtherRuns.{Changes, plain-deck}
 use Rattle.ckr_desk_turn.proofs.Restart.Events.{MayRestart, by-run, here, judged-so, restart-comes}
 use Rattle.ckr_desk_turn.proofs.RunningSteps.{nothing-between}
+use Rattle.ckr_points_invariant.specs.KeptEvents.{AreKept}
 
 -- behind the records taken and the writes that an entry tells
 open-so : (start : StepStart) (point : EntryPoint) → carries_taken point.taken point.writes start ≡ true → IsOpen start (at_entry 0 point).progress

@@ -12,7 +12,6 @@ use Rattle.ckr_meaning.specs.StepRun.{StepStart}
 use Rattle.ckr_points.specs.Follows.{is_running}
 use Rattle.ckr_points.specs.Office.{Office, office_after}
 use Rattle.ckr_points.specs.Rows.{RunRow}
-use Rattle.ckr_points_invariant.proofs.PlainRuns.SoundEvents.{AreKept}
 use Rattle.ckr_rules.specs.RuleTables.{rule_number}
 use Rattle.ckr_rules.specs.declared.cases.Rule.{Rule}
 use Rattle.ckr_rules.specs.declared.cases.Verdict.TheVariants.{Checkpoint, Step}
@@ -32,6 +31,8 @@ use Rattle.ckr_desk_turn.proofs.Restart.Points.{running-again}
 use Rattle.ckr_desk_turn.proofs.Restart.Steps.{IsAtStart, start-row}
 use Rattle.ckr_desk_turn.proofs.RunningSteps.{reached-comes, reached-holds}
 use Rattle.ckr_desk_turn.proofs.StepEnd.{code-kept, held-kept}
+use Rattle.ckr_points_invariant.specs.KeptEvents.{AreKept}
+use Rattle.ckr_desk_turn.proofs.Readiness.{desk-kept}
 
 -- a run within a step, which may be restarted on its initiator
 pub may-so : (desk : DeskModel) → IsDesk desk → (row : RunRow) (number committed : ℕ) (start : StepStart) → IsWithinStep desk.office row.number row number committed start → MayGoOn desk.layout desk.office row (initiator_of row)
@@ -44,7 +45,7 @@ told-keeps desk reply event goes = record { comes = goes.comes; kept = goes.kept
 
 module _ (desk : DeskModel) (is : IsDesk desk) (row : RunRow) (initiator : ℕ) (code : Code) where
   are : AreKept desk.layout desk.office
-  are = record { kept = is.kept; pointed = is.pointed; ready = is.ready }
+  are = desk-kept desk is
 
   -- ---- at the start of its step
 
@@ -71,6 +72,8 @@ module _ (desk : DeskModel) (is : IsDesk desk) (row : RunRow) (initiator : ℕ) 
           spaced_legs = is.spaced_legs;
           pointed = on.pointed;
           ready = on.ready;
+          begun = on.begun;
+          written = on.written;
         }
 
     pub step-goes_on : GoesOnBy desk (restart_of row initiator code false)
@@ -115,6 +118,8 @@ module _ (desk : DeskModel) (is : IsDesk desk) (row : RunRow) (initiator : ℕ) 
           spaced_legs = is.spaced_legs;
           pointed = on.pointed;
           ready = on.ready;
+          begun = on.begun;
+          written = on.written;
         }
 
     pub check-goes_on : GoesOnBy desk (restart_of row initiator code true)

@@ -19,7 +19,7 @@ use Rattle.ckr_points.specs.Payload.{is_verdict}
 use Rattle.ckr_points.specs.Restart.{place_of, step_in}
 use Rattle.ckr_points.specs.Rows.{RunRow, TablesModel, run_of, step_of_run}
 use Rattle.ckr_points_invariant.specs.Invariant.{step_now}
-use Rattle.ckr_points_invariant.proofs.PlainRuns.SoundEvents.{AreKept, next-kept}
+use Rattle.ckr_points_invariant.proofs.KeptEvents.{next-kept}
 use Rattle.ckr_points_invariant.proofs.Restart.Verdicts.{restarts-again}
 use Rattle.ckr_points_invariant.proofs.Steps.Commits.{IsRunning, its_start}
 use Rattle.ckr_rules.specs.declared.cases.Verdict.{Verdict}
@@ -30,6 +30,7 @@ use Rattle.ckr_desk_turn.specs.NextEvents.{IsWithinStep}
 use Rattle.ckr_desk_turn.specs.Restarts.{IsJudged, IsJudgedOff, restart_of}
 use Rattle.ckr_desk_turn.proofs.Checkpoints.Events.{runs}
 use Rattle.ckr_desk_turn.proofs.NextEvents.Holders.{HoldsStep, by-holder, may_go, of-run, on-holder}
+use Rattle.ckr_points_invariant.specs.KeptEvents.{AreKept}
 
 pub same-number : (n : ℕ) → nat_eq n n ≡ true
 same-number n = grind (arith, nat_tests)
@@ -131,4 +132,4 @@ module _ (layout : Layout) (office : Office) (are : AreKept layout office) (row 
 
     -- what is kept behind it
     pub restart-keeps : AreKept layout (office_after (restart_of row initiator code checkpoint, None) office)
-    restart-keeps = next-kept layout office (restart_of row initiator code checkpoint) None refl are.kept are.pointed are.ready restart-comes
+    restart-keeps = next-kept layout office are (restart_of row initiator code checkpoint) None restart-comes

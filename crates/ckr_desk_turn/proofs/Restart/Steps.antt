@@ -13,8 +13,7 @@ use Rattle.ckr_points.specs.Rows.{RunRow, StartPoint, TableSet}
 use Rattle.ckr_points_invariant.specs.Invariant.{step_now}
 use Rattle.ckr_points_invariant.specs.Restorability.{AreStepsRestorable, StandsAt}
 use Rattle.ckr_points_invariant.proofs.Holders.Rows.{run-other}
-use Rattle.ckr_points_invariant.proofs.PlainRuns.Office.{steps-restorable}
-use Rattle.ckr_points_invariant.proofs.PlainRuns.SoundEvents.{AreKept}
+use Rattle.ckr_points_invariant.proofs.Readiness.Office.{steps-restorable}
 use Rattle.ckr_points_invariant.proofs.Restart.Event.{RestartsNow, at-step, holder-start, restarts-now, row_then, sets_then, start-stands, to-start}
 use Rattle.ckr_rules.specs.declared.cases.Verdict.TheVariants.{Step}
 use Rattle.ckr_volumes.specs.declared.layout.Layout.{Layout}
@@ -22,6 +21,7 @@ use Rattle.ckr_desk_turn.specs.Invariant.{IsAdmitted, has_its_step, is_plain_row
 use Rattle.ckr_desk_turn.specs.Restarts.{restart_of}
 use Rattle.ckr_desk_turn.proofs.OtherRuns.{Changes, plain-deck}
 use Rattle.ckr_desk_turn.proofs.Restart.Events.{MayRestart, begun, by-run, here, restart-comes}
+use Rattle.ckr_points_invariant.specs.KeptEvents.{AreKept}
 
 -- the row of the run changes to one of the same deck, which isn't within its step
 pub record IsAtStart (office after : Office) (row : RunRow) : Type 0 where

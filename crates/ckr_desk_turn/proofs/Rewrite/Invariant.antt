@@ -23,7 +23,6 @@ use Rattle.ckr_points.specs.Office.{Office, office_after}
 use Rattle.ckr_points.specs.Restart.{place_of, step_in}
 use Rattle.ckr_points.specs.Rows.{RunRow, TableSet, run_of, step_of_run}
 use Rattle.ckr_points_invariant.proofs.Holders.Rows.{run-other, run-same}
-use Rattle.ckr_points_invariant.proofs.PlainRuns.SoundEvents.{AreKept}
 use Rattle.ckr_desk_turn.specs.declared.failed_run.FailedRun.{FailedRun}
 use Rattle.ckr_desk_turn.specs.Desk.{DeskModel, DeskStep, behind as desk_behind, with_progress, without_run}
 use Rattle.ckr_desk_turn.specs.Units.{StepProgress, arrived}
@@ -36,6 +35,7 @@ use Rattle.ckr_desk_turn.proofs.RunningSteps.{nothing-between}
 use Rattle.ckr_desk_turn.proofs.Rewrite.Event.{Rewrites, carry_so, follow_so, its_table, lrecl_so, rewrite_carried, rewrite_follows}
 use Rattle.ckr_desk_turn.proofs.Moves.{accounted_so}
 use Rattle.ckr_desk_turn.proofs.NextEvents.WithinStep.{by-step, of-run, of-start, runs}
+use Rattle.ckr_points_invariant.specs.KeptEvents.{AreKept}
 
 -- what the rewrite behind some writes of a step tells
 pub record IsTold (office : Office) (row : RunRow) (start : StepStart) (before : ℕ) (at : ℕ × List ℕ) : Type 0 where
@@ -168,7 +168,7 @@ module _ (desk : DeskModel) (is : IsDesk desk) (run : ℕ) (row : RunRow) (numbe
       (or_left (list_any (λ (step : DeskStep). step.run == row.number) later.running) _ (or_left (row.number == row.number) _ (equal-itself row.number)))
 
   on : AreKept desk.layout now
-  on = kept-on desk is (RewrittenEvent run taken (suc before) lengths at.0 image) refl rewritten-comes
+  on = kept-on desk is (RewrittenEvent run taken (suc before) lengths at.0 image) rewritten-comes
 
   pub rewritten-kept : IsDesk later
   rewritten-kept = record {
@@ -185,4 +185,6 @@ module _ (desk : DeskModel) (is : IsDesk desk) (run : ℕ) (row : RunRow) (numbe
     spaced_legs = is.spaced_legs;
     pointed = on.pointed;
     ready = on.ready;
+    begun = on.begun;
+    written = on.written;
   }

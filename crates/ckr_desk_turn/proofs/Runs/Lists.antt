@@ -9,9 +9,7 @@ use Rattle.ckr_points.specs.Events.{AreSound, AreSoundFrom, IsNext}
 use Rattle.ckr_points.specs.Office.{Office, no_office, office, office_after, office_from}
 use Rattle.ckr_points.specs.Restart.{Decked}
 use Rattle.ckr_points_invariant.specs.Invariant.{IsKept}
-use Rattle.ckr_points_invariant.specs.PlainRuns.{continues}
-use Rattle.ckr_points_invariant.proofs.EventLaws.{no_events}
-use Rattle.ckr_points_invariant.proofs.PlainRuns.SoundEvents.{AreKept, next-kept, none-ready}
+use Rattle.ckr_points_invariant.proofs.KeptEvents.{next-kept, none-kept}
 use Rattle.ckr_desk_turn.specs.CheckSets.{HaveCheckRecords}
 use Rattle.ckr_desk_turn.specs.Desk.{opened}
 use Rattle.ckr_desk_turn.specs.Invariant.{HasRuns, IsDesk}
@@ -22,12 +20,7 @@ use Rattle.ckr_desk_turn.proofs.Runs.Ends.{coded-runs, completed-runs, refused-r
 use Rattle.ckr_desk_turn.proofs.Runs.Events.{cancelled-runs, checkpointed-runs, held-runs, purged-runs, released-runs, rewritten-runs, selected-runs, started-runs, step_ended-runs, submitted-runs}
 use Rattle.ckr_desk_turn.proofs.Runs.Restarts.{restarted-runs}
 use Rattle.ckr_desk_turn.proofs.Runs.Rows.{HasRows, runs-of}
-
--- no run continues another one
-on-so : (event : Event) (deck : Option Job) → IsRunEvent event deck → continues event ≡ false
-on-so (Selected job initiator zero step id) deck is = refl
-on-so (Selected job initiator (suc before) step id) deck is = absurd (none-before before is)
-on-so _ deck is = refl
+use Rattle.ckr_points_invariant.specs.KeptEvents.{AreKept}
 
 module _ (layout : Layout) (now : Office) (are : AreKept layout now) (has : HasRows now) where
   runs-next : (event : Event) (deck : Option Job) → IsRunEvent event deck → IsNext layout now (event, deck) → HasRows (office_after (event, deck) now)
@@ -60,7 +53,7 @@ left-from layout (event ∷ rest) now are run left =
     let next : IsNext layout now (event.0, event.1) = record { may = are.0.may; carried = are.0.carried } in
     left-from layout rest (office_after event now) are.1 run.1
     (record {
-      are = next-kept layout now event.0 event.1 (on-so event.0 event.1 run.0) left.are.kept left.are.pointed left.are.ready next;
+      are = next-kept layout now left.are event.0 event.1 next;
       has = runs-next layout now left.are left.has event.0 event.1 run.0 next;
       checks = have-next layout now left.are.kept left.has left.checks event.0 event.1 run.0 next;
     })
@@ -69,7 +62,7 @@ left-at : (layout : Layout) (events : List Decked) → AreSound layout events �
 left-at layout events are run =
     left-from layout events no_office are run
     (record {
-      are = record { kept = no_events layout; pointed = record { rows = tt; entries = tt }; ready = none-ready };
+      are = none-kept layout;
       has = record { plain = refl; admitted = tt; stepped = refl; spaced = tt; spaced_legs = tt };
       checks = tt;
     })
@@ -82,7 +75,7 @@ events-kept layout events are run = (left-at layout events are run).are.kept
 pub events-run : (layout : Layout) (events : List Decked) → AreSound layout events → AreRunEvents events → HasRuns (office events)
 events-run layout events are run =
     let left : AreLeft layout (office events) = left-at layout events are run in
-    runs-of (office events) left.has left.are.pointed left.are.ready
+    runs-of (office events) left.has layout left.are
 
 pub events-checked : (layout : Layout) (events : List Decked) → AreSound layout events → AreRunEvents events → HaveCheckRecords (office events).tables.sets
 events-checked layout events are run = (left-at layout events are run).checks

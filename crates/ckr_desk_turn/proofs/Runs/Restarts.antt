@@ -7,13 +7,13 @@ use Rattle.ckr_library.specs.NameMaps.{Named}
 use Rattle.ckr_points.specs.Events.{IsNext}
 use Rattle.ckr_points.specs.Office.{Office, office_after}
 use Rattle.ckr_points.specs.Rows.{RunRow, TableSet, run_of, with_run}
-use Rattle.ckr_points_invariant.proofs.PlainRuns.Office.{entries-restorable, steps-restorable}
-use Rattle.ckr_points_invariant.proofs.PlainRuns.SoundEvents.{AreKept}
+use Rattle.ckr_points_invariant.proofs.Readiness.Office.{entries-restorable, steps-restorable}
 use Rattle.ckr_points_invariant.proofs.Restart.Event.{by-run, entry-by, row_back, row_then, sets_then, sets_then_back, start-by}
 use Rattle.ckr_volumes.specs.declared.layout.Layout.{Layout}
 use Rattle.ckr_desk_turn.proofs.OtherRuns.{plain-deck}
 use Rattle.ckr_desk_turn.proofs.Runs.Events.{has-step}
 use Rattle.ckr_desk_turn.proofs.Runs.Rows.{HasRow, HasRows, has-row, runs-renewed, stands-one}
+use Rattle.ckr_points_invariant.specs.KeptEvents.{AreKept}
 
 module _ (layout : Layout) (now : Office) (are : AreKept layout now) (has : HasRows now) where
   -- with one row that is renewed

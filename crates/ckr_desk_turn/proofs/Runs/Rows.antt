@@ -10,8 +10,9 @@ use Rattle.ckr_meaning.specs.LibrarySet.{AreWithinSpace}
 use Rattle.ckr_points.specs.Office.{Leg, Office}
 use Rattle.ckr_points.specs.Rows.{RunRow, TableSet, TablesModel, run_of, with_run}
 use Rattle.ckr_points_invariant.proofs.Holders.Rows.{run-other, run-same}
-use Rattle.ckr_points_invariant.specs.Points.{ArePointed}
-use Rattle.ckr_points_invariant.specs.Readiness.{AreReady}
+use Rattle.ckr_volumes.specs.declared.layout.Layout.{Layout}
+use Rattle.ckr_points_invariant.specs.Invariant.{IsKept}
+use Rattle.ckr_points_invariant.specs.KeptEvents.{AreKept}
 use Rattle.ckr_desk_turn.specs.Invariant.{HasRuns, IsAdmitted, has_its_step, is_plain_row}
 use Rattle.ckr_desk_turn.proofs.OtherRuns.{all-by, every-by}
 
@@ -26,16 +27,22 @@ pub record HasRows (office : Office) : Type 0 where
 pub rows-of : (office : Office) → HasRuns office → HasRows office
 rows-of office has = record { plain = has.plain; admitted = has.admitted; stepped = has.stepped; spaced = has.spaced; spaced_legs = has.spaced_legs }
 
-pub runs-of : (office : Office) → HasRows office → ArePointed office → AreReady office → HasRuns office
-runs-of office has pointed ready = record {
+pub runs-of : (office : Office) → HasRows office → (layout : Layout) → AreKept layout office → HasRuns office
+runs-of office has layout are = record {
   plain = has.plain;
   admitted = has.admitted;
   stepped = has.stepped;
   spaced = has.spaced;
   spaced_legs = has.spaced_legs;
-  pointed = pointed;
-  ready = ready;
+  pointed = are.pointed;
+  ready = are.ready;
+  begun = are.begun;
+  written = are.written;
 }
+
+-- all that is kept from event to event
+pub runs-kept : (layout : Layout) (office : Office) → IsKept layout office → HasRuns office → AreKept layout office
+runs-kept layout office kept has = record { kept = kept; pointed = has.pointed; ready = has.ready; begun = has.begun; written = has.written }
 
 -- what each row of the desk has
 pub record HasRow (row : RunRow) : Type 0 where

@@ -36,7 +36,6 @@ use Rattle.ckr_points.specs.Restart.{place_of, step_in}
 use Rattle.ckr_points.specs.Rows.{RunRow, TableSet, TablesModel, run_of, standing_of, step_of_run, table_ways}
 use Rattle.ckr_points_invariant.proofs.Steps.Commits.{its_start}
 use Rattle.ckr_points_invariant.proofs.Holders.Rows.{run-other, run-same}
-use Rattle.ckr_points_invariant.proofs.PlainRuns.SoundEvents.{AreKept}
 use Rattle.ckr_points_invariant.proofs.Steps.Events.{led-by}
 use Rattle.ckr_points_invariant.proofs.Steps.Walks.{start_at-of}
 use Rattle.ckr_points_invariant.specs.Invariant.{IsHolder}
@@ -52,6 +51,7 @@ use Rattle.ckr_desk_turn.proofs.Start.Items.{items-follow}
 use Rattle.ckr_desk_turn.proofs.OtherRuns.{Changes, admitted-then, each_row, failed-all, going-rest, plain-then, row-admitted, row-plain, running-same, some-holds, stepped-then}
 use Rattle.ckr_desk_turn.proofs.Readiness.{kept-on}
 use Rattle.ckr_desk_turn.proofs.RunningSteps.{nothing-between}
+use Rattle.ckr_points_invariant.specs.KeptEvents.{AreKept}
 
 -- nothing is written before the first record
 nothing-yet : (case : ProgramCase) → 0 ≡ length (upto case 0)
@@ -215,7 +215,7 @@ module _ (desk : DeskModel) (is : IsDesk desk) (row : RunRow) (at : run_of desk.
   pub started-kept : IsDesk later
   started-kept =
       let mine : IsAdmitted row = its_deck in
-      let on_now : AreKept desk.layout later.office = kept-on desk is (StartedEvent row.number step (record { items = items })) refl started-comes in
+      let on_now : AreKept desk.layout later.office = kept-on desk is (StartedEvent row.number step (record { items = items })) started-comes in
       record {
         kept = on_now.kept;
         going = (goes, going-rest desk.office later.office row.number next changes desk.running is.going);
@@ -229,4 +229,6 @@ module _ (desk : DeskModel) (is : IsDesk desk) (row : RunRow) (at : run_of desk.
         spaced_legs = is.spaced_legs;
         pointed = on_now.pointed;
         ready = on_now.ready;
+        begun = on_now.begun;
+        written = on_now.written;
       }

@@ -30,7 +30,7 @@ use Rattle.ckr_points.specs.Rows.{EffectPoint, KeptEntry, RunRow, TablesModel, r
 use Rattle.ckr_points.specs.Soundness.{denying}
 use Rattle.ckr_points_invariant.specs.Invariant.{step_now}
 use Rattle.ckr_points_invariant.specs.Readiness.{IsCheck, IsReady}
-use Rattle.ckr_points_invariant.proofs.PlainRuns.Readiness.{kept-entry}
+use Rattle.ckr_points_invariant.proofs.Readiness.Runs.{kept-entry}
 use Rattle.ckr_points_invariant.proofs.Restart.Verdicts.{check-there}
 use Rattle.ckr_points_invariant.proofs.Steps.Events.{led-by}
 use Rattle.ckr_rules.specs.RuleTables.{first_line, forbids_restart, is_rnc, rule_number, suppresses}

@@ -5,12 +5,12 @@ use Rattle.ckr_desk_turn.proofs.restart_laws.events_of_restarts_may_come.Goals a
 
 pub returns : goal.returns
 returns c = record {
-  step = λ layout office row initiator code kept pointed ready its.
-      restart-comes layout office (record { kept = kept; pointed = pointed; ready = ready }) row initiator code Step (on-judged layout office row initiator code Step its) false refl;
-  checkpoint = λ layout office row initiator code kept pointed ready its.
-      restart-comes layout office (record { kept = kept; pointed = pointed; ready = ready }) row initiator code Checkpoint (on-judged layout office row initiator code Checkpoint its) true refl;
-  step_off = λ layout office row initiator code kept pointed ready its free.
-      restart-comes layout office (record { kept = kept; pointed = pointed; ready = ready }) row initiator code Step (off-judged layout office row initiator code Step its free) false refl;
-  checkpoint_off = λ layout office row initiator code kept pointed ready its free.
-      restart-comes layout office (record { kept = kept; pointed = pointed; ready = ready }) row initiator code Checkpoint (off-judged layout office row initiator code Checkpoint its free) true refl;
+  step = λ layout office row initiator code are its.
+      restart-comes layout office are row initiator code Step (on-judged layout office row initiator code Step its) false refl;
+  checkpoint = λ layout office row initiator code are its.
+      restart-comes layout office are row initiator code Checkpoint (on-judged layout office row initiator code Checkpoint its) true refl;
+  step_off = λ layout office row initiator code are its free.
+      restart-comes layout office are row initiator code Step (off-judged layout office row initiator code Step its free) false refl;
+  checkpoint_off = λ layout office row initiator code are its free.
+      restart-comes layout office are row initiator code Checkpoint (off-judged layout office row initiator code Checkpoint its free) true refl;
 }

@@ -13,8 +13,8 @@ pub returns : goal.returns
 returns c = record {
   unmarked = λ desk job initiator code checkpoint. any-without job desk.failed (λ one. not one.asked);
   stopped = λ desk job initiator code. ap (λ (o : Option DeskStep). option_map_or (λ (step : DeskStep). progress_unless step.code step.progress) o None) (find-without job desk.running);
-  starts = λ desk row initiator code next owned kept pointed ready its. starts-again desk (record { kept = kept; pointed = pointed; ready = ready }) row initiator code (on-judged desk.layout desk.office row initiator code Step its) next owned;
-  going = λ layout office row initiator code entry kept pointed ready its there. check-going layout office (record { kept = kept; pointed = pointed; ready = ready }) row initiator code (on-judged layout office row initiator code Checkpoint its) entry there;
+  starts = λ desk row initiator code next owned are its. starts-again desk are row initiator code (on-judged desk.layout desk.office row initiator code Step its) next owned;
+  going = λ layout office row initiator code entry are its there. check-going layout office are row initiator code (on-judged layout office row initiator code Checkpoint its) entry there;
   progress = λ desk row initiator code entry at there. again-progress desk row initiator code entry at there;
   served = λ start job point e. false≢true (sym (checkpoint-only start (at_entry job point).progress e).undone);
 }
