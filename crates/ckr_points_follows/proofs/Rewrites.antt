@@ -1,19 +1,14 @@
 -- The data set that a step updates.
-use Rattle.std.proofs.Common.{◌≡◌, ℕ, ◌&&◌, ◌==◌, ◌||◌, Bool, true, false, not, nat_lt, length, List, [], ◌∷◌, slice_get, suc, zero, refl, ap, sym, ◌∙◌, Some, None, Option}
-use Rattle.std.specs.Option.{option_and_then, option_map, option_map_or}
-use Rattle.std.specs.List.{list_all}
+use Rattle.std.proofs.Common.{◌≡◌, ℕ, ◌&&◌, ◌==◌, ◌||◌, Bool, true, false, not, nat_lt, length, List, [], refl, sym, ◌∙◌, Some, None, Option}
+use Rattle.std.specs.Option.{option_and_then, option_map_or}
 use Rattle.std.proofs.lemmas.Bool.{false≢true}
-use Rattle.std.proofs.lemmas.Option.{same_Some, slice_get-map}
-use Rattle.ckr_base.proofs.Bools.{and-first, and-second}
 use Rattle.ckr_base.proofs.Options.{some-not-none}
 use Rattle.ckr_uses.specs.SetNames.{origin_name, run_name}
 use Rattle.ckr_jcl.specs.declared.deck.Dd.{Dd}
-use Rattle.ckr_jcl.specs.declared.deck.Job.{Job}
 use Rattle.ckr_jcl.specs.declared.deck.Origin.{Origin}
 use Rattle.ckr_jcl.specs.declared.deck.Origin.TheVariants.{InStream, Named as NamedOrigin, Temporary, Unnamed, Sysout, Dummy}
-use Rattle.ckr_jcl.specs.declared.deck.Step.{Step}
 use Rattle.ckr_library.specs.NameMaps.{Name, entry_at}
-use Rattle.ckr_meaning.specs.EffectiveJob.{OwnedStep, name_of, owned_by, plain_job, step_at}
+use Rattle.ckr_meaning.specs.EffectiveJob.{OwnedStep, name_of}
 use Rattle.ckr_points.specs.Tables.{is_updates, name_with_role}
 use Rattle.ckr_points.specs.Follows.{is_rewrite, is_update}
 use Rattle.ckr_points.specs.Rows.{RunRow, TableSet, TablesModel}
@@ -28,22 +23,6 @@ origin-named (Temporary text) root owner step name e = (_, refl)
 origin-named Unnamed root owner step name e = (_, refl)
 origin-named Sysout root owner step name e = (_, refl)
 origin-named Dummy root owner step name e = absurd (false≢true e)
-
--- each step of a job has a MASTER where it updates
-master-at : (steps : List Step) → list_all has_master steps ≡ true → (place : ℕ) (step : Step) → slice_get steps place ≡ Some step → has_master step ≡ true
-master-at [] all place step here = absurd (some-not-none _ (sym here))
-master-at (one ∷ steps) all zero step here = ap has_master (sym (same_Some one step here)) ∙ and-first (has_master one) (list_all has_master steps) all
-master-at (one ∷ steps) all (suc place) step here = master-at steps (and-second (has_master one) (list_all has_master steps) all) place step here
-
-pub master-of : (run : ℕ) (job : Job) → list_all has_master job.steps ≡ true → (number : ℕ) (step : Step) → Some (owned_by run job step) ≡ step_at (plain_job run job) number → has_master step ≡ true
-master-of run job all zero step here = absurd (some-not-none _ here)
-master-of run job all (suc place) step here = by (slice_get job.steps place) refl
-  where
-    by : (found : Option Step) → slice_get job.steps place ≡ found → has_master step ≡ true
-    by None none = absurd (some-not-none _ (here ∙ slice_get-map (owned_by run job) job.steps place ∙ ap (option_map (owned_by run job)) none))
-    by (Some one) some =
-        ap has_master (ap (λ (own : OwnedStep). own.step) (same_Some (owned_by run job step) (owned_by run job one) (here ∙ slice_get-map (owned_by run job) job.steps place ∙ ap (option_map (owned_by run job)) some)))
-        ∙ master-at job.steps all place one some
 
 -- the rewrite of a record, by the name of the data set
 pub rewrite-by : (tables : TablesModel) (row : RunRow) (own : OwnedStep) (place : ℕ) (image : List ℕ) → has_master own.step ≡ true → is_rewrite_of tables.sets row.job.root own place image ≡ is_rewrite tables place image row own

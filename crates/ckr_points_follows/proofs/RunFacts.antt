@@ -1,5 +1,5 @@
 -- A run of the tables by its line and by what they keep of it besides.
-use Rattle.std.proofs.Common.{◌≡◌, ℕ, zero, suc, ◌-◌, ◌≤◌, map, slice_get, refl, ap, sym, ◌∙◌, subst, IfSome, Some, None, Option}
+use Rattle.std.proofs.Common.{List, [], ◌∷◌, true, ◌≡◌, ℕ, zero, suc, ◌-◌, ◌≤◌, map, slice_get, refl, ap, sym, ◌∙◌, subst, IfSome, Some, None, Option}
 use Rattle.std.specs.Option.{option_map}
 use Rattle.std.proofs.lemmas.Option.{same_Some, slice_get-map}
 use Rattle.ckr_base.proofs.Numbers.{suc-minus}
@@ -7,7 +7,13 @@ use Rattle.ckr_base.proofs.Options.{some-not-none}
 use Rattle.ckr_library.specs.Catalog.{Holding}
 use Rattle.ckr_library.specs.NameMaps.{Name, Named, entry_at}
 use Rattle.ckr_library.proofs.Named.{at-viewed}
-use Rattle.ckr_meaning.specs.EffectiveJob.{HasDistinctNames, plain_job}
+use Rattle.std.specs.List.{list_all}
+use Rattle.std.proofs.lemmas.Bool.{and_from}
+use Rattle.ckr_base.proofs.Bools.{and-first, and-second}
+use Rattle.ckr_jcl.specs.declared.deck.Job.{Job}
+use Rattle.ckr_jcl.specs.declared.deck.Step.{Step}
+use Rattle.ckr_points_tables.specs.Rewrite.{has_master}
+use Rattle.ckr_meaning.specs.EffectiveJob.{Effective, HasDistinctNames, OwnedStep, owned_by}
 use Rattle.ckr_points.specs.declared.run.Run.{Run}
 use Rattle.ckr_points.specs.Rows.{RunRow, TableSet, TablesModel, holding_of, run_of}
 use Rattle.ckr_points_tables.specs.declared.run_table.RunTable.{RunTable}
@@ -30,6 +36,10 @@ pub none-seen : (found : Option RunRow) → None ≡ option_map line_of found �
 none-seen None e = refl
 none-seen (Some row) e = absurd (some-not-none _ (sym e))
 
+mapped : (number : ℕ) (deck : Job) (steps : List Step) → list_all has_master steps ≡ true → list_all (λ (own : OwnedStep). has_master own.step) (map (owned_by number deck) steps) ≡ true
+mapped number deck [] all = refl
+mapped number deck (step ∷ steps) all = and_from (has_master step) _ (and-first (has_master step) _ all) (mapped number deck steps (and-second (has_master step) _ all))
+
 module _ (desk : TablesModel) (job : ℕ) (plain : (row : RunRow) → run_of desk job ≡ Some row → IsPlainRow job row) where
   pub row-seen : (line : Run) (table : Option RunTable) → Some line ≡ option_map line_of (run_of desk job) → option_map facts_of table ≡ option_map facts_in (run_of desk job) → option_map (row_of line) table ≡ run_of desk job
   row-seen line table lined kept = by (run_of desk job) refl table lined kept
@@ -49,9 +59,9 @@ module _ (desk : TablesModel) (job : ℕ) (plain : (row : RunRow) → run_of des
       let is : IsPlainRow job (row_now run) = plain (row_now run) (sym seen) in
       record {
         few = subst (λ n. n ≤ 9999999) (sym is.numbered) is.few;
-        limits = is.limits;
-        distinct = subst (λ n. HasDistinctNames (plain_job n run.table.now.job)) (sym is.numbered) is.distinct;
-        masters = is.masters;
+        fits = is.fits;
+        distinct = subst HasDistinctNames (sym is.job) is.distinct;
+        masters = subst (λ (job : Effective). list_all (λ (own : OwnedStep). has_master own.step) job.steps ≡ true) (sym is.job) (mapped job run.table.now.job.deck run.table.now.job.deck.steps is.masters);
       }
 
 -- the data set of a name, as the tables see it

@@ -1,11 +1,12 @@
 -- A run as it stands on the tables.
-use Rattle.std.specs.Prelude.{◌≡◌, ◌≤◌, true, IsTrue}
+use Rattle.std.specs.Prelude.{◌≡◌, ◌≤◌, true}
 use Rattle.std.specs.List.{list_all}
-use Rattle.ckr_meaning.specs.EffectiveJob.{HasDistinctNames, plain_job}
+use Rattle.ckr_meaning.specs.EffectiveJob.{HasDistinctNames, OwnedStep}
 use Rattle.ckr_points.specs.Rows.{RunRow}
 use Rattle.ckr_points_follows.specs.declared.runs.WholeRun.{WholeRun}
 use Rattle.ckr_points_tables.specs.Rewrite.{has_master}
-use Rattle.ckr_points_tables.specs.View.{is_within_limits, row_of}
+use Rattle.ckr_points_tables.specs.RunJobs.{IsFitting}
+use Rattle.ckr_points_tables.specs.View.{row_of}
 
 -- its row
 abbrev pub row_now : WholeRun → RunRow
@@ -14,6 +15,6 @@ row_now run = row_of run.line.now run.table.now
 -- its number has at most seven digits, its job is within the limits, no name stands twice in a step, and steps of UPDATE have a MASTER
 pub record IsWholeRun (run : WholeRun) : Type 0 where
   pub few : run.line.now.number ≤ 9999999
-  pub limits : IsTrue (is_within_limits run.table.now.job)
-  pub distinct : HasDistinctNames (plain_job run.line.now.number run.table.now.job)
-  pub masters : list_all has_master run.table.now.job.steps ≡ true
+  pub fits : IsFitting (row_now run).job
+  pub distinct : HasDistinctNames (row_now run).job
+  pub masters : list_all (λ (own : OwnedStep). has_master own.step) (row_now run).job.steps ≡ true

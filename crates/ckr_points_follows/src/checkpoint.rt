@@ -9,6 +9,7 @@ ghost use Rattle.ckr_points_library.specs.Holdings.{owned};
 ghost use Rattle.ckr_points.specs.Follows.{is_checkpoint, is_length_of, is_running, lengths_follow, of_run, of_step};
 ghost use Rattle.ckr_points_follows.specs.Checkpoint.{is_checkpoint_of, is_free_at};
 ghost use Rattle.ckr_points_follows.specs.Lengths.{outputs_from};
+ghost use Rattle.ckr_points_tables.specs.RunJobs.{own_of};
 ghost use Rattle.ckr_points_follows.specs.Runs.{row_now, IsWholeRun};
 
 use crate::lengths::lengths_follow;
@@ -18,7 +19,7 @@ use ckr_base::{CheckId, DsName};
 use ckr_jcl::{Dd, Step};
 use ckr_library::Kept;
 use ckr_points_library::{has_text, output_name};
-use ckr_points_tables::{Tables, checkpoint_name};
+use ckr_points_tables::{OwnStep, Tables, checkpoint_name};
 
 /// Whether the identifiers are the same.
 fn is_same_id(one: &CheckId, other: &CheckId) -> bool
@@ -46,27 +47,29 @@ fn is_free_at(tables: &Tables, name: &DsName, id: &CheckId, place: u32) -> bool
 
 /// Whether the data set of a name is an output among these DDs, which gets this length.
 fn is_length_of(
-    run: u32,
+    root: u32,
+    owner: u32,
     step: &Step,
     dds: &[Dd],
     name: &DsName,
     most: u64,
     lengths: &[u32],
 ) -> bool
-    requires { run ≤ 9999999 }
-    ensures { result ≡ is_length_of name.now most (outputs_from run (owned step.now run []) dds.now) lengths.now }
+    requires root { root ≤ 9999999 }
+    requires owner { owner ≤ 9999999 }
+    ensures { result ≡ is_length_of name.now most (outputs_from root (owned step.now owner []) dds.now) lengths.now }
 {
     match dds {
         [] => false,
-        [dd, rest @ ..] => match output_name(dd, run, run, step) {
-            None => is_length_of(run, step, rest, name, most, lengths),
+        [dd, rest @ ..] => match output_name(dd, root, owner, step) {
+            None => is_length_of(root, owner, step, rest, name, most, lengths),
             Some(output) => match lengths {
                 [] => false,
                 [length, others @ ..] => {
                     if output.is_same(name) {
                         u64::from(*length) == most
                     } else {
-                        is_length_of(run, step, rest, name, most, others)
+                        is_length_of(root, owner, step, rest, name, most, others)
                     }
                 }
             },
@@ -75,17 +78,18 @@ fn is_length_of(
 }
 
 /// The outputs among these DDs have names. It does nothing.
-fn have_names(run: u32, step: &Step, dds: &[Dd])
-    requires { run ≤ 9999999 }
-    ensures { list_all is_named (outputs_from run (owned step.now run []) dds.now) ≡ true }
+fn have_names(root: u32, owner: u32, step: &Step, dds: &[Dd])
+    requires root { root ≤ 9999999 }
+    requires owner { owner ≤ 9999999 }
+    ensures { list_all is_named (outputs_from root (owned step.now owner []) dds.now) ≡ true }
 {
     match dds {
         [] => {}
-        [dd, rest @ ..] => match output_name(dd, run, run, step) {
-            None => have_names(run, step, rest),
+        [dd, rest @ ..] => match output_name(dd, root, owner, step) {
+            None => have_names(root, owner, step, rest),
             Some(name) => {
                 has_text(&name);
-                have_names(run, step, rest);
+                have_names(root, owner, step, rest);
             }
         },
     }
@@ -95,21 +99,30 @@ fn have_names(run: u32, step: &Step, dds: &[Dd])
 /// entry.
 fn is_checkpoint(
     tables: &Tables,
-    run: u32,
-    own: &Step,
+    root: u32,
+    own: &OwnStep<'_>,
     id: &CheckId,
     lengths: &[u32],
     place: u32,
     bytes: u32,
 ) -> bool
-    requires run { run ≤ 9999999 }
-    ensures { result ≡ is_checkpoint_of tables.now.desk.sets run (owned own.now run []) id.now lengths.now place bytes }
+    requires root { root ≤ 9999999 }
+    requires owner { own.now.owner ≤ 9999999 }
+    ensures { result ≡ is_checkpoint_of tables.now.desk.sets root (own_of own.now) id.now lengths.now place bytes }
 {
-    match checkpoint_name(run, own) {
+    match checkpoint_name(root, own) {
         Some(name) => {
             let most = u64::from(place) + (u64::from(bytes) + 255) / 256;
             is_free_at(tables, &name, id, place)
-                && is_length_of(run, own, own.dds.as_slice(), &name, most, lengths)
+                && is_length_of(
+                    root,
+                    own.owner,
+                    own.step,
+                    own.step.dds.as_slice(),
+                    &name,
+                    most,
+                    lengths,
+                )
         }
         None => false,
     }
@@ -129,8 +142,9 @@ fn step_checkpoints(
 {
     match own_step(run) {
         Some(own) => {
-            have_names(run.line.number, own, own.dds.as_slice());
-            is_checkpoint(tables, run.line.number, own, id, lengths, place, bytes)
+            let root = run.table.job.root();
+            have_names(root, own.owner, own.step, own.step.dds.as_slice());
+            is_checkpoint(tables, root, &own, id, lengths, place, bytes)
         }
         None => false,
     }

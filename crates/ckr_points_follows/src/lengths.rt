@@ -23,18 +23,27 @@ fn fits(tables: &Tables, name: &DsName, length: u32) -> bool
 }
 
 /// Whether the lengths are one for each output among these DDs, in their order.
-fn are_lengths(tables: &Tables, run: u32, step: &Step, dds: &[Dd], lengths: &[u32]) -> bool
-    requires { run ≤ 9999999 }
-    ensures { result ≡ are_lengths tables.now.desk.sets (outputs_from run (owned step.now run []) dds.now) lengths.now }
+fn are_lengths(
+    tables: &Tables,
+    root: u32,
+    owner: u32,
+    step: &Step,
+    dds: &[Dd],
+    lengths: &[u32],
+) -> bool
+    requires root { root ≤ 9999999 }
+    requires owner { owner ≤ 9999999 }
+    ensures { result ≡ are_lengths tables.now.desk.sets (outputs_from root (owned step.now owner []) dds.now) lengths.now }
 {
     match dds {
         [] => lengths.is_empty(),
-        [dd, rest @ ..] => match output_name(dd, run, run, step) {
-            None => are_lengths(tables, run, step, rest, lengths),
+        [dd, rest @ ..] => match output_name(dd, root, owner, step) {
+            None => are_lengths(tables, root, owner, step, rest, lengths),
             Some(name) => match lengths {
                 [] => false,
                 [length, others @ ..] => {
-                    fits(tables, &name, *length) && are_lengths(tables, run, step, rest, others)
+                    fits(tables, &name, *length)
+                        && are_lengths(tables, root, owner, step, rest, others)
                 }
             },
         },
@@ -48,7 +57,14 @@ pub(crate) fn lengths_follow(tables: &Tables, run: &WholeRun<'_>, lengths: &[u32
     ensures { result ≡ lengths_follow tables.now.desk (row_now run.now) lengths.now }
 {
     match own_step(run) {
-        Some(own) => are_lengths(tables, run.line.number, own, own.dds.as_slice(), lengths),
+        Some(own) => are_lengths(
+            tables,
+            run.table.job.root(),
+            own.owner,
+            own.step,
+            own.step.dds.as_slice(),
+            lengths,
+        ),
         None => false,
     }
 }

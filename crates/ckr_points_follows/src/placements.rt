@@ -1,13 +1,14 @@
 //! What allocation says of the DDs of a step.
-ghost use Rattle.std.specs.Prelude.{◌≡◌, ◌≤◌, [], false, length, not, Option};
+ghost use Rattle.std.specs.Prelude.{◌≡◌, ◌≤◌, false, length, not, Option};
 ghost use Rattle.std.specs.List.{list_all};
 ghost use Rattle.ckr_points_follows.specs.declared.placements.PlacedNow.{PlacedNow as Placing};
 ghost use Rattle.std.specs.Option.{is_some, option_map, option_map_or};
-ghost use Rattle.ckr_points_library.specs.Holdings.{meant, owned};
+ghost use Rattle.ckr_points_library.specs.Holdings.{meant};
 ghost use Rattle.ckr_meaning.specs.Allotments.{is_made, DdAllotment};
 ghost use Rattle.ckr_meaning.specs.EffectiveJob.{flaw_in, flaws_in, name_of, placed_in, placed_one};
 ghost use Rattle.ckr_points.specs.Follows.{is_empty};
 ghost use Rattle.ckr_points.specs.Rows.{standing_of, table_ways};
+ghost use Rattle.ckr_points_tables.specs.RunJobs.{own_of};
 ghost use Rattle.ckr_points_follows.specs.Placements.{placed_list, placed_now};
 ghost use Rattle.ckr_points_follows.specs.Runs.{row_now, IsWholeRun};
 
@@ -15,9 +16,9 @@ use crate::runs::WholeRun;
 use crate::steps::set_of;
 use arrayvec::ArrayVec;
 use ckr_base::DsName;
-use ckr_jcl::{Dd, Step};
+use ckr_jcl::Dd;
 use ckr_points_library::{Allotment, allotment_of, is_passed};
-use ckr_points_tables::Tables;
+use ckr_points_tables::{OwnStep, Tables};
 use ckr_uses::library_name;
 
 /// A DD that has a data set.
@@ -36,15 +37,15 @@ pub(crate) struct PlacedNow<'a> {
 fn place_dd<'a>(
     tables: &Tables,
     run: &WholeRun<'_>,
-    own: &Step,
+    own: &OwnStep<'_>,
     dd: &'a Dd,
     number: u8,
 ) -> Option<PlacedNow<'a>>
-    requires { IsWholeRun run.now }
-    ensures { let root = run.now.line.now.number in option_map placed_now result ≡ option_map (placed_one table_ways (standing_of (row_now run.now) tables.now.desk) number dd.now) (name_of root (owned own.now root []) dd.now) }
+    requires is { IsWholeRun run.now }
+    requires owner { own.now.owner ≤ 9999999 }
+    ensures { let root = run.now.table.now.job.root in option_map placed_now result ≡ option_map (placed_one table_ways (standing_of (row_now run.now) tables.now.desk) number dd.now) (name_of root (own_of own.now) dd.now) }
 {
-    let root = run.line.number;
-    match library_name(dd, root, root, &own.name) {
+    match library_name(dd, run.table.job.root(), own.owner, &own.step.name) {
         Some(name) => {
             let passed = is_passed(run.table.passed.as_slice(), &name);
             let allotment = allotment_of(dd, passed, set_of(tables, &name));
@@ -63,15 +64,16 @@ fn place_dd<'a>(
 pub(crate) fn place_step<'a>(
     tables: &Tables,
     run: &WholeRun<'_>,
-    own: &'a Step,
+    own: &OwnStep<'a>,
 ) -> ArrayVec<Option<PlacedNow<'a>>, 16>
     requires is { IsWholeRun run.now }
-    requires few { length own.now.dds ≤ 16 }
-    ensures { let root = run.now.line.now.number in placed_list result.items ≡ placed_in table_ways (standing_of (row_now run.now) tables.now.desk) root (owned own.now root []) }
+    requires owner { own.now.owner ≤ 9999999 }
+    requires few { length own.now.step.now.dds ≤ 16 }
+    ensures { let root = run.now.table.now.job.root in placed_list result.items ≡ placed_in table_ways (standing_of (row_now run.now) tables.now.desk) root (own_of own.now) }
 {
     let mut placed = ArrayVec::new();
     let mut number = 0;
-    for dd in own.dds.as_slice() {
+    for dd in own.step.dds.as_slice() {
         number += 1;
         placed.push(place_dd(tables, run, own, dd, number));
     }

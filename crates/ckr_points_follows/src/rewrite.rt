@@ -4,6 +4,7 @@ ghost use Rattle.std.specs.Option.{option_copied, option_map_or};
 ghost use Rattle.ckr_points_library.specs.Holdings.{owned};
 ghost use Rattle.ckr_points.specs.Follows.{is_rewrite, is_running, lengths_follow, of_run, of_step};
 ghost use Rattle.ckr_points_follows.specs.Rewrite.{is_place_of, is_rewrite_of};
+ghost use Rattle.ckr_points_tables.specs.RunJobs.{own_of};
 ghost use Rattle.ckr_points_follows.specs.Runs.{row_now, IsWholeRun};
 
 use crate::lengths::lengths_follow;
@@ -11,7 +12,7 @@ use crate::runs::{WholeRun, is_running, run_now};
 use crate::steps::{own_step, set_of};
 use ckr_base::DsName;
 use ckr_jcl::{Kind, Step};
-use ckr_points_tables::{Tables, master_name};
+use ckr_points_tables::{OwnStep, Tables, master_name};
 
 /// Whether a data set has a record at this place, and records of this length.
 fn is_place_of(tables: &Tables, name: &DsName, place: u32, image: &[u8]) -> bool
@@ -24,14 +25,15 @@ fn is_place_of(tables: &Tables, name: &DsName, place: u32, image: &[u8]) -> bool
 }
 
 /// Whether a step updates a data set that has a record at this place, and records of this length.
-fn is_rewrite(tables: &Tables, run: u32, own: &Step, place: u32, image: &[u8]) -> bool
-    requires run { run ≤ 9999999 }
-    ensures { result ≡ is_rewrite_of tables.now.desk.sets run (owned own.now run []) place image.now }
+fn is_rewrite(tables: &Tables, root: u32, own: &OwnStep<'_>, place: u32, image: &[u8]) -> bool
+    requires root { root ≤ 9999999 }
+    requires owner { own.now.owner ≤ 9999999 }
+    ensures { result ≡ is_rewrite_of tables.now.desk.sets root (own_of own.now) place image.now }
 {
-    if !matches!(own.program, Kind::Update) {
+    if !matches!(own.step.program, Kind::Update) {
         return false;
     }
-    match master_name(run, own) {
+    match master_name(root, own) {
         Some(name) => is_place_of(tables, &name, place, image),
         None => false,
     }
@@ -43,7 +45,7 @@ fn step_rewrites(tables: &Tables, run: &WholeRun<'_>, place: u32, image: &[u8]) 
     ensures { result ≡ of_step (row_now run.now) (is_rewrite tables.now.desk place image.now (row_now run.now)) }
 {
     match own_step(run) {
-        Some(own) => is_rewrite(tables, run.line.number, own, place, image),
+        Some(own) => is_rewrite(tables, run.table.job.root(), &own, place, image),
         None => false,
     }
 }

@@ -62,9 +62,9 @@ fn holds_beside(tables: &Tables, run: &WholeRun<'_>, other: u32) -> bool
     match run_now(tables, other) {
         Some(other) => hold_against(
             run.line.number,
-            &run.table.job,
+            run.table.job.deck(),
             other.line.number,
-            &other.table.job,
+            other.table.job.deck(),
         ),
         None => false,
     }
@@ -108,7 +108,7 @@ fn run_follows(
     ensures { result ≡ selected_follows layout.now tables.now.desk initiator 0 step id.now (row_now run.now) }
 {
     is_queued(run)
-        && run.table.job.restart.is_none()
+        && run.table.job.deck().restart.is_none()
         && step == 0
         && id.is_none()
         && is_free(layout, tables, initiator)

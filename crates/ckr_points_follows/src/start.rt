@@ -62,7 +62,7 @@ fn step_starts(
 {
     match step_of(run, step) {
         Some(own) => {
-            let placed = place_step(tables, run, own);
+            let placed = place_step(tables, run, &own);
             starts_with(
                 tables,
                 layout,

@@ -54,7 +54,7 @@ fn has_dd(run: &WholeRun<'_>, dd: u8) -> bool
     ensures { result ≡ option_map_or (λ (owned : OwnedStep). nat_le 1 dd && nat_le dd (length owned.step.dds)) (own_step (row_now run.now)) false }
 {
     match own_step(run) {
-        Some(own) => dd >= 1 && usize::from(dd) <= own.dds.as_slice().len(),
+        Some(own) => dd >= 1 && usize::from(dd) <= own.step.dds.as_slice().len(),
         None => false,
     }
 }

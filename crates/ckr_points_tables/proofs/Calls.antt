@@ -20,8 +20,9 @@ use Rattle.ckr_points_tables.specs.Invariant.{AreKept, HasRoom, MayCount, MayFol
 use Rattle.ckr_points_tables.specs.Needs.{MayChange}
 use Rattle.ckr_points.specs.Restart.{after_event}
 use Rattle.ckr_points.specs.Rows.{TablesModel}
-use Rattle.ckr_points_tables.specs.View.{RoomyTables, facts_of, is_within_limits, rows_of, seen_under, table_in, written_of}
-use Rattle.ckr_points_tables.proofs.Events.{placed_at, number_fits, within_limits, may_change, desk_after, kept_after}
+use Rattle.ckr_points_tables.specs.RunJobs.{IsFitting, effective}
+use Rattle.ckr_points_tables.specs.View.{RoomyTables, facts_of, rows_of, seen_under, table_in, written_of}
+use Rattle.ckr_points_tables.proofs.Events.{placed_at, run_fits, may_change, desk_after, kept_after}
 use Rattle.ckr_points_tables.proofs.Runs.{length-rows}
 
 -- what is read twice at a place is the same
@@ -67,11 +68,8 @@ module _ (a : Inside) (self : RoomyTables) (view : tables_seen a ≡ self) (kept
     entered : slice_get a.writings.items (number - 1) ≡ Some entries
     entered = get-from a.writings.items (number - 1) entries inside_writings entries_read
 
-    pub number_ok : line.number ≤ 9999999
-    number_ok = number_fits a.library a.lines.items a.tables.items a.index a.spare a.writings.items kept event None change (may_in None) (number - 1) line table entries is_next lined tabled entered
-
-    pub limits_ok : IsTrue (is_within_limits table.job)
-    limits_ok = within_limits a.library a.lines.items a.tables.items a.index a.spare a.writings.items kept event None change (may_in None) (number - 1) line table entries is_next lined tabled entered
+    pub fits_ok : IsFitting (effective line.number table.job)
+    fits_ok = run_fits a.library a.lines.items a.tables.items a.index a.spare a.writings.items kept event None change (may_in None) (number - 1) line table entries is_next lined tabled entered
 
     pub may_ok : MayCount event self.desk.sets → HasRoom self event → MayChange event line.number table entries a.library a.spare
     may_ok count has =

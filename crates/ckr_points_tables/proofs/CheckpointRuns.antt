@@ -35,24 +35,24 @@ module _ (run place bytes : ℕ) (lengths : List ℕ) (library : Catalog) where
 -- ---- what the run is behind it
 
 module _ (line : Run) (facts : RunTableView) (sets : Named Holding) (step : ℕ) (kept : Kept) (taken writes : ℕ) (lengths : List ℕ) (found : Option OwnedStep) (there : is_some found ≡ true) (commit : Named Holding)
-    (is : commit ≡ option_map_or (λ own. committed with_length (output_names line.number own) lengths sets) found sets) where
-  pub goes-behind : (set : Name) → ((own : OwnedStep) → found ≡ Some own → set ≡ name_with_role line.number own is_checkpoints)
+    (is : commit ≡ option_map_or (λ own. committed with_length (output_names facts.job.root own) lengths sets) found sets) where
+  pub goes-behind : (set : Name) → ((own : OwnedStep) → found ≡ Some own → set ≡ name_with_role facts.job.root own is_checkpoints)
       → going line (checkpointed_facts step writes set kept facts) (with_changed set (with_kept kept) commit) ≡ option_map_or (checkpointed holding_kit step kept taken writes lengths (going line facts sets)) found (going line facts sets)
   goes-behind set named = by found there is named
     where
-      by : (one : Option OwnedStep) → is_some one ≡ true → commit ≡ option_map_or (λ own. committed with_length (output_names line.number own) lengths sets) one sets
-          → ((own : OwnedStep) → one ≡ Some own → set ≡ name_with_role line.number own is_checkpoints)
+      by : (one : Option OwnedStep) → is_some one ≡ true → commit ≡ option_map_or (λ own. committed with_length (output_names facts.job.root own) lengths sets) one sets
+          → ((own : OwnedStep) → one ≡ Some own → set ≡ name_with_role facts.job.root own is_checkpoints)
           → going line (checkpointed_facts step writes set kept facts) (with_changed set (with_kept kept) commit) ≡ option_map_or (checkpointed holding_kit step kept taken writes lengths (going line facts sets)) one (going line facts sets)
       by None there is named = absurd (false≢true there)
       by (Some own) there is named =
           ap (λ name. going line (checkpointed_facts step writes name kept facts) (with_changed name (with_kept kept) commit)) (named own refl)
-          ∙ ap (λ all. let set_now = name_with_role line.number own is_checkpoints in going line (checkpointed_facts step writes set_now kept facts) (with_changed set_now (with_kept kept) all)) is
+          ∙ ap (λ all. let set_now = name_with_role facts.job.root own is_checkpoints in going line (checkpointed_facts step writes set_now kept facts) (with_changed set_now (with_kept kept) all)) is
 
   pub wrote-behind : (before : List Writing) (one : Writing) → ((own : OwnedStep) → found ≡ Some own → one ≡ check_writing holding_kit step kept taken writes commit (going line facts commit) own)
       → before ++ one ∷ [] ≡ option_map_or (λ own. before ++ check_writing holding_kit step kept taken writes (committed_by holding_kit lengths own (going line facts sets)).sets (going line facts sets) own ∷ []) found before
   wrote-behind before one told = by found there is told
     where
-      by : (other : Option OwnedStep) → is_some other ≡ true → commit ≡ option_map_or (λ own. committed with_length (output_names line.number own) lengths sets) other sets
+      by : (other : Option OwnedStep) → is_some other ≡ true → commit ≡ option_map_or (λ own. committed with_length (output_names facts.job.root own) lengths sets) other sets
           → ((own : OwnedStep) → other ≡ Some own → one ≡ check_writing holding_kit step kept taken writes commit (going line facts commit) own)
           → before ++ one ∷ [] ≡ option_map_or (λ own. before ++ check_writing holding_kit step kept taken writes (committed_by holding_kit lengths own (going line facts sets)).sets (going line facts sets) own ∷ []) other before
       by None there is told = absurd (false≢true there)

@@ -28,6 +28,8 @@ use Rattle.ckr_meaning.specs.declared.place.Place.{Place}
 use Rattle.ckr_meaning.specs.declared.place.Place.TheVariants.{Before, Opened, Within}
 use Rattle.ckr_points.specs.Tables.{is_checkpoints, is_updates, name_with_role, parts_from}
 use Rattle.ckr_points.specs.Restart.{step_in}
+use Rattle.ckr_points.specs.Marks.{without_passed}
+use Rattle.ckr_points_tables.specs.RunJobs.{effective}
 use Rattle.ckr_points_tables.specs.RunChange.{Going, by_step_of, changed, checkpointed, kept_by, coded, committed_by, disposed, ended_at, ended_by, ended_in, holding_kit, opened_by as opened_in_kit, place_now, restamped, rewritten, started, step_ended, step_of, within}
 use Rattle.ckr_points_tables.specs.StepEnd.{AreLengthsOf, HasLengths, disposals_at}
 use Rattle.ckr_points_tables.specs.NewSets.{MayMakeAll, MayMakeNamed, fresh_set, has_items, made_from, made_named}
@@ -44,10 +46,10 @@ pub record IsKeptBy (Q : Holding → Type 0) : Type 0 where
 -- what an event makes may be made, and the lengths that it gives fit
 abbrev pub MayMakeBy : Event → Going Holding → Type 0
 MayMakeBy (Started job step items) now = MayStartIn now.line.number step items.items now.facts now.sets (step_of now step)
-MayMakeBy (Rewritten job taken writes lengths place image) now = AreLengthsOf now.line.number lengths.items now.sets (step_of now (step_in (place_now now.facts)))
-MayMakeBy (Checkpointed job id taken writes lengths place bytes) now = AreLengthsOf now.line.number lengths.items now.sets (step_of now (step_in (place_now now.facts)))
-MayMakeBy (StepEnded job step rc writes lengths) now = AreLengthsOf now.line.number lengths.items now.sets (step_of now (step_in (place_now now.facts)))
-MayMakeBy (Ended job ending) now = HasLengths now.line.number ending now.sets (step_of now (step_in (place_now now.facts)))
+MayMakeBy (Rewritten job taken writes lengths place image) now = AreLengthsOf now.facts.job.root lengths.items now.sets (step_of now (step_in (place_now now.facts)))
+MayMakeBy (Checkpointed job id taken writes lengths place bytes) now = AreLengthsOf now.facts.job.root lengths.items now.sets (step_of now (step_in (place_now now.facts)))
+MayMakeBy (StepEnded job step rc writes lengths) now = AreLengthsOf now.facts.job.root lengths.items now.sets (step_of now (step_in (place_now now.facts)))
+MayMakeBy (Ended job ending) now = HasLengths now.facts.job.root ending now.sets (step_of now (step_in (place_now now.facts)))
 MayMakeBy _ now = Unit {0}
 
 module _ (Q : Holding → Type 0) (by_all : IsKeptBy Q) where
@@ -129,33 +131,33 @@ module _ (Q : Holding → Type 0) (by_all : IsKeptBy Q) where
       by (Some own) is = changes own is
 
   -- the lengths of the step committed
-  pub committed_by-each : (step : ℕ) (lengths : List ℕ) (now : Going Holding) (own : OwnedStep) → step_of now step ≡ Some own → AreLengthsOf now.line.number lengths now.sets (step_of now step) → All now.sets → All (committed_by holding_kit lengths own now).sets
+  pub committed_by-each : (step : ℕ) (lengths : List ℕ) (now : Going Holding) (own : OwnedStep) → step_of now step ≡ Some own → AreLengthsOf now.facts.job.root lengths now.sets (step_of now step) → All now.sets → All (committed_by holding_kit lengths own now).sets
   committed_by-each step lengths now own is fits each =
-      let fit = subst (AreLengthsOf now.line.number lengths now.sets) is fits in
-      committed-each (output_names now.line.number own) lengths now.sets fit.space each
+      let fit = subst (AreLengthsOf now.facts.job.root lengths now.sets) is fits in
+      committed-each (output_names now.facts.job.root own) lengths now.sets fit.space each
 
   starts-each : (step : ℕ) (items : List Made) (now : Going Holding) → All now.sets → (there : Option OwnedStep) → MayStartIn now.line.number step items now.facts now.sets there → All (option_map_or (started holding_kit step items now) there now).sets
   starts-each step items now each None may = each
   starts-each step items now each (Some own) may =
-      made-each (stamp_of own step) items (name_of now.line.number own) 1 own.step.dds (opened_in_kit holding_kit step own now) may
-      (all-opened-each (stamp_of own step) (placed_in holding_ways (record { sets = now.sets; passed = now.facts.passed }) now.line.number own) now.sets each)
+      made-each (stamp_of own step) items (name_of now.facts.job.root own) 1 own.step.dds (opened_in_kit holding_kit step own now) may
+      (all-opened-each (stamp_of own step) (placed_in holding_ways (record { sets = now.sets; passed = now.facts.passed }) now.facts.job.root own) now.sets each)
 
   disposed_of-each : (step : ℕ) (abnormal : Bool) (own : OwnedStep) (now : Going Holding) → All now.sets → All (disposed holding_kit step abnormal own now).sets
   disposed_of-each step abnormal own now each =
-      all-disposed-each (disposals_at now.line.number now.facts.job now.facts.points step abnormal own) (record { sets = now.sets; passed = now.facts.passed }) each
+      all-disposed-each (disposals_at now.facts.job.root (effective now.line.number now.facts.job).steps now.facts.points step abnormal own) (record { sets = now.sets; passed = now.facts.passed }) each
 
   ended_in-each : (step : ℕ) (now : Going Holding) (own : OwnedStep) → All now.sets → All (ended_in holding_kit step now own).sets
   ended_in-each step now own each =
       let done = disposed holding_kit step true own now in
-      passed-each done.facts.passed done.sets (disposed_of-each step true own now each)
+      passed-each (without_passed done.facts.lost done.facts.passed) done.sets (disposed_of-each step true own now each)
 
   ended_at-each : (place : Place) (now : Going Holding) → All now.sets → All (ended_at holding_kit place now).sets
-  ended_at-each (Before step) now each = passed-each now.facts.passed now.sets each
-  ended_at-each (Opened step) now each = passed-each now.facts.passed now.sets each
+  ended_at-each (Before step) now each = passed-each (without_passed now.facts.lost now.facts.passed) now.sets each
+  ended_at-each (Opened step) now each = passed-each (without_passed now.facts.lost now.facts.passed) now.sets each
   ended_at-each (Within step writes) now each = by_step-each step (ended_in holding_kit step now) now each (λ own is. ended_in-each step now own each)
 
-  ended_by-each : (ending : Ending) (now : Going Holding) → HasLengths now.line.number ending now.sets (step_of now (step_in (place_now now.facts))) → All now.sets → All (ended_by holding_kit ending now).sets
-  ended_by-each Completed now fits each = passed-each now.facts.passed now.sets each
+  ended_by-each : (ending : Ending) (now : Going Holding) → HasLengths now.facts.job.root ending now.sets (step_of now (step_in (place_now now.facts))) → All now.sets → All (ended_by holding_kit ending now).sets
+  ended_by-each Completed now fits each = passed-each (without_passed now.facts.lost now.facts.passed) now.sets each
   ended_by-each (Coded code rule writes lengths) now fits each =
       let step = step_in (place_now now.facts) in
       by_step-each step (coded holding_kit step writes lengths.items now) now each
@@ -168,12 +170,12 @@ module _ (Q : Holding → Type 0) (by_all : IsKeptBy Q) where
   changed-each (Rewritten job taken writes lengths place image) now may each =
       let running = step_in (place_now now.facts) in
       by_step-each running (rewritten holding_kit running writes lengths.items now) now each
-      (λ own is. each-with_changed Q (name_with_role now.line.number own is_updates) (restamped holding_kit own.owner running) _ (λ holding kept. by_all.stamps _ holding kept) (committed_by-each running lengths.items now own is may each))
+      (λ own is. each-with_changed Q (name_with_role now.facts.job.root own is_updates) (restamped holding_kit own.owner running) _ (λ holding kept. by_all.stamps _ holding kept) (committed_by-each running lengths.items now own is may each))
   changed-each (Checkpointed job id taken writes lengths place bytes) now may each =
       let running = step_in (place_now now.facts) in
       let kept = kept_by now id place bytes in
       by_step-each running (checkpointed holding_kit running kept taken writes lengths.items now) now each
-      (λ own is. each-with_changed Q (name_with_role now.line.number own is_checkpoints) (with_kept kept) _ (by_all.keeps kept) (committed_by-each running lengths.items now own is may each))
+      (λ own is. each-with_changed Q (name_with_role now.facts.job.root own is_checkpoints) (with_kept kept) _ (by_all.keeps kept) (committed_by-each running lengths.items now own is may each))
   changed-each (StepEnded job step rc writes lengths) now may each =
       let running = step_in (place_now now.facts) in
       by_step-each running (step_ended holding_kit running rc lengths.items now) now each

@@ -30,7 +30,7 @@ use Rattle.ckr_library.specs.NameMaps.{EachEntry, Name, Named, are_named_in_orde
 use Rattle.ckr_library.proofs.Named.{each-at, name-itself}
 use Rattle.ckr_points_tables.proofs.NamedViews.{at-viewed}
 use Rattle.ckr_points_tables.proofs.Checkpoints.{IsUnkept, keeps-new, role-named, still-seen, unkept}
-use Rattle.ckr_meaning.specs.EffectiveJob.{Effective, HasDistinctNames, OwnedStep, name_of, names_of, owned_by, plain_job, step_at}
+use Rattle.ckr_meaning.specs.EffectiveJob.{HasDistinctNames, OwnedStep, name_of, names_of, step_at}
 use Rattle.ckr_volumes.specs.declared.layout.Layout.{Layout}
 use Rattle.ckr_points.specs.declared.run.Run.{Run}
 use Rattle.ckr_points.specs.declared.run.RunState.TheVariants.{Queued}
@@ -48,11 +48,13 @@ use Rattle.ckr_points_tables.specs.Rewrite.{HasFewRewrites, MayRestamp, has_mast
 use Rattle.ckr_points.specs.Rows.{RunRow, TableSet, TablesModel, run_of, with_row}
 use Rattle.ckr_points.specs.Tables.{is_checkpoints, name_with_role}
 use Rattle.ckr_points_library.specs.Commit.{output_names}
-use Rattle.ckr_points_tables.specs.View.{RoomyTables, TablesRoom, RunTableView, Writings, facts_of, has_few_dds, is_within_limits, room_of, row_of, row_with, rows_of, seen_under, table_in, written_of}
+use Rattle.ckr_points_tables.specs.RunJobs.{IsFitting, effective, plain_view}
+use Rattle.ckr_points_tables.proofs.RunJobs.{step-all}
+use Rattle.ckr_points_tables.specs.View.{RoomyTables, TablesRoom, RunTableView, Writings, facts_of, has_few_dds, room_of, row_of, row_with, rows_of, seen_under, table_in, written_of}
 use Rattle.ckr_points_tables.proofs.RunChanges.{MakesSameBy, event_in}
 use Rattle.ckr_points_tables.proofs.Follows.{lengths_fit, started-makes}
 use Rattle.ckr_points_tables.proofs.Initiators.{index_changed}
-use Rattle.ckr_points_tables.proofs.Runs.{at_false, length-rows, rows-at, rows-set, runs-at, runs-set}
+use Rattle.ckr_points_tables.proofs.Runs.{at_false, length-rows, rows-at, rows-set, run-stays, runs-at, runs-set}
 use Rattle.ckr_points_tables.proofs.RunIdentity.{IsSelecting, Stays, stays}
 use Rattle.ckr_points_tables.proofs.Steps.{few_of}
 use Rattle.ckr_points_tables.proofs.EachSet.{MayMakeBy}
@@ -102,26 +104,6 @@ placed_at desk event deck change may =
     by : (job : ℕ) (row : RunRow) → run_of desk job ≡ Some row → (0 < job) × (job ≤ length desk.runs)
     by zero row found = absurd (some-not-none _ (sym found))
     by (suc place) row found = (omega arith, slice_get_within desk.runs place row found)
-
--- no name stands twice in a step
-distinct_of : (job : Effective) → HasDistinctNames job → (step : ℕ) (own : OwnedStep) → step_at job step ≡ Some own → are_distinct (names_of job.root own) ≡ true
-distinct_of job distinct zero own there = absurd (some-not-none _ (sym there))
-distinct_of job distinct (suc place) own there = each job.steps distinct place there
-  where
-    each : (steps : List OwnedStep) → list_all (λ owned. are_distinct (names_of job.root owned)) steps ≡ true → (place : ℕ) → slice_get steps place ≡ Some own → are_distinct (names_of job.root own) ≡ true
-    each [] all place there = absurd (some-not-none _ (sym there))
-    each (one ∷ steps) all zero there = ap (λ owned. are_distinct (names_of job.root owned)) (sym (same_Some one own there)) ∙ and-first (are_distinct (names_of job.root one)) _ all
-    each (one ∷ steps) all (suc place) there = each steps (and-second (are_distinct (names_of job.root one)) _ all) place there
-
--- MASTER of a step of UPDATE has a data set
-has_master_of : (run : ℕ) (job : Job) → list_all has_master job.steps ≡ true → (step : ℕ) (own : OwnedStep) → step_at (plain_job run job) step ≡ Some own → has_master own.step ≡ true
-has_master_of run job all zero own there = absurd (some-not-none _ (sym there))
-has_master_of run job all (suc place) own there = each job.steps all place there
-  where
-    each : (steps : List Step) → list_all has_master steps ≡ true → (place : ℕ) → slice_get (map (owned_by run job) steps) place ≡ Some own → has_master own.step ≡ true
-    each [] all place there = absurd (some-not-none _ (sym there))
-    each (one ∷ steps) all zero there = ap (λ (owned : OwnedStep). has_master owned.step) (sym (same_Some (owned_by run job one) own there)) ∙ and-first (has_master one) _ all
-    each (one ∷ steps) all (suc place) there = each steps (and-second (has_master one) _ all) place there
 
 named_so : (origin : Origin) (root owner step dd : Name) → has_set origin ≡ true → (name : Name) × (origin_name origin root owner step dd ≡ Some name)
 named_so (InStream cards) root owner step dd e = absurd (false≢true e)
@@ -198,24 +180,24 @@ module _ (library : Catalog) (lines : List Run) (tables : List RunTable) (index 
         let there = followed may.0 desk event deck change may.1 in
         subst (RowFollows may.0 desk event) (same_Some there.0 row (sym there.1 ∙ ap (run_of desk) numbered ∙ run_found)) there.2
 
-    own_limits : (step : ℕ) (own : OwnedStep) → step_at (plain_job line.number table.job) step ≡ Some own → IsTrue (has_few_dds own.step) × (are_distinct (names_of line.number own) ≡ true)
+    -- its job is within the limits
+    pub run_fits : IsFitting (effective line.number table.job)
+    run_fits = subst (λ n. IsFitting (effective n table.job)) (sym is.numbered) is.fits
+
+    own_limits : (step : ℕ) (own : OwnedStep) → step_at (effective line.number table.job) step ≡ Some own → IsTrue (has_few_dds own.step) × (are_distinct (names_of table.job.root own) ≡ true)
     own_limits step own there = (
-      few_of line.number table.job is.limits step own there,
-      distinct_of (plain_job line.number table.job) (subst (λ n. HasDistinctNames (plain_job n table.job)) (sym is.numbered) is.distinct) step own there,
+      few_of (effective line.number table.job) run_fits step own there,
+      step-all (λ (one : OwnedStep). are_distinct (names_of table.job.root one)) (effective line.number table.job) step own (subst (λ n. HasDistinctNames (effective n table.job)) (sym is.numbered) is.distinct) there,
     )
 
-    -- the number fits
-    pub number_fits : line.number ≤ 9999999
-    number_fits = omega (arith, slice_get_within tables place table tabled, kept.few, number_is)
-
-    pub within_limits : IsTrue (is_within_limits table.job)
-    within_limits = is.limits
+    plain : table.job ≡ plain_view line.number table.job.deck
+    plain = subst (λ n. table.job ≡ plain_view n table.job.deck) (sym is.numbered) is.plain
 
     makes_by : (one : Event) → RowFollows may.0 desk one row → MakesSameBy one (going line facts desk.sets)
     makes_by (Started job step items) follows = (started-makes may.0 writings line facts library.sets (rows_of lines tables) step items.items (own_limits step) follows).0
     makes_by _ follows = tt
 
-    lengths_of : (ending : Ending) → ended_follows desk row ending ≡ true → HasLengths line.number ending library.sets (step_at (plain_job line.number table.job) (step_in (place_now facts)))
+    lengths_of : (ending : Ending) → ended_follows desk row ending ≡ true → HasLengths table.job.root ending library.sets (step_at (effective line.number table.job) (step_in (place_now facts)))
     lengths_of Completed follows = tt
     lengths_of (Coded code rule writes lengths) follows =
         lengths_fit may.0 writings line facts library.sets (rows_of lines tables) lengths.items (and-second _ (lengths_follow desk row lengths.items) follows)
@@ -250,36 +232,36 @@ module _ (library : Catalog) (lines : List Run) (tables : List RunTable) (index 
       room_found : room_at room (job_of event) ≡ Some (room_of table)
       room_found = ap (room_at room) numbered ∙ slice_get-map room_of tables place ∙ ap (option_map room_of) tabled
 
-      master_of : (at : ℕ) (image : List ℕ) (there : Option OwnedStep) → step_at (plain_job line.number table.job) (step_in (place_now facts)) ≡ there → EachEntry HasFewRewrites desk.sets
-          → option_map_or (is_rewrite desk at image row) there false ≡ true → MayRewriteIn line.number library.sets there
+      master_of : (at : ℕ) (image : List ℕ) (there : Option OwnedStep) → step_at (effective line.number table.job) (step_in (place_now facts)) ≡ there → EachEntry HasFewRewrites desk.sets
+          → option_map_or (is_rewrite desk at image row) there false ≡ true → MayRewriteIn table.job.root library.sets there
       master_of at image None is_there counts follows = tt
       master_of at image (Some own) is_there counts follows =
-          let master = has_master_of line.number table.job is.masters (step_in (place_now facts)) own is_there in
-          let named = master_named own.step line.number own (and-first (is_update own.step.program) _ follows) master refl in
+          let master = step-all (λ (one : OwnedStep). has_master one.step) (effective line.number table.job) (step_in (place_now facts)) own (subst (λ n. list_all (λ (one : OwnedStep). has_master one.step) (effective n table.job).steps ≡ true) (sym is.numbered) is.masters) is_there in
+          let named = master_named own.step table.job.root own (and-first (is_update own.step.program) _ follows) master refl in
           (named.0, named.1, λ one. restamps writings library.sets counts one)
 
       abbrev roomy : RoomyTables
       roomy = record { desk = desk; room = room }
 
-      keeps_of : (id : Name) (lengths : List ℕ) (at bytes : ℕ) (there : Option OwnedStep) → option_map_or (is_checkpoint desk id lengths at bytes row) there false ≡ true → HasKeptRoom roomy line.number there → MayKeep line.number at bytes lengths library there
+      keeps_of : (id : Name) (lengths : List ℕ) (at bytes : ℕ) (there : Option OwnedStep) → option_map_or (is_checkpoint desk id lengths at bytes row) there false ≡ true → HasKeptRoom roomy table.job.root there → MayKeep table.job.root at bytes lengths library there
       keeps_of id lengths at bytes None follows has = tt
       keeps_of id lengths at bytes (Some own) follows has =
-          let set = name_with_role line.number own is_checkpoints in
+          let set = name_with_role table.job.root own is_checkpoints in
           record {
-            output = and-second _ (is_length_of set (at + records_of bytes) (output_names line.number own) lengths) follows;
-            room = by (checkpoint_name line.number own) refl has;
+            output = and-second _ (is_length_of set (at + records_of bytes) (output_names table.job.root own) lengths) follows;
+            room = by (checkpoint_name table.job.root own) refl has;
           }
         where
           some_of : (found : Option TableSet) (test : TableSet → Bool) → option_map_or test found false ≡ true → IsSome found
           some_of None test e = absurd (false≢true e)
           some_of (Some one) test e = refl
 
-          by : (found : Option Name) → checkpoint_name line.number own ≡ found → HasRoomUnder roomy found → HasRoomNow library found
+          by : (found : Option Name) → checkpoint_name table.job.root own ≡ found → HasRoomUnder roomy found → HasRoomNow library found
           by None e has = tt
           by (Some name) e has =
-              let set = name_with_role line.number own is_checkpoints in
-              has (subst (λ n. IsSome (entry_at desk.sets n)) (role-named line.number own name e)
-              (some_of (entry_at desk.sets set) (λ one. at == one.set.length && is_none (kept_at desk.sets set id)) (and-first _ (is_length_of set (at + records_of bytes) (output_names line.number own) lengths) follows)))
+              let set = name_with_role table.job.root own is_checkpoints in
+              has (subst (λ n. IsSome (entry_at desk.sets n)) (role-named table.job.root own name e)
+              (some_of (entry_at desk.sets set) (λ one. at == one.set.length && is_none (kept_at desk.sets set id)) (and-first _ (is_length_of set (at + records_of bytes) (output_names table.job.root own) lengths) follows)))
 
       may_by : (one : Event) → MayCount one desk.sets → RowFollows may.0 desk one row → HasRoomIn roomy row (room_of table) one → MayChange one line.number table entries library spare
       may_by (Started job step items) count follows has = record {
@@ -290,14 +272,14 @@ module _ (library : Catalog) (lines : List Run) (tables : List RunTable) (index 
       }
       may_by (Rewritten job taken writes lengths place image) count follows has = record {
         fits = lengths_fit may.0 writings line facts library.sets (rows_of lines tables) lengths.items (and-second (is_running row) (lengths_follow desk row lengths.items) (and-first _ (of_step row (is_rewrite desk place image row)) follows));
-        master = master_of place image (step_at (plain_job line.number table.job) (step_in (place_now facts))) refl count (and-second _ (of_step row (is_rewrite desk place image row)) follows);
+        master = master_of place image (step_at (effective line.number table.job) (step_in (place_now facts))) refl count (and-second _ (of_step row (is_rewrite desk place image row)) follows);
       }
       may_by (Checkpointed job id taken writes lengths at bytes) count follows has = record {
         fits = lengths_fit may.0 writings line facts library.sets (rows_of lines tables) lengths.items (and-second (is_running row) (lengths_follow desk row lengths.items) (and-first _ (of_step row (is_checkpoint desk id lengths.items at bytes row)) follows));
         point = record { sorted = has.sorted; marks = has.marks; passed = has.passed };
         entries = has.entries entries.room (ap (entries_at room) number_is ∙ slice_get-map (λ (one : Roomy WrittenEntry). one.room) entered place ∙ ap (option_map (λ (one : Roomy WrittenEntry). one.room)) entries_there);
         few = has.few;
-        keeps = keeps_of id lengths.items at bytes (step_at (plain_job line.number table.job) (step_in (place_now facts))) (and-second _ (of_step row (is_checkpoint desk id lengths.items at bytes row)) follows) has.kept;
+        keeps = keeps_of id lengths.items at bytes (step_at (effective line.number table.job) (step_in (place_now facts))) (and-second _ (of_step row (is_checkpoint desk id lengths.items at bytes row)) follows) has.kept;
       }
       may_by (StepEnded job step rc writes lengths) count follows has = record {
         fits = lengths_fit may.0 writings line facts library.sets (rows_of lines tables) lengths.items (and-second _ (lengths_follow desk row lengths.items) follows);
@@ -335,25 +317,25 @@ module _ (library : Catalog) (lines : List Run) (tables : List RunTable) (index 
       behind_in id taken writes at bytes lengths (Some own) follows =
           let step = step_in (place_now facts) in
           let kept_now = kept_by now id at bytes in
-          let set = name_with_role line.number own is_checkpoints in
+          let set = name_with_role table.job.root own is_checkpoints in
           let one = check_writing holding_kit step kept_now taken writes (committed_by holding_kit lengths own now).sets now own in (
             still-seen writings place (written_of entries) written_there one library.sets (T-from-true _ ordered) (free_of (entry_at library.sets set) refl),
             keeps-new writings place (written_of entries) written_there one kept_now number_is (and_from _ _ (and_from _ _ (name-itself set) (name-itself id)) (equal-itself at)),
           )
         where
-          free_of : (found : Option Holding) → entry_at library.sets (name_with_role line.number own is_checkpoints) ≡ found → IsUnkept id found
+          free_of : (found : Option Holding) → entry_at library.sets (name_with_role table.job.root own is_checkpoints) ≡ found → IsUnkept id found
           free_of None e = tt
           free_of (Some holding) e =
-              let set = name_with_role line.number own is_checkpoints in
+              let set = name_with_role table.job.root own is_checkpoints in
               let there : entry_at desk.sets set ≡ Some (table_in writings set holding) = at-viewed (table_in writings) library.sets set ∙ ap (option_map (table_in writings set)) e in
-              let test : option_map_or (λ (one : TableSet). at == one.set.length && is_none (kept_at desk.sets set id)) (entry_at desk.sets set) false ≡ true = and-first _ (is_length_of set (at + records_of bytes) (output_names line.number own) lengths) follows in
+              let test : option_map_or (λ (one : TableSet). at == one.set.length && is_none (kept_at desk.sets set id)) (entry_at desk.sets set) false ≡ true = and-first _ (is_length_of set (at + records_of bytes) (output_names table.job.root own) lengths) follows in
               let none : is_none (kept_at desk.sets set id) ≡ true =
               and-second (at == holding.set.length) _ (ap (λ found. option_map_or (λ (one : TableSet). at == one.set.length && is_none (kept_at desk.sets set id)) found false) (sym there) ∙ test) in
               unkept writings set id holding.kept (ap (λ found. is_none (option_map_or (λ (one : TableSet). find (λ entry. same_name entry.kept.id id) one.entries) found None)) (sym there) ∙ none)
 
       behind : (one : Event) → RowFollows may.0 desk one row → Behind one
       behind (Checkpointed job id taken writes lengths at bytes) follows =
-          behind_in id taken writes at bytes lengths.items (step_at (plain_job line.number table.job) (step_in (place_now facts))) (and-second _ (of_step row (is_checkpoint desk id lengths.items at bytes row)) follows)
+          behind_in id taken writes at bytes lengths.items (step_at (effective line.number table.job) (step_in (place_now facts))) (and-second _ (of_step row (is_checkpoint desk id lengths.items at bytes row)) follows)
       behind _ follows = (same_before, tt)
 
     module _ (new : Run) (after : RunTable) (sets : Named Holding) (goes : going new (facts_of after) sets ≡ changed holding_kit event now) where
@@ -376,7 +358,7 @@ module _ (library : Catalog) (lines : List Run) (tables : List RunTable) (index 
           ap (going_viewed (table_in all)) goes ∙ changed_seen (table_in all) holding_kit table_kit (table_view all) event now goes_behind.1
           ∙ ap (λ seen. changed table_kit event (going line facts seen)) goes_behind.0
           )
-          ∙ sym (event_in desk line facts found event deck change (number_is ∙ sym numbered) (makes_by event row_follows))
+          ∙ sym (event_in desk line facts found plain event deck change (number_is ∙ sym numbered) (makes_by event row_follows))
 
       free_by : (one : Event) → RowFollows may.0 desk one row → (i : ℕ) → IsSelecting i one → (k : ℕ) → initiator_at lines k ≡ Some i → ⊥
       free_by (Submitted job cards) follows i selecting k on = selecting
@@ -408,18 +390,8 @@ module _ (library : Catalog) (lines : List Run) (tables : List RunTable) (index 
               suc-same k place (sym (kept.indexed.all i k there) ∙ kept.indexed.all i place (ap (λ (found : Option Run). option_and_then (λ (l : Run). l.initiator) found) lined ∙ before))
           by (inr selecting) = absurd (free_by event row_follows i selecting k there)
 
-      job_is : after.job ≡ table.job
-      job_is = left.job
-
       new_is : IsRun (1 + place) new after
-      new_is = record {
-        numbered = left.number ∙ is.numbered;
-        named = left.name ∙ is.named ∙ ap (λ (job : Job). job.name) (sym job_is);
-        limits = ap is_within_limits job_is ∙ is.limits;
-        distinct = subst (λ job. HasDistinctNames (plain_job (1 + place) job)) (sym job_is) is.distinct;
-        masters = ap (λ (job : Job). list_all has_master job.steps) job_is ∙ is.masters;
-        free = λ queued. let before = left.free queued in before.1 ∙ is.free before.0;
-      }
+      new_is = run-stays (1 + place) line new table after is left.number left.name left.job (left.whole is.whole) (λ queued. let before = left.free queued in before.1 ∙ is.free before.0)
 
       -- what is kept
       pub kept_after : (more : Roomy WrittenEntry) (marks : List Mark) → marks ≡ [] → ((i : ℕ) → new.initiator ≡ Some i → i < 256)

@@ -91,40 +91,40 @@ module _ (layout : Layout) (writings : Writings) (line : Run) (facts : RunTableV
   abbrev now : Going TableSet
   now = going line facts (viewed (table_in writings) sets)
 
-  starts-in : (step : ℕ) (items : List Made) (own : OwnedStep) → step_of now step ≡ Some own → IsTrue (has_few_dds own.step) → are_distinct (names_of line.number own) ≡ true
-      → are_items layout (stamp_of own step) desk.sets (placed_in table_ways (standing_of row desk) line.number own) items ≡ true
+  starts-in : (step : ℕ) (items : List Made) (own : OwnedStep) → step_of now step ≡ Some own → IsTrue (has_few_dds own.step) → are_distinct (names_of facts.job.root own) ≡ true
+      → are_items layout (stamp_of own step) desk.sets (placed_in table_ways (standing_of row desk) facts.job.root own) items ≡ true
       → MakesSame items step now own × MayStartIn line.number step items facts sets (Some own)
   starts-in step items own there few distinct are =
       let before : Stock TableSet = standing_of row desk in
-      let placed = placed_in table_ways before line.number own in
+      let placed = placed_in table_ways before facts.job.root own in
       let stamp = stamp_of own step in
       let named = and-first (pointwise nat_eq (made_dds placed) (map (λ item. item.dd) items)) (list_all (is_part_whole placed) items) (and-first _ (are_made_clear layout stamp items placed desk.sets) are) in
       let whole = and-second (pointwise nat_eq (made_dds placed) (map (λ item. item.dd) items)) (list_all (is_part_whole placed) items) (and-first _ (are_made_clear layout stamp items placed desk.sets) are) in
       let clear = and-second _ (are_made_clear layout stamp items placed desk.sets) are in
       let opened = opened_in_kit table_kit step own now in
-      let all = makes layout stamp items before line.number own 1 own.step.dds opened desk.sets
+      let all = makes layout stamp items before facts.job.root own 1 own.step.dds opened desk.sets
       (λ n above. count-items n items ∙ ap (count n) (sym (all_same (made_dds placed) (map (λ item. item.dd) items) named)))
       (each placed items whole) clear distinct
       (λ name among none. opened-absent stamp placed desk.sets name none) (few_serials own.step few) in (
         all.0,
-        may-make writings stamp items (name_of line.number own) 1 own.step.dds (opened_in_kit holding_kit step own (going line facts sets))
-            (subst (MayMakeAll table_kit.fresh stamp items (name_of line.number own) 1 own.step.dds) (sym (opened-seen (table_in writings) holding_kit table_kit (table_view writings) step own (going line facts sets))) all.1),
+        may-make writings stamp items (name_of facts.job.root own) 1 own.step.dds (opened_in_kit holding_kit step own (going line facts sets))
+            (subst (MayMakeAll table_kit.fresh stamp items (name_of facts.job.root own) 1 own.step.dds) (sym (opened-seen (table_in writings) holding_kit table_kit (table_view writings) step own (going line facts sets))) all.1),
       )
     where
       each : (placed : List DdAllotment) (some : List Made) → list_all (is_part_whole placed) some ≡ true → AllByRecursion (λ (item : Made). 1 ≤ item.dd → is_part_whole placed item ≡ true) some
       each placed [] all = tt
       each placed (item ∷ some) all = (λ above. and-first (is_part_whole placed item) _ all, each placed some (and-second (is_part_whole placed item) _ all))
 
-  starts : (step : ℕ) (items : List Made) (there : Option OwnedStep) → step_of now step ≡ there → ((own : OwnedStep) → there ≡ Some own → IsTrue (has_few_dds own.step) × (are_distinct (names_of line.number own) ≡ true))
-      → option_map_or (λ own. let placed = placed_in table_ways (standing_of row desk) line.number own in may_start step (place_of row) && is_empty (flaws_in placed) && are_items layout (stamp_of own step) desk.sets placed items) there false ≡ true
+  starts : (step : ℕ) (items : List Made) (there : Option OwnedStep) → step_of now step ≡ there → ((own : OwnedStep) → there ≡ Some own → IsTrue (has_few_dds own.step) × (are_distinct (names_of facts.job.root own) ≡ true))
+      → option_map_or (λ own. let placed = placed_in table_ways (standing_of row desk) facts.job.root own in may_start step (place_of row) && is_empty (flaws_in placed) && are_items layout (stamp_of own step) desk.sets placed items) there false ≡ true
       → MakesSameAt items step now there × MayStartIn line.number step items facts sets there
   starts step items None is limits follows = absurd (false≢true follows)
   starts step items (Some own) is limits follows =
       let own_limits = limits own refl in
-      starts-in step items own is own_limits.0 own_limits.1 (and-second _ (are_items layout (stamp_of own step) desk.sets (placed_in table_ways (standing_of row desk) line.number own) items) follows)
+      starts-in step items own is own_limits.0 own_limits.1 (and-second _ (are_items layout (stamp_of own step) desk.sets (placed_in table_ways (standing_of row desk) facts.job.root own) items) follows)
 
   -- what a step that starts makes
-  pub started-makes : (step : ℕ) (items : List Made) → ((own : OwnedStep) → step_of now step ≡ Some own → IsTrue (has_few_dds own.step) × (are_distinct (names_of line.number own) ≡ true))
+  pub started-makes : (step : ℕ) (items : List Made) → ((own : OwnedStep) → step_of now step ≡ Some own → IsTrue (has_few_dds own.step) × (are_distinct (names_of facts.job.root own) ≡ true))
       → started_follows layout desk step items row ≡ true
       → MakesSameAt items step now (step_of now step) × MayStartIn line.number step items facts sets (step_of now step)
   started-makes step items limits follows = starts step items (step_of now step) refl limits (and-second (is_in_state On row) _ follows)
@@ -146,10 +146,10 @@ module _ (layout : Layout) (writings : Writings) (line : Run) (facts : RunTableV
       let rest = fit names lengths (and-second _ (are_lengths desk.sets names lengths) e) in
       (ap suc rest.0, (within-space name most (and-first _ (are_lengths desk.sets names lengths) e), rest.1))
 
-  lengths-by : (lengths : List ℕ) (there : Option OwnedStep) → option_map_or (λ own. are_lengths desk.sets (output_names line.number own) lengths) there false ≡ true → AreLengthsOf line.number lengths sets there
+  lengths-by : (lengths : List ℕ) (there : Option OwnedStep) → option_map_or (λ own. are_lengths desk.sets (output_names facts.job.root own) lengths) there false ≡ true → AreLengthsOf facts.job.root lengths sets there
   lengths-by lengths None e = tt
-  lengths-by lengths (Some own) e = let both = fit (output_names line.number own) lengths e in record { count = both.0; space = both.1 }
+  lengths-by lengths (Some own) e = let both = fit (output_names facts.job.root own) lengths e in record { count = both.0; space = both.1 }
 
   -- the lengths that an event carries
-  pub lengths_fit : (lengths : List ℕ) → lengths_follow desk row lengths ≡ true → AreLengthsOf line.number lengths sets (step_of now (step_in (place_of row)))
+  pub lengths_fit : (lengths : List ℕ) → lengths_follow desk row lengths ≡ true → AreLengthsOf facts.job.root lengths sets (step_of now (step_in (place_of row)))
   lengths_fit lengths e = lengths-by lengths (step_of now (step_in (place_of row))) e

@@ -1,5 +1,5 @@
 -- The tables in code go on by the hold of a run as the tables do.
-use Rattle.std.proofs.Common.{◌≡◌, ◌&&◌, ◌||◌, ℕ, ◌-◌, ◌<◌, ◌≤◌, true, List, [], map, slice_get, slice_set, slice_index_or, refl, ap, sym, ◌∙◌, subst, Some, None, Option}
+use Rattle.std.proofs.Common.{◌≡◌, ◌&&◌, ◌||◌, ℕ, ◌-◌, ◌<◌, true, List, [], map, slice_get, slice_set, slice_index_or, refl, ap, sym, ◌∙◌, subst, Some, None, Option}
 use Rattle.std.specs.Option.{option_map_or}
 use Rattle.arrayvec.specs.ArrayVec.{ArrayVec}
 use Rattle.ckr_base.specs.declared.code.Code.{Code}
@@ -11,7 +11,7 @@ use Rattle.ckr_events.specs.declared.event.Event.TheVariants.{Held}
 use Rattle.ckr_jcl.specs.declared.deck.Job.{Job}
 use Rattle.ckr_library.specs.Catalog.{Holding}
 use Rattle.ckr_library.specs.NameMaps.{EachEntry, Named}
-use Rattle.ckr_meaning.specs.EffectiveJob.{OwnedStep, plain_job, step_at}
+use Rattle.ckr_meaning.specs.EffectiveJob.{OwnedStep, step_at}
 use Rattle.ckr_points.specs.declared.run.Run.{Run}
 use Rattle.ckr_points.specs.declared.run.RunState.TheVariants.{Released as ReleasedRun}
 use Rattle.ckr_points.specs.Follows.{is_in_state, is_running, lengths_follow}
@@ -26,12 +26,13 @@ use Rattle.ckr_points_tables.specs.Invariant.{AreKept, IsFilled, IsIndexOf, IsWi
 use Rattle.ckr_points_tables.specs.Parts.{tables_seen, IsKept}
 use Rattle.ckr_points_tables.specs.RunChange.{Going, by_step_of, desk_with, going, holding_kit, place_now, step_of, table_kit}
 use Rattle.ckr_points_tables.specs.StepEnd.{AreLengthsOf}
+use Rattle.ckr_points_tables.specs.RunJobs.{IsFitting, effective}
 use Rattle.ckr_points_tables.specs.View.{RoomyTables, RunTableView, Writings, facts_of, row_with, rows_of, seen_under, table_in, written_of}
 use Rattle.ckr_points_tables.proofs.Follows.{lengths_fit}
 use Rattle.ckr_points_tables.proofs.EachSet.{IsKeptBy, by_step-each, committed_by-each}
 use Rattle.ckr_points_tables.proofs.RecordWidths.{AreFilled, AreWide, filled-kept, wide-kept}
 use Rattle.ckr_points_tables.proofs.RunChanges.{run-in, unchanged-in}
-use Rattle.ckr_points_tables.proofs.RunMoves.{IsPlaced, StaysRun, desk_moved, index_moved, is_run, kept_moved, number_fits, number_is, of_run-row, only-on, placed_so, run_found}
+use Rattle.ckr_points_tables.proofs.RunMoves.{IsPlaced, StaysRun, desk_moved, index_moved, is_run, kept_moved, run_fits, number_is, of_run-row, only-on, placed_so, run_found}
 use Rattle.ckr_points_tables.proofs.SetViews.{by_step-seen, committed-seen, going_viewed, table_view}
 
 -- ---- what a hold makes of its run
@@ -41,8 +42,8 @@ held-stays : (now : Going Holding) (code : Code) (writes : ℕ) (lengths : List 
 held-stays now code writes lengths step free = by (step_of now step)
   where
     by : (found : Option OwnedStep) → StaysRun now (option_map_or (held holding_kit step code writes lengths now) found now)
-    by None = record { number = refl; name = refl; job = refl; free = free }
-    by (Some own) = record { number = refl; name = refl; job = refl; free = λ e. refl }
+    by None = record { number = refl; name = refl; job = refl; whole = λ none. none; free = free }
+    by (Some own) = record { number = refl; name = refl; job = refl; whole = λ none. none; free = λ e. refl }
 
 -- it is on no other initiator
 held-on : (now : Going Holding) (code : Code) (writes : ℕ) (lengths : List ℕ) (step i : ℕ) → (by_step_of step (held holding_kit step code writes lengths now) now).line.initiator ≡ Some i → now.line.initiator ≡ Some i
@@ -52,7 +53,7 @@ held-on now code writes lengths step i = by (step_of now step)
     by None on = on
     by (Some own) on = absurd (some-not-none _ (sym on))
 
-held-each : (Q : Holding → Type 0) → IsKeptBy Q → (now : Going Holding) (code : Code) (writes : ℕ) (lengths : List ℕ) (step : ℕ) → AreLengthsOf now.line.number lengths now.sets (step_of now step) → EachEntry Q now.sets → EachEntry Q (by_step_of step (held holding_kit step code writes lengths now) now).sets
+held-each : (Q : Holding → Type 0) → IsKeptBy Q → (now : Going Holding) (code : Code) (writes : ℕ) (lengths : List ℕ) (step : ℕ) → AreLengthsOf now.facts.job.root lengths now.sets (step_of now step) → EachEntry Q now.sets → EachEntry Q (by_step_of step (held holding_kit step code writes lengths now) now).sets
 held-each Q by_all now code writes lengths step fits each = by_step-each Q by_all step (held holding_kit step code writes lengths now) now each (λ own is. committed_by-each Q by_all step lengths now own is fits each)
 
 -- as the tables see it
@@ -61,7 +62,7 @@ held-seen : (writings : Writings) (now : Going Holding) (code : Code) (writes : 
     ≡ by_step_of step (held table_kit step code writes lengths (going_viewed (table_in writings) now)) (going_viewed (table_in writings) now)
 held-seen writings now code writes lengths step =
     by_step-seen (table_in writings) holding_kit table_kit (table_view writings) step (held holding_kit step code writes lengths now) (held table_kit step code writes lengths (going_viewed (table_in writings) now))
-    (λ own. ap (going (held_line now.line) (held_facts step code writes now.facts)) (committed-seen (table_in writings) holding_kit table_kit (table_view writings) (output_names now.line.number own) lengths now.sets))
+    (λ own. ap (going (held_line now.line) (held_facts step code writes now.facts)) (committed-seen (table_in writings) holding_kit table_kit (table_view writings) (output_names now.facts.job.root own) lengths now.sets))
     now
 
 held-row : (desk : TablesModel) (line : Run) (facts : RunTableView) → run_of desk line.number ≡ Some (row_with line facts) → (code : Code) (writes : ℕ) (lengths : List ℕ) (step : ℕ) (there : Option OwnedStep)
@@ -104,10 +105,10 @@ module _ (a : Inside) (self : RoomyTables) (view : tables_seen a ≡ self) (kept
     numbered : line.number ≡ job
     numbered = number_is a.library.sets a.lines.items a.tables.items a.index a.spare.marks.items a.writings.items kept (job - 1) line table lined tabled ∙ sym placed.next
 
-    pub number_ok : line.number ≤ 9999999
-    number_ok = number_fits a.library.sets a.lines.items a.tables.items a.index a.spare.marks.items a.writings.items kept (job - 1) line table lined tabled
+    pub fits_ok : IsFitting (effective line.number table.job)
+    fits_ok = run_fits a.library.sets a.lines.items a.tables.items a.index a.spare.marks.items a.writings.items kept (job - 1) line table lined tabled
 
-    pub lengths_ok : AreLengthsOf line.number lengths.items a.library.sets (step_at (plain_job line.number table.job) step)
+    pub lengths_ok : AreLengthsOf table.job.root lengths.items a.library.sets (step_at (effective line.number table.job) step)
     lengths_ok =
         lengths_fit may.0 writings line facts a.library.sets (rows_of a.lines.items a.tables.items) lengths.items
         (and-second (is_running (row_with line facts) || is_in_state ReleasedRun (row_with line facts)) _

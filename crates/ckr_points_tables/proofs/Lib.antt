@@ -1,6 +1,8 @@
 pub mod Runs
 pub mod MarkOrder
+pub mod OwnNames
 pub mod RunChanges
+pub mod RunJobs
 pub mod Initiators
 pub mod Steps
 pub mod StepEnd

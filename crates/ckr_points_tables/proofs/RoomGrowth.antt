@@ -1,6 +1,5 @@
 -- More room for a run changes nothing of the tables.
-use Rattle.std.proofs.Common.{◌≡◌, ℕ, zero, suc, ◌+◌, ◌<◌, ◌≤◌, Bool, IsSome, IsSomeAnd, IsTrue, List, [], ◌∷◌, length, map, slice_get, slice_set, refl, ap, sym, ◌∙◌, subst, arith, Option, None, Some}
-use Rattle.std.specs.List.{list_all}
+use Rattle.std.proofs.Common.{◌≡◌, ℕ, zero, suc, ◌+◌, ◌<◌, ◌≤◌, Bool, IsSome, IsSomeAnd, List, [], ◌∷◌, length, map, slice_get, slice_set, refl, ap, sym, ◌∙◌, subst, arith, Option, None, Some}
 use Rattle.std.specs.Option.{option_map}
 use Rattle.std.proofs.lemmas.Option.{same_Some, slice_get-map, slice_get_within}
 use Rattle.std.proofs.lemmas.Bool.{false≢true}
@@ -8,10 +7,9 @@ use Rattle.std.proofs.Math.ListN.{length-set}
 use Rattle.ckr_base.proofs.Options.{some-not-none}
 use Rattle.ckr_base.proofs.Sequences.{get-set-same, set-same}
 use Rattle.ckr_entry.specs.declared.point.Mark.{Mark}
-use Rattle.ckr_jcl.specs.declared.deck.Job.{Job}
 use Rattle.ckr_library.specs.Catalog.{Catalog, HasSet, Holding}
 use Rattle.ckr_library.specs.NameMaps.{Name, Named, entry_at}
-use Rattle.ckr_meaning.specs.EffectiveJob.{HasDistinctNames, OwnedStep, names_of_job, plain_job, step_at}
+use Rattle.ckr_meaning.specs.EffectiveJob.{HasDistinctNames, OwnedStep, names_of_job, step_at}
 use Rattle.ckr_points.specs.declared.run.Run.{Run}
 use Rattle.ckr_base.specs.RoomyLists.{Roomy}
 use Rattle.ckr_points_tables.specs.declared.run_table.RunTable.{RunTable}
@@ -22,15 +20,15 @@ use Rattle.ckr_points_tables.specs.StepEnd.{HasPassedRoom}
 use Rattle.ckr_points_tables.specs.Invariant.{AreKept, AreRuns, HasEndRoom, HasEntryRoom, HasKeptRoom, HasRestartRoom, HasRoomUnder, HasStartRoom, IsRun, entries_at, room_at}
 use Rattle.ckr_points.specs.Restart.{step_in}
 use Rattle.ckr_points_tables.specs.Restart.{HasPassedFor, passed_for}
-use Rattle.ckr_points_tables.specs.Rewrite.{has_master}
-use Rattle.ckr_points_tables.specs.Rooms.{EndsFit, EntryFits, HasNoLess, HasNoPlace, HasRoomFor, KeepsFit, StartsFit}
+use Rattle.ckr_points_tables.specs.Rooms.{EndsFit, EntryFits, FitsPoint, HasNoLess, HasNoPlace, HasRoomFor, KeepsFit, StartsFit}
 use Rattle.ckr_points_tables.specs.Checkpoint.{checkpoint_name}
 use Rattle.ckr_points_tables.specs.Needs.{step_now}
 use Rattle.ckr_points_tables.proofs.NamedViews.{at-viewed, viewed}
 use Rattle.ckr_points.specs.Rows.{RunRow, TablesModel, run_of}
-use Rattle.ckr_points_tables.specs.View.{RoomyTables, TablesRoom, RunTableView, RunRoom, Writings, facts_of, is_within_limits, kept_room, table_in, room_of, row_of, row_with, rows_of}
+use Rattle.ckr_points_tables.specs.RunJobs.{IsFitting, effective}
+use Rattle.ckr_points_tables.specs.View.{RoomyTables, TablesRoom, RunTableView, RunRoom, Writings, facts_of, kept_room, table_in, room_of, row_of, row_with, rows_of}
 use Rattle.ckr_points_tables.proofs.Restarts.Views.{passed-there}
-use Rattle.ckr_points_tables.proofs.Runs.{rows-at, runs-at, runs-set}
+use Rattle.ckr_points_tables.proofs.Runs.{rows-at, run-stays, runs-at, runs-set}
 
 -- a run has a line
 lined-at : (number : ℕ) (lines : List Run) (tables : List RunTable) → AreRuns number lines tables → (place : ℕ) (table : RunTable) → slice_get tables place ≡ Some table → (line : Run) × (slice_get lines place ≡ Some line)
@@ -55,10 +53,10 @@ module _ (lines : List Run) (tables : List RunTable) (are : AreRuns 1 lines tabl
   is : IsRun (1 + place) line_there.0 old
   is = runs-at 1 lines tables are place line_there.0 old line_there.1 here
 
-  pub limits_there : IsTrue (is_within_limits old.job)
-  limits_there = is.limits
+  pub fits_there : (job : ℕ) → job ≡ suc place → IsFitting (effective job old.job)
+  fits_there job at = subst (λ n. IsFitting (effective n old.job)) (omega (arith, at)) is.fits
 
-  pub distinct_there : HasDistinctNames (plain_job (1 + place) old.job)
+  pub distinct_there : HasDistinctNames (effective (1 + place) old.job)
   distinct_there = is.distinct
 
   pub numbered_there : line_there.0.number ≡ 1 + place
@@ -74,15 +72,9 @@ module _ (lines : List Run) (tables : List RunTable) (are : AreRuns 1 lines tabl
     pub runs_there : AreRuns 1 lines (slice_set tables place new)
     runs_there =
         let job : new.job ≡ old.job = ap (λ (facts : RunTableView). facts.job) same in
+        let lost : new.lost.items ≡ old.lost.items = ap (λ (facts : RunTableView). facts.lost) same in
         subst (λ all. AreRuns 1 all (slice_set tables place new)) (set-same lines place line_there.0 line_there.1)
-        (runs-set 1 lines tables are place line_there.0 new (record {
-          numbered = is.numbered;
-          named = is.named ∙ ap (λ (j : Job). j.name) (sym job);
-          limits = ap is_within_limits job ∙ is.limits;
-          distinct = subst (λ j. HasDistinctNames (plain_job (1 + place) j)) (sym job) is.distinct;
-          masters = ap (λ (j : Job). list_all has_master j.steps) job ∙ is.masters;
-          free = is.free;
-        }))
+        (runs-set 1 lines tables are place line_there.0 new (run-stays (1 + place) line_there.0 line_there.0 old new is refl refl job (lost ∙ is.whole) is.free))
 
     -- what is kept
     pub kept_there : (sets : Named Holding) (index : List ℕ) (marks : List Mark) (writings : List (Roomy WrittenEntry)) → AreKept sets lines tables index marks writings → AreKept sets lines (slice_set tables place new) index marks writings
@@ -103,25 +95,26 @@ module _ (lines : List Run) (tables : List RunTable) (are : AreRuns 1 lines tabl
     room_there one found = same_Some one (room_of new) (sym found ∙ slice_get-map room_of (slice_set tables place new) place ∙ ap (option_map room_of) (get-set-same tables place new old here))
 
     -- room for a start
-    pub start_there : (room : TablesRoom) (library : Catalog) (spare : Spare) → StartsFit new library spare → room.sets ≡ library.room → room.sorted ≡ spare.sorted.room → room.marks ≡ spare.marks.room → room.passed ≡ spare.passed.room
+    pub start_there : (room : TablesRoom) (library : Catalog) (spare : Spare) (job : ℕ) → job ≡ suc place → StartsFit job new library spare → room.sets ≡ library.room → room.sorted ≡ spare.sorted.room → room.marks ≡ spare.marks.room → room.passed ≡ spare.passed.room
         → (row : RunRow) (one : RunRoom) → slice_get (rows_of lines (slice_set tables place new)) place ≡ Some row → slice_get (map room_of (slice_set tables place new)) place ≡ Some one → HasStartRoom room row one
-    start_there room library spare fits sets sorted marks passed row one row_found one_found =
+    start_there room library spare job at fits sets sorted marks passed row one row_found one_found =
         subst (λ r. HasStartRoom room r one) (sym (row_there row row_found)) (subst (HasStartRoom room (row_of line_there.0 new)) (sym (room_there one one_found))
-        (let point = fits.room line_there.0.number in
+        (let number : job ≡ line_there.0.number = omega (arith, at, is.numbered) in
+        let point = subst (λ n. FitsPoint n new.job new.passed.items spare) number fits.room in
         record {
-          sorted = subst (λ n. length (names_of_job (plain_job line_there.0.number new.job)) ≤ n) (sym sorted) point.sorted;
-          marks = subst (λ n. length (names_of_job (plain_job line_there.0.number new.job)) ≤ n) (sym marks) point.marks;
+          sorted = subst (λ n. length (names_of_job (effective line_there.0.number new.job)) ≤ n) (sym sorted) point.sorted;
+          marks = subst (λ n. length (names_of_job (effective line_there.0.number new.job)) ≤ n) (sym marks) point.marks;
           passed = subst (λ n. length new.passed.items ≤ n) (sym passed) point.passed;
           points = fits.points;
           sets = subst (λ n. 16 ≤ n) (sym sets) fits.sets;
         }))
 
     -- room for an end
-    pub end_there : EndsFit old new → (row : RunRow) (one : RunRoom) → slice_get (rows_of lines (slice_set tables place new)) place ≡ Some row → slice_get (map room_of (slice_set tables place new)) place ≡ Some one → HasEndRoom row one
-    end_there fits row one row_found one_found =
+    pub end_there : (job : ℕ) → job ≡ suc place → EndsFit job old new → (row : RunRow) (one : RunRoom) → slice_get (rows_of lines (slice_set tables place new)) place ≡ Some row → slice_get (map room_of (slice_set tables place new)) place ≡ Some one → HasEndRoom row one
+    end_there job at fits row one row_found one_found =
         subst (λ r. HasEndRoom r one) (sym (row_there row row_found)) (subst (HasEndRoom (row_of line_there.0 new)) (sym (room_there one one_found))
         (record {
-          passed = subst (λ (facts : RunTableView). HasPassedRoom new.passed.room (step_at (plain_job line_there.0.number facts.job) (step_in (place_now facts)))) (sym same) (fits.passed line_there.0.number);
+          passed = subst (λ (facts : RunTableView). HasPassedRoom new.passed.room (step_at (effective line_there.0.number facts.job) (step_in (place_now facts)))) (sym same) (subst (λ n. HasPassedRoom new.passed.room (step_at (effective n old.job) (step_now old))) (omega (arith, at, is.numbered)) fits.passed);
           codes = fits.codes;
         }))
 
@@ -204,18 +197,18 @@ pub checkpoint_there : (line : Run) (table : RunTable) (now : RoomyTables) (libr
     → ((name : Name) → IsSome (entry_at now.desk.sets name) → HasSet library name (λ _. Unit {0})) → ((more : ℕ) → entries_at now.room line.number ≡ Some more → 0 < more)
     → HasEntryRoom now (row_of line table)
 checkpoint_there line table now library spare written fits sorted marks passed kept has entries = record {
-  sorted = subst (λ n. length (names_of_job (plain_job line.number table.job)) ≤ n) (sym sorted) fits.point.sorted;
-  marks = subst (λ n. length (names_of_job (plain_job line.number table.job)) ≤ n) (sym marks) fits.point.marks;
+  sorted = subst (λ n. length (names_of_job (effective line.number table.job)) ≤ n) (sym sorted) fits.point.sorted;
+  marks = subst (λ n. length (names_of_job (effective line.number table.job)) ≤ n) (sym marks) fits.point.marks;
   passed = subst (λ n. length table.passed.items ≤ n) (sym passed) fits.point.passed;
   entries = entries;
   few = fits.few;
-  kept = by (step_at (plain_job line.number table.job) (step_now table)) fits.kept;
+  kept = by (step_at (effective line.number table.job) (step_now table)) fits.kept;
 }
   where
     under : (found : Option Name) → HasRoomFor library found → HasRoomUnder now found
     under None fit = tt
     under (Some name) fit = λ there. subst (λ rooms. 0 < kept_room rooms name) (sym kept) (fit (has name there))
 
-    by : (found : Option OwnedStep) → KeepsFit library line.number found → HasKeptRoom now line.number found
+    by : (found : Option OwnedStep) → KeepsFit library table.job.root found → HasKeptRoom now table.job.root found
     by None fit = tt
-    by (Some own) fit = under (checkpoint_name line.number own) fit
+    by (Some own) fit = under (checkpoint_name table.job.root own) fit

@@ -1,6 +1,5 @@
 -- A run of the tables as it is behind a change, with its data sets: what the tables are then, and what is kept.
 use Rattle.std.proofs.Common.{◌≡◌, ℕ, suc, ◌+◌, ◌-◌, ◌<◌, ◌≤◌, zero, Bool, true, false, List, [], ◌∷◌, length, map, slice_get, slice_set, refl, ap, sym, ◌∙◌, subst, arith, Some, None, Option}
-use Rattle.std.specs.List.{list_all}
 use Rattle.std.specs.Option.{option_map_or, option_and_then}
 use Rattle.std.proofs.lemmas.Bool.{false≢true}
 use Rattle.std.proofs.lemmas.Option.{same_Some, slice_get_within}
@@ -9,10 +8,8 @@ use Rattle.ckr_base.specs.RoomyLists.{Roomy}
 use Rattle.ckr_base.proofs.Numbers.{suc-same}
 use Rattle.ckr_base.proofs.Options.{some-not-none}
 use Rattle.ckr_entry.specs.declared.point.Mark.{Mark}
-use Rattle.ckr_jcl.specs.declared.deck.Job.{Job}
 use Rattle.ckr_library.specs.Catalog.{Holding}
 use Rattle.ckr_library.specs.NameMaps.{EachEntry, Named}
-use Rattle.ckr_meaning.specs.EffectiveJob.{HasDistinctNames, plain_job}
 use Rattle.ckr_points.specs.declared.run.Run.{Run}
 use Rattle.ckr_points.specs.Follows.{of_run}
 use Rattle.ckr_points.specs.Rows.{RunRow, TableSet, TablesModel, run_of, with_row}
@@ -21,17 +18,18 @@ use Rattle.ckr_points_tables.specs.declared.tables.Tables.TheInside.{Inside}
 use Rattle.ckr_points_tables.specs.Parts.{tables_seen, IsKept}
 use Rattle.ckr_points_tables.specs.declared.run_table.WrittenEntry.{WrittenEntry}
 use Rattle.ckr_points_tables.specs.Invariant.{AreKept, IsFilled, IsIndexOf, IsRun, IsWide, initiator_at, is_queued, put_at}
-use Rattle.ckr_points_tables.specs.Rewrite.{has_master}
 use Rattle.ckr_points_tables.specs.RunChange.{Going, desk_with, going}
-use Rattle.ckr_points_tables.specs.View.{RoomyTables, facts_of, is_within_limits, row_of, row_with, rows_of, seen_under, table_in, written_of}
+use Rattle.ckr_points_tables.specs.RunJobs.{IsFitting, effective}
+use Rattle.ckr_points_tables.specs.View.{RoomyTables, facts_of, row_of, row_with, rows_of, seen_under, table_in, written_of}
 use Rattle.ckr_points_tables.proofs.Initiators.{index_changed}
-use Rattle.ckr_points_tables.proofs.Runs.{length-rows, rows-at, rows-set, runs-at, runs-set}
+use Rattle.ckr_points_tables.proofs.Runs.{length-rows, rows-at, rows-set, run-stays, runs-at, runs-set}
 
 -- the run stays what it is, and one that is queued is on no initiator
 pub record StaysRun (now after : Going Holding) : Type 0 where
   pub number : after.line.number ≡ now.line.number
   pub name : after.line.name ≡ now.line.name
   pub job : after.facts.job ≡ now.facts.job
+  pub whole : now.facts.lost ≡ [] → after.facts.lost ≡ []
   pub free : is_queued after.line.state ≡ true → after.line.initiator ≡ None
 
 -- a test of a run's row is true of the run that is there
@@ -79,8 +77,9 @@ module _ (sets : Named Holding) (lines : List Run) (tables : List RunTable) (ind
   pub number_is : line.number ≡ suc place
   number_is = is_run.numbered ∙ omega arith
 
-  pub number_fits : line.number ≤ 9999999
-  number_fits = omega (arith, slice_get_within tables place table tabled, kept.few, number_is)
+  -- its job is within the limits
+  pub run_fits : IsFitting (effective line.number table.job)
+  run_fits = subst (λ n. IsFitting (effective n table.job)) (sym is_run.numbered) is_run.fits
 
   -- the row of the run
   pub run_there : run_of desk (suc place) ≡ Some (row_with line (facts_of table))
@@ -102,14 +101,7 @@ module _ (sets : Named Holding) (lines : List Run) (tables : List RunTable) (ind
         (rows-set lines tables place new after ∙ ap (λ n. with_row (row_of new after) n (rows_of lines tables)) (sym (stays.number ∙ number_is)))
 
     new_is : IsRun (1 + place) new after
-    new_is = record {
-      numbered = stays.number ∙ is_run.numbered;
-      named = stays.name ∙ is_run.named ∙ ap (λ (job : Job). job.name) (sym stays.job);
-      limits = ap is_within_limits stays.job ∙ is_run.limits;
-      distinct = subst (λ job. HasDistinctNames (plain_job (1 + place) job)) (sym stays.job) is_run.distinct;
-      masters = ap (λ (job : Job). list_all has_master job.steps) stays.job ∙ is_run.masters;
-      free = stays.free;
-    }
+    new_is = run-stays (1 + place) line new table after is_run stays.number stays.name stays.job (stays.whole is_run.whole) stays.free
 
     -- what is kept, with an index of the lines as they are then
     pub kept_moved : (other : List ℕ) (spared : List Mark) → EachEntry IsWide now_sets → EachEntry IsFilled now_sets → IsIndexOf other (slice_set lines place new) → spared ≡ [] → AreKept now_sets (slice_set lines place new) (slice_set tables place after) other spared entered

@@ -8,8 +8,13 @@ use Rattle.ckr_base.proofs.Options.{some-not-none}
 use Rattle.ckr_points.specs.declared.run.Run.{Run}
 use Rattle.ckr_points_tables.specs.declared.run_table.RunTable.{RunTable}
 use Rattle.ckr_points.specs.Rows.{RunRow, TablesModel, run_of}
-use Rattle.ckr_points_tables.specs.View.{facts_of, facts_in, line_of, place_of, row_of, rows_of}
-use Rattle.ckr_points_tables.specs.Invariant.{IsRun, AreRuns, IsIndexOf, initiator_at}
+use Rattle.std.specs.List.{list_all}
+use Rattle.ckr_meaning.specs.EffectiveJob.{HasDistinctNames, OwnedStep}
+use Rattle.ckr_points.specs.Syschk.{names_its_set}
+use Rattle.ckr_points_tables.specs.Rewrite.{has_master}
+use Rattle.ckr_points_tables.specs.RunJobs.{IsFitting, JobView, effective, is_within_limits, plain_view}
+use Rattle.ckr_points_tables.specs.View.{facts_of, facts_in, line_of, place_of, row_of, row_with, rows_of}
+use Rattle.ckr_points_tables.specs.Invariant.{IsRun, AreRuns, IsIndexOf, initiator_at, is_queued}
 
 -- each line is that of its row
 pub lines-rows : (number : ℕ) (lines : List Run) (tables : List RunTable) → AreRuns number lines tables → lines ≡ map line_of (rows_of lines tables)
@@ -20,12 +25,18 @@ lines-rows number (line ∷ lines) (table ∷ tables) are =
     ap (λ rest. line ∷ rest) (lines-rows (suc number) lines tables are.1)
     ∙ ap (λ name. record line { name = name } ∷ map line_of (rows_of lines tables)) are.0.named
 
+-- what is kept of a run that continues none is what its row has
+pub facts-row : (number : ℕ) (line : Run) (table : RunTable) → IsRun number line table → facts_of table ≡ facts_in (row_of line table)
+facts-row number line table is =
+    ap (λ job. record (facts_of table) { job = job }) is.plain
+    ∙ sym (ap (λ job. facts_in (row_with line (record (facts_of table) { job = job }))) is.plain)
+
 -- what is kept at a place is what the row there has
 pub facts-rows : (number : ℕ) (lines : List Run) (tables : List RunTable) → AreRuns number lines tables → (place : ℕ) → option_map facts_of (slice_get tables place) ≡ option_map facts_in (slice_get (rows_of lines tables) place)
 facts-rows number [] [] are place = refl
 facts-rows number [] (table ∷ tables) are place = absurd are
 facts-rows number (line ∷ lines) [] are place = absurd are
-facts-rows number (line ∷ lines) (table ∷ tables) are zero = refl
+facts-rows number (line ∷ lines) (table ∷ tables) are zero = ap Some (facts-row number line table are.0)
 facts-rows number (line ∷ lines) (table ∷ tables) are (suc place) = facts-rows (suc number) lines tables are.1 place
 
 pub length-rows : (number : ℕ) (lines : List Run) (tables : List RunTable) → AreRuns number lines tables → (length lines ≡ length tables) × (length (rows_of lines tables) ≡ length tables)
@@ -34,6 +45,21 @@ length-rows number [] (table ∷ tables) are = absurd are
 length-rows number (line ∷ lines) [] are = absurd are
 length-rows number (line ∷ lines) (table ∷ tables) are =
     let rest = length-rows (suc number) lines tables are.1 in (ap suc rest.0, ap suc rest.1)
+
+-- a run stays one that keeps its number, its name and its job
+pub run-stays : (number : ℕ) (line new : Run) (table after : RunTable) → IsRun number line table → new.number ≡ line.number → new.name ≡ line.name → after.job ≡ table.job → after.lost.items ≡ [] → (is_queued new.state ≡ true → new.initiator ≡ None) → IsRun number new after
+run-stays number line new table after is numbered named job whole free = record {
+  numbered = numbered ∙ is.numbered;
+  named = named ∙ is.named ∙ ap (λ (one : JobView). one.deck.name) (sym job);
+  limits = ap (λ (one : JobView). is_within_limits one.deck) job ∙ is.limits;
+  fits = subst (λ one. IsFitting (effective number one)) (sym job) is.fits;
+  distinct = subst (λ one. HasDistinctNames (effective number one)) (sym job) is.distinct;
+  masters = subst (λ one. list_all (λ (own : OwnedStep). has_master own.step) (effective number one).steps ≡ true) (sym job) is.masters;
+  syschk = ap (λ (one : JobView). names_its_set one.deck.syschk) job ∙ is.syschk;
+  free = free;
+  plain = subst (λ (one : JobView). one ≡ plain_view number one.deck) (sym job) is.plain;
+  whole = whole;
+}
 
 -- a row at a place, by its line and its facts
 pub record RunAt (number : ℕ) (lines : List Run) (tables : List RunTable) (place : ℕ) (row : RunRow) : Type 0 where

@@ -20,7 +20,7 @@ use Rattle.ckr_library.proofs.Named.{at-viewed as plain-at}
 use Rattle.ckr_points_tables.proofs.NamedViews.{at-viewed, viewed, viewed-with_changed, viewed-with_entry}
 use Rattle.ckr_meaning.specs.Allotments.{opened_all}
 use Rattle.ckr_meaning.specs.Dispositions.{Stock, passed_ended}
-use Rattle.ckr_meaning.specs.EffectiveJob.{OwnedStep, name_of, names_of_job, placed_in, plain_job, stamp_of}
+use Rattle.ckr_meaning.specs.EffectiveJob.{OwnedStep, is_among, name_of, names_of_job, placed_in, stamp_of}
 use Rattle.ckr_meaning.specs.declared.place.Place.{Place}
 use Rattle.ckr_meaning.specs.declared.place.Place.TheVariants.{Before, Opened, Within}
 use Rattle.ckr_points_tables.proofs.MeaningViews.{GoesThrough, viewed-opened_all, viewed-disposed_all, viewed-placed_in}
@@ -29,9 +29,11 @@ use Rattle.ckr_points_tables.specs.StepEnd.{disposals_at}
 use Rattle.ckr_meaning.specs.StepRun.{rewritten_stamp}
 use Rattle.ckr_points.specs.Tables.{is_checkpoints, is_updates, kept_entry, name_with_role, parts_from}
 use Rattle.ckr_points_tables.specs.NewSets.{fresh_set, has_items, made_from, made_named}
-use Rattle.ckr_points.specs.Marks.{mark_now, marked_under, present_of, with_point}
+use Rattle.ckr_points.specs.Marks.{mark_at, mark_now, marked_under, present_of, with_point, without_passed}
 use Rattle.ckr_points.specs.Restart.{step_in}
 use Rattle.ckr_points.specs.Rows.{KeptEntry, StartPoint, holding_of}
+use Rattle.ckr_points_tables.specs.RunJobs.{effective}
+use Rattle.ckr_points_tables.specs.RunMarks.{carried_by, mark_by, own_names_of, point_marks}
 use Rattle.ckr_points_tables.specs.View.{Writings, find_last, later_or, point_for, seen_by, table_in, table_of}
 
 -- marks that are the same by name
@@ -93,46 +95,54 @@ module _ {X Y : Type 0} (view : Name → X → Y) (first : Kit X) (second : Kit 
   pub opened-seen : (step : ℕ) (own : OwnedStep) (now : Going X) → viewed view (opened_by first step own now) ≡ opened_by second step own (going_viewed view now)
   opened-seen step own now =
       let before : Stock X = record { sets = now.sets; passed = now.facts.passed } in
-      viewed-opened_all view first.ways second.ways is.through (stamp_of own step) (placed_in first.ways before now.line.number own) now.sets
-      ∙ ap (λ placed. opened_all second.ways (stamp_of own step) placed (viewed view now.sets)) (viewed-placed_in view first.ways second.ways is.through before now.line.number own)
+      viewed-opened_all view first.ways second.ways is.through (stamp_of own step) (placed_in first.ways before now.facts.job.root own) now.sets
+      ∙ ap (λ placed. opened_all second.ways (stamp_of own step) placed (viewed view now.sets)) (viewed-placed_in view first.ways second.ways is.through before now.facts.job.root own)
+
+  -- the marks of a point
+  marks-seen-by : (sets : Named X) (now : Going X) → point_marks now.line.number now.facts (first.mark sets) ≡ point_marks now.line.number now.facts (second.mark (viewed view sets))
+  marks-seen-by sets now =
+      let own = own_names_of now.line.number now.facts.job in
+      let carried = carried_by now.facts.points now.facts.job.earlier_step in
+      ap (map (λ entry. entry.1))
+      (marked_same (mark_by (first.mark sets) own carried) (mark_by (second.mark (viewed view sets)) own carried)
+      (λ name. ap (λ mark. if is_among own name then mark else option_map_or (λ other. other) (mark_at carried name) mark) (is.marks sets name))
+      (names_of_job (effective now.line.number now.facts.job)))
 
   point-seen : (step : ℕ) (sets : Named X) (now : Going X) → fresh_point first step sets now ≡ fresh_point second step (viewed view sets) (going_viewed view now)
   point-seen step sets now =
-      let names = names_of_job (plain_job now.line.number now.facts.job) in
-      ap (λ marks. record (fresh_point first step sets now) { marks = marks })
-      (ap (map (λ entry. entry.1)) (marked_same (first.mark sets) (second.mark (viewed view sets)) (is.marks sets) names))
+      ap (λ marks. record (fresh_point first step sets now) { marks = marks }) (marks-seen-by sets now)
 
   started-seen : (step : ℕ) (items : List Made) (now : Going X) (own : OwnedStep) → going_viewed view (started first step items now own) ≡ started second step items (going_viewed view now) own
   started-seen step items now own =
       let opened = opened_by first step own now in
       let others = opened_by second step own (going_viewed view now) in
       let after = λ (point : StartPoint) (sets : Named Y). going now.line (record now.facts { place = Some (Within step 0); points = with_point point now.facts.points }) sets in
-      ap (after (fresh_point first step opened now)) (made-seen (stamp_of own step) items (name_of now.line.number own) 1 own.step.dds opened)
-      ∙ ap (λ point. after point (made_from second.fresh (stamp_of own step) items (name_of now.line.number own) 1 own.step.dds (viewed view opened))) (point-seen step opened now)
-      ∙ ap (λ sets. after (fresh_point second step sets (going_viewed view now)) (made_from second.fresh (stamp_of own step) items (name_of now.line.number own) 1 own.step.dds sets)) (opened-seen step own now)
+      ap (after (fresh_point first step opened now)) (made-seen (stamp_of own step) items (name_of now.facts.job.root own) 1 own.step.dds opened)
+      ∙ ap (λ point. after point (made_from second.fresh (stamp_of own step) items (name_of now.facts.job.root own) 1 own.step.dds (viewed view opened))) (point-seen step opened now)
+      ∙ ap (λ sets. after (fresh_point second step sets (going_viewed view now)) (made_from second.fresh (stamp_of own step) items (name_of now.facts.job.root own) 1 own.step.dds sets)) (opened-seen step own now)
 
   disposed-seen : (step : ℕ) (abnormal : Bool) (own : OwnedStep) (now : Going X) → going_viewed view (disposed first step abnormal own now) ≡ disposed second step abnormal own (going_viewed view now)
   disposed-seen step abnormal own now =
       ap (λ (both : Stock Y). going now.line (record now.facts { passed = both.passed }) both.sets)
-      (viewed-disposed_all view first.ways second.ways is.through (disposals_at now.line.number now.facts.job now.facts.points step abnormal own) (record { sets = now.sets; passed = now.facts.passed }))
+      (viewed-disposed_all view first.ways second.ways is.through (disposals_at now.facts.job.root (effective now.line.number now.facts.job).steps now.facts.points step abnormal own) (record { sets = now.sets; passed = now.facts.passed }))
 
   committed_by-seen : (lengths : List ℕ) (own : OwnedStep) (now : Going X) → going_viewed view (committed_by first lengths own now) ≡ committed_by second lengths own (going_viewed view now)
-  committed_by-seen lengths own now = ap (going now.line now.facts) (committed-seen (output_names now.line.number own) lengths now.sets)
+  committed_by-seen lengths own now = ap (going now.line now.facts) (committed-seen (output_names now.facts.job.root own) lengths now.sets)
 
   rewritten-seen : (step writes : ℕ) (lengths : List ℕ) (now : Going X) (own : OwnedStep) → going_viewed view (rewritten first step writes lengths now own) ≡ rewritten second step writes lengths (going_viewed view now) own
   rewritten-seen step writes lengths now own =
       let after = rewritten second step writes lengths (going_viewed view now) own in
-      let name = name_with_role now.line.number own is_updates in
+      let name = name_with_role now.facts.job.root own is_updates in
       ap (going after.line after.facts)
       (
       viewed-with_changed view (restamped first own.owner step) (restamped second own.owner step) name
       (λ set. is.through.stamps name (rewritten_stamp own.owner step (first.stamp set)) set ∙ ap (λ stamp. second.ways.stamped (rewritten_stamp own.owner step stamp) (view name set)) (is.stampings name set))
       (committed_by first lengths own now).sets
-      ∙ ap (with_changed name (restamped second own.owner step)) (committed-seen (output_names now.line.number own) lengths now.sets)
+      ∙ ap (with_changed name (restamped second own.owner step)) (committed-seen (output_names now.facts.job.root own) lengths now.sets)
       )
 
   ended-seen : (now : Going X) → going_viewed view (ended now) ≡ ended (going_viewed view now)
-  ended-seen now = ap (going (ended now).line (ended now).facts) (passed-seen now.facts.passed now.sets)
+  ended-seen now = ap (going (ended now).line (ended now).facts) (passed-seen (without_passed now.facts.lost now.facts.passed) now.sets)
 
   step_ended-seen : (step rc : ℕ) (lengths : List ℕ) (now : Going X) (own : OwnedStep) → going_viewed view (step_ended first step rc lengths now own) ≡ step_ended second step rc lengths (going_viewed view now) own
   step_ended-seen step rc lengths now own =
@@ -168,15 +178,13 @@ module _ {X Y : Type 0} (view : Name → X → Y) (first : Kit X) (second : Kit 
   -- the point of a checkpoint
   check_point-seen : (step taken writes : ℕ) (sets : Named X) (now : Going X) (own : OwnedStep) → check_point first step taken writes sets now own ≡ check_point second step taken writes (viewed view sets) (going_viewed view now) own
   check_point-seen step taken writes sets now own =
-      let names = names_of_job (plain_job now.line.number now.facts.job) in
-      ap (λ marks. record (check_point first step taken writes sets now own) { marks = marks })
-      (ap (map (λ entry. entry.1)) (marked_same (first.mark sets) (second.mark (viewed view sets)) (is.marks sets) names))
+      ap (λ marks. record (check_point first step taken writes sets now own) { marks = marks }) (marks-seen-by sets now)
 
   -- the entry of a checkpoint is kept with its point
   abbrev pub KeepsIn : ℕ → Kept → ℕ → ℕ → List ℕ → Going X → Option OwnedStep → Type 0
   KeepsIn step kept taken writes lengths now None = Unit {0}
   KeepsIn step kept taken writes lengths now (Some own) =
-      let set = name_with_role now.line.number own is_checkpoints in
+      let set = name_with_role now.facts.job.root own is_checkpoints in
       let point = check_point first step taken writes (committed_by first lengths own now).sets now own in
       (one : X) → view set (first.keep kept point one) ≡ second.keep kept point (view set one)
 
@@ -189,11 +197,11 @@ module _ {X Y : Type 0} (view : Name → X → Y) (first : Kit X) (second : Kit 
   checkpointed-seen : (step : ℕ) (kept : Kept) (taken writes : ℕ) (lengths : List ℕ) (now : Going X) (own : OwnedStep) → KeepsIn step kept taken writes lengths now (Some own)
       → going_viewed view (checkpointed first step kept taken writes lengths now own) ≡ checkpointed second step kept taken writes lengths (going_viewed view now) own
   checkpointed-seen step kept taken writes lengths now own keeps =
-      let set = name_with_role now.line.number own is_checkpoints in
+      let set = name_with_role now.facts.job.root own is_checkpoints in
       let sets = (committed_by first lengths own now).sets in
       let others = (committed_by second lengths own (going_viewed view now)).sets in
       let point = check_point first step taken writes sets now own in
-      let seen : viewed view sets ≡ others = committed-seen (output_names now.line.number own) lengths now.sets in
+      let seen : viewed view sets ≡ others = committed-seen (output_names now.facts.job.root own) lengths now.sets in
       ap (going now.line (checkpointed_facts step writes set kept now.facts))
       (
       viewed-with_changed view (first.keep kept point) (second.keep kept point) set keeps sets

@@ -15,10 +15,12 @@ use Rattle.ckr_entry.specs.declared.point.Passed.{Passed}
 use Rattle.ckr_library.specs.Catalog.{Holding}
 use Rattle.ckr_library.specs.NameMaps.{EachEntry, Name, Named, entry_at}
 use Rattle.ckr_volumes.specs.declared.layout.Layout.{Layout}
-use Rattle.ckr_meaning.specs.EffectiveJob.{HasDistinctNames, OwnedStep, names_of, names_of_job, plain_job}
+use Rattle.ckr_meaning.specs.EffectiveJob.{HasDistinctNames, OwnedStep, names_of, names_of_job}
 use Rattle.ckr_points.specs.declared.run.Run.{Run}
 use Rattle.ckr_points.specs.declared.run.RunState.{RunState}
 use Rattle.ckr_points.specs.declared.run.RunState.TheVariants.{Queued}
+use Rattle.ckr_points.specs.Syschk.{names_its_set}
+use Rattle.ckr_points_tables.specs.RunJobs.{IsFitting, effective, plain_view}
 use Rattle.ckr_points_tables.specs.declared.run_table.RunTable.{RunTable}
 use Rattle.ckr_points_tables.specs.declared.run_table.WrittenEntry.{WrittenEntry}
 use Rattle.ckr_points_tables.specs.Checkpoint.{checkpoint_name}
@@ -36,14 +38,18 @@ abbrev pub is_queued : RunState → Bool
 is_queued Queued = true
 is_queued _ = false
 
--- a run of this number with its line: a queued one is on no initiator
+-- a run of this number with its line: a queued one is on no initiator. It continues none, and so it has lost no passed name
 pub record IsRun (number : ℕ) (line : Run) (table : RunTable) : Type 0 where
   pub numbered : line.number ≡ number
-  pub named : line.name ≡ table.job.name
-  pub limits : IsTrue (is_within_limits table.job)
-  pub distinct : HasDistinctNames (plain_job number table.job)
-  pub masters : list_all has_master table.job.steps ≡ true
+  pub named : line.name ≡ table.job.deck.name
+  pub limits : IsTrue (is_within_limits table.job.deck)
+  pub fits : IsFitting (effective number table.job)
+  pub distinct : HasDistinctNames (effective number table.job)
+  pub masters : list_all (λ (own : OwnedStep). has_master own.step) (effective number table.job).steps ≡ true
+  pub syschk : names_its_set table.job.deck.syschk ≡ true
   pub free : is_queued line.state ≡ true → line.initiator ≡ None
+  pub plain : table.job ≡ plain_view number table.job.deck
+  pub whole : table.lost.items ≡ []
 
 -- the runs from this number on, each with its line
 abbrev pub AreRuns : ℕ → List Run → List RunTable → Type 0
@@ -122,11 +128,11 @@ is_run_change _ = false
 abbrev pub MayFollow : TablesModel → Event → Option Job → Type 0
 MayFollow tables event deck = (layout : Layout) × (follows layout tables event deck ≡ true)
 
--- whether a deck may be submitted: its number has seven digits, it is within the limits, and no name stands twice in a step
+-- whether a deck may be submitted: its number has seven digits, it is within the limits, no name stands twice in a step, and SYSCHK names a data set
 abbrev pub is_submittable : ℕ → Job → Bool
 is_submittable number job =
     nat_le number 9999999 && is_within_limits job && list_all (λ (step : Step). are_distinct (names_of number (owned step number []))) job.steps
-    && list_all has_master job.steps
+    && list_all has_master job.steps && names_its_set job.syschk
 
 abbrev pub IsAnySubmittable : ℕ → Option Job → Type 0
 IsAnySubmittable number None = Unit {0}

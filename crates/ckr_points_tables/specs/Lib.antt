@@ -1,6 +1,9 @@
 pub mod Allocation
 pub mod Checkpoint
+pub mod Entries
 pub mod RunChange
+pub mod RunJobs
+pub mod RunMarks
 pub mod StepEnd
 pub mod Parts
 pub mod Invariant

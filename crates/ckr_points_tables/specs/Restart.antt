@@ -1,4 +1,4 @@
--- What an automatic restart makes of a run that continues none, and of the library.
+-- What an automatic restart makes of a run, and of the library.
 use Rattle.std.specs.Prelude.{◌≡◌, ◌≤◌, ◌<◌, ℕ, Bool, true, false, find, List, length, Option, None, Some}
 use Rattle.std.specs.Option.{option_and_then, option_map, option_map_or}
 use Rattle.ckr_entry.specs.declared.point.Mark.{Mark}
@@ -30,7 +30,7 @@ facts_back place count facts = record facts { place = Some place; code = None; c
 
 -- the library as it was at the start of a step
 abbrev pub sets_at_start : ℕ → List Mark → Named Holding → OwnedStep → Named Holding
-sets_at_start run marks sets own = sets_back marks (output_names run own) (names_of run own) (all_made_gone marks (names_of run own) sets)
+sets_at_start root marks sets own = sets_back marks (output_names root own) (names_of root own) (all_made_gone marks (names_of root own) sets)
 
 -- a run that goes back to the start of a step, with the whole passed list of its point
 abbrev pub back_at_start : ℕ → ℕ → Going Holding → OwnedStep → StartPoint → Going Holding
@@ -41,14 +41,14 @@ back_at_start initiator step now own point =
       points = with_point (point_restarted point) now.facts.points;
       in_effect = None;
     })
-    (sets_at_start now.line.number point.marks now.sets own)
+    (sets_at_start now.facts.job.root point.marks now.sets own)
 
 abbrev pub step_restarted : ℕ → ℕ → Going Holding → OwnedStep → Going Holding
 step_restarted initiator step now own = option_map_or (back_at_start initiator step now own) (point_at now.facts.points step) now
 
 -- the library as it was at a checkpoint
 abbrev pub sets_at_entry : ℕ → List Mark → Named Holding → OwnedStep → Named Holding
-sets_at_entry run marks sets own = sets_back marks (output_names run own) (names_of run own) sets
+sets_at_entry root marks sets own = sets_back marks (output_names root own) (names_of root own) sets
 
 -- a run that goes back to a checkpoint, with the whole passed list of its point
 abbrev pub back_at_entry : ℕ → ℕ → EffectPoint → Going Holding → OwnedStep → EntryPoint → Going Holding
@@ -58,7 +58,7 @@ back_at_entry initiator step effect now own point =
       passed = point.passed;
       in_effect = Some (effect_restarted effect);
     })
-    (sets_at_entry now.line.number point.marks now.sets own)
+    (sets_at_entry now.facts.job.root point.marks now.sets own)
 
 -- the first entry of an identifier that a data set keeps
 abbrev pub kept_under : Named Holding → Name → Name → Option Kept

@@ -1,11 +1,9 @@
 -- How much room there is for events, and that it becomes no less.
 use Rattle.std.specs.Prelude.{◌≡◌, ◌≤◌, ◌<◌, ℕ, zero, suc, List, length, sum_by, Option, None, Some}
 use Rattle.ckr_entry.specs.declared.point.Passed.{Passed}
-use Rattle.ckr_jcl.specs.declared.deck.Job.{Job}
-use Rattle.ckr_jcl.specs.declared.deck.Step.{Step}
 use Rattle.ckr_library.specs.Catalog.{Catalog, HasSet, KeepsEntryRoom, entry_room}
 use Rattle.ckr_library.specs.NameMaps.{Name}
-use Rattle.ckr_meaning.specs.EffectiveJob.{OwnedStep, names_of_job, plain_job, step_at}
+use Rattle.ckr_meaning.specs.EffectiveJob.{OwnedStep, names_of_job, step_at}
 use Rattle.ckr_base.specs.RoomyLists.{Roomy}
 use Rattle.ckr_points_tables.specs.declared.run_table.RunTable.{RunTable}
 use Rattle.ckr_points_tables.specs.declared.run_table.WrittenEntry.{WrittenEntry}
@@ -14,11 +12,12 @@ use Rattle.ckr_points_tables.specs.Checkpoint.{checkpoint_name}
 use Rattle.ckr_points_tables.specs.StepEnd.{HasPassedRoom}
 use Rattle.ckr_points_tables.specs.Invariant.{entries_at, room_at}
 use Rattle.ckr_points_tables.specs.Needs.{step_now}
+use Rattle.ckr_points_tables.specs.RunJobs.{JobView, effective}
 use Rattle.ckr_points_tables.specs.View.{TablesRoom, RunRoom, kept_room}
 
 -- how many DDs steps have
-abbrev pub dds_of : List Step → ℕ
-dds_of steps = sum_by (λ (step : Step). length step.dds) steps
+abbrev pub dds_of : List OwnedStep → ℕ
+dds_of steps = sum_by (λ (own : OwnedStep). length own.step.dds) steps
 
 -- a run has no less room than before
 pub record HasNoLess (old new : RunRoom) : Type 0 where
@@ -48,14 +47,14 @@ pub record AreRoomier (library_old library_new : Catalog) (spare_old spare_new :
   pub passed : spare_old.passed.room ≤ spare_new.passed.room
 
 -- room for the marks of a run's names, and for what it passed on
-pub record FitsPoint (run : ℕ) (job : Job) (passed_on : List Passed) (spare : Spare) : Type 0 where
-  pub sorted : length (names_of_job (plain_job run job)) ≤ spare.sorted.room
-  pub marks : length (names_of_job (plain_job run job)) ≤ spare.marks.room
+pub record FitsPoint (run : ℕ) (job : JobView) (passed_on : List Passed) (spare : Spare) : Type 0 where
+  pub sorted : length (names_of_job (effective run job)) ≤ spare.sorted.room
+  pub marks : length (names_of_job (effective run job)) ≤ spare.marks.room
   pub passed : length passed_on ≤ spare.passed.room
 
 -- room for the start of any step of a run
-pub record StartsFit (table : RunTable) (library : Catalog) (spare : Spare) : Type 0 where
-  pub room : (run : ℕ) → FitsPoint run table.job table.passed.items spare
+pub record StartsFit (run : ℕ) (table : RunTable) (library : Catalog) (spare : Spare) : Type 0 where
+  pub room : FitsPoint run table.job table.passed.items spare
   pub points : 0 < table.points.room
   pub sets : 16 ≤ library.room
 
@@ -65,19 +64,19 @@ HasRoomFor library None = Unit {0}
 HasRoomFor library (Some name) = HasSet library name (λ _. Unit {0}) → 0 < entry_room library name
 
 abbrev pub KeepsFit : Catalog → ℕ → Option OwnedStep → Type 0
-KeepsFit library run None = Unit {0}
-KeepsFit library run (Some own) = HasRoomFor library (checkpoint_name run own)
+KeepsFit library root None = Unit {0}
+KeepsFit library root (Some own) = HasRoomFor library (checkpoint_name root own)
 
 -- room for a checkpoint of a run in the step that it is in
 pub record EntryFits (run : ℕ) (table : RunTable) (written : Roomy WrittenEntry) (library : Catalog) (spare : Spare) : Type 0 where
   pub point : FitsPoint run table.job table.passed.items spare
   pub entries : 0 < written.room
   pub few : table.count < 4294967295
-  pub kept : KeepsFit library run (step_at (plain_job run table.job) (step_now table))
+  pub kept : KeepsFit library table.job.root (step_at (effective run table.job) (step_now table))
 
 -- room for the end of the step that a run is before or in
-pub record EndsFit (old new : RunTable) : Type 0 where
-  pub passed : (run : ℕ) → HasPassedRoom new.passed.room (step_at (plain_job run old.job) (step_now old))
+pub record EndsFit (run : ℕ) (old new : RunTable) : Type 0 where
+  pub passed : HasPassedRoom new.passed.room (step_at (effective run old.job) (step_now old))
   pub codes : 0 < new.codes.room
 
 -- no run of these has this number

@@ -1,4 +1,4 @@
--- What an event makes of a run that continues none, and of the data sets.
+-- What an event makes of a run, and of the data sets.
 use Rattle.std.specs.Prelude.{ℕ, suc, Bool, true, false, List, [], ◌∷◌, ◌++◌, Option, None, Some, map}
 use Rattle.std.specs.Option.{option_map, option_map_or}
 use Rattle.ckr_points_library.specs.Commit.{committed, output_names}
@@ -18,7 +18,7 @@ use Rattle.ckr_meaning.specs.StepRun.{rewritten_stamp}
 use Rattle.ckr_meaning.specs.LibrarySet.{SetWays}
 use Rattle.ckr_meaning.specs.Allotments.{opened_all}
 use Rattle.ckr_meaning.specs.Dispositions.{Stock, disposed_all, passed_ended}
-use Rattle.ckr_meaning.specs.EffectiveJob.{OwnedStep, name_of, names_of_job, placed_in, plain_job, stamp_of, step_at}
+use Rattle.ckr_meaning.specs.EffectiveJob.{OwnedStep, name_of, placed_in, stamp_of, step_at}
 use Rattle.ckr_meaning.specs.declared.place.Place.{Place}
 use Rattle.ckr_meaning.specs.declared.place.Place.TheVariants.{Before, Opened, Within}
 use Rattle.ckr_points.specs.declared.run.Run.{Run}
@@ -26,9 +26,11 @@ use Rattle.ckr_points.specs.declared.run.RunState.TheVariants.{On, Ended as Ende
 use Rattle.ckr_points_tables.specs.StepEnd.{disposals_at}
 use Rattle.ckr_points.specs.Tables.{effect_rewritten, fresh_effect, is_checkpoints, is_updates, kept_entry, name_with_role, point_rewritten, with_kept_entry}
 use Rattle.ckr_points_tables.specs.NewSets.{made_from}
-use Rattle.ckr_points.specs.Marks.{mark_now, marks_for, point_at, with_point}
+use Rattle.ckr_points.specs.Marks.{mark_now, point_at, with_point, without_passed}
 use Rattle.ckr_points.specs.Restart.{step_in}
 use Rattle.ckr_points.specs.Rows.{EntryPoint, StartPoint, TableSet, TablesModel, cut_set, table_ways, with_run}
+use Rattle.ckr_points_tables.specs.RunJobs.{effective}
+use Rattle.ckr_points_tables.specs.RunMarks.{point_marks}
 use Rattle.ckr_points_tables.specs.View.{RunTableView, Writing, row_with, seen_by, table_of}
 
 -- a run with its line, and the data sets
@@ -72,7 +74,7 @@ holding_kit = record {
 }
 
 abbrev pub step_of : {X : Type 0} → Going X → ℕ → Option OwnedStep
-step_of now step = step_at (plain_job now.line.number now.facts.job) step
+step_of now step = step_at (effective now.line.number now.facts.job) step
 
 abbrev pub by_step_of : {X : Type 0} → ℕ → (OwnedStep → Going X) → Going X → Going X
 by_step_of step change now = option_map_or change (step_of now step) now
@@ -111,19 +113,19 @@ checkpointed_facts step writes set kept facts =
 abbrev pub purged : {X : Type 0} → Going X → Going X
 purged now = record now { line = record now.line { state = PurgedRun } }
 
--- the end of a run
+-- the end of a run, which has lost some of the passed names
 abbrev pub ended : {X : Type 0} → Going X → Going X
 ended now = record {
   line = record now.line { state = EndedRun; initiator = None };
-  facts = record now.facts { code = None; passed = []; in_effect = None };
-  sets = passed_ended now.facts.passed now.sets;
+  facts = record now.facts { code = None; passed = []; lost = []; in_effect = None };
+  sets = passed_ended (without_passed now.facts.lost now.facts.passed) now.sets;
 }
 
 module _ {X : Type 0} (kit : Kit X) where
   -- a step's outputs opened
   abbrev pub opened_by : ℕ → OwnedStep → Going X → Named X
   opened_by step own now =
-      opened_all kit.ways (stamp_of own step) (placed_in kit.ways (record { sets = now.sets; passed = now.facts.passed }) now.line.number own) now.sets
+      opened_all kit.ways (stamp_of own step) (placed_in kit.ways (record { sets = now.sets; passed = now.facts.passed }) now.facts.job.root own) now.sets
 
   -- the step point of a step that starts
   abbrev pub fresh_point : ℕ → Named X → Going X → StartPoint
@@ -132,7 +134,7 @@ module _ {X : Type 0} (kit : Kit X) where
     restarts = option_map_or (λ (point : StartPoint). point.restarts) (point_at now.facts.points step) 0;
     rewritten = false;
     count = now.facts.count;
-    marks = marks_for (kit.mark sets) (names_of_job (plain_job now.line.number now.facts.job));
+    marks = point_marks now.line.number now.facts (kit.mark sets);
     passed = now.facts.passed;
   }
 
@@ -141,13 +143,13 @@ module _ {X : Type 0} (kit : Kit X) where
       let opened = opened_by step own now in
       record now {
         facts = record now.facts { place = Some (Within step 0); points = with_point (fresh_point step opened now) now.facts.points };
-        sets = made_from kit.fresh (stamp_of own step) items (name_of now.line.number own) 1 own.step.dds opened;
+        sets = made_from kit.fresh (stamp_of own step) items (name_of now.facts.job.root own) 1 own.step.dds opened;
       }
 
   -- the lengths of a step committed
   abbrev pub committed_by : List ℕ → OwnedStep → Going X → Going X
   committed_by lengths own now =
-      record now { sets = committed kit.cut (output_names now.line.number own) lengths now.sets }
+      record now { sets = committed kit.cut (output_names now.facts.job.root own) lengths now.sets }
 
   -- a data set with the stamp of one more rewrite
   abbrev pub restamped : ℕ → ℕ → X → X
@@ -157,12 +159,12 @@ module _ {X : Type 0} (kit : Kit X) where
   abbrev pub rewritten : ℕ → ℕ → List ℕ → Going X → OwnedStep → Going X
   rewritten step writes lengths now own =
       going now.line (rewritten_facts step writes now.facts)
-      (with_changed (name_with_role now.line.number own is_updates) (restamped own.owner step) (committed_by lengths own now).sets)
+      (with_changed (name_with_role now.facts.job.root own is_updates) (restamped own.owner step) (committed_by lengths own now).sets)
 
   -- the point of a checkpoint, by the data sets
   abbrev pub check_point : ℕ → ℕ → ℕ → Named X → Going X → OwnedStep → EntryPoint
   check_point step taken writes sets now own = record {
-    job = now.facts.job.name;
+    job = now.facts.job.deck.name;
     run = now.line.number;
     owner = own.owner;
     step = step;
@@ -170,7 +172,7 @@ module _ {X : Type 0} (kit : Kit X) where
     count = suc now.facts.count;
     taken = taken;
     writes = writes;
-    marks = marks_for (kit.mark sets) (names_of_job (plain_job now.line.number now.facts.job));
+    marks = point_marks now.line.number now.facts (kit.mark sets);
     passed = now.facts.passed;
   }
 
@@ -178,13 +180,13 @@ module _ {X : Type 0} (kit : Kit X) where
   abbrev pub checkpointed : ℕ → Kept → ℕ → ℕ → List ℕ → Going X → OwnedStep → Going X
   checkpointed step kept taken writes lengths now own =
       let sets = (committed_by lengths own now).sets in
-      let set = name_with_role now.line.number own is_checkpoints in
+      let set = name_with_role now.facts.job.root own is_checkpoints in
       going now.line (checkpointed_facts step writes set kept now.facts) (with_changed set (kit.keep kept (check_point step taken writes sets now own)) sets)
 
   -- what the run wrote with it
   abbrev pub check_writing : ℕ → Kept → ℕ → ℕ → Named X → Going X → OwnedStep → Writing
   check_writing step kept taken writes sets now own = record {
-    set = name_with_role now.line.number own is_checkpoints;
+    set = name_with_role now.facts.job.root own is_checkpoints;
     id = kept.id;
     place = kept.place;
     point = check_point step taken writes sets now own;
@@ -200,7 +202,7 @@ module _ {X : Type 0} (kit : Kit X) where
   -- the dispositions of a step
   abbrev pub disposed_of : ℕ → Bool → OwnedStep → Going X → Stock X
   disposed_of step abnormal own now =
-      disposed_all kit.ways (disposals_at now.line.number now.facts.job now.facts.points step abnormal own)
+      disposed_all kit.ways (disposals_at now.facts.job.root (effective now.line.number now.facts.job).steps now.facts.points step abnormal own)
       (record { sets = now.sets; passed = now.facts.passed })
 
   abbrev pub disposed : ℕ → Bool → OwnedStep → Going X → Going X

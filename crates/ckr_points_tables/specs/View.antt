@@ -1,20 +1,18 @@
 -- How the tables in code are seen.
-use Rattle.std.specs.Prelude.{ℕ, zero, suc, ◌==◌, Bool, false, ◌&&◌, nat_le, nat_eq, if◌then◌else◌, List, [], ◌∷◌, map, length, find, slice_get, Option, Some, None}
+use Rattle.std.specs.Prelude.{ℕ, zero, suc, ◌==◌, Bool, false, ◌&&◌, nat_eq, if◌then◌else◌, List, [], ◌∷◌, map, find, slice_get, take, Option, Some, None}
 use Rattle.std.specs.Option.{option_map, option_map_or, option_eq}
-use Rattle.std.specs.List.{list_all}
 use Rattle.ckr_base.specs.RoomyLists.{Roomy}
 use Rattle.ckr_base.specs.declared.code.Code.{Code}
-use Rattle.ckr_jcl.specs.declared.deck.Dd.{Dd}
 use Rattle.ckr_jcl.specs.declared.deck.Job.{Job}
-use Rattle.ckr_jcl.specs.declared.deck.Step.{Step}
 use Rattle.ckr_library.specs.Catalog.{Holding}
 use Rattle.ckr_library.specs.NameMaps.{Name, Named, entry_at, same_name}
 use Rattle.ckr_library.specs.declared.sets.Kept.{Kept}
 use Rattle.ckr_entry.specs.declared.point.Passed.{Passed}
-use Rattle.ckr_meaning.specs.EffectiveJob.{plain_job}
 use Rattle.ckr_meaning.specs.JobRun.{StepCodes}
 use Rattle.ckr_meaning.specs.declared.place.Place.{Place}
 use Rattle.ckr_points.specs.declared.run.Run.{Run}
+pub use Rattle.ckr_points_tables.specs.RunJobs.{has_few_dds, has_few_serials, is_within_limits}
+use Rattle.ckr_points_tables.specs.RunJobs.{JobView, effective, plain_view}
 use Rattle.ckr_points_tables.specs.declared.run_table.StepPoint.{StepPoint}
 use Rattle.ckr_points_tables.specs.declared.run_table.InEffect.{InEffect}
 use Rattle.ckr_points_tables.specs.declared.run_table.ReturnCode.{ReturnCode}
@@ -124,12 +122,13 @@ code_of code = (code.step, code.rc)
 
 -- what a run has besides its line
 pub record RunTableView : Type 0 where
-  pub job : Job
+  pub job : JobView
   pub place : Option Place
   pub code : Option Code
   pub count : ℕ
   pub rcs : StepCodes
   pub passed : List Passed
+  pub lost : List Name
   pub points : List StartPoint
   pub in_effect : Option EffectPoint
 
@@ -141,31 +140,44 @@ facts_of table = record {
   count = table.count;
   rcs = map code_of table.codes.items;
   passed = table.passed.items;
+  lost = table.lost.items;
   points = map point_of table.points.items;
   in_effect = option_map effect_of table.in_effect;
 }
 
+-- the job of a run: of the steps up to the one at which it continues another run, it has taken over each
+abbrev pub job_in : RunRow → JobView
+job_in row = record {
+  deck = row.deck;
+  root = row.job.root;
+  earlier = row.earlier;
+  earlier_step = row.earlier_step;
+  taken = take row.earlier_step row.job.steps;
+}
+
 abbrev pub facts_in : RunRow → RunTableView
 facts_in row = record {
-  job = row.deck;
+  job = job_in row;
   place = row.place;
   code = row.code;
   count = row.count;
   rcs = row.rcs;
   passed = row.passed;
+  lost = row.lost;
   points = row.points;
   in_effect = row.in_effect;
 }
 
 -- those of a run that was just submitted
-abbrev pub fresh_facts : Job → RunTableView
-fresh_facts job = record {
-  job = job;
+abbrev pub fresh_facts : ℕ → Job → RunTableView
+fresh_facts number deck = record {
+  job = plain_view number deck;
   place = None;
   code = None;
   count = 0;
   rcs = [];
   passed = [];
+  lost = [];
   points = [];
   in_effect = None;
 }
@@ -173,22 +185,22 @@ fresh_facts job = record {
 abbrev pub line_of : RunRow → Run
 line_of row = record { number = row.number; name = row.deck.name; state = row.state; initiator = row.initiator }
 
--- a run by its line and its facts: the runs in code continue none, and so have lost no passed name
+-- a run by its line and its facts
 abbrev pub row_with : Run → RunTableView → RunRow
 row_with line facts = record {
   number = line.number;
-  deck = facts.job;
-  job = plain_job line.number facts.job;
+  deck = facts.job.deck;
+  job = effective line.number facts.job;
   state = line.state;
   initiator = line.initiator;
-  earlier = 0;
-  earlier_step = 0;
+  earlier = facts.job.earlier;
+  earlier_step = facts.job.earlier_step;
   place = facts.place;
   code = facts.code;
   count = facts.count;
   rcs = facts.rcs;
   passed = facts.passed;
-  lost = [];
+  lost = facts.lost;
   points = facts.points;
   in_effect = facts.in_effect;
 }
@@ -209,18 +221,6 @@ kept_room rooms name = option_map_or (λ room. room) (entry_at rooms name) 0
 abbrev pub place_of : ℕ → Option ℕ
 place_of zero = None
 place_of (suc place) = Some place
-
--- at most five serials of VOL
-abbrev pub has_few_serials : Dd → Bool
-has_few_serials dd = nat_le (length dd.volumes.items) 5
-
--- at most 16 DDs
-abbrev pub has_few_dds : Step → Bool
-has_few_dds step = nat_le (length step.dds) 16 && list_all has_few_serials step.dds
-
--- at most 64 steps
-abbrev pub is_within_limits : Job → Bool
-is_within_limits job = nat_le (length job.steps) 64 && list_all has_few_dds job.steps
 
 -- the run on an initiator
 abbrev pub run_on : ℕ → TablesModel → Option ℕ

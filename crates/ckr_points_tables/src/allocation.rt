@@ -1,27 +1,24 @@
 //! The allocation of a step of a run, before it starts.
-ghost use Rattle.std.specs.Prelude.{◌≡◌, ◌≤◌, [], ℕ, List, IfOk, IsTrue, Some, length};
+ghost use Rattle.std.specs.Prelude.{◌≡◌, ◌≤◌, [], ℕ, IfOk, IsTrue, Some, length};
 ghost use Rattle.std.specs.List.{list_all, AllByRecursion};
 ghost use Rattle.ckr_points_library.specs.Allocation.{allocated_all};
-ghost use Rattle.ckr_points_library.specs.Holdings.{holding_ways, owned, standing};
+ghost use Rattle.ckr_points_library.specs.Holdings.{holding_ways, standing};
 ghost use Rattle.ckr_uses.specs.Uses.{are_distinct};
 ghost use Rattle.ckr_events.specs.Format.{all_made, made as made_field, piece as piece_field, piece_list};
-ghost use Rattle.ckr_jcl.specs.declared.deck.Cond.{Cond as Test};
 ghost use Rattle.ckr_library.specs.Catalog.{Holding};
 ghost use Rattle.ckr_library.specs.NameMaps.{EachEntry};
-ghost use Rattle.ckr_meaning.specs.EffectiveJob.{HasDistinctNames, OwnedStep, names_of, placed_in, plain_job, stamp_of, step_at};
+ghost use Rattle.ckr_meaning.specs.EffectiveJob.{HasDistinctNames, OwnedStep, names_of, placed_in, stamp_of, step_at};
 ghost use Rattle.ckr_points.specs.Rows.{RunRow, TableSet, run_of, step_of_run};
 ghost use Rattle.ckr_points_tables.specs.Allocation.{HasFitting, IsAllocation, IsFromOne, MayAllocate, allocation_in};
-ghost use Rattle.ckr_points_tables.specs.View.{is_within_limits};
+ghost use Rattle.ckr_points_tables.specs.RunJobs.{effective, own_of, IsFitting};
 ghost use Rattle.ckr_volumes.specs.Layouts.{StandsIn};
 
 use crate::rooms::place_in;
-use crate::start::step_at;
-use crate::{RunTable, Tables};
+use crate::{OwnStep, RunTable, Tables, step_at};
 use arrayvec::ArrayVec;
 use ckr_base::NoMemory;
 use ckr_entry::Passed;
 use ckr_events::{Made, Piece};
-use ckr_jcl::Step;
 use ckr_library::Library;
 use ckr_points_library::{MadeList, Refusal, allocate_step};
 use ckr_volumes::Layout;
@@ -70,22 +67,21 @@ fn allocate_run(
     library: &mut Library,
     alloc: Global,
 ) -> Result<Result<ArrayVec<Made, 80>, Refusal>, NoMemory>
-    requires run { run ≤ 9999999 }
-    requires limits { IsTrue (is_within_limits table.now.job) }
-    requires distinct { HasDistinctNames (plain_job run table.now.job) }
+    requires fits { IsFitting (effective run table.now.job) }
+    requires distinct { HasDistinctNames (effective run table.now.job) }
     requires few { length layout.now.volumes.items ≤ 32 }
     requires stand { EachEntry (λ (h : Holding). StandsIn layout.now h.set) library.old.sets }
-    requires dds { (own : OwnedStep) → step_at (plain_job run table.now.job) number ≡ Some own → HasFitting run own }
+    requires dds { (own : OwnedStep) → step_at (effective run table.now.job) number ≡ Some own → HasFitting table.now.job.root own }
     ensures sets { library.new.sets ≡ library.old.sets }
-    ensures allocated { IfOk result (λ made. (own : OwnedStep) → step_at (plain_job run table.now.job) number ≡ Some own → IsAllocation (allocated_all layout.now (stamp_of own number) (placed_in holding_ways (standing library.old.sets table.now.passed.items) run own) library.old.sets) made) }
+    ensures allocated { IfOk result (λ made. (own : OwnedStep) → step_at (effective run table.now.job) number ≡ Some own → IsAllocation (allocated_all layout.now (stamp_of own number) (placed_in holding_ways (standing library.old.sets table.now.passed.items) table.now.job.root own) library.old.sets) made) }
     ensures fits { IfOk result (λ made. IfOk made (λ items. all_made.fits items.items)) }
 {
-    match step_at(&table.job, number) {
-        Some(step) => allocate_own(
+    match step_at(&table.job, run, number) {
+        Some(own) => allocate_own(
             layout,
-            run,
+            table.job.root(),
             number,
-            step,
+            &own,
             table.passed.as_slice(),
             library,
             alloc,
@@ -97,27 +93,30 @@ fn allocate_run(
 /// The same for a step of it.
 fn allocate_own(
     layout: &Layout,
-    run: u32,
+    root: u32,
     number: u8,
-    step: &Step,
+    own: &OwnStep<'_>,
     passed: &[Passed],
     library: &mut Library,
     alloc: Global,
 ) -> Result<Result<ArrayVec<Made, 80>, Refusal>, NoMemory>
-    requires run { run ≤ 9999999 }
-    requires few_dds { length step.now.dds ≤ 16 }
-    requires dds { HasFitting run (owned step.now run []) }
-    requires names { IsTrue (are_distinct (names_of run (owned step.now run []))) }
+    requires root { root ≤ 9999999 }
+    requires owner { own.now.owner ≤ 9999999 }
+    requires few_dds { length own.now.step.now.dds ≤ 16 }
+    requires dds { HasFitting root (own_of own.now) }
+    requires names { IsTrue (are_distinct (names_of root (own_of own.now))) }
     requires few { length layout.now.volumes.items ≤ 32 }
     requires stand { EachEntry (λ (h : Holding). StandsIn layout.now h.set) library.old.sets }
     ensures sets { library.new.sets ≡ library.old.sets }
-    ensures allocated { IfOk result (λ made. (tests : List Test) → let own = owned step.now run tests in IsAllocation (allocated_all layout.now (stamp_of own number) (placed_in holding_ways (standing library.old.sets passed.now) run own) library.old.sets) made) }
+    ensures allocated { IfOk result (λ made. IsAllocation (allocated_all layout.now (stamp_of (own_of own.now) number) (placed_in holding_ways (standing library.old.sets passed.now) root (own_of own.now)) library.old.sets) made) }
     ensures fits { IfOk result (λ made. IfOk made (λ items. all_made.fits items.items)) }
 {
     let mut items = MadeList::new(alloc);
     items.reserve(16)?;
     library.reserve(16)?;
-    match allocate_step(layout, step, run, run, number, library, passed, &mut items) {
+    match allocate_step(
+        layout, own.step, root, own.owner, number, library, passed, &mut items,
+    ) {
         Ok(()) => Ok(Ok(copies_of(items.as_slice()))),
         Err(refusal) => Ok(Err(refusal)),
     }

@@ -3,18 +3,19 @@ ghost use Rattle.std.specs.Prelude.{◌≡◌, ◌≤◌, ◌<◌, [], ◌∷◌
 ghost use Rattle.std.specs.Option.{option_copied, option_map_or};
 ghost use Rattle.ckr_library.specs.Catalog.{entry_room, with_kept};
 ghost use Rattle.ckr_library.specs.NameMaps.{with_changed};
-ghost use Rattle.ckr_meaning.specs.EffectiveJob.{plain_job, step_at, OwnedStep};
+ghost use Rattle.ckr_meaning.specs.EffectiveJob.{step_at, OwnedStep};
 ghost use Rattle.ckr_points.specs.Tables.{is_checkpoints};
-ghost use Rattle.ckr_points_library.specs.Holdings.{owned};
 ghost use Rattle.ckr_points_tables.specs.Checkpoint.{checkpoint_dd, checkpoint_name, HasCheckpoints, MayCheckpoint};
 ghost use Rattle.ckr_points_tables.specs.RunChange.{by_step_of, check_writing, checkpointed, checkpointed_facts, committed_by, going, holding_kit, step_of};
+ghost use Rattle.ckr_points_tables.specs.RunJobs.{effective, own_of, IsFitting};
 ghost use Rattle.ckr_points_tables.specs.Start.{HasPointRoom};
 ghost use Rattle.ckr_points_tables.specs.View.{facts_of, writing_of, written_of};
 
-use crate::start::{step_at, take_marks, take_passed};
-use crate::step_end::{commit, has_step};
+use crate::effective_job::has_step;
+use crate::start::{take_marks, take_passed};
+use crate::step_end::commit;
 use crate::tables::Spare;
-use crate::{InEffect, RunTable, WrittenEntries, WrittenEntry};
+use crate::{InEffect, OwnStep, RunTable, WrittenEntries, WrittenEntry, step_at};
 use ckr_base::DsName;
 use ckr_jcl::{Dd, Role, Step};
 use ckr_library::{Kept, Library};
@@ -48,12 +49,13 @@ pub fn checkpoint_dd(step: &Step) -> Option<&Dd>
 }
 
 /// The name of the data set to which a step writes its checkpoints.
-pub fn checkpoint_name(run: u32, own: &Step) -> Option<DsName>
-    requires { run ≤ 9999999 }
-    ensures { result ≡ checkpoint_name run (owned own.now run []) }
+pub fn checkpoint_name(root: u32, own: &OwnStep<'_>) -> Option<DsName>
+    requires root { root ≤ 9999999 }
+    requires owner { own.now.owner ≤ 9999999 }
+    ensures { result ≡ checkpoint_name root (own_of own.now) }
 {
-    match checkpoint_dd(own) {
-        Some(dd) => library_name(dd, run, run, &own.name),
+    match checkpoint_dd(own.step) {
+        Some(dd) => library_name(dd, root, own.owner, &own.step.name),
         None => None,
     }
 }
@@ -93,31 +95,31 @@ fn take_entry(
     library: &Library,
     spare: &mut Spare,
 ) -> WrittenEntry
-    requires run { line.now.number ≤ 9999999 }
+    requires fits { IsFitting (effective line.now.number table.now.job) }
     requires empty { spare.old.marks.items ≡ [] }
     requires room { HasPointRoom line.now.number table.now spare.old }
     requires few { table.now.count < 4294967295 }
-    requires named { HasCheckpoints line.now.number (step_at (plain_job line.now.number table.now.job) far.step) }
-    ensures entry { (own : OwnedStep) → step_at (plain_job line.now.number table.now.job) far.step ≡ Some own → writing_of result ≡ check_writing holding_kit far.step kept.now far.taken far.writes library.now.sets (going line.now (facts_of table.now) library.now.sets) own }
+    requires named { HasCheckpoints table.now.job.root (step_at (effective line.now.number table.now.job) far.step) }
+    ensures entry { (own : OwnedStep) → step_at (effective line.now.number table.now.job) far.step ≡ Some own → writing_of result ≡ check_writing holding_kit far.step kept.now far.taken far.writes library.now.sets (going line.now (facts_of table.now) library.now.sets) own }
     ensures empty { spare.new.marks.items ≡ [] }
 {
-    let Some(own) = step_at(&table.job, far.step) else {
+    let Some(own) = step_at(&table.job, line.number, far.step) else {
         unreachable!()
     };
-    let Some(set) = checkpoint_name(line.number, own) else {
+    let Some(set) = checkpoint_name(table.job.root(), &own) else {
         unreachable!()
     };
-    let marks = take_marks(line.number, &table.job, library, spare);
+    let marks = take_marks(line.number, table, library, spare);
     let passed = take_passed(table.passed.as_slice(), spare);
     WrittenEntry {
         set,
         id: kept.id.copied(),
         place: kept.place,
-        job: table.job.name.copied(),
+        job: table.job.deck().name.copied(),
         run: line.number,
-        owner: line.number,
+        owner: own.owner,
         step: far.step,
-        step_name: own.name.copied(),
+        step_name: own.step.name.copied(),
         count: table.count + 1,
         taken: far.taken,
         writes: far.writes,
@@ -164,7 +166,7 @@ pub(crate) fn checkpoint_run(
     library: &mut Library,
     spare: &mut Spare,
 )
-    requires run { line.now.number ≤ 9999999 }
+    requires fits { IsFitting (effective line.now.number table.old.job) }
     requires empty { spare.old.marks.items ≡ [] }
     requires may { MayCheckpoint line.now.number far.step kept.place kept.bytes lengths.now table.old entries.old library.old spare.old }
     ensures going { let now = going line.now (facts_of table.old) library.old.sets in going line.now (facts_of table.new) library.new.sets ≡ by_step_of far.step (checkpointed holding_kit far.step kept far.taken far.writes lengths.now now) now }

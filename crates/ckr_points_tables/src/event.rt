@@ -1,6 +1,7 @@
 //! The tables go on by an event.
 ghost use Rattle.std.specs.Prelude.{◌≡◌, ℕ, suc, ◌≤◌, ◌<◌, [], ◌∷◌, ◌++◌, true, false, Some, IsTrue, Option, length, vec_len, vec_capacity};
-ghost use Rattle.std.specs.Option.{option_map_or};
+ghost use Rattle.std.specs.Option.{option_map, option_map_or};
+ghost use Rattle.std.specs.Rc.{rc_value};
 ghost use Rattle.ckr_library.specs.NameMaps.{are_named_in_order};
 ghost use Rattle.ckr_jcl.specs.declared.deck.Job.{Job as JobOfDeck};
 ghost use Rattle.ckr_points.specs.Tables.{after_submitted};
@@ -9,7 +10,7 @@ ghost use Rattle.ckr_points.specs.Restart.{after_event};
 ghost use Rattle.ckr_points_tables.specs.View.{facts_of, fresh_facts};
 
 use crate::run_change::change_run;
-use crate::{RunTable, StepPoints, Tables};
+use crate::{EffectiveJob, RunTable, StepPoints, Tables};
 use ckr_base::RoomyList;
 use ckr_entry::PassedList;
 use ckr_events::Event;
@@ -17,21 +18,22 @@ use ckr_jcl::Job;
 use ckr_library::Library;
 use ckr_points::{Run, RunState};
 use std::alloc::Global;
+use std::rc::Rc;
 
 impl Tables {
-    /// Goes on by an event that follows: the tables are those of one more event. A job is given exactly where the event is
+    /// Goes on by an event that follows: the tables are those of one more event. A deck is given exactly where the event is
     /// Submitted and its cards are a deck, and it is that deck. There is room for the event, by `make_room` for it or for one
     /// that differs from it in its writes and lengths alone; Rewritten needs none. It takes no memory (this project's profile).
-    pub fn apply(&mut self, event: &Event, job: Option<Job>)
+    pub fn apply(&mut self, event: &Event, deck: Option<Rc<Job>>)
         requires kept { IsTrue (is_plain_event event.now) }
-        requires follows { MayFollow self.old.desk event.now job }
-        requires deck { MaySubmit event.now job }
+        requires follows { MayFollow self.old.desk event.now (option_map rc_value deck) }
+        requires deck { MaySubmit event.now (option_map rc_value deck) }
         requires room { HasRoom self.old event.now }
         requires count { MayCount event.now self.old.desk.sets }
-        ensures { self.new.desk ≡ after_event event.now job self.old.desk }
+        ensures { self.new.desk ≡ after_event event.now (option_map rc_value deck) self.old.desk }
     {
         match event {
-            Event::Submitted { job: number, .. } => self.submit_deck(*number, job),
+            Event::Submitted { job: number, .. } => self.submit_deck(*number, deck),
             Event::Restarted {
                 job: number,
                 initiator,
@@ -50,14 +52,14 @@ impl Tables {
     }
 
     /// A deck is submitted, where it is given. There is room for its run.
-    fn submit_deck(&mut self, number: u32, job: Option<Job>)
+    fn submit_deck(&mut self, number: u32, deck: Option<Rc<Job>>)
         requires next { number ≡ suc (length self.old.desk.runs) }
-        requires deck { IsAnySubmittable number job }
+        requires deck { IsAnySubmittable number (option_map rc_value deck) }
         requires room { HasRunRoom self.old.room }
-        ensures { self.new.desk ≡ option_map_or (λ deck. after_submitted number deck self.old.desk) job self.old.desk }
+        ensures { self.new.desk ≡ option_map_or (λ job. after_submitted number job self.old.desk) (option_map rc_value deck) self.old.desk }
     {
-        if let Some(job) = job {
-            self.submit(number, job);
+        if let Some(deck) = deck {
+            self.submit(number, deck);
         }
     }
 
@@ -87,21 +89,21 @@ impl Tables {
     }
 
     /// A deck is submitted. There is room for its run.
-    fn submit(&mut self, number: u32, job: Job)
+    fn submit(&mut self, number: u32, deck: Rc<Job>)
         requires next { number ≡ suc (length self.old.desk.runs) }
-        requires deck { IsTrue (is_submittable number job) }
+        requires deck { IsTrue (is_submittable number (rc_value deck)) }
         requires room { HasRunRoom self.old.room }
-        ensures { self.new.desk ≡ after_submitted number job self.old.desk }
+        ensures { self.new.desk ≡ after_submitted number (rc_value deck) self.old.desk }
     {
         let alloc = *self.tables.allocator();
         let line = Run {
             number,
-            name: job.name.copied(),
+            name: deck.as_ref().name.copied(),
             state: RunState::Queued,
             initiator: None,
         };
         put(&mut self.lines, line);
-        put(&mut self.tables, fresh_table(alloc, job));
+        put(&mut self.tables, fresh_table(alloc, number, deck));
         put(&mut self.writings, RoomyList::new(alloc));
     }
 }
@@ -114,16 +116,17 @@ fn in_order(library: &Library)
 }
 
 /// A run that was just submitted.
-fn fresh_table(alloc: Global, job: Job) -> RunTable
-    ensures { facts_of result ≡ fresh_facts job }
+fn fresh_table(alloc: Global, number: u32, deck: Rc<Job>) -> RunTable
+    ensures { facts_of result ≡ fresh_facts number (rc_value deck) }
 {
     RunTable {
-        job,
+        job: EffectiveJob::plain(alloc, number, deck),
         place: None,
         code: None,
         count: 0,
         codes: RoomyList::new(alloc),
         passed: PassedList::new(alloc),
+        lost: Vec::new(alloc),
         points: StepPoints::new(alloc),
         in_effect: None,
     }

@@ -1,17 +1,19 @@
 //! A run is held.
-ghost use Rattle.std.specs.Prelude.{◌≡◌, ◌≤◌, Option, None};
+ghost use Rattle.std.specs.Prelude.{◌≡◌, Option, None};
 ghost use Rattle.ckr_events.specs.declared.event.Event.TheVariants.{Held};
 ghost use Rattle.ckr_jcl.specs.declared.deck.Job.{Job as JobOfDeck};
-ghost use Rattle.ckr_meaning.specs.EffectiveJob.{plain_job, step_at};
+ghost use Rattle.ckr_meaning.specs.EffectiveJob.{step_at};
 ghost use Rattle.ckr_points.specs.Restart.{after_event, step_in};
 ghost use Rattle.ckr_points_tables.specs.Hold.{held, held_facts, held_line};
 ghost use Rattle.ckr_points_tables.specs.Invariant.{MayFollow};
 ghost use Rattle.ckr_points_tables.specs.RunChange.{by_step_of, going, holding_kit, place_now};
+ghost use Rattle.ckr_points_tables.specs.RunJobs.{effective, IsFitting};
 ghost use Rattle.ckr_points_tables.specs.StepEnd.{AreLengthsOf};
 ghost use Rattle.ckr_points_tables.specs.View.{facts_of};
 
+use crate::effective_job::has_step;
 use crate::event::put_at;
-use crate::step_end::{commit, has_step, step_now};
+use crate::step_end::{commit, step_now};
 use crate::{RunTable, Tables};
 use arrayvec::ArrayVec;
 use ckr_base::Code;
@@ -67,8 +69,8 @@ fn hold_run(
     table: &mut RunTable,
     library: &mut Library,
 )
-    requires run { line.old.number ≤ 9999999 }
-    requires lengths { AreLengthsOf line.old.number lengths.now library.old.sets (step_at (plain_job line.old.number table.old.job) (step_in (place_now (facts_of table.old)))) }
+    requires fits { IsFitting (effective line.old.number table.old.job) }
+    requires lengths { AreLengthsOf table.old.job.root lengths.now library.old.sets (step_at (effective line.old.number table.old.job) (step_in (place_now (facts_of table.old)))) }
     ensures { let step = step_in (place_now (facts_of table.old)) in going line.new (facts_of table.new) library.new.sets ≡ by_step_of step (held holding_kit step code writes lengths.now (going line.old (facts_of table.old) library.old.sets)) (going line.old (facts_of table.old) library.old.sets) }
 {
     let step = step_now(table);

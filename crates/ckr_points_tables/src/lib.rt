@@ -3,11 +3,15 @@
 
 mod allocation;
 mod checkpoint;
+mod effective_job;
+mod entry_now;
 mod event;
 mod hold;
 mod made_names;
+mod marking;
 mod marks_in_order;
 mod new_sets;
+mod own_step;
 mod put_back;
 mod release;
 mod restart;
@@ -21,12 +25,19 @@ mod step_end;
 mod step_points;
 mod submit;
 mod tables;
+mod taken_step;
 
 pub use checkpoint::{checkpoint_dd, checkpoint_name};
+pub use effective_job::{EffectiveJob, step_at};
+pub use entry_now::EntryNow;
+pub use own_step::OwnStep;
 pub use rewrite::{master_dd, master_name};
-pub use run_table::{InEffect, ReturnCode, RunTable, StepPoint, WrittenEntries, WrittenEntry};
-pub use start::{point_at, step_at};
+pub use run_table::{
+    InEffect, LostNames, ReturnCode, RunTable, StepPoint, WrittenEntries, WrittenEntry,
+};
+pub use start::point_at;
 pub use step_end::place_now;
 pub use step_points::StepPoints;
 pub use submit::is_submittable;
 pub use tables::Tables;
+pub use taken_step::TakenStep;

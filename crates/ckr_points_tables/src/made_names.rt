@@ -1,20 +1,22 @@
 //! Which names the steps of a run made.
-ghost use Rattle.std.specs.Prelude.{◌≡◌, ◌≤◌, [], false, length, map};
+ghost use Rattle.std.specs.Prelude.{◌≡◌, ◌+◌, ◌<◌, ◌≤◌, ◌&&◌, [], false, length, map, pred, slice_get, take};
 ghost use Rattle.std.specs.Option.{option_map_or};
 ghost use Rattle.std.specs.List.{list_any};
 ghost use Rattle.ckr_points_library.specs.Holdings.{owned};
 ghost use Rattle.ckr_library.specs.NameMaps.{same_name};
 ghost use Rattle.ckr_meaning.specs.EffectiveJob.{is_among, name_of, names_of};
 ghost use Rattle.ckr_points_tables.specs.StepEnd.{made_at, made_in};
+ghost use Rattle.ckr_points_tables.specs.RunJobs.{effective, own_of, IsFitting};
 ghost use Rattle.ckr_points_tables.specs.View.{point_of};
+ghost use Rattle.ckr_uses.specs.SetNames.{library_name};
 
-use crate::StepPoint;
 use crate::start::point_at;
+use crate::{EffectiveJob, OwnStep, StepPoint};
 use arrayvec::ArrayVec;
-use ckr_base::DsName;
+use ckr_base::{DsName, Name8};
 use ckr_jcl::{Dd, Step};
 use ckr_points::is_marked_absent;
-use ckr_uses::{has_set_named, library_name};
+use ckr_uses::library_name;
 
 /// Whether the step of this number made a name.
 fn made_at(points: &[StepPoint], step: u8, name: &DsName) -> bool
@@ -26,33 +28,63 @@ fn made_at(points: &[StepPoint], step: u8, name: &DsName) -> bool
     }
 }
 
+/// Whether the data set of a DD has this name, for a DD of the step of that name.
+fn is_named(dd: &Dd, root: u32, owner: u32, step: &Name8, name: &DsName) -> bool
+    requires root { root ≤ 9999999 }
+    requires owner { owner ≤ 9999999 }
+    ensures { result ≡ option_map_or (same_name name.now) (library_name dd.now root owner step.now) false }
+{
+    match library_name(dd, root, owner, step) {
+        Some(other) => name.is_same(&other),
+        None => false,
+    }
+}
+
 /// Whether one of a step's DDs has the data set of this name.
-pub(crate) fn is_any_named(run: u32, step: &Step, dds: &[Dd], name: &DsName) -> bool
-    requires { run ≤ 9999999 }
-    ensures { result ≡ list_any (λ dd. option_map_or (same_name name.now) (name_of run (owned step.now run []) dd) false) dds.now }
+pub(crate) fn is_any_named(root: u32, owner: u32, step: &Step, dds: &[Dd], name: &DsName) -> bool
+    requires root { root ≤ 9999999 }
+    requires owner { owner ≤ 9999999 }
+    ensures { result ≡ list_any (λ dd. option_map_or (same_name name.now) (name_of root (owned step.now owner []) dd) false) dds.now }
 {
     dds.iter()
-        .any(|dd| has_set_named(dd, run, &step.name, name))
+        .any(|dd| is_named(dd, root, owner, &step.name, name))
 }
 
 /// Whether a step has the name.
-fn has_name(run: u32, step: &Step, name: &DsName) -> bool
-    requires { run ≤ 9999999 }
-    ensures { result ≡ is_among (names_of run (owned step.now run [])) name.now }
+pub(crate) fn has_name(root: u32, own: &OwnStep<'_>, name: &DsName) -> bool
+    requires root { root ≤ 9999999 }
+    requires owner { own.now.owner ≤ 9999999 }
+    ensures { result ≡ is_among (names_of root (own_of own.now)) name.now }
 {
-    is_any_named(run, step, step.dds.as_slice(), name)
+    is_any_named(root, own.owner, own.step, own.step.dds.as_slice(), name)
 }
 
-/// Whether one of the first steps made a name.
-fn made_in(run: u32, steps: &[Step], points: &[StepPoint], name: &DsName) -> bool
-    requires run { run ≤ 9999999 }
-    requires few { length steps.now ≤ 64 }
-    ensures { result ≡ made_in run (map point_of points.now) 1 steps.now name.now }
+/// Whether the step at a place made a name.
+fn made_in_step(
+    run: u32,
+    job: &EffectiveJob,
+    place: usize,
+    points: &[StepPoint],
+    name: &DsName,
+) -> bool
+    requires fits { IsFitting (effective run job.now) }
+    requires place { place < 64 }
+    ensures { result ≡ option_map_or (λ own. is_among (names_of job.now.root own) name.now && made_at (map point_of points.now) (place + 1) name.now) (slice_get (effective run job.now).steps place) false }
 {
-    let mut number = 0;
-    for step in steps {
-        number += 1;
-        if has_name(run, step, name) && made_at(points, number, name) {
+    match job.step_in(run, place) {
+        Some(own) => { has_name(job.root(), &own, name) && made_at(points, place as u8 + 1, name) }
+        None => false,
+    }
+}
+
+/// Whether one of the first steps made a name: those before the step of this number.
+fn made_in(run: u32, job: &EffectiveJob, step: u8, points: &[StepPoint], name: &DsName) -> bool
+    requires fits { IsFitting (effective run job.now) }
+    ensures { result ≡ made_in job.now.root (map point_of points.now) 1 (take (pred step) (effective run job.now).steps) name.now }
+{
+    let count = usize::from(step).saturating_sub(1).min(job.count_steps());
+    for place in 0..count {
+        if made_in_step(run, job, place, points, name) {
             return true;
         }
     }
@@ -60,36 +92,43 @@ fn made_in(run: u32, steps: &[Step], points: &[StepPoint], name: &DsName) -> boo
 }
 
 /// Whether a step made it, for each name of the step.
-pub(crate) fn made_flags(run: u32, step: u8, own: &Step, points: &[StepPoint]) -> ArrayVec<bool, 16>
-    requires run { run ≤ 9999999 }
-    requires few { length own.now.dds ≤ 16 }
-    ensures { result.items ≡ map (made_at (map point_of points.now) step) (names_of run (owned own.now run [])) }
+pub(crate) fn made_flags(
+    root: u32,
+    step: u8,
+    own: &OwnStep<'_>,
+    points: &[StepPoint],
+) -> ArrayVec<bool, 16>
+    requires root { root ≤ 9999999 }
+    requires owner { own.now.owner ≤ 9999999 }
+    requires few { length own.now.step.now.dds ≤ 16 }
+    ensures { result.items ≡ map (made_at (map point_of points.now) step) (names_of root (own_of own.now)) }
 {
     let mut made = ArrayVec::new();
-    for dd in own.dds.as_slice() {
-        if let Some(name) = library_name(dd, run, run, &own.name) {
+    for dd in own.step.dds.as_slice() {
+        if let Some(name) = library_name(dd, root, own.owner, &own.step.name) {
             made.push(made_at(points, step, &name));
         }
     }
     made
 }
 
-/// Whether one of the first steps made it, for each name of a step.
+/// Whether one of the steps before it made it, for each name of a step.
 pub(crate) fn earlier_flags(
     run: u32,
-    steps: &[Step],
-    own: &Step,
+    job: &EffectiveJob,
+    step: u8,
+    own: &OwnStep<'_>,
     points: &[StepPoint],
 ) -> ArrayVec<bool, 16>
-    requires run { run ≤ 9999999 }
-    requires steps { length steps.now ≤ 64 }
-    requires few { length own.now.dds ≤ 16 }
-    ensures { result.items ≡ map (made_in run (map point_of points.now) 1 steps.now) (names_of run (owned own.now run [])) }
+    requires fits { IsFitting (effective run job.now) }
+    requires owner { own.now.owner ≤ 9999999 }
+    requires few { length own.now.step.now.dds ≤ 16 }
+    ensures { result.items ≡ map (made_in job.now.root (map point_of points.now) 1 (take (pred step) (effective run job.now).steps)) (names_of job.now.root (own_of own.now)) }
 {
     let mut made = ArrayVec::new();
-    for dd in own.dds.as_slice() {
-        if let Some(name) = library_name(dd, run, run, &own.name) {
-            made.push(made_in(run, steps, points, &name));
+    for dd in own.step.dds.as_slice() {
+        if let Some(name) = library_name(dd, job.root(), own.owner, &own.step.name) {
+            made.push(made_in(run, job, step, points, &name));
         }
     }
     made

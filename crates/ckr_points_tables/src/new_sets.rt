@@ -1,18 +1,19 @@
 //! What a step makes, by the items of its event.
-ghost use Rattle.std.specs.Prelude.{◌≡◌, ◌+◌, ◌≤◌, ◌<◌, [], Some, None, IsTrue, length, map, true, unwrap_or};
+ghost use Rattle.std.specs.Prelude.{◌≡◌, ◌+◌, ◌≤◌, ◌<◌, Some, None, IsTrue, length, map, true, unwrap_or};
 ghost use Rattle.std.specs.List.{AllByRecursion};
-ghost use Rattle.ckr_points_library.specs.Holdings.{owned};
 ghost use Rattle.ckr_library.specs.Catalog.{fresh_holding};
 ghost use Rattle.ckr_library.specs.NameMaps.{entry_at};
 ghost use Rattle.ckr_meaning.specs.Allotments.{content_for, parts_for, space_for};
 ghost use Rattle.ckr_meaning.specs.EffectiveJob.{name_of};
 ghost use Rattle.ckr_points.specs.Tables.{part_of, parts_from};
+ghost use Rattle.ckr_points_tables.specs.RunJobs.{own_of};
 ghost use Rattle.ckr_points_tables.specs.NewSets.{fresh_set, has_items, items_for, made_from, made_named, made_one, HasRecords, MayMake, MayMakeAll, MayMakeNamed};
 
+use crate::OwnStep;
 use arrayvec::ArrayVec;
 use ckr_base::DsName;
 use ckr_events::{Made, Piece};
-use ckr_jcl::{Dd, Role, Step};
+use ckr_jcl::{Dd, Role};
 use ckr_library::{Content, DataSet, Extent, Library, Part, Stamp};
 use ckr_uses::library_name;
 
@@ -134,36 +135,44 @@ fn make_one(number: u8, dd: &Dd, name: DsName, stamp: Stamp, items: &[Made], lib
 
 /// The same for a DD that has a data set or none.
 fn make_dd(
-    run: u32,
-    step: &Step,
+    root: u32,
+    own: &OwnStep<'_>,
     number: u8,
     dd: &Dd,
     stamp: Stamp,
     items: &[Made],
     library: &mut Library,
 )
-    requires run { run ≤ 9999999 }
-    requires may { MayMakeNamed fresh_holding stamp items.now number dd.now (name_of run (owned step.now run []) dd.now) library.old.sets }
+    requires root { root ≤ 9999999 }
+    requires owner { own.now.owner ≤ 9999999 }
+    requires may { MayMakeNamed fresh_holding stamp items.now number dd.now (name_of root (own_of own.now) dd.now) library.old.sets }
     requires room { 0 < library.old.room }
-    ensures sets { library.new.sets ≡ made_named fresh_holding stamp items.now number dd.now (name_of run (owned step.now run []) dd.now) library.old.sets }
+    ensures sets { library.new.sets ≡ made_named fresh_holding stamp items.now number dd.now (name_of root (own_of own.now) dd.now) library.old.sets }
     ensures room { library.old.room ≤ library.new.room + 1 }
 {
-    if let Some(name) = library_name(dd, run, run, &step.name) {
+    if let Some(name) = library_name(dd, root, own.owner, &own.step.name) {
         make_one(number, dd, name, stamp, items, library);
     }
 }
 
 /// Makes the data sets of a step's DDs that the items make.
-pub(crate) fn make_sets(run: u32, step: &Step, stamp: Stamp, items: &[Made], library: &mut Library)
-    requires run { run ≤ 9999999 }
-    requires few { length step.now.dds ≤ 16 }
-    requires may { MayMakeAll fresh_holding stamp items.now (name_of run (owned step.now run [])) 1 step.now.dds library.old.sets }
-    requires room { length step.now.dds ≤ library.old.room }
-    ensures { library.new.sets ≡ made_from fresh_holding stamp items.now (name_of run (owned step.now run [])) 1 step.now.dds library.old.sets }
+pub(crate) fn make_sets(
+    root: u32,
+    own: &OwnStep<'_>,
+    stamp: Stamp,
+    items: &[Made],
+    library: &mut Library,
+)
+    requires root { root ≤ 9999999 }
+    requires owner { own.now.owner ≤ 9999999 }
+    requires few { length own.now.step.now.dds ≤ 16 }
+    requires may { MayMakeAll fresh_holding stamp items.now (name_of root (own_of own.now)) 1 own.now.step.now.dds library.old.sets }
+    requires room { length own.now.step.now.dds ≤ library.old.room }
+    ensures { library.new.sets ≡ made_from fresh_holding stamp items.now (name_of root (own_of own.now)) 1 own.now.step.now.dds library.old.sets }
 {
     let mut number = 0;
-    for dd in step.dds.as_slice() {
+    for dd in own.step.dds.as_slice() {
         number += 1;
-        make_dd(run, step, number, dd, stamp, items, library);
+        make_dd(root, own, number, dd, stamp, items, library);
     }
 }

@@ -1,25 +1,25 @@
 //! What a restart puts back: the data sets as a point marks them, and its passed list.
-ghost use Rattle.std.specs.Prelude.{◌≡◌, ◌≤◌, [], false, length, IsTrue, nat_le};
+ghost use Rattle.std.specs.Prelude.{◌≡◌, ◌≤◌, false, length, IsTrue, nat_le};
 ghost use Rattle.std.specs.Option.{option_map_or};
 ghost use Rattle.ckr_library.specs.Catalog.{with_catalog, Holding};
 ghost use Rattle.ckr_library.specs.NameMaps.{are_named_in_order, entry_at, with_changed, without_entry, EachEntry};
 ghost use Rattle.ckr_meaning.specs.EffectiveJob.{names_of};
 ghost use Rattle.ckr_points_library.specs.Commit.{output_names};
-ghost use Rattle.ckr_points_library.specs.Holdings.{owned};
+ghost use Rattle.ckr_points_tables.specs.RunJobs.{own_of};
 ghost use Rattle.ckr_points_tables.specs.PutBack.{all_made_gone, catalog_back, catalogs_back, cut_back, length_back, lengths_back, made_gone, sets_back};
 ghost use Rattle.ckr_points_tables.specs.Invariant.{IsFilled};
 
+use crate::OwnStep;
 use crate::start::put_passed;
 use ckr_base::DsName;
 use ckr_entry::{Mark, Passed, PassedList, Present};
-use ckr_jcl::Step;
 use ckr_library::Library;
 use ckr_points::{is_marked_absent, present_at};
 use ckr_points_library::output_name;
 use ckr_uses::library_name;
 
 /// Takes a data set out of the library, if it is there.
-fn delete(name: &DsName, library: &mut Library)
+pub(crate) fn delete(name: &DsName, library: &mut Library)
     ensures { library.new.sets ≡ without_entry name.now library.old.sets }
 {
     if library.get(name).is_some() {
@@ -37,12 +37,13 @@ fn delete_made(marks: &[Mark], name: &DsName, library: &mut Library)
 }
 
 /// The data sets go that a step made: those of its names that the point at its start marks absent.
-pub(crate) fn delete_all_made(run: u32, own: &Step, marks: &[Mark], library: &mut Library)
-    requires run { run ≤ 9999999 }
-    ensures { library.new.sets ≡ all_made_gone marks.now (names_of run (owned own.now run [])) library.old.sets }
+pub(crate) fn delete_all_made(root: u32, own: &OwnStep<'_>, marks: &[Mark], library: &mut Library)
+    requires root { root ≤ 9999999 }
+    requires owner { own.now.owner ≤ 9999999 }
+    ensures { library.new.sets ≡ all_made_gone marks.now (names_of root (own_of own.now)) library.old.sets }
 {
-    for dd in own.dds.as_slice() {
-        if let Some(name) = library_name(dd, run, run, &own.name) {
+    for dd in own.step.dds.as_slice() {
+        if let Some(name) = library_name(dd, root, own.owner, &own.step.name) {
             delete_made(marks, &name, library);
         }
     }
@@ -82,13 +83,14 @@ fn put_back_length(marks: &[Mark], name: &DsName, library: &mut Library)
 }
 
 /// The outputs of a step get the lengths of their marks.
-fn put_back_lengths(run: u32, own: &Step, marks: &[Mark], library: &mut Library)
-    requires run { run ≤ 9999999 }
+fn put_back_lengths(root: u32, own: &OwnStep<'_>, marks: &[Mark], library: &mut Library)
+    requires root { root ≤ 9999999 }
+    requires owner { own.now.owner ≤ 9999999 }
     requires filled { EachEntry IsFilled library.old.sets }
-    ensures { library.new.sets ≡ lengths_back marks.now (output_names run (owned own.now run [])) library.old.sets }
+    ensures { library.new.sets ≡ lengths_back marks.now (output_names root (own_of own.now)) library.old.sets }
 {
-    for dd in own.dds.as_slice() {
-        if let Some(name) = output_name(dd, run, run, own) {
+    for dd in own.step.dds.as_slice() {
+        if let Some(name) = output_name(dd, root, own.owner, own.step) {
             put_back_length(marks, &name, library);
         }
     }
@@ -113,25 +115,27 @@ fn put_back_catalog(marks: &[Mark], name: &DsName, library: &mut Library)
 }
 
 /// The names of a step get the catalog marks of their marks.
-fn put_back_catalogs(run: u32, own: &Step, marks: &[Mark], library: &mut Library)
-    requires run { run ≤ 9999999 }
-    ensures { library.new.sets ≡ catalogs_back marks.now (names_of run (owned own.now run [])) library.old.sets }
+fn put_back_catalogs(root: u32, own: &OwnStep<'_>, marks: &[Mark], library: &mut Library)
+    requires root { root ≤ 9999999 }
+    requires owner { own.now.owner ≤ 9999999 }
+    ensures { library.new.sets ≡ catalogs_back marks.now (names_of root (own_of own.now)) library.old.sets }
 {
-    for dd in own.dds.as_slice() {
-        if let Some(name) = library_name(dd, run, run, &own.name) {
+    for dd in own.step.dds.as_slice() {
+        if let Some(name) = library_name(dd, root, own.owner, &own.step.name) {
             put_back_catalog(marks, &name, library);
         }
     }
 }
 
 /// The data sets of a step as a point marks them: the lengths of its outputs, and the catalog marks of all its names.
-pub(crate) fn put_back_sets(run: u32, own: &Step, marks: &[Mark], library: &mut Library)
-    requires run { run ≤ 9999999 }
+pub(crate) fn put_back_sets(root: u32, own: &OwnStep<'_>, marks: &[Mark], library: &mut Library)
+    requires root { root ≤ 9999999 }
+    requires owner { own.now.owner ≤ 9999999 }
     requires filled { EachEntry IsFilled library.old.sets }
-    ensures { library.new.sets ≡ sets_back marks.now (output_names run (owned own.now run [])) (names_of run (owned own.now run [])) library.old.sets }
+    ensures { library.new.sets ≡ sets_back marks.now (output_names root (own_of own.now)) (names_of root (own_of own.now)) library.old.sets }
 {
-    put_back_lengths(run, own, marks, library);
-    put_back_catalogs(run, own, marks, library);
+    put_back_lengths(root, own, marks, library);
+    put_back_catalogs(root, own, marks, library);
 }
 
 /// The passed list of a run becomes that of a point. There is a spare place for each of its entries.

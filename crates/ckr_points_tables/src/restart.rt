@@ -13,13 +13,14 @@ ghost use Rattle.ckr_points.specs.Rows.{EffectPoint, KeptEntry as EntryOfSet, St
 ghost use Rattle.ckr_points_tables.specs.Invariant.{CanRestart, IsFilled, MayFollow};
 ghost use Rattle.ckr_points_tables.specs.Restart.{back_at_entry, check_restarted, facts_back, line_on, passed_at_entry, passed_at_start, passed_for, point_written, restarted, step_restarted, HasFewRestarts, HasPassedFor};
 ghost use Rattle.ckr_points_tables.specs.RunChange.{by_step_of, going};
+ghost use Rattle.ckr_points_tables.specs.RunJobs.{effective, IsFitting};
 ghost use Rattle.ckr_points_tables.specs.View.{facts_of, find_last, is_entry, point_for, writing_of, written_of};
 
 use crate::event::put_at;
 use crate::put_back::{delete_all_made, put_back_passed, put_back_sets};
-use crate::start::{point_at, step_at};
+use crate::start::point_at;
 use crate::step_end::step_now;
-use crate::{RunTable, Tables, WrittenEntries, WrittenEntry};
+use crate::{RunTable, Tables, WrittenEntries, WrittenEntry, step_at};
 use ckr_base::{CheckId, DsName};
 use ckr_entry::{Mark, Passed};
 use ckr_library::{Kept, Library};
@@ -95,14 +96,14 @@ fn restart_at_start(
     table: &mut RunTable,
     library: &mut Library,
 )
-    requires run { line.old.number ≤ 9999999 }
+    requires fits { IsFitting (effective line.old.number table.old.job) }
     requires filled { EachEntry IsFilled library.old.sets }
     requires few { (point : StartPoint) → point_at (facts_of table.old).points step ≡ Some point → point.restarts < 255 }
     requires room { HasPassedFor table.old.passed.room (passed_at_start (facts_of table.old).points step) }
     ensures { going line.new (facts_of table.new) library.new.sets ≡ by_step_of step (step_restarted initiator step (going line.old (facts_of table.old) library.old.sets)) (going line.old (facts_of table.old) library.old.sets) }
 {
-    let run = line.number;
-    let Some(own) = step_at(&table.job, step) else {
+    let root = table.job.root();
+    let Some(own) = step_at(&table.job, line.number, step) else {
         return;
     };
     let Some(point) = point_at(table.points.as_slice(), step) else {
@@ -110,8 +111,8 @@ fn restart_at_start(
     };
     let marks = point.marks.as_slice();
     let count = point.count;
-    delete_all_made(run, own, marks, library);
-    put_back_sets(run, own, marks, library);
+    delete_all_made(root, &own, marks, library);
+    put_back_sets(root, &own, marks, library);
     put_back_passed(point.passed.as_slice(), &mut table.passed);
     go_back(Place::Opened(step), count, table);
     count_at_start(step, table);
@@ -179,7 +180,7 @@ pub(crate) fn entry_for<'a>(
 }
 
 /// The marks of a point of an entry.
-fn marks_of<'a>(point: Option<&'a WrittenEntry>) -> &'a [Mark]
+pub(crate) fn marks_of<'a>(point: Option<&'a WrittenEntry>) -> &'a [Mark]
     ensures { result.now ≡ (point_written (option_copied point.entry)).marks }
 {
     match point {
@@ -247,18 +248,18 @@ fn restart_at_point(
     table: &mut RunTable,
     library: &mut Library,
 )
-    requires run { line.old.number ≤ 9999999 }
+    requires fits { IsFitting (effective line.old.number table.old.job) }
     requires filled { EachEntry IsFilled library.old.sets }
     requires few { (effect : EffectPoint) → (facts_of table.old).in_effect ≡ Some effect → effect.restarts < 255 }
     requires room { length (point_written (option_copied point)).passed ≤ table.old.passed.room }
     ensures { (effect : EffectPoint) → (facts_of table.old).in_effect ≡ Some effect → going line.new (facts_of table.new) library.new.sets ≡ by_step_of step (λ own. back_at_entry initiator step effect (going line.old (facts_of table.old) library.old.sets) own (point_written (option_copied point.entry))) (going line.old (facts_of table.old) library.old.sets) }
 {
-    let run = line.number;
-    let Some(own) = step_at(&table.job, step) else {
+    let root = table.job.root();
+    let Some(own) = step_at(&table.job, line.number, step) else {
         return;
     };
     let marks = marks_of(point);
-    put_back_sets(run, own, marks, library);
+    put_back_sets(root, &own, marks, library);
     put_back_passed(passed_of(point), &mut table.passed);
     go_back(
         Place::Within(step, writes_of(point)),
@@ -278,7 +279,7 @@ fn restart_at_entry(
     library: &mut Library,
     writings: &[WrittenEntries],
 )
-    requires run { line.old.number ≤ 9999999 }
+    requires fits { IsFitting (effective line.old.number table.old.job) }
     requires filled { EachEntry IsFilled library.old.sets }
     requires few { (effect : EffectPoint) → (facts_of table.old).in_effect ≡ Some effect → effect.restarts < 255 }
     requires room { HasPassedFor table.old.passed.room (passed_at_entry (map written_of writings.now) library.old.sets (facts_of table.old).in_effect) }
@@ -303,7 +304,7 @@ fn restart_run(
     library: &mut Library,
     writings: &[WrittenEntries],
 )
-    requires run { line.old.number ≤ 9999999 }
+    requires fits { IsFitting (effective line.old.number table.old.job) }
     requires filled { EachEntry IsFilled library.old.sets }
     requires few { HasFewRestarts checkpoint (facts_of table.old) }
     requires room { HasPassedFor table.old.passed.room (passed_for checkpoint (map written_of writings.now) library.old.sets (facts_of table.old)) }

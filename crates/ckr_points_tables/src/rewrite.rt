@@ -1,22 +1,22 @@
 //! A record of MASTER is rewritten in place.
-ghost use Rattle.std.specs.Prelude.{◌≡◌, ◌≤◌, ◌<◌, [], find, Some};
+ghost use Rattle.std.specs.Prelude.{◌≡◌, ◌≤◌, ◌<◌, find, Some};
 ghost use Rattle.std.specs.Option.{option_copied, option_map_or};
-ghost use Rattle.ckr_points_library.specs.Holdings.{owned};
 ghost use Rattle.ckr_library.specs.NameMaps.{entry_at, with_changed};
-ghost use Rattle.ckr_meaning.specs.EffectiveJob.{plain_job, step_at};
+ghost use Rattle.ckr_meaning.specs.EffectiveJob.{step_at};
 ghost use Rattle.ckr_meaning.specs.StepRun.{rewritten_stamp};
 ghost use Rattle.ckr_points_tables.specs.RunChange.{by_step_of, going, holding_kit, place_now, restamped, rewritten, rewritten_facts};
 ghost use Rattle.ckr_points_tables.specs.StepEnd.{AreLengthsOf, MayRewrite, MayRewriteIn};
 ghost use Rattle.ckr_points.specs.Tables.{is_updates, name_with_role};
 ghost use Rattle.ckr_points.specs.Restart.{step_in};
 ghost use Rattle.ckr_points_tables.specs.Rewrite.{master_dd, master_name, MayRestamp};
+ghost use Rattle.ckr_points_tables.specs.RunJobs.{effective, own_of, IsFitting};
 ghost use Rattle.ckr_points_tables.specs.View.{facts_of};
 
-use crate::RunTable;
-use crate::start::step_at;
-use crate::step_end::{commit, has_step, step_now};
+use crate::effective_job::has_step;
+use crate::step_end::{commit, step_now};
+use crate::{EffectiveJob, OwnStep, RunTable, step_at};
 use ckr_base::DsName;
-use ckr_jcl::{Dd, Job, Role, Step};
+use ckr_jcl::{Dd, Role, Step};
 use ckr_library::{Library, Stamp};
 use ckr_meaning::Place;
 use ckr_points::Run;
@@ -56,12 +56,13 @@ pub fn master_dd(step: &Step) -> Option<&Dd>
 }
 
 /// The name of the data set that a step updates.
-pub fn master_name(run: u32, own: &Step) -> Option<DsName>
-    requires { run ≤ 9999999 }
-    ensures { result ≡ master_name run (owned own.now run []) }
+pub fn master_name(root: u32, own: &OwnStep<'_>) -> Option<DsName>
+    requires root { root ≤ 9999999 }
+    requires owner { own.now.owner ≤ 9999999 }
+    ensures { result ≡ master_name root (own_of own.now) }
 {
-    match master_dd(own) {
-        Some(dd) => library_name(dd, run, run, &own.name),
+    match master_dd(own.step) {
+        Some(dd) => library_name(dd, root, own.owner, &own.step.name),
         None => None,
     }
 }
@@ -79,14 +80,14 @@ fn restamp(name: &DsName, owner: u32, step: u8, library: &mut Library)
 }
 
 /// The data set that a step updates gets the stamp of one more rewrite. A job without such a step changes nothing.
-fn restamp_master(run: u32, step: u8, job: &Job, library: &mut Library)
-    requires run { run ≤ 9999999 }
-    requires master { MayRewriteIn run library.old.sets (step_at (plain_job run job.now) step) }
-    ensures { library.new.sets ≡ option_map_or (λ own. with_changed (name_with_role run own is_updates) (restamped holding_kit own.owner step) library.old.sets) (step_at (plain_job run job.now) step) library.old.sets }
+fn restamp_master(run: u32, step: u8, job: &EffectiveJob, library: &mut Library)
+    requires fits { IsFitting (effective run job.now) }
+    requires master { MayRewriteIn job.now.root library.old.sets (step_at (effective run job.now) step) }
+    ensures { library.new.sets ≡ option_map_or (λ own. with_changed (name_with_role job.now.root own is_updates) (restamped holding_kit own.owner step) library.old.sets) (step_at (effective run job.now) step) library.old.sets }
 {
-    if let Some(own) = step_at(job, step) {
-        if let Some(name) = master_name(run, own) {
-            restamp(&name, run, step, library);
+    if let Some(own) = step_at(job, run, step) {
+        if let Some(name) = master_name(job.root(), &own) {
+            restamp(&name, own.owner, step, library);
         }
     }
 }
@@ -99,7 +100,7 @@ pub(crate) fn rewrite_run(
     table: &mut RunTable,
     library: &mut Library,
 )
-    requires run { line.now.number ≤ 9999999 }
+    requires fits { IsFitting (effective line.now.number table.old.job) }
     requires may { MayRewrite line.now.number (step_in (place_now (facts_of table.old))) lengths.now table.old library.old }
     ensures { let step = step_in (place_now (facts_of table.old)) in going line.now (facts_of table.new) library.new.sets ≡ by_step_of step (rewritten holding_kit step writes lengths.now (going line.now (facts_of table.old) library.old.sets)) (going line.now (facts_of table.old) library.old.sets) }
 {

@@ -1,8 +1,8 @@
 //! Memory for an event, before it is written.
-ghost use Rattle.std.specs.Prelude.{◌≡◌, ℕ, suc, Some, None, ◌+◌, ◌*◌, ◌≤◌, ◌<◌, OnOk, IsTrue, length, map, vec_len, vec_capacity};
+ghost use Rattle.std.specs.Prelude.{◌≡◌, ℕ, suc, Some, None, ◌+◌, ◌*◌, ◌≤◌, ◌<◌, OnOk, length, map, slice_get, vec_len, vec_capacity};
 ghost use Rattle.std.specs.Option.{option_and_then, option_map_or};
 ghost use Rattle.ckr_events.specs.declared.event.Event.{Event as EventOfDesk};
-ghost use Rattle.ckr_meaning.specs.EffectiveJob.{plain_job, step_at, OwnedStep};
+ghost use Rattle.ckr_meaning.specs.EffectiveJob.{step_at, OwnedStep};
 ghost use Rattle.ckr_points_tables.specs.StepEnd.{HasPassedRoom};
 ghost use Rattle.ckr_points_tables.specs.Invariant.{CanEnd, CanKeep, CanRestart, CanStart, HasRoom, HasRunRoom};
 ghost use Rattle.ckr_library.specs.Catalog.{KeepsEntryRoom};
@@ -10,19 +10,19 @@ ghost use Rattle.ckr_points_tables.specs.Checkpoint.{checkpoint_name};
 ghost use Rattle.ckr_points_tables.specs.Needs.{step_now};
 ghost use Rattle.ckr_points_tables.specs.Rooms.{dds_of, HasNoPlace, AreRoomier, EndsFit, EntryFits, FitsPoint, HasNoLess, IsRoomier, KeepsFit, StartsFit};
 ghost use Rattle.ckr_points_tables.specs.Restart.{passed_at_entry, passed_at_start, passed_for, HasPassedFor};
-ghost use Rattle.ckr_points_tables.specs.View.{facts_of, is_within_limits, room_of, written_of};
+ghost use Rattle.ckr_points_tables.specs.RunJobs.{effective, IsFitting};
+ghost use Rattle.ckr_points_tables.specs.View.{facts_of, room_of, written_of};
 ghost use Rattle.ckr_points_tables.specs.Start.{HasPointRoom};
 
 use crate::checkpoint::checkpoint_name;
 use crate::restart::{entry_for, kept_under, passed_of};
-use crate::start::{point_at, step_at};
+use crate::start::point_at;
 use crate::step_end::step_now;
 use crate::tables::Spare;
-use crate::{RunTable, Tables, WrittenEntries};
+use crate::{EffectiveJob, RunTable, Tables, WrittenEntries, step_at};
 use ckr_base::{DsName, NoMemory};
 use ckr_entry::Passed;
 use ckr_events::Event;
-use ckr_jcl::{Job, Step};
 use ckr_library::Library;
 
 impl Tables {
@@ -60,6 +60,7 @@ impl Tables {
     {
         match place_in(job, self.tables.as_slice()) {
             Some(place) => reserve_answers(
+                job,
                 checkpoint,
                 &mut self.tables[place],
                 &self.library,
@@ -88,9 +89,12 @@ impl Tables {
         ensures room { IsRoomier self.old.room self.new.room }
     {
         match place_in(job, self.tables.as_slice()) {
-            Some(place) => {
-                reserve_start(&mut self.tables[place], &mut self.library, &mut self.spare)
-            }
+            Some(place) => reserve_start(
+                job,
+                &mut self.tables[place],
+                &mut self.library,
+                &mut self.spare,
+            ),
             None => Ok(()),
         }
     }
@@ -120,7 +124,7 @@ impl Tables {
         ensures room { IsRoomier self.old.room self.new.room }
     {
         match place_in(job, self.tables.as_slice()) {
-            Some(place) => reserve_end(&mut self.tables[place]),
+            Some(place) => reserve_end(job, &mut self.tables[place]),
             None => Ok(()),
         }
     }
@@ -155,28 +159,45 @@ pub(crate) fn place_in(job: u32, tables: &[RunTable]) -> Option<usize>
     }
 }
 
-/// How many DDs these steps have.
-fn dds_of(steps: &[Step]) -> u32
-    requires { dds_of steps.now ≤ 1024 }
-    ensures { result ≡ dds_of steps.now }
+/// How many DDs the steps of a run have.
+fn dds_of(run: u32, job: &EffectiveJob) -> u32
+    requires { IsFitting (effective run job.now) }
+    ensures { result ≡ dds_of (effective run job.now).steps }
 {
     let mut count = 0;
-    for step in steps {
-        count += step.dds.as_slice().len() as u32;
+    for place in 0..job.count_steps() {
+        count += dds_in(run, job, place);
     }
     count
 }
 
+/// How many DDs the step at a place has, and none where there is no such step.
+fn dds_in(run: u32, job: &EffectiveJob, place: usize) -> u32
+    requires { IsFitting (effective run job.now) }
+    ensures count { result ≡ option_map_or (λ (own : OwnedStep). length own.step.dds) (slice_get (effective run job.now).steps place) 0 }
+    ensures few { result ≤ 16 }
+{
+    match job.step_in(run, place) {
+        Some(own) => own.step.dds.as_slice().len() as u32,
+        None => 0,
+    }
+}
+
 /// Makes room for the marks of a run's names, and for what it passed on.
-fn reserve_point(job: &Job, passed: &[Passed], spare: &mut Spare) -> Result<(), NoMemory>
-    requires limits { IsTrue (is_within_limits job.now) }
+fn reserve_point(
+    run: u32,
+    job: &EffectiveJob,
+    passed: &[Passed],
+    spare: &mut Spare,
+) -> Result<(), NoMemory>
+    requires fits { IsFitting (effective run job.now) }
     ensures marks { spare.new.marks.items ≡ spare.old.marks.items }
-    ensures ok { OnOk result ((run : ℕ) → FitsPoint run job.now passed.now spare.new) }
+    ensures ok { OnOk result (FitsPoint run job.now passed.now spare.new) }
     ensures sorted { spare.old.sorted.room ≤ spare.new.sorted.room }
     ensures more { spare.old.marks.room ≤ spare.new.marks.room }
     ensures passed { spare.old.passed.room ≤ spare.new.passed.room }
 {
-    let names = dds_of(job.steps.as_slice());
+    let names = dds_of(run, job);
     let Ok(more) = u32::try_from(passed.len()) else {
         return Err(NoMemory);
     };
@@ -188,43 +209,44 @@ fn reserve_point(job: &Job, passed: &[Passed], spare: &mut Spare) -> Result<(), 
 
 /// Makes room for the start of a step of a run.
 fn reserve_start(
+    run: u32,
     table: &mut RunTable,
     library: &mut Library,
     spare: &mut Spare,
 ) -> Result<(), NoMemory>
-    requires limits { IsTrue (is_within_limits table.old.job) }
+    requires fits { IsFitting (effective run table.old.job) }
     ensures facts { facts_of table.new ≡ facts_of table.old }
     ensures sets { library.new.sets ≡ library.old.sets }
     ensures marks { spare.new.marks.items ≡ spare.old.marks.items }
-    ensures ok { OnOk result (StartsFit table.new library.new spare.new) }
+    ensures ok { OnOk result (StartsFit run table.new library.new spare.new) }
     ensures run { HasNoLess (room_of table.old) (room_of table.new) }
     ensures more { AreRoomier library.old library.new spare.old spare.new }
 {
-    reserve_point(&table.job, table.passed.as_slice(), spare)?;
+    reserve_point(run, &table.job, table.passed.as_slice(), spare)?;
     table.points.reserve(1)?;
     library.reserve(16)?;
     Ok(())
 }
 
 /// How many DDs the step has that a run is before or in, and none where there is no such step.
-fn dds_now(table: &RunTable) -> u32
-    requires { IsTrue (is_within_limits table.now.job) }
-    ensures { (run : ℕ) → result ≡ option_map_or (λ (own : OwnedStep). length own.step.dds) (step_at (plain_job run table.now.job) (step_now table.now)) 0 }
+fn dds_now(run: u32, table: &RunTable) -> u32
+    requires { IsFitting (effective run table.now.job) }
+    ensures { result ≡ option_map_or (λ (own : OwnedStep). length own.step.dds) (step_at (effective run table.now.job) (step_now table.now)) 0 }
 {
-    match step_at(&table.job, step_now(table)) {
-        Some(own) => own.dds.as_slice().len() as u32,
+    match step_at(&table.job, run, step_now(table)) {
+        Some(own) => own.step.dds.as_slice().len() as u32,
         None => 0,
     }
 }
 
 /// Makes room for the end of the step that a run is before or in.
-fn reserve_end(table: &mut RunTable) -> Result<(), NoMemory>
-    requires limits { IsTrue (is_within_limits table.old.job) }
+fn reserve_end(run: u32, table: &mut RunTable) -> Result<(), NoMemory>
+    requires fits { IsFitting (effective run table.old.job) }
     ensures facts { facts_of table.new ≡ facts_of table.old }
-    ensures ok { OnOk result (EndsFit table.old table.new) }
+    ensures ok { OnOk result (EndsFit run table.old table.new) }
     ensures run { HasNoLess (room_of table.old) (room_of table.new) }
 {
-    let more = dds_now(table);
+    let more = dds_now(run, table);
     table.passed.reserve(more)?;
     table.codes.reserve(1)?;
     Ok(())
@@ -278,37 +300,38 @@ fn reserve_restart(
 
 /// Makes room for the end of the step that a run is before or in, and for a restart of the run.
 fn reserve_answers(
+    run: u32,
     checkpoint: bool,
     table: &mut RunTable,
     library: &Library,
     writings: &[WrittenEntries],
 ) -> Result<(), NoMemory>
-    requires limits { IsTrue (is_within_limits table.old.job) }
+    requires fits { IsFitting (effective run table.old.job) }
     ensures facts { facts_of table.new ≡ facts_of table.old }
     ensures restart { OnOk result (HasPassedFor table.new.passed.room (passed_for checkpoint (map written_of writings.now) library.now.sets (facts_of table.old))) }
-    ensures end { OnOk result (EndsFit table.old table.new) }
+    ensures end { OnOk result (EndsFit run table.old table.new) }
     ensures run { HasNoLess (room_of table.old) (room_of table.new) }
 {
-    reserve_end(table)?;
+    reserve_end(run, table)?;
     reserve_restart(checkpoint, table, library, writings)
 }
 
 /// The name of the data set to which a run writes its checkpoints in the step that it is in.
 fn checkpoint_set(run: u32, table: &RunTable) -> Option<DsName>
-    requires { run ≤ 9999999 }
-    ensures { result ≡ option_and_then (checkpoint_name run) (step_at (plain_job run table.now.job) (step_now table.now)) }
+    requires { IsFitting (effective run table.now.job) }
+    ensures { result ≡ option_and_then (checkpoint_name table.now.job.root) (step_at (effective run table.now.job) (step_now table.now)) }
 {
-    match step_at(&table.job, step_now(table)) {
-        Some(own) => checkpoint_name(run, own),
+    match step_at(&table.job, run, step_now(table)) {
+        Some(own) => checkpoint_name(table.job.root(), &own),
         None => None,
     }
 }
 
 /// Makes room for one more entry in the data set of a run's checkpoints.
 fn reserve_kept(run: u32, table: &RunTable, library: &mut Library) -> Result<(), NoMemory>
-    requires { run ≤ 9999999 }
+    requires { IsFitting (effective run table.now.job) }
     ensures sets { library.new.sets ≡ library.old.sets }
-    ensures ok { OnOk result (KeepsFit library.new run (step_at (plain_job run table.now.job) (step_now table.now))) }
+    ensures ok { OnOk result (KeepsFit library.new table.now.job.root (step_at (effective run table.now.job) (step_now table.now))) }
     ensures room { library.new.room ≡ library.old.room }
     ensures entries { KeepsEntryRoom library.old library.new }
 {
@@ -326,8 +349,7 @@ fn reserve_checkpoint(
     library: &mut Library,
     spare: &mut Spare,
 ) -> Result<(), NoMemory>
-    requires run { run ≤ 9999999 }
-    requires limits { IsTrue (is_within_limits table.now.job) }
+    requires fits { IsFitting (effective run table.now.job) }
     ensures entries { entries.new.items ≡ entries.old.items }
     ensures sets { library.new.sets ≡ library.old.sets }
     ensures marks { spare.new.marks.items ≡ spare.old.marks.items }
@@ -338,7 +360,7 @@ fn reserve_checkpoint(
     if table.count == u32::MAX {
         return Err(NoMemory);
     }
-    reserve_point(&table.job, table.passed.as_slice(), spare)?;
+    reserve_point(run, &table.job, table.passed.as_slice(), spare)?;
     entries.reserve(1)?;
     reserve_kept(run, table, library)
 }

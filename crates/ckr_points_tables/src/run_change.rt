@@ -1,8 +1,9 @@
 //! What an event makes of its run, and of the library.
-ghost use Rattle.std.specs.Prelude.{◌≡◌, ◌≤◌, [], IsTrue};
+ghost use Rattle.std.specs.Prelude.{◌≡◌, []};
 ghost use Rattle.ckr_points_tables.specs.RunChange.{by_step_of, changed, going, holding_kit, started, written_after};
 ghost use Rattle.ckr_points_tables.specs.Needs.{MayChange};
-ghost use Rattle.ckr_points_tables.specs.View.{facts_of, is_within_limits, written_of};
+ghost use Rattle.ckr_points_tables.specs.RunJobs.{effective, IsFitting};
+ghost use Rattle.ckr_points_tables.specs.View.{facts_of, written_of};
 ghost use Rattle.ckr_points_tables.specs.Start.{MayStartNow};
 
 use crate::checkpoint::{Progress, checkpoint_run};
@@ -25,8 +26,7 @@ fn start(
     library: &mut Library,
     spare: &mut Spare,
 )
-    requires run { line.now.number ≤ 9999999 }
-    requires limits { IsTrue (is_within_limits table.old.job) }
+    requires fits { IsFitting (effective line.now.number table.old.job) }
     requires empty { spare.old.marks.items ≡ [] }
     requires may { MayStartNow line.now.number step items.now table.old library.old spare.old }
     ensures going { going line.now (facts_of table.new) library.new.sets ≡ by_step_of step (started holding_kit step items.now (going line.now (facts_of table.old) library.old.sets)) (going line.now (facts_of table.old) library.old.sets) }
@@ -44,8 +44,7 @@ pub(crate) fn change_run(
     spare: &mut Spare,
     entries: &mut WrittenEntries,
 )
-    requires run { line.old.number ≤ 9999999 }
-    requires limits { IsTrue (is_within_limits table.old.job) }
+    requires fits { IsFitting (effective line.old.number table.old.job) }
     requires empty { spare.old.marks.items ≡ [] }
     requires may { MayChange event.now line.old.number table.old entries.old library.old spare.old }
     ensures going { going line.new (facts_of table.new) library.new.sets ≡ changed holding_kit event.now (going line.old (facts_of table.old) library.old.sets) }

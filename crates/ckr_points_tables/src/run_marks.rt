@@ -1,18 +1,25 @@
 //! The marks of a run's names, as the tables are now.
-ghost use Rattle.std.specs.Prelude.{◌≡◌, ◌+◌, ◌≤◌, [], ◌++◌, Some, length, List, map};
-ghost use Rattle.std.specs.Option.{option_map, option_to_list};
+ghost use Rattle.std.specs.Prelude.{◌≡◌, ◌+◌, ◌≤◌, [], ◌++◌, Some, length, List, map, slice_get, true};
+ghost use Rattle.std.specs.Option.{option_map, option_map_or, option_to_list};
 ghost use Rattle.ckr_library.specs.NameMaps.{entry_at};
-ghost use Rattle.ckr_points_library.specs.Holdings.{owned};
-ghost use Rattle.ckr_meaning.specs.EffectiveJob.{name_of, names_of, names_of_job, plain_job};
-ghost use Rattle.ckr_points.specs.Marks.{first_volume, mark_now, marks_for, present_of};
+ghost use Rattle.ckr_meaning.specs.EffectiveJob.{is_among, name_of, names_of, names_of_job};
+ghost use Rattle.ckr_points.specs.Marks.{first_volume, mark_at, mark_now, marks_for, present_of};
 ghost use Rattle.ckr_points_tables.specs.MarkOrder.{marked, marked_onto};
+ghost use Rattle.ckr_entry.specs.declared.point.Mark.{Mark as MarkOfName};
+ghost use Rattle.ckr_points_tables.specs.RunMarks.{marking_mark, own_names_of, AreOwn};
+ghost use Rattle.ckr_points_tables.specs.RunJobs.{effective, names_in, own_of, IsFitting};
 ghost use Rattle.ckr_points_tables.specs.View.{seen_by, table_of};
 
+use crate::OwnStep;
+use crate::made_names::has_name;
+use crate::marking::Marking;
 use crate::marks_in_order::MarksInOrder;
+use crate::start::copy_of_mark;
 use ckr_base::DsName;
 use ckr_entry::{Mark, Present};
-use ckr_jcl::{Dd, Job, Step};
+use ckr_jcl::Dd;
 use ckr_library::{DataSet, Library, Part};
+use ckr_points::mark_at;
 use ckr_uses::library_name;
 
 /// The volume of a data set's first part.
@@ -57,44 +64,109 @@ fn mark_now(name: DsName, library: &Library) -> Mark
     Mark { name, present }
 }
 
-/// Enters the mark of a DD's name, if it has a data set. There is a spare place for it.
-fn mark_dd(number: u32, step: &Step, dd: &Dd, library: &Library, marks: &mut MarksInOrder)
-    requires number { number ≤ 9999999 }
-    requires room { length (option_to_list (name_of number (owned step.now number []) dd.now)) ≤ marks.old.room }
-    ensures items { marked marks.new.items ≡ marked_onto (mark_now (seen_by table_of library.now.sets)) (option_to_list (name_of number (owned step.now number []) dd.now)) (marked marks.old.items) }
-    ensures room { marks.old.room ≤ marks.new.room + length (option_to_list (name_of number (owned step.now number []) dd.now)) }
+/// Whether the step at a place has a name.
+fn has_name_in(marking: &Marking<'_>, place: usize, name: &DsName) -> bool
+    requires fits { IsFitting (effective marking.now.run marking.now.job.now) }
+    ensures { result ≡ is_among (names_in marking.now.job.now.root (slice_get (effective marking.now.run marking.now.job.now).steps place)) name.now }
 {
-    if let Some(name) = library_name(dd, number, number, &step.name) {
-        marks.enter(mark_now(name, library));
+    match marking.job.step_in(marking.run, place) {
+        Some(own) => has_name(marking.job.root(), &own, name),
+        None => false,
     }
 }
 
-/// Enters the marks of a step's names. There is a spare place for each.
-fn mark_step(number: u32, step: &Step, library: &Library, marks: &mut MarksInOrder)
-    requires number { number ≤ 9999999 }
-    requires room { length (names_of number (owned step.now number [])) ≤ marks.old.room }
-    ensures items { marked marks.new.items ≡ marked_onto (mark_now (seen_by table_of library.now.sets)) (names_of number (owned step.now number [])) (marked marks.old.items) }
-    ensures room { marks.old.room ≤ marks.new.room + length (names_of number (owned step.now number [])) }
+/// Whether a name is one of the steps that a run executes itself.
+fn is_own_name(marking: &Marking<'_>, name: &DsName) -> bool
+    requires fits { IsFitting (effective marking.now.run marking.now.job.now) }
+    ensures { result ≡ is_among (own_names_of marking.now.run marking.now.job.now) name.now }
 {
-    let dds = step.dds.as_slice();
+    let first = usize::from(marking.job.earlier_step()).saturating_sub(1);
+    for place in first..marking.job.count_steps() {
+        if has_name_in(marking, place, name) {
+            return true;
+        }
+    }
+    false
+}
+
+/// The mark that was carried over for a name, or else the name as the data sets are.
+fn carried_mark(name: DsName, marking: &Marking<'_>) -> Mark
+    ensures { result ≡ option_map_or (λ (mark : MarkOfName). mark) (mark_at marking.now.carried.now name) (mark_now (seen_by table_of marking.now.library.now.sets) name) }
+{
+    match mark_at(marking.carried, &name) {
+        Some(mark) => copy_of_mark(mark),
+        None => mark_now(name, marking.library),
+    }
+}
+
+/// The mark of a name, which may be known to be one of the run's own.
+fn mark_of(name: DsName, own: bool, marking: &Marking<'_>) -> Mark
+    requires fits { IsFitting (effective marking.now.run marking.now.job.now) }
+    requires own { own ≡ true → is_among (own_names_of marking.now.run marking.now.job.now) name ≡ true }
+    ensures { result ≡ marking_mark marking.now name }
+{
+    if own || is_own_name(marking, &name) {
+        mark_now(name, marking.library)
+    } else {
+        carried_mark(name, marking)
+    }
+}
+
+/// Enters the mark of a DD's name, if it has a data set. There is a spare place for it.
+fn mark_dd(step: &OwnStep<'_>, dd: &Dd, own: bool, marking: &Marking<'_>, marks: &mut MarksInOrder)
+    requires fits { IsFitting (effective marking.now.run marking.now.job.now) }
+    requires owner { step.now.owner ≤ 9999999 }
+    requires own { own ≡ true → AreOwn marking.now (option_to_list (name_of marking.now.job.now.root (own_of step.now) dd.now)) }
+    requires room { length (option_to_list (name_of marking.now.job.now.root (own_of step.now) dd.now)) ≤ marks.old.room }
+    ensures items { marked marks.new.items ≡ marked_onto (marking_mark marking.now) (option_to_list (name_of marking.now.job.now.root (own_of step.now) dd.now)) (marked marks.old.items) }
+    ensures room { marks.old.room ≤ marks.new.room + length (option_to_list (name_of marking.now.job.now.root (own_of step.now) dd.now)) }
+{
+    if let Some(name) = library_name(dd, marking.job.root(), step.owner, &step.step.name) {
+        marks.enter(mark_of(name, own, marking));
+    }
+}
+
+/// Enters the marks of a step's names, which may be known to be the run's own. There is a spare place for each.
+fn mark_step(step: &OwnStep<'_>, own: bool, marking: &Marking<'_>, marks: &mut MarksInOrder)
+    requires fits { IsFitting (effective marking.now.run marking.now.job.now) }
+    requires owner { step.now.owner ≤ 9999999 }
+    requires own { own ≡ true → AreOwn marking.now (names_of marking.now.job.now.root (own_of step.now)) }
+    requires room { length (names_of marking.now.job.now.root (own_of step.now)) ≤ marks.old.room }
+    ensures items { marked marks.new.items ≡ marked_onto (marking_mark marking.now) (names_of marking.now.job.now.root (own_of step.now)) (marked marks.old.items) }
+    ensures room { marks.old.room ≤ marks.new.room + length (names_of marking.now.job.now.root (own_of step.now)) }
+{
+    let dds = step.step.dds.as_slice();
     let mut left = dds.len();
     while left > 0 {
         left -= 1;
-        mark_dd(number, step, &dds[left], library, marks);
+        mark_dd(step, &dds[left], own, marking, marks);
     }
 }
 
-/// The marks of all names of a run that continues none. There is a spare place for each.
-pub(crate) fn mark_job(number: u32, job: &Job, library: &Library, marks: &mut MarksInOrder)
-    requires number { number ≤ 9999999 }
-    requires room { length (names_of_job (plain_job number job.now)) ≤ marks.old.room }
-    ensures { marks.new.items ≡ marks_for (mark_now (seen_by table_of library.now.sets)) (names_of_job (plain_job number job.now)) }
+/// Enters the marks of the names of the step at a place. There is a spare place for each.
+fn mark_step_in(place: usize, marking: &Marking<'_>, marks: &mut MarksInOrder)
+    requires fits { IsFitting (effective marking.now.run marking.now.job.now) }
+    requires room { length (names_in marking.now.job.now.root (slice_get (effective marking.now.run marking.now.job.now).steps place)) ≤ marks.old.room }
+    ensures items { marked marks.new.items ≡ marked_onto (marking_mark marking.now) (names_in marking.now.job.now.root (slice_get (effective marking.now.run marking.now.job.now).steps place)) (marked marks.old.items) }
+    ensures room { marks.old.room ≤ marks.new.room + length (names_in marking.now.job.now.root (slice_get (effective marking.now.run marking.now.job.now).steps place)) }
+{
+    if let Some(step) = marking.job.step_in(marking.run, place) {
+        let own = usize::from(marking.job.earlier_step()).saturating_sub(1) <= place;
+        mark_step(&step, own, marking, marks);
+    }
+}
+
+/// The marks of all names of a run. There is a spare place for each.
+pub(crate) fn mark_job(marking: &Marking<'_>, marks: &mut MarksInOrder)
+    requires fits { IsFitting (effective marking.now.run marking.now.job.now) }
+    requires room { length (names_of_job (effective marking.now.run marking.now.job.now)) ≤ marks.old.room }
+    ensures marks { marks.new.items ≡ marks_for (marking_mark marking.now) (names_of_job (effective marking.now.run marking.now.job.now)) }
+    ensures few { length marks.new.items ≤ length (names_of_job (effective marking.now.run marking.now.job.now)) }
 {
     marks.clear();
-    let steps = job.steps.as_slice();
-    let mut left = steps.len();
+    let mut left = marking.job.count_steps();
     while left > 0 {
         left -= 1;
-        mark_step(number, &steps[left], library, marks);
+        mark_step_in(left, marking, marks);
     }
 }

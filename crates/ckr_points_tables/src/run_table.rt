@@ -1,9 +1,8 @@
 //! What the tables keep of a run besides its line.
 
-use crate::StepPoints;
+use crate::{EffectiveJob, StepPoints};
 use ckr_base::{CheckId, Code, DsName, Name8, RoomyList};
 use ckr_entry::{Marks, PassedList};
-use ckr_jcl::Job;
 use ckr_library::Kept;
 use ckr_meaning::Place;
 
@@ -77,11 +76,14 @@ pub struct WrittenEntry {
 /// The entries that a run has written, in the order in which it wrote them.
 pub type WrittenEntries = RoomyList<WrittenEntry>;
 
+/// The passed names that a run has lost.
+pub type LostNames = Vec<DsName>;
+
 /// How far a run has come, and what a restart of it needs.
 #[derive(Drop)]
 pub struct RunTable {
-    /// The job of its deck.
-    pub job: Job,
+    /// Its job: the steps that it has taken over from earlier runs, and those of its own deck.
+    pub job: EffectiveJob,
     /// Where it is; None before it is selected. It stays once the run has ended.
     pub place: Option<Place>,
     /// The code with which it waits for a restart.
@@ -92,6 +94,8 @@ pub struct RunTable {
     pub codes: RoomyList<ReturnCode>,
     /// What was passed on and not yet received.
     pub passed: PassedList,
+    /// The names among these that it has lost.
+    pub lost: LostNames,
     /// The step points, in ascending order of the steps.
     pub points: StepPoints,
     pub in_effect: Option<InEffect>,

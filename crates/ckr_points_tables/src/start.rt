@@ -1,41 +1,26 @@
 //! The start of a step.
-ghost use Rattle.std.specs.Prelude.{◌≡◌, ℕ, ◌+◌, ◌≤◌, ◌<◌, [], ◌++◌, IsTrue, length, map, find, ◌==◌, slice_get};
+ghost use Rattle.std.specs.Prelude.{◌≡◌, ◌+◌, ◌≤◌, ◌<◌, [], ◌++◌, length, map, find, ◌==◌};
 ghost use Rattle.std.specs.Option.{option_copied, option_map, option_map_or};
-ghost use Rattle.ckr_meaning.specs.EffectiveJob.{names_of_job, owned_by, plain_job, step_at};
-ghost use Rattle.ckr_points.specs.Marks.{mark_now, marks_for, point_at};
+ghost use Rattle.ckr_meaning.specs.EffectiveJob.{names_of_job};
+ghost use Rattle.ckr_points.specs.Marks.{mark_now, point_at};
 ghost use Rattle.ckr_points.specs.Rows.{StartPoint as StartOfStep};
 ghost use Rattle.ckr_points_tables.specs.declared.run_table.StepPoint.{StepPoint as PointOfStep};
-ghost use Rattle.ckr_points_tables.specs.View.{facts_of, is_within_limits, point_of, seen_by, table_of};
+ghost use Rattle.ckr_points_tables.specs.RunMarks.{carried_by, point_marks};
+ghost use Rattle.ckr_points_tables.specs.RunJobs.{effective, IsFitting};
+ghost use Rattle.ckr_points_tables.specs.View.{facts_of, point_of, seen_by, table_of};
 ghost use Rattle.ckr_points_tables.specs.Start.{fresh_point, started_facts, started_point, started_sets, HasPointRoom, MayStart};
 
+use crate::marking::Marking;
 use crate::new_sets::make_sets;
 use crate::run_marks::mark_job;
 use crate::tables::Spare;
-use crate::{RunTable, StepPoint};
+use crate::{RunTable, StepPoint, step_at};
 use ckr_entry::{Mark, Marks, Passed, PassedList};
 use ckr_events::Made;
-use ckr_jcl::{Job, Step};
 use ckr_library::{Library, Stamp};
 use ckr_meaning::Place;
 use ckr_points_library::open_outputs;
 use std::mem;
-
-/// A step of a job by its number, from 1.
-pub fn step_at(job: &Job, step: u8) -> Option<&Step>
-    ensures { (run : ℕ) → option_map (owned_by run job.now) (option_copied result) ≡ step_at (plain_job run job.now) step }
-{
-    if step == 0 {
-        return None;
-    }
-    step_in(job.steps.as_slice(), step as usize - 1)
-}
-
-/// The step at a place.
-fn step_in(steps: &[Step], place: usize) -> Option<&Step>
-    ensures { option_copied result ≡ slice_get steps.now place }
-{
-    steps.get(place)
-}
 
 /// The step point of a step.
 pub fn point_at(points: &[StepPoint], step: u8) -> Option<&StepPoint>
@@ -55,7 +40,7 @@ fn restarts_at(points: &[StepPoint], step: u8) -> u8
 }
 
 /// The same mark.
-fn copy_of_mark(mark: &Mark) -> Mark
+pub(crate) fn copy_of_mark(mark: &Mark) -> Mark
     ensures { result ≡ mark.now }
 {
     Mark {
@@ -100,17 +85,33 @@ pub(crate) fn put_passed(items: &[Passed], passed: &mut PassedList)
     }
 }
 
+/// The marks of the point from which a run was continued, and none where it wasn't.
+fn carried_by(points: &[StepPoint], step: u8) -> &[Mark]
+    ensures { result.now ≡ carried_by (map point_of points.now) step }
+{
+    match point_at(points, step) {
+        Some(point) => point.marks.as_slice(),
+        None => &[],
+    }
+}
+
 /// The marks of a run's names now, out of the spare ones.
-pub(crate) fn take_marks(run: u32, job: &Job, library: &Library, spare: &mut Spare) -> Marks
-    requires run { run ≤ 9999999 }
+pub(crate) fn take_marks(run: u32, table: &RunTable, library: &Library, spare: &mut Spare) -> Marks
+    requires fits { IsFitting (effective run table.now.job) }
     requires empty { spare.old.marks.items ≡ [] }
-    requires sorted { length (names_of_job (plain_job run job.now)) ≤ spare.old.sorted.room }
-    requires marks { length (names_of_job (plain_job run job.now)) ≤ spare.old.marks.room }
-    ensures marks { result.items ≡ marks_for (mark_now (seen_by table_of library.now.sets)) (names_of_job (plain_job run job.now)) }
+    requires sorted { length (names_of_job (effective run table.now.job)) ≤ spare.old.sorted.room }
+    requires marks { length (names_of_job (effective run table.now.job)) ≤ spare.old.marks.room }
+    ensures marks { result.items ≡ point_marks run (facts_of table.now) (mark_now (seen_by table_of library.now.sets)) }
     ensures empty { spare.new.marks.items ≡ [] }
     ensures passed { spare.new.passed ≡ spare.old.passed }
 {
-    mark_job(run, job, library, &mut spare.sorted);
+    let marking = Marking {
+        run,
+        job: &table.job,
+        carried: carried_by(table.points.as_slice(), table.job.earlier_step()),
+        library,
+    };
+    mark_job(&marking, &mut spare.sorted);
     let mut marks = mem::replace(&mut spare.marks, Marks::new(spare.alloc));
     put_marks(spare.sorted.as_slice(), &mut marks);
     marks
@@ -136,13 +137,13 @@ fn take_point(
     library: &Library,
     spare: &mut Spare,
 ) -> StepPoint
-    requires run { run ≤ 9999999 }
+    requires fits { IsFitting (effective run table.now.job) }
     requires empty { spare.old.marks.items ≡ [] }
     requires room { HasPointRoom run table.now spare.old }
     ensures point { point_of result ≡ fresh_point run (facts_of table.now) step (seen_by table_of library.now.sets) }
     ensures empty { spare.new.marks.items ≡ [] }
 {
-    let marks = take_marks(run, &table.job, library, spare);
+    let marks = take_marks(run, table, library, spare);
     let passed = take_passed(table.passed.as_slice(), spare);
     StepPoint {
         step,
@@ -164,8 +165,7 @@ fn open_step(
     library: &mut Library,
     spare: &mut Spare,
 ) -> Option<StepPoint>
-    requires run { run ≤ 9999999 }
-    requires limits { IsTrue (is_within_limits table.now.job) }
+    requires fits { IsFitting (effective run table.now.job) }
     requires empty { spare.old.marks.items ≡ [] }
     requires room { HasPointRoom run table.now spare.old }
     requires sets { 16 ≤ library.old.room }
@@ -174,15 +174,23 @@ fn open_step(
     ensures sets { library.new.sets ≡ started_sets run step items.now (facts_of table.now) library.old.sets }
     ensures empty { spare.new.marks.items ≡ [] }
 {
-    let own = step_at(&table.job, step)?;
+    let own = step_at(&table.job, run, step)?;
+    let root = table.job.root();
     let stamp = Stamp {
-        run,
+        run: own.owner,
         step,
         rewrites: 0,
     };
-    open_outputs(own, run, run, step, library, table.passed.as_slice());
+    open_outputs(
+        own.step,
+        root,
+        own.owner,
+        step,
+        library,
+        table.passed.as_slice(),
+    );
     let point = take_point(run, step, table, library, spare);
-    make_sets(run, own, stamp, items, library);
+    make_sets(root, &own, stamp, items, library);
     Some(point)
 }
 
@@ -195,8 +203,7 @@ pub(crate) fn start_run(
     library: &mut Library,
     spare: &mut Spare,
 )
-    requires run { run ≤ 9999999 }
-    requires limits { IsTrue (is_within_limits table.old.job) }
+    requires fits { IsFitting (effective run table.old.job) }
     requires empty { spare.old.marks.items ≡ [] }
     requires room { HasPointRoom run table.old spare.old }
     requires point { 0 < table.old.points.room }

@@ -3,6 +3,7 @@ ghost use Rattle.std.specs.Prelude.{◌≡◌, ◌≤◌, [], false};
 ghost use Rattle.std.specs.List.{filter_map, list_all};
 ghost use Rattle.std.specs.Option.{option_map_or};
 ghost use Rattle.ckr_points_library.specs.Holdings.{owned};
+ghost use Rattle.ckr_points.specs.Syschk.{names_its_set};
 ghost use Rattle.ckr_uses.specs.Uses.{are_distinct};
 ghost use Rattle.ckr_meaning.specs.EffectiveJob.{is_among, name_of, names_of};
 ghost use Rattle.ckr_points_tables.specs.Invariant.{is_submittable};
@@ -12,10 +13,12 @@ ghost use Rattle.ckr_points_tables.specs.View.{has_few_dds, has_few_serials, is_
 use crate::made_names::is_any_named;
 use crate::rewrite::master_dd;
 use ckr_jcl::{Dd, Job, Kind, Origin, Step};
+use ckr_points::syschk_name;
 use ckr_uses::library_name;
 
 /// Whether a deck may be submitted under a number: the number has at most seven digits, there are at most 64 steps of at most 16
-/// DDs, each with at most five serials, no data set name stands twice in a step, and a step of UPDATE has a MASTER. Each deck that is accepted is so, and the
+/// DDs, each with at most five serials, no data set name stands twice in a step, and a step of UPDATE has a MASTER, and SYSCHK
+/// names a data set. Each deck that is accepted is so, and the
 /// tables ask for it (this project's profile).
 pub fn is_submittable(number: u32, job: &Job) -> bool
     ensures { result ≡ is_submittable number job.now }
@@ -24,6 +27,17 @@ pub fn is_submittable(number: u32, job: &Job) -> bool
         && is_within_limits(job)
         && are_all_distinct(number, job.steps.as_slice())
         && all_have_masters(job.steps.as_slice())
+        && names_its_set(&job.syschk)
+}
+
+/// Whether SYSCHK, where it is given, names a data set.
+fn names_its_set(syschk: &Option<Dd>) -> bool
+    ensures { result ≡ names_its_set syschk.now }
+{
+    match syschk {
+        Some(dd) => syschk_name(dd).is_some(),
+        None => true,
+    }
 }
 
 /// Whether a DD of this origin has a data set.
@@ -96,7 +110,7 @@ fn stands_again(number: u32, step: &Step, dd: &Dd, rest: &[Dd]) -> bool
     ensures { let own = owned step.now number [] in result ≡ option_map_or (is_among (filter_map (name_of number own) rest.now)) (name_of number own dd.now) false }
 {
     match library_name(dd, number, number, &step.name) {
-        Some(name) => is_any_named(number, step, rest, &name),
+        Some(name) => is_any_named(number, number, step, rest, &name),
         None => false,
     }
 }

@@ -1,9 +1,6 @@
 -- The allocation of a step of a run, as the tables have it.
-use Rattle.std.proofs.Common.{◌≡◌, ℕ, zero, suc, Bool, true, ap, sym, ◌∙◌, subst, List, [], ◌∷◌, slice_get, Some, Result, arith}
-use Rattle.std.specs.List.{list_all}
-use Rattle.std.proofs.lemmas.Bool.{and_parts}
+use Rattle.std.proofs.Common.{◌≡◌, ℕ, suc, ap, sym, ◌∙◌, subst, List, [], ◌∷◌, slice_get, Some, Result, arith}
 use Rattle.std.proofs.lemmas.Option.{same_Some}
-use Rattle.ckr_base.proofs.Options.{some-not-none}
 use Rattle.arrayvec.specs.ArrayVec.{ArrayVec}
 use Rattle.ckr_points_library.specs.declared.cause.Refusal.{Refusal}
 use Rattle.ckr_points_library.specs.Allocation.{Allocation, allocated_all}
@@ -11,7 +8,7 @@ use Rattle.ckr_points_library.specs.Holdings.{holding_ways, standing}
 use Rattle.ckr_events.specs.declared.event.Made.{Made}
 use Rattle.ckr_library.specs.Catalog.{Holding}
 use Rattle.ckr_library.specs.NameMaps.{EachEntry, Named}
-use Rattle.ckr_meaning.specs.EffectiveJob.{Effective, HasDistinctNames, OwnedStep, placed_in, plain_job, stamp_of, step_at}
+use Rattle.ckr_meaning.specs.EffectiveJob.{HasDistinctNames, OwnedStep, placed_in, stamp_of, step_at}
 use Rattle.ckr_points_tables.proofs.MeaningViews.{viewed-placed_in}
 use Rattle.ckr_points.specs.declared.run.Run.{Run}
 use Rattle.ckr_points.specs.Rows.{RunRow, TableSet, TablesModel, holding_of, run_of, step_of_run, table_ways}
@@ -20,19 +17,10 @@ use Rattle.ckr_volumes.specs.Layouts.{StandsIn}
 use Rattle.ckr_points_tables.specs.declared.run_table.RunTable.{RunTable}
 use Rattle.ckr_points_tables.specs.Allocation.{HasFitting, IsAllocation, MayAllocate, allocation_in}
 use Rattle.ckr_points_tables.specs.Invariant.{AreRuns}
+use Rattle.ckr_points_tables.specs.RunJobs.{effective}
 use Rattle.ckr_points_tables.specs.View.{Writings, row_of, rows_of, seen_by, seen_under, table_in}
 use Rattle.ckr_points_tables.proofs.RoomGrowth.{distinct_there, found_there, line_there, numbered_there}
 use Rattle.ckr_points_tables.proofs.SetViews.{held-back, table_view}
-
--- what holds of each step of a job holds of one
-pub step-all : (all : OwnedStep → Bool) (job : Effective) (number : ℕ) (own : OwnedStep) → list_all all job.steps ≡ true → step_at job number ≡ Some own → all own ≡ true
-step-all all job zero own each found = absurd (some-not-none own (sym found))
-step-all all job (suc place) own each found = at job.steps place each found
-  where
-    at : (steps : List OwnedStep) (place : ℕ) → list_all all steps ≡ true → slice_get steps place ≡ Some own → all own ≡ true
-    at [] place each found = absurd (some-not-none own (sym found))
-    at (first ∷ rest) zero each found = subst (λ one. all one ≡ true) (same_Some _ _ found) (and_parts (all first) (list_all all rest) each).0
-    at (first ∷ rest) (suc place) each found = at rest place (and_parts (all first) (list_all all rest) each).1 found
 
 stand_seen : (layout : Layout) (writings : Writings) (sets : Named Holding) → EachEntry (λ (table : TableSet). StandsIn layout table.set) (seen_under (table_in writings) sets) → EachEntry (λ (h : Holding). StandsIn layout h.set) sets
 stand_seen layout writings [] all = tt
@@ -54,34 +42,32 @@ module _ (lines : List Run) (tables : List RunTable) (are : AreRuns 1 lines tabl
       ∙ found_there lines tables are place table table here
 
   -- the names of its steps differ
-  pub distinct_in : HasDistinctNames (plain_job job table.job)
-  distinct_in = subst (λ n. HasDistinctNames (plain_job n table.job)) (omega (arith, at)) (distinct_there lines tables are place table table here)
+  pub distinct_in : HasDistinctNames (effective job table.job)
+  distinct_in = subst (λ n. HasDistinctNames (effective n table.job)) (omega (arith, at)) (distinct_there lines tables are place table table here)
 
   -- each data set of the library stands in the layout
   pub stand_in : (layout : Layout) → EachEntry (λ (one : TableSet). StandsIn layout one.set) desk.sets → EachEntry (λ (h : Holding). StandsIn layout h.set) sets
   stand_in layout all = stand_seen layout writings sets (subst (EachEntry (λ (one : TableSet). StandsIn layout one.set)) (sym seen_sets) all)
 
   -- the DDs of its step are such as a deck gives
-  pub fit_in : (number : ℕ) → MayAllocate job number desk → (own : OwnedStep) → step_at (plain_job job table.job) number ≡ Some own → HasFitting job own
+  pub fit_in : (number : ℕ) → MayAllocate job number desk → (own : OwnedStep) → step_at (effective job table.job) number ≡ Some own → HasFitting table.job.root own
   unfolding row
   fit_in number may own step =
-      subst (λ n. HasFitting n own) numbered
-      (may row own found (ap (λ n. step_at (plain_job n table.job) number) numbered ∙ step))
+      may row own found (ap (λ n. step_at (effective n table.job) number) numbered ∙ step)
 
   -- what its step makes
   pub allocated_in : (layout : Layout) (number : ℕ) (made : Result (ArrayVec Made) Refusal)
-      → ((own : OwnedStep) → step_at (plain_job job table.job) number ≡ Some own → IsAllocation (allocated_all layout (stamp_of own number) (placed_in holding_ways (standing sets table.passed.items) job own) sets) made)
+      → ((own : OwnedStep) → step_at (effective job table.job) number ≡ Some own → IsAllocation (allocated_all layout (stamp_of own number) (placed_in holding_ways (standing sets table.passed.items) table.job.root own) sets) made)
       → (other : RunRow) (own : OwnedStep) → run_of desk job ≡ Some other → step_of_run other number ≡ Some own → IsAllocation (allocation_in layout other own number desk) made
   unfolding row
   allocated_in layout number made each other own is step =
       let same : row ≡ other = same_Some _ _ (sym found ∙ is) in
-      let here = each own (ap (λ n. step_at (plain_job n table.job) number) (sym numbered) ∙ ap (λ (r : RunRow). step_of_run r number) same ∙ step) in
+      let here = each own (ap (λ n. step_at (effective n table.job) number) (sym numbered) ∙ ap (λ (r : RunRow). step_of_run r number) same ∙ step) in
       let Known : RunRow → Type 0 = λ r. IsAllocation (allocation_in layout r own number desk) made in
       let Is : Result Allocation Refusal → Type 0 = λ done. IsAllocation done made in
       subst Known same
       (subst Is
-      (ap (λ placed. allocated_all layout (stamp_of own number) placed sets) (viewed-placed_in (table_in writings) holding_ways table_ways (table_view writings).through (standing sets table.passed.items) job own)
-      ∙ ap (λ (all : Named TableSet). allocated_all layout (stamp_of own number) (placed_in table_ways (record { sets = all; passed = table.passed.items }) job own) sets) seen_sets
-      ∙ ap (λ n. allocated_all layout (stamp_of own number) (placed_in table_ways (record { sets = desk.sets; passed = table.passed.items }) n own) sets) (sym numbered)
+      (ap (λ placed. allocated_all layout (stamp_of own number) placed sets) (viewed-placed_in (table_in writings) holding_ways table_ways (table_view writings).through (standing sets table.passed.items) table.job.root own)
+      ∙ ap (λ (all : Named TableSet). allocated_all layout (stamp_of own number) (placed_in table_ways (record { sets = all; passed = table.passed.items }) table.job.root own) sets) seen_sets
       ∙ ap (allocated_all layout (stamp_of own number) (placed_in table_ways (record { sets = desk.sets; passed = table.passed.items }) row.job.root own)) (sym (held-back writings sets) ∙ ap (seen_by holding_of) seen_sets))
       here)

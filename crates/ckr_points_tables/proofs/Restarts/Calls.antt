@@ -1,5 +1,5 @@
 -- A call on the tables that goes on by an automatic restart: what it needs, and what it leaves.
-use Rattle.std.proofs.Common.{◌≡◌, ◌⊎◌, inl, inr, ◌&&◌, ◌||◌, ℕ, ◌-◌, ◌<◌, ◌≤◌, true, false, Bool, nat_eq, nat_lt, not, List, [], map, slice_get, slice_set, slice_index_or, refl, ap, sym, ◌∙◌, subst, arith, Some, None, Option}
+use Rattle.std.proofs.Common.{◌≡◌, ◌⊎◌, inl, inr, ◌&&◌, ◌||◌, ℕ, ◌-◌, ◌<◌, true, false, Bool, nat_eq, nat_lt, not, List, [], map, slice_get, slice_set, slice_index_or, refl, ap, sym, ◌∙◌, subst, arith, Some, None, Option}
 use Rattle.std.specs.List.{list_all}
 use Rattle.std.specs.Option.{option_and_then, option_eq, option_map, option_map_or}
 use Rattle.std.proofs.lemmas.Option.{slice_get-map, slice_get_within}
@@ -25,13 +25,14 @@ use Rattle.ckr_points_tables.specs.Invariant.{AreKept, CanRestart, IsFilled, IsI
 use Rattle.ckr_points_tables.specs.Parts.{tables_seen, IsKept}
 use Rattle.ckr_points_tables.specs.Restart.{HasFewRestarts, HasPassedFor, passed_for, restarted}
 use Rattle.ckr_points_tables.specs.RunChange.{Going, desk_with, going}
+use Rattle.ckr_points_tables.specs.RunJobs.{IsFitting, effective}
 use Rattle.ckr_points_tables.specs.View.{RoomyTables, RunTableView, Writings, facts_of, room_of, row_of, row_with, rows_of, seen_under, table_in, written_of}
 use Rattle.ckr_points_tables.proofs.Events.{none_on}
 use Rattle.ckr_points_tables.proofs.PutBack.{cut-back-filled, cut-back-wide}
 use Rattle.ckr_points_tables.proofs.RecordWidths.{AreFilled, AreWide}
 use Rattle.ckr_points_tables.proofs.Restarts.Views.{IsLeft, passed-there, restarted-each, restarted-left, restarted-row}
 use Rattle.ckr_points_tables.proofs.RunChanges.{run-in}
-use Rattle.ckr_points_tables.proofs.RunMoves.{IsPlaced, desk_moved, index_moved, is_run, item_there, kept_moved, number_fits, number_is, of_run-row, only-on, placed_so, run_found}
+use Rattle.ckr_points_tables.proofs.RunMoves.{IsPlaced, desk_moved, index_moved, is_run, item_there, kept_moved, number_is, of_run-row, only-on, placed_so, run_fits, run_found}
 use Rattle.ckr_points_tables.proofs.Runs.{at_true, length-rows, rows-at}
 use Rattle.ckr_points_tables.proofs.SetViews.{going_viewed}
 
@@ -88,8 +89,8 @@ module _ (a : Inside) (self : RoomyTables) (view : tables_seen a ≡ self) (kept
     goes_back : may_go_back may_in.0 desk initiator checkpoint (row_with line facts) ≡ true
     goes_back = of_run-row desk job (may_go_back may_in.0 desk initiator checkpoint) (row_with line facts) row_found may_in.1
 
-    pub number_ok : line.number ≤ 9999999
-    number_ok = number_fits a.library.sets a.lines.items a.tables.items a.index a.spare.marks.items a.writings.items kept (job - 1) line table lined tabled
+    pub fits_ok : IsFitting (effective line.number table.job)
+    fits_ok = run_fits a.library.sets a.lines.items a.tables.items a.index a.spare.marks.items a.writings.items kept (job - 1) line table lined tabled
 
     pub few_ok : HasFewRestarts checkpoint facts
     few_ok = few-restarts checkpoint line facts (and-second _ (may_restart_again checkpoint (row_with line facts)) goes_back)

@@ -6,23 +6,22 @@ use Rattle.ckr_base.proofs.Numbers.{suc-minus}
 use Rattle.ckr_base.specs.RoomyLists.{Roomy}
 use Rattle.ckr_entry.specs.declared.point.Mark.{Mark}
 use Rattle.ckr_entry.specs.declared.point.Passed.{Passed}
-use Rattle.ckr_jcl.specs.declared.deck.Step.{Step}
 use Rattle.ckr_library.specs.Catalog.{Holding}
 use Rattle.ckr_library.specs.NameMaps.{Name, Named}
 use Rattle.ckr_library.specs.declared.sets.Kept.{Kept}
 use Rattle.ckr_points_tables.specs.declared.run_table.StepPoint.{StepPoint}
 use Rattle.ckr_points_tables.specs.declared.run_table.WrittenEntry.{WrittenEntry}
-use Rattle.ckr_meaning.specs.EffectiveJob.{OwnedStep, names_of, owned_by, plain_job, step_at}
+use Rattle.ckr_meaning.specs.EffectiveJob.{OwnedStep, names_of, step_at}
 use Rattle.ckr_meaning.specs.declared.place.Place.TheVariants.{Opened, Within}
 use Rattle.ckr_points.specs.declared.run.Run.{Run}
 use Rattle.ckr_points.specs.Marks.{point_at, with_point}
 use Rattle.ckr_points.specs.Restart.{effect_restarted, point_restarted}
 use Rattle.ckr_points.specs.Rows.{EffectPoint, EntryPoint, StartPoint}
 use Rattle.ckr_points_library.specs.Commit.{output_names}
-use Rattle.ckr_points_library.specs.Holdings.{owned}
 use Rattle.ckr_points_tables.specs.PutBack.{all_made_gone, sets_back}
 use Rattle.ckr_points_tables.specs.Restart.{back_at_entry, back_at_start, check_restarted, effect_restart, facts_back, kept_under, line_on, point_written, step_restarted}
 use Rattle.ckr_points_tables.specs.RunChange.{Going, by_step_of, going, step_of}
+use Rattle.ckr_points_tables.specs.RunJobs.{effective}
 use Rattle.ckr_points_tables.specs.View.{RunTableView, Writing, Writings, find_last, is_entry, no_point, point_for, point_of, writing_of, written_by, written_of}
 use Rattle.ckr_points_tables.proofs.Steps.{point-mapped}
 
@@ -73,12 +72,12 @@ module _ (writings : List (Roomy WrittenEntry)) (set : Name) (kept : Kept) (firs
   pub entry-absent : slice_get writings (kept.run - 1) ≡ None → no_point ≡ point_for (map written_of writings) set kept
   entry-absent none = ap (λ all. option_map_or (λ (writing : Writing). writing.point) (find_last (is_entry set kept) all) no_point) (sym (by-run None none))
 
-module _ (line : Run) (facts : RunTableView) (sets : Named Holding) (step initiator : ℕ) (own : Step) (there : step_at (plain_job line.number facts.job) step ≡ Some (owned_by line.number facts.job own)) where
+module _ (line : Run) (facts : RunTableView) (sets : Named Holding) (step initiator : ℕ) (own : OwnedStep) (there : step_at (effective line.number facts.job) step ≡ Some own) where
   abbrev outputs : List Name
-  outputs = output_names line.number (owned own line.number [])
+  outputs = output_names facts.job.root own
 
   abbrev names : List Name
-  names = names_of line.number (owned own line.number [])
+  names = names_of facts.job.root own
 
   -- the pieces of a restart at the start of a step
   pub start-built : (point : StartPoint) → point_at facts.points step ≡ Some point
@@ -97,7 +96,7 @@ module _ (line : Run) (facts : RunTableView) (sets : Named Holding) (step initia
       (after_is point (ap (λ (f : RunTableView). point_at f.points step) before_is ∙ found) ∙ ap (λ (f : RunTableView). record f { points = with_point (point_restarted point) f.points; in_effect = None }) before_is)
       ∙ ap (λ all. going (line_on initiator line) (facts_with all) back) passed_is
       ∙ ap built (back_is ∙ ap (sets_back marks outputs names) gone_is ∙ ap (λ m. sets_back m outputs names (all_made_gone m names sets)) marks_are)
-      ∙ start-with-point (going line facts sets) step initiator (owned_by line.number facts.job own) point there found
+      ∙ start-with-point (going line facts sets) step initiator own point there found
 
   -- those of a restart at an entry
   pub entry-built : (point : EntryPoint) (effect : EffectPoint) → facts.in_effect ≡ Some effect

@@ -34,8 +34,8 @@ module _ (Q : Holding → Type 0) (cuts : (most : ℕ) (holding : Holding) → Q
       back : (own : OwnedStep) (found : Option StartPoint) → EachEntry Q (option_map_or (back_at_start initiator step now own) found now).sets
       back own None = each
       back own (Some point) =
-          back-each Q cuts marks_so point.marks (output_names now.line.number own) (names_of now.line.number own) (all_made_gone point.marks (names_of now.line.number own) now.sets)
-          (gone-each Q cuts marks_so point.marks (names_of now.line.number own) now.sets each)
+          back-each Q cuts marks_so point.marks (output_names now.facts.job.root own) (names_of now.facts.job.root own) (all_made_gone point.marks (names_of now.facts.job.root own) now.sets)
+          (gone-each Q cuts marks_so point.marks (names_of now.facts.job.root own) now.sets each)
 
       by : (found : Option OwnedStep) → EachEntry Q (option_map_or (step_restarted initiator step now) found now).sets
       by None = each
@@ -46,7 +46,7 @@ module _ (Q : Holding → Type 0) (cuts : (most : ℕ) (holding : Holding) → Q
     where
       back : (own : OwnedStep) (effect : EffectPoint) (point : Option EntryPoint) → EachEntry Q (option_map_or (back_at_entry initiator step effect now own) point now).sets
       back own effect None = each
-      back own effect (Some point) = back-each Q cuts marks_so point.marks (output_names now.line.number own) (names_of now.line.number own) now.sets each
+      back own effect (Some point) = back-each Q cuts marks_so point.marks (output_names now.facts.job.root own) (names_of now.facts.job.root own) now.sets each
 
       at : (own : OwnedStep) (in_effect : Option EffectPoint) → EachEntry Q (option_map_or (effect_restart writings initiator step now own) in_effect now).sets
       at own None = each
@@ -67,14 +67,14 @@ IsLeft initiator now after = StaysRun now after × ((i : ℕ) → after.line.ini
 
 module _ (now : Going Holding) (initiator : ℕ) (free : is_queued now.line.state ≡ true → now.line.initiator ≡ None) where
   left-same : IsLeft initiator now now
-  left-same = (record { number = refl; name = refl; job = refl; free = free }, λ i on. inl on)
+  left-same = (record { number = refl; name = refl; job = refl; whole = λ none. none; free = free }, λ i on. inl on)
 
   left-start : (step : ℕ) → IsLeft initiator now (by_step_of step (step_restarted initiator step now) now)
   left-start step = by (step_of now step)
     where
       back : (own : OwnedStep) (found : Option StartPoint) → IsLeft initiator now (option_map_or (back_at_start initiator step now own) found now)
       back own None = left-same
-      back own (Some point) = (record { number = refl; name = refl; job = refl; free = λ e. absurd (false≢true e) }, λ i on. inr (same_Some initiator i on))
+      back own (Some point) = (record { number = refl; name = refl; job = refl; whole = λ none. none; free = λ e. absurd (false≢true e) }, λ i on. inr (same_Some initiator i on))
 
       by : (found : Option OwnedStep) → IsLeft initiator now (option_map_or (step_restarted initiator step now) found now)
       by None = left-same
@@ -85,7 +85,7 @@ module _ (now : Going Holding) (initiator : ℕ) (free : is_queued now.line.stat
     where
       back : (own : OwnedStep) (effect : EffectPoint) (point : Option EntryPoint) → IsLeft initiator now (option_map_or (back_at_entry initiator step effect now own) point now)
       back own effect None = left-same
-      back own effect (Some point) = (record { number = refl; name = refl; job = refl; free = λ e. absurd (false≢true e) }, λ i on. inr (same_Some initiator i on))
+      back own effect (Some point) = (record { number = refl; name = refl; job = refl; whole = λ none. none; free = λ e. absurd (false≢true e) }, λ i on. inr (same_Some initiator i on))
 
       at : (own : OwnedStep) (in_effect : Option EffectPoint) → IsLeft initiator now (option_map_or (effect_restart writings initiator step now own) in_effect now)
       at own None = left-same
@@ -122,6 +122,12 @@ kept-seen writings sets set id =
     by None = refl
     by (Some holding) = kept-found writings set id holding.kept
 
+-- the same by what is kept under the identifier
+pub entry-found : (writings : Writings) (sets : Named Holding) (seen : Named TableSet) → viewed (table_in writings) sets ≡ seen → (set id : Name) (found : Option Kept) → found ≡ kept_under sets set id
+    → option_map (λ kept. kept_entry kept (point_for writings set kept)) found ≡ kept_at seen set id
+entry-found writings sets seen same set id found is =
+    ap (option_map (λ kept. kept_entry kept (point_for writings set kept))) is ∙ sym (kept-seen writings sets set id) ∙ ap (λ all. kept_at all set id) same
+
 module _ (writings : Writings) (line : Run) (facts : RunTableView) (sets : Named Holding) (desk : TablesModel) (seen : desk.sets ≡ viewed (table_in writings) sets) (found : run_of desk line.number ≡ Some (row_with line facts)) where
   abbrev now : Going Holding
   now = going line facts sets
@@ -130,17 +136,17 @@ module _ (writings : Writings) (line : Run) (facts : RunTableView) (sets : Named
   row = row_with line facts
 
   -- the data sets as the tables have them at the start of the step
-  start-seen : (marks : List Mark) (own : OwnedStep) → viewed (table_in writings) (sets_at_start line.number marks sets own)
-      ≡ put_back marks (output_names line.number own) (names_of line.number own) (removed_all (made_names marks (names_of line.number own)) desk.sets)
+  start-seen : (marks : List Mark) (own : OwnedStep) → viewed (table_in writings) (sets_at_start facts.job.root marks sets own)
+      ≡ put_back marks (output_names facts.job.root own) (names_of facts.job.root own) (removed_all (made_names marks (names_of facts.job.root own)) desk.sets)
   start-seen marks own =
-      back-seen writings marks (output_names line.number own) (names_of line.number own) (all_made_gone marks (names_of line.number own) sets)
-      ∙ ap (put_back marks (output_names line.number own) (names_of line.number own)) (gone-seen writings marks (names_of line.number own) sets ∙ ap (removed_all (made_names marks (names_of line.number own))) (sym seen))
+      back-seen writings marks (output_names facts.job.root own) (names_of facts.job.root own) (all_made_gone marks (names_of facts.job.root own) sets)
+      ∙ ap (put_back marks (output_names facts.job.root own) (names_of facts.job.root own)) (gone-seen writings marks (names_of facts.job.root own) sets ∙ ap (removed_all (made_names marks (names_of facts.job.root own))) (sym seen))
 
   back-row : (own : OwnedStep) (step initiator : ℕ) (point : StartPoint) → point_at facts.points step ≡ Some point
       → after_put_back (record (row_on initiator row) { points = with_point (point_restarted point) facts.points; in_effect = None }) own (back_to_start row own step point) desk
       ≡ desk_with (going_viewed (table_in writings) (back_at_start initiator step now own point)) desk
   back-row own step initiator point at =
-      let run = line.number in
+      let run = facts.job.root in
       let back = back_at_start initiator step now own point in
       ap (λ (all : Named TableSet). desk_with (going back.line back.facts all) desk)
       (ap (λ one. put_back point.marks (output_names run own) (names_of run own) (removed_all (option_map_or (λ (one : StartPoint). made_names one.marks (names_of run own)) one []) desk.sets)) at
@@ -162,9 +168,9 @@ module _ (writings : Writings) (line : Run) (facts : RunTableView) (sets : Named
       by (Some point) at = back-row own step initiator point at
 
   -- the data sets as the tables have them at a checkpoint
-  entry-seen : (marks : List Mark) (own : OwnedStep) → viewed (table_in writings) (sets_at_entry line.number marks sets own) ≡ put_back marks (output_names line.number own) (names_of line.number own) desk.sets
+  entry-seen : (marks : List Mark) (own : OwnedStep) → viewed (table_in writings) (sets_at_entry facts.job.root marks sets own) ≡ put_back marks (output_names facts.job.root own) (names_of facts.job.root own) desk.sets
   entry-seen marks own =
-      back-seen writings marks (output_names line.number own) (names_of line.number own) sets ∙ ap (put_back marks (output_names line.number own) (names_of line.number own)) (sym seen)
+      back-seen writings marks (output_names facts.job.root own) (names_of facts.job.root own) sets ∙ ap (put_back marks (output_names facts.job.root own) (names_of facts.job.root own)) (sym seen)
 
   entry-back : (own : OwnedStep) (step initiator : ℕ) (effect : EffectPoint) (point : EntryPoint)
       → after_put_back (record (row_on initiator row) { in_effect = Some (effect_restarted effect) }) own (back_to_entry row own step point) desk

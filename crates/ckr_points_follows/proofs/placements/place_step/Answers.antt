@@ -1,7 +1,7 @@
 use Rattle.std.proofs.Common.{◌∷◌, [], length, arith, ap, length-append}
 use Rattle.ckr_base.proofs.Sequences.{drop-at}
-use Rattle.ckr_points_library.specs.Holdings.{owned}
 use Rattle.ckr_points.specs.Rows.{standing_of}
+use Rattle.ckr_points_tables.specs.RunJobs.{own_of}
 use Rattle.ckr_points_follows.specs.Runs.{row_now}
 use Rattle.ckr_points_follows.proofs.Starts.Placements.{placed-next}
 use Rattle.ckr_points_follows.proofs.placements.place_step.Goals as goal
@@ -9,13 +9,13 @@ use Rattle.ckr_points_follows.proofs.placements.place_step.Goals as goal
 pub loop-dd-preserved : goal.loop-dd-preserved
 loop-dd-preserved c =
     let run = c.args.run.now in
-    let root = run.line.now.number in
+    let root = run.table.now.job.root in
     let dds = c.as_slice-dd-items.result.now in
     let next = drop-at dds c.loop-dd.dd-index c.dd-item.result c.loop-dd-test.true c.dd-item.is in
     record {
       number = omega arith;
       placed =
-          placed-next (standing_of (row_now run) c.args.tables.now.desk) root (owned c.args.own.now root []) c.loop-dd.number dds c.loop-dd.dd-index c.dd-item.result next
+          placed-next (standing_of (row_now run) c.args.tables.now.desk) root (own_of c.args.own.now) c.loop-dd.number dds c.loop-dd.dd-index c.dd-item.result next
           c.loop-dd.placed.items c.place_dd.result c.push.new.self.items c.place_dd.ensures c.push.ensures.items _ c.loop-dd.invariant.placed;
       few = omega (arith, c.loop-dd.invariant.few, ap length c.push.ensures.items, length-append c.loop-dd.placed.items (c.place_dd.result ∷ []), ap length next);
     }

@@ -1,7 +1,7 @@
-use Rattle.std.proofs.Common.{◌≡◌, ◌+◌, ◌≤◌, ◌++◌, [], length, drop}
-use Rattle.ckr_points_library.specs.Holdings.{owned}
+use Rattle.std.proofs.Common.{◌≡◌, ◌+◌, ◌≤◌, ◌++◌, length, drop}
 use Rattle.ckr_meaning.specs.EffectiveJob.{placed_from}
 use Rattle.ckr_points.specs.Rows.{standing_of, table_ways}
+use Rattle.ckr_points_tables.specs.RunJobs.{own_of}
 use Rattle.ckr_points_follows.specs.Placements.{placed_list}
 use Rattle.ckr_points_follows.specs.Runs.{row_now}
 use Rattle.ckr_points_follows.proofs.placements.place_step.Given as goal
@@ -10,7 +10,7 @@ abbrev pub invariant-loop-dd : goal.invariant-loop-dd
 invariant-loop-dd l = record {
   number : l.number ≡ l.dd-index;
   placed :
-      placed_list l.placed.items ++ placed_from table_ways (standing_of (row_now l.run) l.tables.desk) l.run.line.now.number (owned l.own l.run.line.now.number []) (l.number + 1) (drop l.dd-index l.dd-items)
-      ≡ placed_from table_ways (standing_of (row_now l.run) l.tables.desk) l.run.line.now.number (owned l.own l.run.line.now.number []) 1 l.dd-items;
+      placed_list l.placed.items ++ placed_from table_ways (standing_of (row_now l.run) l.tables.desk) l.run.table.now.job.root (own_of l.own) (l.number + 1) (drop l.dd-index l.dd-items)
+      ≡ placed_from table_ways (standing_of (row_now l.run) l.tables.desk) l.run.table.now.job.root (own_of l.own) 1 l.dd-items;
   few : length l.placed.items + length (drop l.dd-index l.dd-items) ≤ 16;
 }

@@ -1,6 +1,6 @@
 use Rattle.std.proofs.Common.{ap, ◌∙◌}
 use Rattle.ckr_points.specs.Restart.{place_of}
-use Rattle.ckr_points_tables.proofs.Steps.{few_owned}
+use Rattle.ckr_points_tables.specs.RunJobs.{own_of}
 use Rattle.ckr_points_follows.specs.Placements.{placed_list}
 use Rattle.ckr_points_follows.specs.Runs.{row_now}
 use Rattle.ckr_points_follows.proofs.Starts.Tests.{start-by, start_form}
@@ -14,9 +14,4 @@ returns-in-Some c =
     ∙ ap (λ place. form place (placed_list c.as_slice.result.now)) c.place_of.ensures
     ∙ ap (λ all. form (place_of (row_now run)) (placed_list all)) c.as_slice.ensures.value
     ∙ ap (form (place_of (row_now run))) c.place_step-placed.ensures
-    ∙ start-by c.args.layout.now c.args.tables.now.desk c.args.step c.args.items.now run c.in-Some.own.now c.requires.is.distinct c.in-Some.ensures
-
-pub place_step-placed-requires-clause-few : goal.place_step-placed-requires-clause-few
-place_step-placed-requires-clause-few c =
-    let run = c.args.run.now in
-    few_owned run.line.now.number run.table.now.job c.requires.is.limits c.args.step c.in-Some.own.now c.in-Some.ensures
+    ∙ start-by c.args.layout.now c.args.tables.now.desk c.args.step c.args.items.now run (own_of c.in-Some.own) c.requires.is.distinct c.in-Some.ensures.step

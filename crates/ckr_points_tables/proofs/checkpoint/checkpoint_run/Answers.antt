@@ -1,8 +1,9 @@
 use Rattle.std.proofs.Common.{ap, sym, ◌∙◌}
 use Rattle.ckr_library.specs.Catalog.{with_kept}
 use Rattle.ckr_library.specs.NameMaps.{with_changed}
-use Rattle.ckr_meaning.specs.EffectiveJob.{plain_job, step_at}
+use Rattle.ckr_meaning.specs.EffectiveJob.{step_at}
 use Rattle.ckr_points_tables.specs.RunChange.{checkpointed_facts, going}
+use Rattle.ckr_points_tables.specs.RunJobs.{effective}
 use Rattle.ckr_points_tables.specs.View.{Writing, facts_of, writing_of, written_of}
 use Rattle.ckr_points_tables.proofs.CheckpointRuns.{goes-behind, has-checkpoints, has-room, wrote-behind}
 use Rattle.ckr_points_tables.proofs.checkpoint.checkpoint_run.Goals as goal
@@ -10,12 +11,12 @@ use Rattle.ckr_points_tables.proofs.checkpoint.checkpoint_run.Goals as goal
 pub take_entry-entry-requires-clause-named : goal.take_entry-entry-requires-clause-named
 take_entry-entry-requires-clause-named c =
     let run = c.args.line.now.number in
-    has-checkpoints run c.args.kept.place c.args.kept.bytes c.args.lengths.now c.args.library.now (step_at (plain_job run c.args.table.now.job) c.args.far.step) (sym (c.if-not-has_step.ensures run)) c.requires.may.keeps c.commit.ensures.named
+    has-checkpoints c.args.table.now.job.root c.args.kept.place c.args.kept.bytes c.args.lengths.now c.args.library.now (step_at (effective run c.args.table.now.job) c.args.far.step) (sym (c.if-not-has_step.ensures run)) c.requires.may.keeps c.commit.ensures.named
 
 pub keep_entry-requires : goal.keep_entry-requires
 keep_entry-requires c =
     let run = c.args.line.now.number in
-    has-room run c.args.kept.place c.args.kept.bytes c.args.lengths.now c.args.library.now (step_at (plain_job run c.args.table.now.job) c.args.far.step) (sym (c.if-not-has_step.ensures run)) c.requires.may.keeps c.commit.ensures.named
+    has-room c.args.table.now.job.root c.args.kept.place c.args.kept.bytes c.args.lengths.now c.args.library.now (step_at (effective run c.args.table.now.job) c.args.far.step) (sym (c.if-not-has_step.ensures run)) c.requires.may.keeps c.commit.ensures.named
     c.commit.new.library c.commit.ensures.entries c.take_entry-entry.result.set
     (λ own there. ap (λ (writing : Writing). writing.set) (c.take_entry-entry.ensures.entry own there))
 
@@ -27,7 +28,7 @@ returns-clause-going c =
     ∙ ap (λ sets. going c.args.line.now (checkpointed_facts c.args.far.step c.args.far.writes set c.args.kept (facts_of c.args.table.now)) sets)
     (c.keep_entry.ensures ∙ ap (λ kept. with_changed set (with_kept kept) c.commit.new.library.sets) c.copy_of_kept.ensures)
     ∙ goes-behind c.args.line.now (facts_of c.args.table.now) c.args.library.now.sets c.args.far.step c.args.kept c.args.far.taken c.args.far.writes c.args.lengths.now
-    (step_at (plain_job run c.args.table.now.job) c.args.far.step) (sym (c.if-not-has_step.ensures run)) c.commit.new.library.sets c.commit.ensures.sets set
+    (step_at (effective run c.args.table.now.job) c.args.far.step) (sym (c.if-not-has_step.ensures run)) c.commit.new.library.sets c.commit.ensures.sets set
     (λ own there. ap (λ (writing : Writing). writing.set) (c.take_entry-entry.ensures.entry own there))
 
 pub returns-clause-entries : goal.returns-clause-entries
@@ -35,5 +36,5 @@ returns-clause-entries c =
     let run = c.args.line.now.number in
     c.enter.ensures
     ∙ wrote-behind c.args.line.now (facts_of c.args.table.now) c.args.library.now.sets c.args.far.step c.args.kept c.args.far.taken c.args.far.writes c.args.lengths.now
-    (step_at (plain_job run c.args.table.now.job) c.args.far.step) (sym (c.if-not-has_step.ensures run)) c.commit.new.library.sets c.commit.ensures.sets
+    (step_at (effective run c.args.table.now.job) c.args.far.step) (sym (c.if-not-has_step.ensures run)) c.commit.new.library.sets c.commit.ensures.sets
     (written_of c.args.entries.now) (writing_of c.take_entry-entry.result) c.take_entry-entry.ensures.entry

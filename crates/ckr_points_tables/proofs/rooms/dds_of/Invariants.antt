@@ -1,6 +1,7 @@
 use Rattle.std.proofs.Common.{◌≡◌, ◌+◌, drop}
 use Rattle.ckr_points_tables.specs.Rooms.{dds_of}
+use Rattle.ckr_points_tables.specs.RunJobs.{effective}
 use Rattle.ckr_points_tables.proofs.rooms.dds_of.Given as goal
 
-abbrev pub invariant-loop-step : goal.invariant-loop-step
-invariant-loop-step l = l.count + dds_of (drop l.step-index l.steps) ≡ dds_of l.steps
+abbrev pub invariant-loop-place : goal.invariant-loop-place
+invariant-loop-place l = l.count + dds_of (drop l.place (effective l.run l.job).steps) ≡ dds_of (effective l.run l.job).steps

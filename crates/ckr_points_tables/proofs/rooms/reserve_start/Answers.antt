@@ -4,7 +4,7 @@ use Rattle.ckr_points_tables.proofs.rooms.reserve_start.Goals as goal
 
 pub returns-clause-ok : goal.returns-clause-ok
 returns-clause-ok c = record {
-  room = λ run. subst (λ passed. FitsPoint run c.args.table.now.job passed c.reserve_point.new.spare) c.as_slice.ensures (c.in_ok-reserve_point.ensures.ok run);
+  room = subst (λ passed. FitsPoint c.args.run c.args.table.now.job passed c.reserve_point.new.spare) c.as_slice.ensures c.in_ok-reserve_point.ensures.ok;
   points = omega (arith, c.in_ok-reserve.ensures.ok);
   sets = c.in_ok-reserve-2.ensures.ok;
 }

@@ -1,52 +1,68 @@
-use Rattle.std.proofs.Common.{◌≡◌, ℕ, ◌<◌, ◌≤◌, ◌+◌, ◌-◌, List, [], ◌++◌, length-append, ap, sym, ◌∙◌, length, map, arith, drop, refl}
-use Rattle.ckr_jcl.specs.declared.deck.Step.{Step}
-use Rattle.ckr_meaning.specs.EffectiveJob.{names_of, names_of_steps, owned_by}
-use Rattle.ckr_points.specs.Marks.{mark_now}
-use Rattle.ckr_points_tables.specs.MarkOrder.{marked_onto}
-use Rattle.ckr_points_tables.specs.View.{seen_by, table_of}
-use Rattle.ckr_points_tables.proofs.MarkOrder.{one-le, onto-append, onto-marks, next-step}
+use Rattle.std.proofs.Common.{◌≡◌, ℕ, ◌<◌, ◌≤◌, ◌+◌, ◌-◌, [], ◌++◌, length-append, ap, sym, ◌∙◌, length, arith, drop, slice_get}
+use Rattle.std.proofs.lemmas.List.{drop_all}
+use Rattle.ckr_meaning.specs.EffectiveJob.{names_of_job, names_of_steps}
+use Rattle.ckr_points_tables.specs.MarkOrder.{marked, marked_onto}
+use Rattle.ckr_points_tables.specs.RunJobs.{effective, names_in}
+use Rattle.ckr_points_tables.specs.RunMarks.{marking_mark}
+use Rattle.ckr_points_tables.proofs.MarkOrder.{marks-most, onto-append, onto-marks}
+use Rattle.ckr_points_tables.proofs.RunJobs.{names-here, names-next}
 use Rattle.ckr_points_tables.proofs.run_marks.mark_job.Goals as goal
 
-one_back : (n : ℕ) → 0 < n → n - 1 + 1 ≡ n
+one_back : (n : ℕ) → 0 < n → n ≡ n - 1 + 1
 one_back n some = omega arith
 
-pub mark_step-requires-clause-room : goal.mark_step-requires-clause-room
-mark_step-requires-clause-room c =
-    let own = owned_by c.args.number c.args.job.now in
-    let F = λ (steps : List Step). names_of_steps c.args.number (map own steps) in
-    let steps = c.as_slice-steps.result.now in
-    let left = c.loop-left.left - 1 in
-    let here : length (names_of c.args.number (own c.index-steps-left.result)) + length (F (drop (left + 1) steps)) ≤ length (F steps) =
-    one-le F (λ step. names_of c.args.number (own step)) (λ x xs. refl) left steps c.index-steps-left.result (omega arith) c.index-steps-left.is in
-    omega (arith, here, c.loop-left.invariant.room, c.requires.room, c.clear.ensures.room, ap (λ all. length (F all)) c.as_slice-steps.ensures, ap (λ i. length (F (drop i steps))) (one_back c.loop-left.left c.loop-left-test.true))
+pub mark_step_in-requires-clause-room : goal.mark_step_in-requires-clause-room
+mark_step_in-requires-clause-room c =
+    let root = c.args.marking.now.job.now.root in
+    let steps = (effective c.args.marking.now.run c.args.marking.now.job.now).steps in
+    let left = c.loop-left.left in
+    let inside : left - 1 < length steps = omega (arith, c.loop-left.invariant.within, c.loop-left-test.true) in
+    let here : length (names_in root (slice_get steps (left - 1))) + length (names_of_steps root (drop left steps)) ≤ length (names_of_steps root steps) =
+    names-here root steps (left - 1) left inside (one_back left c.loop-left-test.true) in
+    omega (arith, here, c.loop-left.invariant.room, c.requires.room, c.clear.ensures.room)
 
 pub loop-left-preserved : goal.loop-left-preserved
 loop-left-preserved c =
-    let own = owned_by c.args.number c.args.job.now in
-    let F = λ (steps : List Step). names_of_steps c.args.number (map own steps) in
-    let steps = c.as_slice-steps.result.now in
-    let left = c.loop-left.left - 1 in
-    let mark = mark_now (seen_by table_of c.args.library.now.sets) in
-    let next : F (drop left steps) ≡ names_of c.args.number (own c.index-steps-left.result) ++ F (drop c.loop-left.left steps) =
-    next-step F left c.loop-left.left steps c.index-steps-left.result (omega arith) (omega arith) c.index-steps-left.is in
+    let root = c.args.marking.now.job.now.root in
+    let steps = (effective c.args.marking.now.run c.args.marking.now.job.now).steps in
+    let left = c.loop-left.left in
+    let mark = marking_mark c.args.marking.now in
+    let inside : left - 1 < length steps = omega (arith, c.loop-left.invariant.within, c.loop-left-test.true) in
+    let next : names_of_steps root (drop (left - 1) steps) ≡ names_in root (slice_get steps (left - 1)) ++ names_of_steps root (drop left steps) =
+    names-next root steps (left - 1) left inside (one_back left c.loop-left-test.true) in
     record {
-      within = omega arith;
+      within = omega (arith, inside);
       items =
-          c.mark_step.ensures.items
-          ∙ ap (marked_onto mark (names_of c.args.number (own c.index-steps-left.result))) c.loop-left.invariant.items
-          ∙ sym (onto-append mark (names_of c.args.number (own c.index-steps-left.result)) (F (drop c.loop-left.left steps)) [])
+          c.mark_step_in.ensures.items
+          ∙ ap (marked_onto mark (names_in root (slice_get steps (left - 1)))) c.loop-left.invariant.items
+          ∙ sym (onto-append mark (names_in root (slice_get steps (left - 1))) (names_of_steps root (drop left steps)) [])
           ∙ ap (λ names. marked_onto mark names []) (sym next);
-      room = omega (arith, c.loop-left.invariant.room, c.mark_step.ensures.room, ap length next, length-append (names_of c.args.number (own c.index-steps-left.result)) (F (drop c.loop-left.left steps)));
+      room = omega (arith, c.loop-left.invariant.room, c.mark_step_in.ensures.room, ap length next, length-append (names_in root (slice_get steps (left - 1))) (names_of_steps root (drop left steps)));
     }
 
 none_left : (n : ℕ) → n ≤ 0 → n ≡ 0
 none_left n none = omega arith
 
-pub returns : goal.returns
-returns c =
-    let mark = mark_now (seen_by table_of c.args.library.now.sets) in
-    let own = owned_by c.args.number c.args.job.now in
-    onto-marks mark (names_of_steps c.args.number (map own c.args.job.now.steps)) c.loop-left.marks.items (
+pub returns-clause-marks : goal.returns-clause-marks
+returns-clause-marks c =
+    let steps = (effective c.args.marking.now.run c.args.marking.now.job.now).steps in
+    let mark = marking_mark c.args.marking.now in
+    onto-marks mark (names_of_steps c.args.marking.now.job.now.root steps) c.loop-left.marks.items (
     c.loop-left.invariant.items
-    ∙ ap (λ i. marked_onto mark (names_of_steps c.args.number (map own (drop i c.as_slice-steps.result.now))) []) (none_left c.loop-left.left c.loop-left-test.false)
-    ∙ ap (λ steps. marked_onto mark (names_of_steps c.args.number (map own steps)) []) c.as_slice-steps.ensures)
+    ∙ ap (λ i. marked_onto mark (names_of_steps c.args.marking.now.job.now.root (drop i steps)) []) (none_left c.loop-left.left c.loop-left-test.false))
+
+pub returns-clause-few : goal.returns-clause-few
+returns-clause-few c =
+    let names = names_of_job (effective c.args.marking.now.run c.args.marking.now.job.now) in
+    omega (arith, ap length (returns-clause-marks c), marks-most (marking_mark c.args.marking.now) names)
+
+pub loop-left-init : goal.loop-left-init
+loop-left-init c =
+    let steps = (effective c.args.marking.now.run c.args.marking.now.job.now).steps in
+    let mark = marking_mark c.args.marking.now in
+    let none : drop c.count_steps-left.result steps ≡ [] = drop_all c.count_steps-left.result steps (omega (arith, c.count_steps-left.ensures c.args.marking.now.run)) in
+    record {
+      within = omega (arith, c.count_steps-left.ensures c.args.marking.now.run);
+      items = ap marked c.clear.ensures.items ∙ ap (λ some. marked_onto mark (names_of_steps c.args.marking.now.job.now.root some) []) (sym none);
+      room = omega (arith, c.clear.ensures.room);
+    }

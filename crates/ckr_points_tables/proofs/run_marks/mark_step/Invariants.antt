@@ -1,10 +1,9 @@
-use Rattle.std.proofs.Common.{◌≡◌, ◌+◌, ◌≤◌, [], length, drop}
+use Rattle.std.proofs.Common.{◌≡◌, ◌+◌, ◌≤◌, length, drop}
 use Rattle.std.specs.List.{filter_map}
-use Rattle.ckr_points_library.specs.Holdings.{owned}
 use Rattle.ckr_meaning.specs.EffectiveJob.{name_of}
-use Rattle.ckr_points.specs.Marks.{mark_now}
+use Rattle.ckr_points_tables.specs.RunJobs.{own_of}
+use Rattle.ckr_points_tables.specs.RunMarks.{marking_mark}
 use Rattle.ckr_points_tables.specs.MarkOrder.{marked, marked_onto}
-use Rattle.ckr_points_tables.specs.View.{seen_by, table_of}
 use Rattle.ckr_points_tables.proofs.run_marks.mark_step.Given as goal
 
 abbrev pub invariant-loop-left : goal.invariant-loop-left
@@ -12,8 +11,8 @@ invariant-loop-left l = record {
   within : l.left ≤ length l.dds;
   items :
       marked l.marks.items
-      ≡ marked_onto (mark_now (seen_by table_of l.library.sets)) (filter_map (name_of l.number (owned l.step l.number [])) (drop l.left l.dds)) (marked l.initial.marks.items);
-  room : l.initial.marks.room ≤ l.marks.room + length (filter_map (name_of l.number (owned l.step l.number [])) (drop l.left l.dds));
+      ≡ marked_onto (marking_mark l.marking) (filter_map (name_of l.marking.job.now.root (own_of l.step)) (drop l.left l.dds)) (marked l.initial.marks.items);
+  room : l.initial.marks.room ≤ l.marks.room + length (filter_map (name_of l.marking.job.now.root (own_of l.step)) (drop l.left l.dds));
 }
 
 abbrev pub decreases-loop-left : goal.decreases-loop-left

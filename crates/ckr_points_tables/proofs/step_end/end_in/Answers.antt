@@ -2,8 +2,9 @@ use Rattle.std.proofs.Common.{true, ap, sym, ◌∙◌, map}
 use Rattle.std.specs.Option.{option_map_or}
 use Rattle.ckr_points_library.specs.Holdings.{holding_ways, standing}
 use Rattle.ckr_meaning.specs.Dispositions.{disposed_all}
-use Rattle.ckr_meaning.specs.EffectiveJob.{plain_job, step_at}
+use Rattle.ckr_meaning.specs.EffectiveJob.{step_at}
 use Rattle.ckr_points_tables.specs.StepEnd.{disposals_at}
+use Rattle.ckr_points_tables.specs.RunJobs.{effective}
 use Rattle.ckr_points_tables.specs.View.{facts_of, point_of}
 use Rattle.ckr_points_tables.proofs.StepEnd.{ended_so}
 use Rattle.ckr_points_tables.proofs.step_end.end_in.Goals as goal
@@ -20,5 +21,5 @@ returns c =
     c.dispose.new.library.sets c.dispose.new.passed.items
     (
     c.dispose.ensures
-    ∙ ap (λ points. option_map_or (λ own. disposed_all holding_ways (disposals_at run job (map point_of points) c.args.step true own) (standing sets passed)) (step_at (plain_job run job) c.args.step) (standing sets passed)) c.as_slice.ensures
+    ∙ ap (λ points. option_map_or (λ own. disposed_all holding_ways (disposals_at job.root (effective run job).steps (map point_of points) c.args.step true own) (standing sets passed)) (step_at (effective run job) c.args.step) (standing sets passed)) c.as_slice.ensures
     )

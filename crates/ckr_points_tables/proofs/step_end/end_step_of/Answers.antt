@@ -2,16 +2,17 @@ use Rattle.std.proofs.Common.{false, ap, sym, ◌∙◌, map}
 use Rattle.std.specs.Option.{option_map_or}
 use Rattle.ckr_points_library.specs.Holdings.{holding_ways, standing}
 use Rattle.ckr_meaning.specs.Dispositions.{disposed_all}
-use Rattle.ckr_meaning.specs.EffectiveJob.{plain_job, step_at}
+use Rattle.ckr_meaning.specs.EffectiveJob.{step_at}
 use Rattle.ckr_points_tables.specs.StepEnd.{disposals_at}
+use Rattle.ckr_points_tables.specs.RunJobs.{effective}
 use Rattle.ckr_points_tables.specs.View.{facts_of, point_of}
 use Rattle.ckr_points_tables.proofs.StepEnd.{step_ended_so}
-use Rattle.ckr_points_tables.proofs.Steps.{low_step}
+use Rattle.ckr_points_tables.proofs.RunJobs.{low-step}
 use Rattle.ckr_points_tables.proofs.step_end.end_step_of.Goals as goal
 
 pub go_on-requires-clause-step : goal.go_on-requires-clause-step
 go_on-requires-clause-step c =
-    low_step c.args.line.now.number c.args.table.now.job c.requires.limits c.args.step (sym (c.if-not-has_step.ensures c.args.line.now.number))
+    low-step (effective c.args.line.now.number c.args.table.now.job) c.requires.fits c.args.step (sym (c.if-not-has_step.ensures c.args.line.now.number))
 
 pub returns : goal.returns
 returns c =
@@ -26,5 +27,5 @@ returns c =
     c.commit.ensures.sets
     (
     c.dispose.ensures
-    ∙ ap (λ points. option_map_or (λ own. disposed_all holding_ways (disposals_at run job (map point_of points) c.args.step false own) (standing sets passed)) (step_at (plain_job run job) c.args.step) (standing sets passed)) c.as_slice.ensures
+    ∙ ap (λ points. option_map_or (λ own. disposed_all holding_ways (disposals_at job.root (effective run job).steps (map point_of points) c.args.step false own) (standing sets passed)) (step_at (effective run job) c.args.step) (standing sets passed)) c.as_slice.ensures
     )

@@ -4,12 +4,12 @@ use Rattle.ckr_base.proofs.Sequences.{get-from}
 use Rattle.ckr_points_tables.specs.Rooms.{HasNoPlace}
 use Rattle.ckr_points_tables.specs.View.{written_of}
 use Rattle.ckr_points_tables.proofs.Allocations.Step.{allocated_in, distinct_in, fit_in, stand_in}
-use Rattle.ckr_points_tables.proofs.RoomGrowth.{limits_there, none_beyond}
+use Rattle.ckr_points_tables.proofs.RoomGrowth.{fits_there, none_beyond}
 use Rattle.ckr_points_tables.proofs.Runs.{length-rows}
 use Rattle.ckr_points_tables.proofs.tables.Tables.allocate.Goals as goal
 
-pub allocate_run-requires-clause-limits : goal.allocate_run-requires-clause-limits
-allocate_run-requires-clause-limits c =
+pub allocate_run-requires-clause-fits : goal.allocate_run-requires-clause-fits
+allocate_run-requires-clause-fits c =
     let lines = c.self.inside.lines.items in
     let tables = c.self.inside.tables.items in
     let place = c.in-Some.place in
@@ -17,7 +17,7 @@ allocate_run-requires-clause-limits c =
     let at = c.in-Some.ensures.some place refl in
     let inside : place < length tables = omega (arith, at.1, ap length c.as_slice.ensures.value) in
     let here : slice_get tables place ≡ Some table = get-from tables place table inside c.index.ensures in
-    limits_there lines tables c.self.invariant.runs place table table here
+    fits_there lines tables c.self.invariant.runs place table table here c.args.job at.0
 
 pub allocate_run-requires-clause-distinct : goal.allocate_run-requires-clause-distinct
 allocate_run-requires-clause-distinct c =

@@ -2,7 +2,7 @@ use Rattle.std.proofs.Common.{◌≡◌, ◌-◌, ◌<◌, ap, ◌∙◌, arith,
 use Rattle.ckr_points_tables.specs.Invariant.{put_at}
 use Rattle.ckr_points.specs.declared.run.Run.{Run}
 use Rattle.ckr_points_tables.proofs.Events.{placed_at}
-use Rattle.ckr_points_tables.proofs.Calls.{read-back, read-twice, inside_lines, inside_tables, inside_writings, number_ok, limits_ok, may_ok, desk_ok, kept_ok}
+use Rattle.ckr_points_tables.proofs.Calls.{read-back, read-twice, inside_lines, inside_tables, inside_writings, fits_ok, may_ok, desk_ok, kept_ok}
 use Rattle.ckr_points_tables.proofs.tables.Tables.change.Goals as goal
 
 pub overflow_sub-place : goal.overflow_sub-place
@@ -30,14 +30,9 @@ index_mut-requires-3 c =
     let inside = inside_writings c.self.inside c.args.self.now c.self.view_is c.self.invariant c.args.event.now c.requires.change c.requires.follows c.job-number.result c.job-number.ensures in
     omega (arith, inside, c.self.inside.writings.ok.0)
 
-pub change_run-requires-clause-run : goal.change_run-requires-clause-run
-change_run-requires-clause-run c =
-    number_ok c.self.inside c.args.self.now c.self.view_is c.self.invariant c.args.event.now c.requires.change c.requires.follows c.job-number.result c.job-number.ensures
-    c.index_mut.result.now c.index_mut-2.result.now c.index_mut-3.result.now c.index_mut.ensures.value c.index_mut-2.ensures.value c.index_mut-3.ensures.value
-
-pub change_run-requires-clause-limits : goal.change_run-requires-clause-limits
-change_run-requires-clause-limits c =
-    limits_ok c.self.inside c.args.self.now c.self.view_is c.self.invariant c.args.event.now c.requires.change c.requires.follows c.job-number.result c.job-number.ensures
+pub change_run-requires-clause-fits : goal.change_run-requires-clause-fits
+change_run-requires-clause-fits c =
+    fits_ok c.self.inside c.args.self.now c.self.view_is c.self.invariant c.args.event.now c.requires.change c.requires.follows c.job-number.result c.job-number.ensures
     c.index_mut.result.now c.index_mut-2.result.now c.index_mut-3.result.now c.index_mut.ensures.value c.index_mut-2.ensures.value c.index_mut-3.ensures.value
 
 pub change_run-requires-clause-may : goal.change_run-requires-clause-may

@@ -2,15 +2,16 @@ use Rattle.std.proofs.Common.{◌≡◌, ◌&&◌, ◌||◌, ◌-◌, ap, sym, �
 use Rattle.ckr_points.specs.declared.run.Run.{Run}
 use Rattle.ckr_points.specs.declared.run.RunState.TheVariants.{Released as ReleasedRun}
 use Rattle.ckr_points.specs.Follows.{is_in_state, is_running, lengths_follow}
-use Rattle.ckr_meaning.specs.EffectiveJob.{plain_job, step_at}
+use Rattle.ckr_meaning.specs.EffectiveJob.{step_at}
 use Rattle.ckr_points.specs.Restart.{step_in}
 use Rattle.ckr_points_tables.specs.Hold.{held}
 use Rattle.ckr_points_tables.specs.Invariant.{put_at}
 use Rattle.ckr_points_tables.specs.RunChange.{by_step_of, going, holding_kit, place_now}
 use Rattle.ckr_points_tables.specs.StepEnd.{AreLengthsOf}
+use Rattle.ckr_points_tables.specs.RunJobs.{effective}
 use Rattle.ckr_points_tables.specs.View.{facts_of}
 use Rattle.ckr_points_tables.proofs.Calls.{read-back, read-twice}
-use Rattle.ckr_points_tables.proofs.Holds.{placed, number_ok, lengths_ok, kept_held, desk_held}
+use Rattle.ckr_points_tables.proofs.Holds.{placed, fits_ok, lengths_ok, kept_held, desk_held}
 use Rattle.ckr_points_tables.proofs.RunMoves.{of_run-placed}
 use Rattle.ckr_points_tables.proofs.tables.Tables.hold.Goals as goal
 
@@ -28,14 +29,14 @@ index_mut-requires c = let at = placed c.self.inside c.args.self.now c.self.view
 pub index_mut-requires-2 : goal.index_mut-requires-2
 index_mut-requires-2 c = let at = placed c.self.inside c.args.self.now c.self.view_is c.self.invariant c.args.job c.args.code c.args.writes c.args.lengths.now c.requires.follows in omega (arith, at.tabled, c.self.inside.tables.ok.0)
 
-pub hold_run-requires-clause-run : goal.hold_run-requires-clause-run
-hold_run-requires-clause-run c =
-    number_ok c.self.inside c.args.self.now c.self.view_is c.self.invariant c.args.job c.args.code c.args.writes c.args.lengths.now c.requires.follows
+pub hold_run-requires-clause-fits : goal.hold_run-requires-clause-fits
+hold_run-requires-clause-fits c =
+    fits_ok c.self.inside c.args.self.now c.self.view_is c.self.invariant c.args.job c.args.code c.args.writes c.args.lengths.now c.requires.follows
     c.index_mut.result.now c.index_mut-2.result.now c.index_mut.ensures.value c.index_mut-2.ensures.value
 
 pub hold_run-requires-clause-lengths : goal.hold_run-requires-clause-lengths
 hold_run-requires-clause-lengths c =
-    subst (λ all. AreLengthsOf c.index_mut.result.now.number all c.self.inside.library.sets (step_at (plain_job c.index_mut.result.now.number c.index_mut-2.result.now.job) (step_in (place_now (facts_of c.index_mut-2.result.now))))) (sym c.as_slice.ensures.value)
+    subst (λ all. AreLengthsOf c.index_mut-2.result.now.job.root all c.self.inside.library.sets (step_at (effective c.index_mut.result.now.number c.index_mut-2.result.now.job) (step_in (place_now (facts_of c.index_mut-2.result.now))))) (sym c.as_slice.ensures.value)
     (lengths_ok c.self.inside c.args.self.now c.self.view_is c.self.invariant c.args.job c.args.code c.args.writes c.args.lengths.now c.requires.follows
     c.index_mut.result.now c.index_mut-2.result.now c.index_mut.ensures.value c.index_mut-2.ensures.value)
 

@@ -7,7 +7,7 @@ use Rattle.ckr_points_tables.specs.Restart.{HasPassedFor, passed_for, restarted}
 use Rattle.ckr_points_tables.specs.RunChange.{going}
 use Rattle.ckr_points_tables.specs.View.{facts_of, written_of}
 use Rattle.ckr_points_tables.proofs.Calls.{read-back, read-twice}
-use Rattle.ckr_points_tables.proofs.Restarts.Calls.{desk_restarted, few_ok, kept_restarted, may_go_back, number_ok, placed, room_ok}
+use Rattle.ckr_points_tables.proofs.Restarts.Calls.{desk_restarted, few_ok, kept_restarted, may_go_back, fits_ok, placed, room_ok}
 use Rattle.ckr_points_tables.proofs.RunMoves.{of_run-placed}
 use Rattle.ckr_points_tables.proofs.tables.Tables.restart.Goals as goal
 
@@ -29,9 +29,9 @@ index_mut-requires c = let at = placed c.self.inside c.args.self.now c.self.view
 pub index_mut-requires-2 : goal.index_mut-requires-2
 index_mut-requires-2 c = let at = placed c.self.inside c.args.self.now c.self.view_is c.self.invariant c.args.job c.args.initiator c.args.checkpoint c.requires.follows some_code in omega (arith, at.tabled, c.self.inside.tables.ok.0)
 
-pub restart_run-requires-clause-run : goal.restart_run-requires-clause-run
-restart_run-requires-clause-run c =
-    number_ok c.self.inside c.args.self.now c.self.view_is c.self.invariant c.args.job c.args.initiator c.args.checkpoint c.requires.follows some_code
+pub restart_run-requires-clause-fits : goal.restart_run-requires-clause-fits
+restart_run-requires-clause-fits c =
+    fits_ok c.self.inside c.args.self.now c.self.view_is c.self.invariant c.args.job c.args.initiator c.args.checkpoint c.requires.follows some_code
     c.index_mut.result.now c.index_mut-2.result.now c.index_mut.ensures.value c.index_mut-2.ensures.value
 
 pub restart_run-requires-clause-filled : goal.restart_run-requires-clause-filled

@@ -8,7 +8,7 @@ use Rattle.ckr_points_tables.specs.Invariant.{room_at}
 use Rattle.ckr_points_tables.specs.Rooms.{HasNoPlace, IsRoomier}
 use Rattle.ckr_points.specs.Rows.{TablesModel, run_of}
 use Rattle.ckr_points_tables.specs.View.{TablesRoom, room_of, rows_of, seen_under, table_in, written_of}
-use Rattle.ckr_points_tables.proofs.RoomGrowth.{limits_there, rows_there, kept_there, end_there, each_by, entries-stay, none_beyond}
+use Rattle.ckr_points_tables.proofs.RoomGrowth.{fits_there, rows_there, kept_there, end_there, each_by, entries-stay, none_beyond}
 use Rattle.ckr_points_tables.proofs.Runs.{length-rows}
 use Rattle.ckr_points_tables.proofs.tables.Tables.room_to_end.Goals as goal
 
@@ -19,7 +19,7 @@ reserve_end-requires c =
     let old = c.index_mut.result.now in
     let inside : place < length tables = omega (arith, (c.in-Some.ensures.some place refl).1, ap length c.as_slice.ensures.value) in
     let here : slice_get tables place ≡ Some old = get-from tables place old inside c.index_mut.ensures.value in
-    record { limits = limits_there c.self.inside.lines.items tables c.self.invariant.runs place old old here }
+    record { fits = fits_there c.self.inside.lines.items tables c.self.invariant.runs place old old here c.args.job (c.in-Some.ensures.some place refl).0 }
 
 pub invariant_of-self : goal.invariant_of-self
 invariant_of-self c =
@@ -63,7 +63,7 @@ returns-in-Some-clause-ok c =
     let job = (c.in-Some.ensures.some place refl).0 in
     on_ok_weaker c.reserve_end.result
     (λ fits row one found roomed.
-    end_there c.self.inside.lines.items tables c.self.invariant.runs place old c.reserve_end.new.table here c.reserve_end.ensures.facts fits
+    end_there c.self.inside.lines.items tables c.self.invariant.runs place old c.reserve_end.new.table here c.reserve_end.ensures.facts c.args.job job fits
     row one (ap (run_of desk) (sym job) ∙ found) (ap (room_at room) (sym job) ∙ roomed))
     c.reserve_end.ensures.ok
 

@@ -13,7 +13,7 @@ use Rattle.ckr_points_tables.specs.Invariant.{HasEntryRoom, IsFilled, IsWide, en
 use Rattle.ckr_points_tables.specs.Rooms.{EntryFits, HasNoPlace, IsRoomier}
 use Rattle.ckr_points_tables.specs.View.{RoomyTables, TablesRoom, room_of, row_of, rows_of, seen_under, table_in, writing_of, written_of}
 use Rattle.ckr_points_tables.specs.declared.run_table.WrittenEntry.{WrittenEntry}
-use Rattle.ckr_points_tables.proofs.RoomGrowth.{checkpoint_there, each-stays, entries_by, found_there, has-seen, limits_there, line_there, none_beyond, numbered_there}
+use Rattle.ckr_points_tables.proofs.RoomGrowth.{checkpoint_there, each-stays, entries_by, found_there, has-seen, fits_there, line_there, none_beyond, numbered_there}
 use Rattle.ckr_points_tables.proofs.Runs.{length-rows}
 use Rattle.ckr_points_tables.proofs.tables.Tables.room_to_keep.Goals as goal
 
@@ -33,7 +33,7 @@ reserve_checkpoint-requires c =
     let at = c.in-Some.ensures.some place refl in
     let inside : place < length tables = omega (arith, at.1, ap length c.as_slice.ensures.value) in
     let here : slice_get tables place ≡ Some table = get-from tables place table inside c.index.ensures in
-    record { run = omega (arith, at.0, inside, c.self.invariant.few); limits = limits_there c.self.inside.lines.items tables c.self.invariant.runs place table table here }
+    record { fits = fits_there c.self.inside.lines.items tables c.self.invariant.runs place table table here c.args.job at.0 }
 
 pub invariant_of-self : goal.invariant_of-self
 invariant_of-self c = record {

@@ -1,13 +1,17 @@
-use Rattle.std.proofs.Common.{true, ◌&&◌, nat_le, List, map, ◌≡◌, ℕ, ◌+◌, ◌≤◌, ◌++◌, ◌∷◌, [], ap, sym, ◌∙◌, subst, refl, arith, length, None, IsTrue, length-append}
+use Rattle.std.proofs.Common.{true, ◌&&◌, nat_le, List, map, ◌≡◌, ℕ, ◌+◌, Bool, ◌≤◌, ◌++◌, ◌∷◌, [], ap, sym, ◌∙◌, subst, refl, arith, length, None, IsTrue, length-append}
 use Rattle.std.specs.List.{list_all}
 use Rattle.std.proofs.lemmas.Bool.{and_from}
-use Rattle.std.proofs.lemmas.Bool.Decides.{nat_tests}
 use Rattle.ckr_base.proofs.Bools.{and-first, and-second}
 use Rattle.ckr_points_library.specs.Holdings.{owned}
 use Rattle.ckr_uses.specs.Uses.{are_distinct}
 use Rattle.ckr_jcl.specs.declared.deck.Job.{Job}
 use Rattle.ckr_jcl.specs.declared.deck.Step.{Step}
-use Rattle.ckr_meaning.specs.EffectiveJob.{HasDistinctNames, names_of, owned_by, plain_job}
+use Rattle.std.specs.Rc.{rc_value}
+use Rattle.std.proofs.lemmas.List.{length-map}
+use Rattle.ckr_base.proofs.Numbers.{nat_le-true}
+use Rattle.ckr_points.specs.Syschk.{names_its_set}
+use Rattle.ckr_points_tables.specs.RunJobs.{IsFitting, JobView, effective, has_few_dds, is_fitting_step, plain_view}
+use Rattle.ckr_meaning.specs.EffectiveJob.{HasDistinctNames, OwnedStep, names_of, owned_by, plain_job}
 use Rattle.ckr_points.specs.declared.run.Run.{Run}
 use Rattle.ckr_points.specs.declared.run.RunState.TheVariants.{Queued}
 use Rattle.ckr_points_tables.specs.declared.run_table.RunTable.{RunTable}
@@ -21,18 +25,41 @@ use Rattle.ckr_points_tables.proofs.Checkpoints.{seen-begun}
 use Rattle.ckr_points_tables.proofs.tables.Tables.submit.Goals as goal
 
 -- what is asked of a deck
-parts : (number : ℕ) (job : Job) → IsTrue (is_submittable number job) → (number ≤ 9999999) × IsTrue (is_within_limits job) × HasDistinctNames (plain_job number job) × (list_all has_master job.steps ≡ true)
-parts number job may =
-    let all = and-first _ (list_all has_master job.steps) may in
-    let first = and-first (nat_le number 9999999 && is_within_limits job) _ all in
-    (few number (and-first (nat_le number 9999999) (is_within_limits job) first), and-second (nat_le number 9999999) (is_within_limits job) first, mapped job.steps (and-second (nat_le number 9999999 && is_within_limits job) _ all), and-second _ (list_all has_master job.steps) may)
-  where
-    few : (n : ℕ) → nat_le n 9999999 ≡ true → n ≤ 9999999
-    few n e = grind (arith, nat_tests)
+record IsAsked (number : ℕ) (job : Job) : Type 0 where
+  few : number ≤ 9999999
+  limits : IsTrue (is_within_limits job)
+  fits : IsFitting (plain_job number job)
+  distinct : HasDistinctNames (plain_job number job)
+  masters : list_all (λ (own : OwnedStep). has_master own.step) (plain_job number job).steps ≡ true
+  syschk : names_its_set job.syschk ≡ true
 
-    mapped : (steps : List Step) → list_all (λ (step : Step). are_distinct (names_of number (owned step number []))) steps ≡ true → list_all (λ own. are_distinct (names_of number own)) (map (owned_by number job) steps) ≡ true
-    mapped [] all = refl
-    mapped (step ∷ steps) all = and_from (are_distinct (names_of number (owned step number []))) _ (and-first (are_distinct (names_of number (owned step number []))) _ all) (mapped steps (and-second (are_distinct (names_of number (owned step number []))) _ all))
+each-mapped : {A B : Type 0} (f : A → B) (test : A → Bool) (other : B → Bool) → ((one : A) → test one ≡ true → other (f one) ≡ true) → (items : List A) → list_all test items ≡ true → list_all other (map f items) ≡ true
+each-mapped f test other gives [] all = refl
+each-mapped f test other gives (one ∷ items) all = and_from (other (f one)) _ (gives one (and-first (test one) _ all)) (each-mapped f test other gives items (and-second (test one) _ all))
+
+asked : (number : ℕ) (job : Job) → IsTrue (is_submittable number job) → IsAsked number job
+asked number job may =
+    let most = and-first _ (names_its_set job.syschk) may in
+    let all = and-first _ (list_all has_master job.steps) most in
+    let first = and-first (nat_le number 9999999 && is_within_limits job) _ all in
+    let few = nat_le-true number 9999999 (and-first (nat_le number 9999999) (is_within_limits job) first) in
+    let limits = and-second (nat_le number 9999999) (is_within_limits job) first in
+    record {
+      few = few;
+      limits = limits;
+      fits = record {
+        root = few;
+        few = omega (arith, length-map job.steps (owned_by number job), nat_le-true (length job.steps) 64 (and-first (nat_le (length job.steps) 64) _ limits));
+        steps =
+            each-mapped (owned_by number job) has_few_dds is_fitting_step
+            (λ step dds. and_from (nat_le number 9999999) _ (and-first (nat_le number 9999999) (is_within_limits job) first) dds) job.steps (and-second (nat_le (length job.steps) 64) _ limits);
+      };
+      distinct =
+          each-mapped (owned_by number job) (λ (step : Step). are_distinct (names_of number (owned step number []))) (λ (own : OwnedStep). are_distinct (names_of number own)) (λ step is. is) job.steps
+          (and-second (nat_le number 9999999 && is_within_limits job) _ all);
+      masters = each-mapped (owned_by number job) has_master (λ (own : OwnedStep). has_master own.step) (λ step is. is) job.steps (and-second _ (list_all has_master job.steps) most);
+      syschk = and-second _ (names_its_set job.syschk) may;
+    }
 
 pub invariant_of-self : goal.invariant_of-self
 invariant_of-self c =
@@ -42,20 +69,27 @@ invariant_of-self c =
     let tables = c.self.inside.tables.items in
     let lengths = length-rows 1 lines tables c.self.invariant.runs in
     let next : 1 + length tables ≡ c.args.number = omega (arith, c.requires.next, ap (λ v. length v.desk.runs) c.self.view_is, lengths.1) in
-    let job : table.job ≡ c.args.job = ap (λ (facts : RunTableView). facts.job) c.fresh_table.ensures in
+    let job : table.job ≡ plain_view c.args.number (rc_value c.args.deck) = ap (λ (facts : RunTableView). facts.job) c.fresh_table.ensures in
+    let of_deck = asked c.args.number (rc_value c.args.deck) c.requires.deck in
     let is : IsRun (1 + length tables) line table = record {
       numbered = sym next;
-      named = c.copied.ensures ∙ ap (λ (j : Job). j.name) (sym job);
-      limits = ap is_within_limits job ∙ (parts c.args.number c.args.job c.requires.deck).1;
-      distinct = subst (λ n. HasDistinctNames (plain_job n table.job)) (sym next) (subst (λ j. HasDistinctNames (plain_job c.args.number j)) (sym job) (parts c.args.number c.args.job c.requires.deck).2);
-      masters = ap (λ (j : Job). list_all has_master j.steps) job ∙ (parts c.args.number c.args.job c.requires.deck).3;
+      named = c.copied.ensures ∙ ap (λ (deck : Job). deck.name) c.as_ref.ensures ∙ ap (λ (j : JobView). j.deck.name) (sym job);
+      limits = ap (λ (j : JobView). is_within_limits j.deck) job ∙ of_deck.limits;
+      fits = subst (λ n. IsFitting (effective n table.job)) (sym next) (subst (λ j. IsFitting (effective c.args.number j)) (sym job) of_deck.fits);
+      distinct = subst (λ n. HasDistinctNames (effective n table.job)) (sym next) (subst (λ j. HasDistinctNames (effective c.args.number j)) (sym job) of_deck.distinct);
+      masters =
+          subst (λ n. list_all (λ (own : OwnedStep). has_master own.step) (effective n table.job).steps ≡ true) (sym next)
+          (subst (λ j. list_all (λ (own : OwnedStep). has_master own.step) (effective c.args.number j).steps ≡ true) (sym job) of_deck.masters);
+      syschk = ap (λ (j : JobView). names_its_set j.deck.syschk) job ∙ of_deck.syschk;
       free = λ queued. refl;
+      plain = subst (λ n. table.job ≡ plain_view n table.job.deck) (sym next) (subst (λ (j : JobView). j ≡ plain_view c.args.number j.deck) (sym job) refl);
+      whole = ap (λ (facts : RunTableView). facts.lost) c.fresh_table.ensures;
     } in
     record {
       wide = c.self.invariant.wide;
       filled = c.self.invariant.filled;
       runs = subst (λ all. AreRuns 1 all c.put-2.new.items.items) (sym c.put.ensures) (subst (AreRuns 1 (lines ++ line ∷ [])) (sym c.put-2.ensures) (runs-more 1 lines tables c.self.invariant.runs line table is));
-      few = omega (arith, ap length c.put-2.ensures, length-append tables (table ∷ []), next, (parts c.args.number c.args.job c.requires.deck).0);
+      few = omega (arith, ap length c.put-2.ensures, length-append tables (table ∷ []), next, of_deck.few);
       indexed = subst (IsIndexOf c.self.inside.index) (sym c.put.ensures) (index-more lines c.self.inside.index c.self.invariant.indexed line refl);
       spare = c.self.invariant.spare;
       written =
@@ -78,4 +112,4 @@ returns c =
     ∙ rows-more lines tables (length-rows 1 lines tables c.self.invariant.runs).0 line table
     ∙ ap (λ facts. rows_of lines tables ++ row_with line facts ∷ []) c.fresh_table.ensures
     )
-    ∙ ap (λ v. after_submitted c.args.number c.args.job v.desk) c.self.view_is
+    ∙ ap (λ v. after_submitted c.args.number (rc_value c.args.deck) v.desk) c.self.view_is

@@ -1,0 +1,203 @@
+-- The steps of a run: those that it has taken over, and then those of its own deck.
+use Rattle.std.proofs.Common.{◌≡◌, ℕ, zero, suc, ◌+◌, ◌-◌, ◌<◌, ◌≤◌, ◌&&◌, ◌||◌, Bool, true, false, nat_le, IsSome, IfSome, List, [], ◌∷◌, ◌++◌, drop, length, map, slice_get, refl, ap, sym, ◌∙◌, arith, add-one, take, length-append, Option, None, Some}
+use Rattle.std.specs.List.{cons_option, list_all}
+use Rattle.std.specs.Option.{is_some, option_map, option_map_or}
+use Rattle.std.proofs.lemmas.Bool.{false≢true}
+use Rattle.std.proofs.lemmas.Bool.Decides.{nat_tests}
+use Rattle.std.proofs.lemmas.Option.{same_Some, slice_get-map}
+use Rattle.std.proofs.lemmas.List.{drop_all, length-drop, length-map}
+use Rattle.ckr_base.proofs.Bools.{and-first, and-second}
+use Rattle.ckr_base.proofs.Numbers.{nat_le-true}
+use Rattle.ckr_base.proofs.Options.{some-not-none}
+use Rattle.ckr_meaning.specs.EffectiveJob.{Effective, OwnedStep, is_among, names_of, names_of_steps, owned_by, step_at}
+use Rattle.std.proofs.lemmas.List.Sums.{sum_by-cons}
+use Rattle.ckr_library.specs.NameMaps.{Name}
+use Rattle.ckr_points.specs.Rows.{StartPoint}
+use Rattle.ckr_points_tables.specs.Rooms.{dds_of}
+use Rattle.ckr_points_tables.specs.StepEnd.{made_at, made_in}
+use Rattle.ckr_points_tables.specs.RunJobs.{AreTaken, IsFitting, IsFittingStep, JobView, effective, has_few_dds, is_fitting_step, names_in, own_of, taken_at, taken_from}
+use Rattle.ckr_points_tables.specs.declared.own_step.OwnStep.{OwnStep}
+use Rattle.ckr_points_tables.specs.declared.taken_step.TakenStep.{TakenStep}
+
+-- ---- the steps that were taken over
+
+one-more : {A : Type 0} (found : Option A) → IsSome found → (rest : List A) → length (cons_option found rest) ≡ suc (length rest)
+one-more None some rest = absurd (false≢true some)
+one-more (Some one) some rest = refl
+
+-- one for each
+pub taken-length : (start : ℕ) (items : List TakenStep) → AreTaken start items → length items ≡ length (taken_from start items)
+taken-length start [] are = refl
+taken-length start (one ∷ items) are = ap suc (taken-length (suc start) items are.1) ∙ sym (one-more (taken_at start one) are.0 (taken_from (suc start) items))
+
+first-of : {A : Type 0} (found : Option A) → IsSome found → (rest : List A) → found ≡ slice_get (cons_option found rest) 0
+first-of None some rest = absurd (false≢true some)
+first-of (Some one) some rest = refl
+
+later-of : {A : Type 0} (found : Option A) → IsSome found → (rest : List A) (place : ℕ) → slice_get rest place ≡ slice_get (cons_option found rest) (suc place)
+later-of None some rest place = absurd (false≢true some)
+later-of (Some one) some rest place = refl
+
+-- the one at a place
+pub taken-get : (start : ℕ) (items : List TakenStep) → AreTaken start items → (place : ℕ) (one : TakenStep) → slice_get items place ≡ Some one → taken_at (start + place) one ≡ slice_get (taken_from start items) place
+taken-get start [] are place one there = absurd (some-not-none _ (sym there))
+taken-get start (first ∷ items) are zero one there =
+    ap (taken_at (start + 0)) (sym (same_Some first one there)) ∙ ap (λ n. taken_at n first) (omega arith) ∙ first-of (taken_at start first) are.0 (taken_from (suc start) items)
+taken-get start (first ∷ items) are (suc place) one there =
+    ap (λ n. taken_at n one) (omega arith) ∙ taken-get (suc start) items are.1 place one there ∙ later-of (taken_at start first) are.0 (taken_from (suc start) items) place
+
+pub taken-none : (start : ℕ) (items : List TakenStep) → AreTaken start items → (place : ℕ) → slice_get items place ≡ None → None ≡ slice_get (taken_from start items) place
+taken-none start [] are place none = refl
+taken-none start (first ∷ items) are zero none = absurd (some-not-none _ none)
+taken-none start (first ∷ items) are (suc place) none = taken-none (suc start) items are.1 place none ∙ later-of (taken_at start first) are.0 (taken_from (suc start) items) place
+
+-- ---- the steps of a run
+
+first-get : {A : Type 0} (taken rest : List A) (place : ℕ) → place < length taken → slice_get taken place ≡ slice_get (taken ++ rest) place
+first-get [] rest place inside = absurd (omega (arith, inside))
+first-get (one ∷ taken) rest zero inside = refl
+first-get (one ∷ taken) rest (suc place) inside = first-get taken rest place (omega (arith, inside))
+
+drop-none : {A : Type 0} (count : ℕ) → [] ≡ drop count (let none : List A = [] in none)
+drop-none zero = refl
+drop-none (suc count) = refl
+
+later-get : {A B : Type 0} (f : A → B) (taken : List B) (steps : List A) (place : ℕ) → length taken ≤ place → option_map f (slice_get steps place) ≡ slice_get (taken ++ map f (drop (length taken) steps)) place
+later-get f [] steps place beyond = sym (slice_get-map f steps place)
+later-get f (one ∷ taken) steps zero beyond = absurd (omega (arith, beyond))
+later-get {A = A} f (one ∷ taken) [] (suc place) beyond =
+    later-get f taken [] place (omega (arith, beyond)) ∙ ap (λ (rest : List A). slice_get (taken ++ map f rest) place) (sym (drop-none (length taken)) ∙ drop-none (suc (length taken)))
+later-get f (one ∷ taken) (step ∷ steps) (suc place) beyond = later-get f taken steps place (omega (arith, beyond))
+
+-- one that was taken over
+pub step-taken : (run : ℕ) (job : JobView) (place : ℕ) → place < length job.taken → slice_get job.taken place ≡ slice_get (effective run job).steps place
+step-taken run job place inside = first-get job.taken (map (owned_by run job.deck) (drop (length job.taken) job.deck.steps)) place inside
+
+-- one of its own deck
+pub step-later : (run : ℕ) (job : JobView) (place : ℕ) → length job.taken ≤ place → option_map (owned_by run job.deck) (slice_get job.deck.steps place) ≡ slice_get (effective run job).steps place
+step-later run job place beyond = later-get (owned_by run job.deck) job.taken job.deck.steps place beyond
+
+-- how many there are
+pub steps-count : (run : ℕ) (job : JobView) → length (effective run job).steps ≡ length job.taken + (length job.deck.steps - length job.taken)
+steps-count run job =
+    length-append job.taken (map (owned_by run job.deck) (drop (length job.taken) job.deck.steps))
+    ∙ ap (λ n. length job.taken + n) (length-map (drop (length job.taken) job.deck.steps) (owned_by run job.deck) ∙ length-drop (length job.taken) job.deck.steps)
+
+-- ---- steps within the limits
+
+pub step-fits : (own : OwnedStep) → is_fitting_step own ≡ true → IsFittingStep own
+step-fits own fits =
+    let dds = and-second (nat_le own.owner 9999999) (has_few_dds own.step) fits in
+    record {
+      owner = nat_le-true own.owner 9999999 (and-first (nat_le own.owner 9999999) _ fits);
+      dds = nat_le-true (length own.step.dds) 16 (and-first (nat_le (length own.step.dds) 16) _ dds);
+      serials = and-second (nat_le (length own.step.dds) 16) _ dds;
+    }
+
+each-at : {A : Type 0} (all : A → Bool) (items : List A) (place : ℕ) (one : A) → list_all all items ≡ true → slice_get items place ≡ Some one → all one ≡ true
+each-at all [] place one each there = absurd (some-not-none _ (sym there))
+each-at all (first ∷ items) zero one each there = ap all (sym (same_Some first one there)) ∙ and-first (all first) _ each
+each-at all (first ∷ items) (suc place) one each there = each-at all items place one (and-second (all first) _ each) there
+
+-- what holds of each step of a job holds of one
+pub step-all : (all : OwnedStep → Bool) (job : Effective) (number : ℕ) (own : OwnedStep) → list_all all job.steps ≡ true → step_at job number ≡ Some own → all own ≡ true
+step-all all job zero own each there = absurd (some-not-none own (sym there))
+step-all all job (suc place) own each there = each-at all job.steps place own each there
+
+pub fits-at : (job : Effective) → IsFitting job → (number : ℕ) (own : OwnedStep) → step_at job number ≡ Some own → IsFittingStep own
+fits-at job fits number own there = step-fits own (step-all is_fitting_step job number own fits.steps there)
+
+-- so does one that the code finds
+pub found-fits : (job : Effective) (place : ℕ) (found : Option OwnStep) → option_map own_of found ≡ slice_get job.steps place → IsFitting job → IfSome found (λ own. IsFittingStep (own_of own))
+found-fits job place None there fits = tt
+found-fits job place (Some own) there fits = step-fits (own_of own) (each-at is_fitting_step job.steps place (own_of own) fits.steps (sym there))
+
+-- ---- a step by its number
+
+pub at-place : (job : Effective) (number : ℕ) → (number ≡ 0 → ⊥) → slice_get job.steps (number - 1) ≡ step_at job number
+at-place job zero some = absurd (some refl)
+at-place job (suc place) some = ap (slice_get job.steps) (omega arith)
+
+none-less : (n : ℕ) → false ≡ nat_le (suc n) 0
+none-less n = grind (arith, nat_tests)
+
+some-less : (n : ℕ) → true ≡ nat_le 1 (suc n)
+some-less n = grind (arith, nat_tests)
+
+more-less : (one other : ℕ) → nat_le (suc one) other ≡ nat_le (suc (suc one)) (suc other)
+more-less one other = grind (arith, nat_tests)
+
+some-inside : {A : Type 0} (items : List A) (place : ℕ) → is_some (slice_get items place) ≡ nat_le (suc place) (length items)
+some-inside [] place = none-less place
+some-inside (one ∷ items) zero = some-less (length items)
+some-inside (one ∷ items) (suc place) = some-inside items place ∙ more-less place (length items)
+
+-- there is a step of each number up to their count
+pub has-at : (job : Effective) (number count : ℕ) → count ≡ length job.steps → (number ≡ 0 → ⊥) → nat_le number count ≡ is_some (step_at job number)
+has-at job zero count is some = absurd (some refl)
+has-at job (suc place) count is some = ap (nat_le (suc place)) is ∙ sym (some-inside job.steps place)
+
+-- one of the first 64
+pub low-step : (job : Effective) → IsFitting job → (number : ℕ) → is_some (step_at job number) ≡ true → number ≤ 64
+low-step job fits zero there = omega arith
+low-step job fits (suc place) there =
+    let inside : suc place ≤ length job.steps = nat_le-true (suc place) (length job.steps) (sym (some-inside job.steps place) ∙ there) in
+    omega (arith, inside, fits.few)
+
+-- ---- steps from a place on
+
+inside-get : {A : Type 0} (items : List A) (place : ℕ) → place < length items → (one : A) × (slice_get items place ≡ Some one)
+inside-get [] place inside = absurd (omega (arith, inside))
+inside-get (one ∷ items) zero inside = (one, refl)
+inside-get (one ∷ items) (suc place) inside = inside-get items place (omega (arith, inside))
+
+drop-at : {A : Type 0} (items : List A) (place : ℕ) (one : A) → slice_get items place ≡ Some one → drop place items ≡ one ∷ drop (suc place) items
+drop-at [] place one there = absurd (some-not-none _ (sym there))
+drop-at (first ∷ items) zero one there = ap (λ x. x ∷ items) (same_Some first one there)
+drop-at (first ∷ items) (suc place) one there = drop-at items place one there
+
+drop-next : {A : Type 0} (items : List A) (place next : ℕ) (one : A) → slice_get items place ≡ Some one → next ≡ place + 1 → drop place items ≡ one ∷ drop next items
+drop-next items place next one there is = drop-at items place one there ∙ ap (λ k. one ∷ drop k items) (sym (add-one place) ∙ sym is)
+
+take-get : {A : Type 0} (items : List A) (count place : ℕ) → place < count → slice_get (take count items) place ≡ slice_get items place
+take-get items zero place inside = absurd (omega (arith, inside))
+take-get [] (suc count) place inside = refl
+take-get (one ∷ items) (suc count) zero inside = refl
+take-get (one ∷ items) (suc count) (suc place) inside = take-get items count place (omega (arith, inside))
+
+-- the names of the steps from a place on
+pub names-next : (root : ℕ) (steps : List OwnedStep) (place next : ℕ) → place < length steps → next ≡ place + 1 → names_of_steps root (drop place steps) ≡ names_in root (slice_get steps place) ++ names_of_steps root (drop next steps)
+names-next root steps place next inside is =
+    let there = inside-get steps place inside in
+    ap (names_of_steps root) (drop-next steps place next there.0 there.1 is) ∙ ap (λ found. names_in root found ++ names_of_steps root (drop next steps)) (sym there.1)
+
+names-from : (root : ℕ) (steps : List OwnedStep) (place : ℕ) → length (names_of_steps root (drop place steps)) ≤ length (names_of_steps root steps)
+names-from root steps zero = omega arith
+names-from root [] (suc place) = omega arith
+names-from root (own ∷ steps) (suc place) = omega (arith, names-from root steps place, length-append (names_of root own) (names_of_steps root steps))
+
+-- those of one step and of those behind it are no more than all
+pub names-here : (root : ℕ) (steps : List OwnedStep) (place next : ℕ) → place < length steps → next ≡ place + 1 → length (names_in root (slice_get steps place)) + length (names_of_steps root (drop next steps)) ≤ length (names_of_steps root steps)
+names-here root steps place next inside is =
+    omega (arith, names-from root steps place, ap length (names-next root steps place next inside is), length-append (names_in root (slice_get steps place)) (names_of_steps root (drop next steps)))
+
+-- the DDs of the steps from a place on
+pub dds-next : (steps : List OwnedStep) (place next : ℕ) → place < length steps → next ≡ place + 1 → dds_of (drop place steps) ≡ option_map_or (λ (own : OwnedStep). length own.step.dds) (slice_get steps place) 0 + dds_of (drop next steps)
+dds-next steps place next inside is =
+    let there = inside-get steps place inside in
+    ap dds_of (drop-next steps place next there.0 there.1 is)
+    ∙ sum_by-cons (λ (own : OwnedStep). length own.step.dds) there.0 (drop next steps)
+    ∙ ap (λ found. option_map_or (λ (own : OwnedStep). length own.step.dds) found 0 + dds_of (drop next steps)) (sym there.1)
+
+-- whether one of the first steps made a name, from a place on
+pub made-next : (root : ℕ) (points : List StartPoint) (name : Name) (steps : List OwnedStep) (count place next number : ℕ) → place < count → place < length steps → next ≡ place + 1
+    → made_in root points number (drop place (take count steps)) name
+    ≡ (option_map_or (λ own. is_among (names_of root own) name && made_at points number name) (slice_get steps place) false || made_in root points (suc number) (drop next (take count steps)) name)
+made-next root points name steps count place next number first inside is =
+    let there = inside-get steps place inside in
+    ap (λ some. made_in root points number some name) (drop-next (take count steps) place next there.0 (take-get steps count place first ∙ there.1) is)
+    ∙ ap (λ found. option_map_or (λ own. is_among (names_of root own) name && made_at points number name) found false || made_in root points (suc number) (drop next (take count steps)) name) (sym there.1)
+
+-- none is behind the last one
+pub made-end : (root : ℕ) (points : List StartPoint) (name : Name) (steps : List OwnedStep) (count place number : ℕ) → length (take count steps) ≤ place → made_in root points number (drop place (take count steps)) name ≡ false
+made-end root points name steps count place number beyond = ap (λ some. made_in root points number some name) (drop_all place (take count steps) beyond)

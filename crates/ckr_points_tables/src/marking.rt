@@ -1,0 +1,16 @@
+//! What the marks of a run's names go by.
+
+use crate::EffectiveJob;
+use ckr_entry::Mark;
+use ckr_library::Library;
+
+/// What the marks of a run's names go by: names of its own steps as the data sets are, others as they were carried over.
+#[derive(Clone, Copy)]
+pub(crate) struct Marking<'a> {
+    /// The number of the run.
+    pub(crate) run: u32,
+    pub(crate) job: &'a EffectiveJob,
+    /// The marks of the point from which the run was continued.
+    pub(crate) carried: &'a [Mark],
+    pub(crate) library: &'a Library,
+}
