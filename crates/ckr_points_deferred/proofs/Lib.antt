@@ -1,0 +1,4 @@
+pub mod LatestRuns
+pub mod RunFacts
+pub mod SetNames
+pub mod StepNumbers

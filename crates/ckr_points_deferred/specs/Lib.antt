@@ -1,0 +1,4 @@
+pub mod Latest
+pub mod Numbers
+pub mod Runs
+pub mod Wanted
