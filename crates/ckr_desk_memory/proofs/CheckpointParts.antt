@@ -5,18 +5,17 @@ use Rattle.ckr_base.specs.Grammar.{is_check_id}
 use Rattle.ckr_entry.specs.Entry.{spelling}
 use Rattle.ckr_entry.specs.Parts.{Entry}
 use Rattle.ckr_events.specs.declared.event.Event.TheVariants.{Checkpointed}
-use Rattle.ckr_jcl.specs.declared.deck.Step.{Step}
 use Rattle.ckr_library.proofs.Named.{each-at}
 use Rattle.ckr_library.specs.Catalog.{fresh_holding, records_of}
 use Rattle.ckr_library.specs.NameMaps.{Name, entry_at, with_entry}
 use Rattle.ckr_library.specs.declared.sets.DataSet.{DataSet}
-use Rattle.ckr_meaning.specs.EffectiveJob.{Effective, OwnedStep, owned_by, plain_job, step_at}
+use Rattle.ckr_meaning.specs.EffectiveJob.{Effective, OwnedStep, step_at}
 use Rattle.ckr_points.specs.Restart.{place_of, step_in}
 use Rattle.ckr_points.specs.Rows.{RunRow, TableSet, TablesModel, run_of, step_of_run}
 use Rattle.ckr_points.specs.Soundness.{AreLaidOut}
 use Rattle.ckr_points_library.specs.Commit.{output_names}
-use Rattle.ckr_points_library.specs.Holdings.{owned}
 use Rattle.ckr_points_tables.specs.Checkpoint.{checkpoint_name}
+use Rattle.ckr_points_tables.specs.RunJobs.{effective}
 use Rattle.ckr_points_tables.specs.declared.run_table.RunTable.{RunTable}
 use Rattle.ckr_volumes.specs.Layouts.{StandsIn}
 use Rattle.ckr_volumes.specs.declared.layout.Layout.{Layout}
@@ -28,23 +27,19 @@ use Rattle.ckr_desk_memory.specs.EntryTypes.{IsFormedWithState, IsTyped}
 use Rattle.ckr_desk_memory.specs.Plans.{IsKnown, row_for}
 use Rattle.ckr_desk_memory.specs.View.{RunningStepView, lengths_in, lengths_of_row}
 use Rattle.ckr_desk_memory.proofs.Checkpoints.{PassesTests, entry-id, entry-taken, entry-writes, event-is, lengths-are, next-fits, passes-tests}
-use Rattle.ckr_desk_memory.proofs.EntryPoints.{its-check}
 use Rattle.ckr_desk_memory.proofs.EntrySizes.{entry-size}
 use Rattle.ckr_desk_memory.proofs.FoundRuns.{known-is}
 
-module _ (tables : TablesModel) (on : RunningStepView) (table : RunTable) (known : IsKnown tables on.run table) (step : Step) (found : Some (owned_by on.run table.job step) ≡ step_at (plain_job on.run table.job) (step_in (place_of (row_for on.run table)))) where
-  abbrev own : OwnedStep
-  own = owned_by on.run table.job step
-
+module _ (tables : TablesModel) (on : RunningStepView) (table : RunTable) (known : IsKnown tables on.run table) (own : OwnedStep) (found : Some own ≡ step_at (effective on.run table.job) (step_in (place_of (row_for on.run table)))) where
   pub own-found : step_of_run known.row (step_now known.row) ≡ Some own
   own-found = known-is tables on.run table known (λ row. step_of_run row (step_now row)) refl ∙ sym found
 
-  -- its data set for checkpoints, by its run
-  pub name-is : checkpoint_name known.row.job.root own ≡ checkpoint_name on.run (owned step on.run [])
-  name-is = ap (λ (job : Effective). checkpoint_name job.root own) known.plain ∙ its-check on.run own step on.run refl refl
+  -- its data set for checkpoints, by the root of its run
+  pub name-is : checkpoint_name known.row.job.root own ≡ checkpoint_name table.job.root own
+  name-is = ap (λ (job : Effective). checkpoint_name job.root own) known.job
 
-  module _ (check : Name) (named : Some check ≡ checkpoint_name on.run (owned step on.run [])) (kept : TableSet) (there : entry_at tables.sets check ≡ Some kept) (entry : Entry)
-      (is : (row : RunRow) (own : OwnedStep) → run_of tables on.run ≡ Some row → step_of_run row (step_now row) ≡ Some own → Some entry ≡ next_entry tables row own on) where
+  module _ (check : Name) (named : Some check ≡ checkpoint_name table.job.root own) (kept : TableSet) (there : entry_at tables.sets check ≡ Some kept) (entry : Entry)
+      (is : (row : RunRow) (its : OwnedStep) → run_of tables on.run ≡ Some row → step_of_run row (step_now row) ≡ Some its → Some entry ≡ next_entry tables row its on) where
     abbrev its_end : ℕ
     its_end = entry_end check kept tables known.row own on
 

@@ -1,24 +1,22 @@
 -- The entry that is made is that of the next checkpoint: its marks are those of the tables behind it.
-use Rattle.std.proofs.Common.{◌≡◌, ◌≤◌, ◌<◌, ◌+◌, ◌*◌, ◌==◌, ℕ, Bool, true, false, cond, not, ◌&&◌, ◌||◌, List, [], ◌∷◌, find, length, length-append, map, nat_le, option_and_then, nat_lt, arith, refl, ap, sym, ◌∙◌, Option, None, Some}
-use Rattle.std.specs.List.{AllByRecursion, cons_option, filter_map, list_any}
-use Rattle.std.specs.Prelude.{◌↔◌, ◌^◌, if◌then◌else◌, suc, IfSome, IsSome, IsTrue}
+use Rattle.std.proofs.Common.{◌≡◌, ◌≤◌, ◌<◌, ◌+◌, ◌-◌, ◌*◌, ◌++◌, ◌==◌, ℕ, zero, slice_get, Bool, true, false, cond, drop, not, ◌&&◌, ◌||◌, List, [], ◌∷◌, find, length, length-append, map, nat_le, option_and_then, nat_lt, arith, refl, ap, sym, ◌∙◌, Option, None, Some}
+use Rattle.std.specs.List.{cons_option, filter_map, list_all, list_any}
+use Rattle.std.specs.Prelude.{◌↔◌, ◌^◌, if◌then◌else◌, pred, suc, IfSome, IsSome, IsTrue}
 use Rattle.std.proofs.lemmas.Bool.{and_from, false≢true}
 use Rattle.std.proofs.lemmas.Bool.Decides.{nat_tests}
 use Rattle.ckr_base.proofs.Numbers.{nat_le-beyond, nat_le-from}
 use Rattle.ckr_base.proofs.Options.{some-not-none}
 use Rattle.std.proofs.lemmas.Option.{same_Some}
-use Rattle.ckr_desk_memory.specs.Invariant.{IsAcceptedRow}
 use Rattle.ckr_base.specs.Grammar.{is_check_id}
 use Rattle.ckr_entry.specs.declared.point.Passed.{Passed}
 use Rattle.ckr_entry.specs.declared.point.State.{State}
 use Rattle.ckr_entry.specs.Entry.{spelling}
 use Rattle.ckr_entry.specs.Parts.{Entry}
 use Rattle.ckr_jcl.specs.declared.deck.Dd.{Dd}
-use Rattle.ckr_jcl.specs.declared.deck.Job.{Job}
 use Rattle.ckr_jcl.specs.declared.deck.Step.{Step}
 use Rattle.ckr_steps.specs.Units.{taken_of}
 use Rattle.std.specs.Option.{is_none, is_some, option_map, option_map_or}
-use Rattle.ckr_base.proofs.Bools.{and-false}
+use Rattle.ckr_base.proofs.Bools.{and-false, and-first, and-second}
 use Rattle.ckr_entry.specs.declared.point.Mark.{Mark}
 use Rattle.ckr_entry.specs.declared.point.Present.{Present}
 use Rattle.ckr_library.specs.declared.sets.DataSet.{DataSet}
@@ -26,7 +24,7 @@ use Rattle.ckr_library.specs.Catalog.{Catalog, Holding, kept_in, kept_of, record
 use Rattle.ckr_library.specs.declared.sets.Kept.{Kept}
 use Rattle.ckr_library.specs.NameMaps.{Name, Named, entry_at, same_name, with_changed, with_entry}
 use Rattle.ckr_library.proofs.Named.{at-viewed, at-with_changed, name-itself, name-same}
-use Rattle.ckr_meaning.specs.EffectiveJob.{OwnedStep, is_among, name_of, names_of, names_of_job, names_of_steps, owned_by, plain_job}
+use Rattle.ckr_meaning.specs.EffectiveJob.{Effective, OwnedStep, is_among, name_of, names_of, names_of_job, names_of_steps, step_at}
 use Rattle.ckr_points.specs.Marks.{carried_marks, mark_at, mark_now, marked_under, marks_for, marks_now, own_names, present_of}
 use Rattle.ckr_points.specs.Rows.{KeptEntry, RunRow, TableSet, TablesModel, cut_set, holding_of, run_of}
 use Rattle.ckr_points.specs.Restart.{kept_at}
@@ -35,9 +33,9 @@ use Rattle.ckr_points_library.specs.Commit.{output_names}
 use Rattle.ckr_points_library.specs.Holdings.{owned}
 use Rattle.ckr_points_tables.specs.declared.run_table.RunTable.{RunTable}
 use Rattle.ckr_points_tables.specs.Checkpoint.{checkpoint_name}
+use Rattle.ckr_points_tables.specs.RunJobs.{IsFitting, effective, is_fitting_step, names_in, own_of}
+use Rattle.ckr_points_tables.proofs.RunJobs.{step-fits}
 use Rattle.ckr_points_tables.specs.View.{RunTableView, facts_in, line_of, row_with, seen_by}
-use Rattle.ckr_points_decks.specs.DeckLimits.{IsWithinLimits}
-use Rattle.ckr_points_decks.proofs.DeckLimits.{few_steps}
 use Rattle.ckr_desk_memory.specs.declared.entry_marks.Behind.{Behind}
 use Rattle.ckr_desk_memory.specs.Entries.{IsEntryOf, entry_bytes, entry_end, entry_in_set, entry_to, fits_in, next_entry, is_written, next_id, row_of_line, step_now}
 use Rattle.ckr_desk_memory.specs.View.{RunningStepView}
@@ -46,7 +44,6 @@ use Rattle.ckr_desk_turn.specs.Checkpoints.{is_in_range, is_state_in_range, step
 use Rattle.ckr_desk_turn.specs.EntryStates.{at_checkpoint}
 use Rattle.ckr_desk_memory.specs.Plans.{IsKnown, row_for}
 use Rattle.ckr_desk_memory.proofs.FoundRuns.{known-row}
-use Rattle.ckr_desk_memory.proofs.Starts.Steps.{row-among}
 
 -- ---- marks of the same names
 
@@ -105,14 +102,14 @@ committed-present size (first ∷ names) sets name =
     by false is found = refl
 
 abbrev outputs : Behind → List Name
-outputs behind = output_names behind.on.now.run (owned behind.own.now behind.on.now.run [])
+outputs behind = output_names behind.table.now.job.root (own_of behind.own.now)
 
 abbrev sizes : Behind → Name → ℕ
 sizes behind = length_behind (Some behind.check.now) behind.end behind.on.now.sets.sets
 
 -- the mark of each name, by the data sets of the tables
 pub mark-is : (behind : Behind) (sets : Named TableSet) → behind.committed.now.sets ≡ seen_by holding_of sets → (name : Name)
-    → let names = output_names behind.on.now.run (owned behind.own.now behind.on.now.run []) in
+    → let names = output_names behind.table.now.job.root (own_of behind.own.now) in
     mark_behind behind name ≡ mark_now (committed names (map (length_behind (Some behind.check.now) behind.end behind.on.now.sets.sets) names) sets) name
 mark-is behind sets seen name =
     ap (λ (present : Option Present). let mark : Mark = record { name = name; present = present } in mark)
@@ -125,7 +122,7 @@ mark-is behind sets seen name =
     by (Some table) = refl
 
 pub marks-are : (behind : Behind) (sets : Named TableSet) → behind.committed.now.sets ≡ seen_by holding_of sets → (all : List Name)
-    → let names = output_names behind.on.now.run (owned behind.own.now behind.on.now.run []) in
+    → let names = output_names behind.table.now.job.root (own_of behind.own.now) in
     marks_for (mark_behind behind) all ≡ marks_for (mark_now (committed names (map (length_behind (Some behind.check.now) behind.end behind.on.now.sets.sets) names) sets)) all
 marks-are behind sets seen all = marks_among (mark_behind behind) (mark_now _) all (λ name among. mark-is behind sets seen name)
 
@@ -163,34 +160,34 @@ entry-parts id id' job job' step_name step_name' run run' owner owner' step step
 
 -- the parts of an entry as it is made
 pub record IsMadeOf (behind : Behind) (entry : Entry) : Type 0 where
-  pub job : entry.job ≡ behind.table.now.job.name
+  pub job : entry.job ≡ behind.table.now.job.deck.name
   pub run : entry.run ≡ behind.on.now.run
-  pub owner : entry.owner ≡ behind.on.now.run
+  pub owner : entry.owner ≡ behind.own.now.owner
   pub step : entry.step ≡ step_now (row_for behind.on.now.run behind.table.now)
-  pub step_name : entry.step_name ≡ behind.own.now.name
+  pub step_name : entry.step_name ≡ behind.own.now.step.now.name
   pub count : entry.count ≡ suc behind.table.now.count
   pub taken : entry.taken ≡ taken_of behind.on.now.step.state
   pub writes : entry.writes ≡ behind.on.now.step.writes
   pub state :
       entry.state
       ≡ at_checkpoint (suc (step_entries (row_for behind.on.now.run behind.table.now) (step_now (row_for behind.on.now.run behind.table.now)))) behind.on.now.step.state
-  pub marks : entry.marks ≡ marks_for (mark_behind behind) (names_of_job (plain_job behind.on.now.run behind.table.now.job))
+  pub marks : entry.marks ≡ marks_for (mark_behind behind) (names_of_job (effective behind.on.now.run behind.table.now.job))
   pub passed : entry.passed ≡ behind.table.now.passed.items
 
-pub made-entry : (id : Name) (behind : Behind) (tables : TablesModel) (entry : Entry) → behind.committed.now.sets ≡ seen_by holding_of tables.sets → entry.id ≡ id → IsMadeOf behind entry → IsEntryOf id behind tables entry
+pub made-entry : (id : Name) (behind : Behind) (tables : TablesModel) (entry : Entry) → behind.committed.now.sets ≡ seen_by holding_of tables.sets → entry.id ≡ id → behind.table.now.job.earlier_step ≡ 0 → IsMadeOf behind entry → IsEntryOf id behind tables entry
 unfolding entry_to
-made-entry id behind tables entry seen its made = λ line own for_it.
+made-entry id behind tables entry seen its first made = λ line own for_it.
     let row : RunRow = row_of_line behind.on.now.run line behind.table.now in
     let all : Name → ℕ = sizes behind in
     let names : List Name = output_names row.job.root own in
-    let own_names = its-outputs row.job.root own behind.own.now behind.on.now.run for_it.step for_it.owner in
-    entry-parts entry.id (next_id row own) entry.job behind.table.now.job.name entry.step_name own.step.name entry.run row.number entry.owner own.owner entry.step (step_now row) entry.count (suc row.count) entry.taken (taken_of behind.on.now.step.state) entry.writes
+    let own_names = its-outputs row.job.root own behind.own.now.step.now behind.own.now.owner for_it.step for_it.owner in
+    entry-parts entry.id (next_id row own) entry.job behind.table.now.job.deck.name entry.step_name own.step.name entry.run row.number entry.owner own.owner entry.step (step_now row) entry.count (suc row.count) entry.taken (taken_of behind.on.now.step.state) entry.writes
     behind.on.now.step.writes entry.state _ entry.marks (marks_now row (committed names (map all names) tables.sets)) entry.passed row.passed (its ∙ for_it.id) made.job (made.step_name ∙ ap (λ (s : Step). s.name) (sym for_it.step)) made.run (made.owner ∙ sym for_it.owner) made.step
     made.count made.taken made.writes made.state
     (made.marks
     ∙ marks-are behind tables.sets seen (names_of_job row.job)
     ∙ ap (λ (ns : List Name). marks_for (mark_now (committed ns (map all ns) tables.sets)) (names_of_job row.job)) (sym own_names)
-    ∙ sym (own-marks row (committed names (map all names) tables.sets) refl))
+    ∙ sym (own-marks row (committed names (map all names) tables.sets) (ap (λ n. names_of_steps row.job.root (drop (pred n) row.job.steps)) first)))
     made.passed
 
 -- ---- whether it fits
@@ -374,18 +371,25 @@ names_most root own (dd ∷ dds) = by (name_of root own dd) (names_most root own
     by None most = omega (arith, most)
     by (Some name) most = omega (arith, most)
 
-steps_most : (root : ℕ) (deck : Job) (steps : List Step) → AllByRecursion IsWithinLimits steps → length (names_of_steps root (map (owned_by root deck) steps)) ≤ 16 * length steps
-steps_most root deck [] all = omega arith
-steps_most root deck (step ∷ steps) all =
-    let own = owned_by root deck step in
-    omega (arith, all.0.few_dds, names_most root own step.dds, steps_most root deck steps all.1, length-append (names_of root own) (names_of_steps root (map (owned_by root deck) steps)))
+steps_most : (root : ℕ) (steps : List OwnedStep) → list_all is_fitting_step steps ≡ true → length (names_of_steps root steps) ≤ 16 * length steps
+steps_most root [] fit = omega arith
+steps_most root (own ∷ steps) fit =
+    let its = step-fits own (and-first (is_fitting_step own) (list_all is_fitting_step steps) fit) in
+    omega (arith, its.dds, names_most root own own.step.dds, steps_most root steps (and-second (is_fitting_step own) (list_all is_fitting_step steps) fit), length-append (names_of root own) (names_of_steps root steps))
 
-pub names-few : (tables : TablesModel) (run : ℕ) (table : RunTable) (known : IsKnown tables run table) → AllByRecursion IsAcceptedRow tables.runs → length (names_of_job (plain_job run table.job)) ≤ 1024
-names-few tables run table known rows =
-    let accepted = row-among IsAcceptedRow tables run known.row rows known.found in
-    let steps : length known.row.deck.steps ≤ 64 = few_steps accepted.cards known.row.deck accepted.accepted in
-    let deck : known.row.deck ≡ table.job = ap (λ (facts : RunTableView). facts.job) known.facts in
-    omega (arith, steps_most run table.job table.job.steps known.within, steps, ap (λ (d : Job). length d.steps) deck)
+pub names-few : (job : Effective) → IsFitting job → length (names_of_job job) ≤ 1024
+names-few job fits = omega (arith, steps_most job.root job.steps fits.steps, fits.few)
+
+-- the names of the steps from one on are its own and those behind it
+pub names-before : (job : Effective) (number : ℕ) → 0 < number → names_of_steps job.root (drop (number - 1) job.steps) ≡ names_in job.root (step_at job number) ++ names_of_steps job.root (drop number job.steps)
+names-before job zero some = absurd (omega (arith, some))
+names-before job (suc place) some = ap (λ n. names_of_steps job.root (drop n job.steps)) (omega arith) ∙ from job.steps place
+  where
+    from : (steps : List OwnedStep) (place : ℕ) → names_of_steps job.root (drop place steps) ≡ names_in job.root (slice_get steps place) ++ names_of_steps job.root (drop (suc place) steps)
+    from [] zero = refl
+    from [] (suc place) = refl
+    from (own ∷ steps) zero = refl
+    from (own ∷ steps) (suc place) = from steps place
 
 -- ---- a run by its line
 

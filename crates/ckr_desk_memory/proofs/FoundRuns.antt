@@ -7,31 +7,26 @@ use Rattle.ckr_base.proofs.Options.{some-not-none}
 use Rattle.ckr_library.specs.Catalog.{Holding}
 use Rattle.ckr_library.specs.NameMaps.{Name, Named, entry_at}
 use Rattle.ckr_library.proofs.Named.{at-viewed}
-use Rattle.ckr_jcl.specs.declared.deck.Job.{Job}
-use Rattle.ckr_meaning.specs.EffectiveJob.{Effective, OwnedStep, plain_job, step_at}
+use Rattle.ckr_meaning.specs.EffectiveJob.{Effective, OwnedStep, step_at}
 use Rattle.ckr_points_library.specs.Commit.{output_names}
 use Rattle.ckr_points.specs.declared.run.Run.{Run}
 use Rattle.ckr_points.specs.declared.run.RunState.TheVariants.{On}
 use Rattle.ckr_points.specs.Payload.{lengths_kept, writes_in}
 use Rattle.ckr_points.specs.Restart.{place_of, step_in}
 use Rattle.ckr_points.specs.Rows.{RunRow, TableSet, TablesModel, run_of, step_of_run, holding_of}
-use Rattle.ckr_points_decks.specs.DeckLimits.{FitsAllocation, IsWithinLimits}
-use Rattle.ckr_points_decks.proofs.AllocationNeeds.{all_fit}
-use Rattle.ckr_points_decks.proofs.DeckLimits.{steps_within}
 use Rattle.ckr_points_tables.specs.declared.run_table.RunTable.{RunTable}
-use Rattle.ckr_points_tables.specs.View.{RunTableView, facts_in, facts_of, row_with, seen_by}
+use Rattle.ckr_points_tables.specs.PlainRows.{IsPlainRow}
+use Rattle.ckr_points_tables.specs.RunJobs.{IsFitting, JobView, effective}
+use Rattle.ckr_points_tables.specs.View.{RunTableView, facts_in, facts_of, job_in, row_with, seen_by}
 use Rattle.ckr_desk_turn.specs.Codes.{CodePlaceModel, kept_reached, reached_by, running_reached}
 use Rattle.ckr_desk_turn.specs.Jobs.{TurnStep, as_stopped, running_in}
 use Rattle.ckr_desk_turn.specs.Queue.{AreNumbered}
-use Rattle.ckr_desk_turn.proofs.Queue.Events.{run_number}
 use Rattle.ckr_points_tables.specs.Checkpoint.{checkpoint_name}
 use Rattle.ckr_desk_memory.specs.EventChanges.{check_name, check_name_in}
-use Rattle.ckr_desk_memory.specs.Invariant.{IsAcceptedRow}
 use Rattle.ckr_desk_memory.specs.Plans.{row_for, IsKnown}
 use Rattle.ckr_desk_memory.specs.View.{JobsView, RunningStepView, jobs_of, lengths_in, lengths_of_row, length_in, running_of}
 use Rattle.ckr_base.specs.declared.code.Code.{Code}
 use Rattle.ckr_steps.specs.Units.{due_of, taken_of}
-use Rattle.ckr_desk_memory.proofs.Starts.Steps.{row-among}
 
 -- ---- lists
 
@@ -101,8 +96,8 @@ module _ (tables : TablesModel) (number : ℕ) (table : RunTable) (known : IsKno
   known-is F same =
       same
       ∙ ap (λ n. F (record (row_with (line_for n) (facts_in known.row)) { job = known.row.job })) known.numbered
-      ∙ ap (λ (job : Effective). F (record (row_with (line_for number) (facts_in known.row)) { job = job })) known.plain
-      ∙ ap (λ (facts : RunTableView). F (row_with (line_for number) facts)) known.facts
+      ∙ ap (λ (job : Effective). F (record (row_with (line_for number) (facts_in known.row)) { job = job })) known.job
+      ∙ ap (λ (facts : RunTableView). F (record (row_with (line_for number) facts) { job = effective number table.job })) known.facts
 
   pub known-row : (row : RunRow) → run_of tables number ≡ Some row → known.row ≡ row
   known-row row at = same_Some _ _ (sym known.found ∙ at)
@@ -118,37 +113,36 @@ module _ (tables : TablesModel) (number : ℕ) (table : RunTable) (known : IsKno
       ∙ known-is (lengths_of_row on.sets.sets) refl
 
   -- the name of its data set for checkpoints
-  pub check-known : check_name_in tables number ≡ option_and_then (checkpoint_name number) (step_at (plain_job number table.job) (step_in (place_of (row_for number table))))
+  pub check-known : check_name_in tables number ≡ option_and_then (checkpoint_name table.job.root) (step_at (effective number table.job) (step_in (place_of (row_for number table))))
   check-known = ap (option_and_then check_name) known.found ∙ known-is check_name refl
 
+-- each run of the tables continues none and is within the limits
+abbrev pub ArePlain : TablesModel → Type 0
+ArePlain tables = (job : ℕ) (row : RunRow) → run_of tables job ≡ Some row → IsPlainRow job row
+
 -- a run that the tables keep is known
-pub known-of : (tables : TablesModel) → AreNumbered 1 tables.runs → length tables.runs ≤ 9999999 → AllByRecursion IsAcceptedRow tables.runs → (job : ℕ) (table : RunTable)
-    → option_map facts_of (Some table) ≡ option_map facts_in (run_of tables job) → IsKnown tables job table
-known-of tables numbered few rows job table seen = by (run_of tables job) refl seen
+pub known-of : (tables : TablesModel) → ArePlain tables → (job : ℕ) (table : RunTable) → option_map facts_of (Some table) ≡ option_map facts_in (run_of tables job) → IsKnown tables job table
+known-of tables plain job table seen = by (run_of tables job) refl seen
   where
     by : (found : Option RunRow) → run_of tables job ≡ found → option_map facts_of (Some table) ≡ option_map facts_in found → IsKnown tables job table
     by None at seen = absurd (some-not-none _ seen)
     by (Some row) at seen =
-        let accepted = row-among IsAcceptedRow tables job row rows at in
+        let its = plain job row at in
         let facts : facts_of table ≡ facts_in row = same_Some _ _ seen in
-        let deck : table.job ≡ row.deck = ap (λ (f : RunTableView). f.job) facts in
-        let is : row.number ≡ job = run_number tables job row numbered at in
+        let kept : table.job ≡ job_in row = ap (λ (f : RunTableView). f.job) facts in
+        let same : row.job ≡ effective job table.job = ap (λ (r : RunRow). r.job) its.told ∙ ap (λ n. effective n (job_in row)) its.numbered ∙ ap (effective job) (sym kept) in
         record {
           row = row;
           found = at;
-          numbered = is;
+          numbered = its.numbered;
           facts = sym facts;
-          plain = accepted.plain ∙ ap (λ n. plain_job n row.deck) is;
-          few = few-there tables job row 9999999 few at;
-          within = subst (λ (d : Job). AllByRecursion IsWithinLimits d.steps) (sym deck) (steps_within accepted.cards row.deck accepted.accepted);
-          fit = subst (λ (d : Job). AllByRecursion FitsAllocation d.steps) (sym deck) (all_fit accepted.cards row.deck accepted.accepted);
+          job = same;
+          first = ap (λ (one : JobView). one.earlier_step) (kept ∙ its.plain);
+          few = its.few;
+          fits = subst IsFitting same its.fits;
         }
 
--- what has a view is there
-pub viewed-there : {A B C : Type 0} (one : A → C) (view : B → C) (x : A) (found : Option B) → Some (one x) ≡ option_map view found → IsSome found
-viewed-there one view x None is = absurd (some-not-none (one x) is)
-viewed-there one view x (Some y) is = refl
-
+-- one that they don't keep isn't there
 pub unknown-of : (tables : TablesModel) (job : ℕ) → option_map facts_of None ≡ option_map facts_in (run_of tables job) → run_of tables job ≡ None
 unknown-of tables job seen = by (run_of tables job) seen
   where
@@ -156,10 +150,9 @@ unknown-of tables job seen = by (run_of tables job) seen
     by None seen = refl
     by (Some row) seen = absurd (some-not-none _ (sym seen))
 
-pub known-some : (tables : TablesModel) → AreNumbered 1 tables.runs → length tables.runs ≤ 9999999 → AllByRecursion IsAcceptedRow tables.runs → (job : ℕ) (found : Option RunTable)
-    → option_map facts_of found ≡ option_map facts_in (run_of tables job) → IfSome found (IsKnown tables job)
-known-some tables numbered few rows job None seen = tt
-known-some tables numbered few rows job (Some table) seen = known-of tables numbered few rows job table seen
+pub known-some : (tables : TablesModel) → ArePlain tables → (job : ℕ) (found : Option RunTable) → option_map facts_of found ≡ option_map facts_in (run_of tables job) → IfSome found (IsKnown tables job)
+known-some tables plain job None seen = tt
+known-some tables plain job (Some table) seen = known-of tables plain job table seen
 
 -- ---- how far it has come
 

@@ -76,7 +76,7 @@ few_submitted : (layout : Layout) (tables : TablesModel) (job : ℕ) (cards : Li
 few_submitted layout tables job cards None e submits few = few
 few_submitted layout tables job cards (Some deck) e submits few =
     let is = next_number layout tables job cards (Some deck) e in
-    let most : job ≤ 9999999 = nat_le-true job 9999999 (and-first _ _ (and-first _ _ (and-first _ _ submits))) in
+    let most : job ≤ 9999999 = nat_le-true job 9999999 (and-first _ _ (and-first _ _ (and-first _ _ (and-first _ _ submits)))) in
     omega (arith, length-append tables.runs (queued_run job deck ∷ []))
 
 few-behind : (layout : Layout) (tables : TablesModel) (event : Event) (deck : Option Job) → is_forward_event event ≡ true → follows layout tables event deck ≡ true → MaySubmit event deck → AreNumbered 1 tables.runs → length tables.runs ≤ 9999999

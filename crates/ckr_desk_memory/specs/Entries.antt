@@ -87,8 +87,8 @@ row_of_line number line table = row_with (record line { number = number }) (fact
 
 -- an entry of this identifier is made for this step of the run
 pub record IsMadeFor (named : Name) (behind : Behind) (own : OwnedStep) : Type 0 where
-  pub step : own.step ≡ behind.own.now
-  pub owner : own.owner ≡ behind.on.now.run
+  pub step : own.step ≡ behind.own.now.step.now
+  pub owner : own.owner ≡ behind.own.now.owner
   pub id : named ≡ next_id (row_for behind.on.now.run behind.table.now) own
 
 -- this is that entry

@@ -1,6 +1,5 @@
 -- What a turn comes to, by the jobs in memory.
 use Rattle.std.specs.Prelude.{◌≡◌, ◌≤◌, ℕ, Bool, true, false, IsSome, [], find, Option, None, Some, pred, slice_get}
-use Rattle.std.specs.List.{AllByRecursion}
 use Rattle.ckr_base.specs.declared.code.Code.{Code}
 use Rattle.ckr_base.specs.declared.programs.NextDue.{NextDue}
 use Rattle.ckr_base.specs.declared.programs.NextDue.TheVariants.{Unit as OneUnit, Checkpoint}
@@ -9,7 +8,7 @@ use Rattle.ckr_events.specs.declared.event.Ending.{Ending}
 use Rattle.ckr_events.specs.declared.event.Ending.TheVariants.{Coded}
 use Rattle.ckr_events.specs.declared.event.Event.{Event}
 use Rattle.ckr_events.specs.declared.event.Event.TheVariants.{Rewritten as RewrittenEvent, Restarted as RestartedEvent, Held as HeldEvent, Ended as EndedEvent}
-use Rattle.ckr_meaning.specs.EffectiveJob.{OwnedStep, plain_job}
+use Rattle.ckr_meaning.specs.EffectiveJob.{OwnedStep}
 use Rattle.ckr_meaning.specs.declared.place.Place.{Place}
 use Rattle.ckr_meaning.specs.declared.place.Place.TheVariants.{Before, Opened, Within}
 use Rattle.ckr_points.specs.declared.run.RunState.TheVariants.{On}
@@ -21,8 +20,8 @@ use Rattle.ckr_steps.specs.declared.unit_ahead.UnitAhead.{UnitAhead}
 use Rattle.ckr_steps.specs.StepUnit.{AreCounted, behind_ahead}
 use Rattle.ckr_steps.specs.Units.{due_of}
 use Rattle.ckr_steps.specs.Writes.{grown}
-use Rattle.ckr_points_decks.specs.DeckLimits.{FitsAllocation, IsWithinLimits}
 use Rattle.ckr_points_tables.specs.declared.run_table.RunTable.{RunTable}
+use Rattle.ckr_points_tables.specs.RunJobs.{IsFitting, effective}
 use Rattle.ckr_points_tables.specs.View.{facts_in, facts_of, row_with}
 use Rattle.ckr_desk_turn.specs.declared.inquiry.Inquiry.{Inquiry}
 use Rattle.ckr_desk_turn.specs.declared.plan.Plan.{Plan}
@@ -44,16 +43,16 @@ use Rattle.ckr_desk_memory.specs.View.{JobsView, RunningStepView}
 abbrev pub row_for : ℕ → RunTable → RunRow
 row_for number table = row_with (record { number = number; name = []; state = On; initiator = None }) (facts_of table)
 
--- the tables have this run, of a deck that was accepted
+-- the tables have this run, which continues none and is within the limits
 pub record IsKnown (tables : TablesModel) (number : ℕ) (table : RunTable) : Type 0 where
   pub row : RunRow
   pub found : run_of tables number ≡ Some row
   pub numbered : row.number ≡ number
   pub facts : facts_in row ≡ facts_of table
-  pub plain : row.job ≡ plain_job number row.deck
+  pub job : row.job ≡ effective number table.job
+  pub first : table.job.earlier_step ≡ 0
   pub few : number ≤ 9999999
-  pub within : AllByRecursion IsWithinLimits table.job.steps
-  pub fit : AllByRecursion FitsAllocation table.job.steps
+  pub fits : IsFitting (effective number table.job)
 
 -- a DD of a step of a run, by their numbers from 1
 pub record HasDd (tables : TablesModel) (number step dd : ℕ) : Type 0 where

@@ -11,7 +11,7 @@ ghost use Rattle.ckr_library.specs.NameMaps.{with_entry};
 ghost use Rattle.ckr_meaning.specs.EffectiveJob.{OwnedStep};
 ghost use Rattle.ckr_points.specs.Follows.{follows};
 ghost use Rattle.ckr_points.specs.Rows.{run_of, step_of_run, RunRow};
-ghost use Rattle.ckr_points_decks.specs.DeckLimits.{IsWithinLimits};
+ghost use Rattle.ckr_points_tables.specs.RunJobs.{effective, IsFitting};
 ghost use Rattle.ckr_steps.specs.StepUnit.{AreCounted};
 ghost use Rattle.ckr_volumes.specs.declared.layout.Layout.{Layout as LayoutOfDisk};
 ghost use Rattle.ckr_desk_turn.specs.Queue.{AreNumbered};
@@ -79,7 +79,7 @@ fn checkpoint_of(
     made: NextEntry,
 ) -> Checkpoint
     requires run { on.now.run ≤ 9999999 }
-    requires within { AllByRecursion IsWithinLimits table.now.job.steps }
+    requires fits { IsFitting (effective on.now.run table.now.job) }
     requires id { is_check_id (unwrap_or made.point.id []) ≡ true }
     requires end { set.now.length + records_of (length made.bytes.items) ≤ 1000000 }
     ensures entry { result.entry ≡ made.bytes }
@@ -147,14 +147,14 @@ impl Jobs {
         let Some(table) = self.known(on.run) else {
             return Reply::Idle;
         };
-        let Some(own) = step_at(&table.job, step_in(place_of(table))) else {
+        let Some(own) = step_at(&table.job, on.run, step_in(place_of(table))) else {
             return Reply::Idle;
         };
         Reply::Checkpointed {
             job: on.run,
-            step: own.name.copied(),
+            step: own.step.name.copied(),
             code,
-            id: id_of(table, own),
+            id: id_of(table, own.step),
         }
     }
 
@@ -171,8 +171,8 @@ impl Jobs {
         ensures numbered { AreNumbered 1 self.now.tables.desk.runs }
     {
         let table = self.known(on.run)?;
-        let own = step_at(&table.job, step_in(place_of(table)))?;
-        let check = checkpoint_name(on.run, own)?;
+        let own = step_at(&table.job, on.run, step_in(place_of(table)))?;
+        let check = checkpoint_name(table.job.root(), &own)?;
         let set = self.tables.library().get(&check)?;
         Some(checkpoint_of(on, table, &check, set, made))
     }

@@ -9,15 +9,17 @@ ghost use Rattle.ckr_fields.specs.Fields.{each_fits};
 ghost use Rattle.ckr_library.specs.Catalog.{records_of};
 ghost use Rattle.ckr_library.specs.NameMaps.{same_name};
 ghost use Rattle.ckr_library.specs.declared.sets.Kept.{Kept as KeptOfSet};
-ghost use Rattle.ckr_meaning.specs.EffectiveJob.{names_of_job, plain_job, OwnedStep};
+ghost use Rattle.ckr_meaning.specs.EffectiveJob.{names_of_job, OwnedStep};
 ghost use Rattle.ckr_points.specs.Marks.{point_at};
 ghost use Rattle.ckr_points.specs.Rows.{holding_of, run_of, step_of_run, RunRow, TablesModel, StartPoint as StartOfStep};
 ghost use Rattle.ckr_points.specs.declared.run.Run.{Run as RunOfDesk};
+ghost use Rattle.ckr_points_tables.specs.RunJobs.{effective, IsFitting};
 ghost use Rattle.ckr_points_tables.specs.View.{facts_of, seen_by};
 ghost use Rattle.ckr_steps.specs.StepUnit.{AreCounted};
 ghost use Rattle.ckr_desk_turn.specs.Checkpoints.{are_counts_in_range, id_by, is_in_range, is_state_in_range, step_entries, id_in};
 ghost use Rattle.ckr_desk_turn.specs.EntryStates.{at_checkpoint};
 ghost use Rattle.ckr_desk_memory.specs.Entries.{entry_made, next_entry, next_id, row_of_line, step_now, IsEntryOf, IsNextOf};
+ghost use Rattle.ckr_desk_memory.specs.EntryMarks.{MayMark};
 ghost use Rattle.ckr_desk_memory.specs.EntryTypes.{IsFormedWithState, IsTyped, IsTypedMatch};
 ghost use Rattle.ckr_desk_memory.specs.Invariant.{IsAcceptedRow};
 ghost use Rattle.ckr_desk_memory.specs.Parts.{step_seen};
@@ -33,7 +35,7 @@ use ckr_jcl::Step;
 use ckr_library::{DataSet, Kept, Library};
 use ckr_match::MatchState;
 use ckr_points::step_in;
-use ckr_points_tables::{RunTable, checkpoint_name, point_at, step_at};
+use ckr_points_tables::{OwnStep, RunTable, checkpoint_name, point_at, step_at};
 use ckr_programs::ProgState;
 use std::alloc::Global;
 
@@ -195,9 +197,10 @@ fn passed_of(alloc: Global, items: &[Passed]) -> Result<PassedList, NoMemory>
 /// `NoMemory`: there is none for it.
 fn entry_with(alloc: Global, id: CheckId, behind: &Behind<'_>) -> Result<NextEntry, NoMemory>
     requires run { behind.now.on.now.run ≤ 9999999 }
+    requires may { MayMark behind.now }
     requires counted { AreCounted behind.now.on.now.step }
     requires count { behind.now.table.now.count < 9999999 }
-    requires names { length (names_of_job (plain_job behind.now.on.now.run behind.now.table.now.job)) ≤ 1024 }
+    requires names { length (names_of_job (effective behind.now.on.now.run behind.now.table.now.job)) ≤ 1024 }
     requires passed { length behind.now.table.now.passed.items < 65536 }
     ensures entry { (tables : TablesModel) → behind.now.committed.now.sets ≡ seen_by holding_of tables.sets → IfOk result (λ made. IsEntryOf id behind.now tables (entry_of made.point)) }
     ensures bytes { IfOk result (λ made. made.bytes.items ≡ spelling (entry_of made.point)) }
@@ -206,21 +209,22 @@ fn entry_with(alloc: Global, id: CheckId, behind: &Behind<'_>) -> Result<NextEnt
 {
     let table = behind.table;
     let _id = id.text();
-    let _job = table.job.name.text();
-    let _step = behind.own.name.text();
+    let deck = table.job.deck();
+    let _job = deck.name.text();
+    let _step = behind.own.step.name.text();
     let far = behind.on.step.progress();
     let point = Point {
         id: Some(id),
-        job: table.job.name.copied(),
+        job: deck.name.copied(),
         run: behind.on.run,
-        owner: behind.on.run,
+        owner: behind.own.owner,
         step: step_in(place_of(table)),
-        step_name: behind.own.name.copied(),
+        step_name: behind.own.step.name.copied(),
         count: table.count + 1,
         taken: far.taken,
         writes: far.writes,
         state: at_checkpoint(far.state, step_entries(table) + 1),
-        marks: marks_of(alloc, behind, &table.job)?,
+        marks: marks_of(alloc, behind)?,
         passed: passed_of(alloc, table.passed.as_slice())?,
     };
     let bytes = encode_entry(alloc, &point)?;
@@ -294,8 +298,9 @@ fn fitting(
     behind: &Behind<'_>,
 ) -> Result<Option<NextEntry>, NoMemory>
     requires run { behind.now.on.now.run ≤ 9999999 }
+    requires may { MayMark behind.now }
     requires counted { AreCounted behind.now.on.now.step }
-    requires names { length (names_of_job (plain_job behind.now.on.now.run behind.now.table.now.job)) ≤ 1024 }
+    requires names { length (names_of_job (effective behind.now.on.now.run behind.now.table.now.job)) ≤ 1024 }
     requires end { behind.now.end ≡ 0 }
     ensures entry { IfOk result (λ found. IsNextOf id behind.now set.now (entry_made found)) }
     ensures bytes { IfOk result (λ found. IfSome found (λ made. made.bytes.items ≡ spelling (entry_of made.point))) }
@@ -339,24 +344,27 @@ fn next_of(
     alloc: Global,
     library: &Library,
     table: &RunTable,
-    own: &Step,
+    own: &OwnStep<'_>,
     on: &RunningStep,
 ) -> Result<Option<NextEntry>, NoMemory>
     requires run { on.now.run ≤ 9999999 }
+    requires owner { own.now.owner ≤ 9999999 }
+    requires fits { IsFitting (effective on.now.run table.now.job) }
+    requires first { table.now.job.earlier_step ≡ 0 }
     requires counted { AreCounted on.now.step }
-    requires names { length (names_of_job (plain_job on.now.run table.now.job)) ≤ 1024 }
-    ensures entry { (line : RunOfDesk) (tables : TablesModel) (owned : OwnedStep) → library.now.sets ≡ seen_by holding_of tables.sets → owned.step ≡ own.now → owned.owner ≡ on.now.run → IfOk result (λ found. entry_made found ≡ next_entry tables (row_of_line on.now.run line table.now) owned (step_seen on.now)) }
+    requires names { length (names_of_job (effective on.now.run table.now.job)) ≤ 1024 }
+    ensures entry { (line : RunOfDesk) (tables : TablesModel) (owned : OwnedStep) → library.now.sets ≡ seen_by holding_of tables.sets → owned.step ≡ own.now.step.now → owned.owner ≡ own.now.owner → IfOk result (λ found. entry_made found ≡ next_entry tables (row_of_line on.now.run line table.now) owned (step_seen on.now)) }
     ensures bytes { IfOk result (λ found. IfSome found (λ made. made.bytes.items ≡ spelling (entry_of made.point))) }
     ensures typed { IfOk result (λ found. IfSome found (λ _. IsTyped on.now.step.state)) }
     ensures form { IfOk result (λ found. IfSome found (λ made. IsFormedWithState (entry_of made.point))) }
 {
-    let Some(check) = checkpoint_name(on.run, own) else {
+    let Some(check) = checkpoint_name(table.job.root(), own) else {
         return Ok(None);
     };
     let Some(set) = library.get(&check) else {
         return Ok(None);
     };
-    let Some(id) = id_of(table, own) else {
+    let Some(id) = id_of(table, own.step) else {
         return Ok(None);
     };
     let behind = Behind {
@@ -378,8 +386,8 @@ impl Jobs {
         ensures { (row : RunRow) (own : OwnedStep) → run_of self.now.tables.desk on.now.run ≡ Some row → step_of_run row (step_now row) ≡ Some own → result ≡ id_in (next_id row own) }
     {
         let table = self.known(on.run)?;
-        let own = step_at(&table.job, step_in(place_of(table)))?;
-        id_of(table, own)
+        let own = step_at(&table.job, on.run, step_in(place_of(table)))?;
+        id_of(table, own.step)
     }
 
     /// The entry that the next checkpoint of a running step writes behind the last record of its data set for checkpoints, with its bytes: its
@@ -400,10 +408,10 @@ impl Jobs {
         let Some(table) = self.known(on.run) else {
             return Ok(None);
         };
-        let Some(own) = step_at(&table.job, step_in(place_of(table))) else {
+        let Some(own) = step_at(&table.job, on.run, step_in(place_of(table))) else {
             return Ok(None);
         };
         let _lines = self.tables.runs();
-        next_of(self.alloc, self.tables.library(), table, own, on)
+        next_of(self.alloc, self.tables.library(), table, &own, on)
     }
 }

@@ -6,20 +6,20 @@ ghost use Rattle.std.specs.Ordering.{is_gt};
 ghost use Rattle.ckr_entry.specs.Numbers.{given};
 ghost use Rattle.ckr_entry.specs.Sets.{present};
 ghost use Rattle.ckr_library.specs.NameMaps.{name_cmp, with_entry};
-ghost use Rattle.ckr_points_library.specs.Holdings.{owned};
-ghost use Rattle.ckr_meaning.specs.EffectiveJob.{name_of, names_of, names_of_job, plain_job};
+ghost use Rattle.ckr_meaning.specs.EffectiveJob.{name_of, names_of, names_of_job, step_at};
 ghost use Rattle.ckr_points.specs.Marks.{first_volume, marks_for};
+ghost use Rattle.ckr_points_tables.specs.RunJobs.{effective, names_in, own_of};
 ghost use Rattle.ckr_points_tables.specs.MarkOrder.{are_in_order, has_name, marked, marked_onto, place_in};
-ghost use Rattle.ckr_desk_memory.specs.EntryMarks.{is_output_of, length_of, mark_behind, present_behind};
+ghost use Rattle.ckr_desk_memory.specs.EntryMarks.{is_output_of, length_of, mark_behind, present_behind, MayMark};
 ghost use Rattle.ckr_desk_memory.specs.EntryTypes.{IsTypedMark};
 
 use crate::RunningStep;
 use ckr_base::{DsName, NoMemory};
 use ckr_entry::{Mark, Marks, Present};
-use ckr_jcl::{Dd, Job, Step};
+use ckr_jcl::Dd;
 use ckr_library::{DataSet, Library, Part, Stamp};
 use ckr_points_library::output_name;
-use ckr_points_tables::RunTable;
+use ckr_points_tables::{OwnStep, RunTable, step_at};
 use ckr_uses::library_name;
 use std::alloc::Global;
 
@@ -28,8 +28,8 @@ use std::alloc::Global;
 pub(crate) struct Behind<'a> {
     /// What the tables keep of the run.
     pub(crate) table: &'a RunTable,
-    /// The step that it is in.
-    pub(crate) own: &'a Step,
+    /// The step that it is in, with the run that owns it.
+    pub(crate) own: &'a OwnStep<'a>,
     /// The running step, whose data sets have the lengths that they have by now.
     pub(crate) on: &'a RunningStep,
     /// The data sets, with the lengths that are committed.
@@ -42,11 +42,13 @@ pub(crate) struct Behind<'a> {
 
 /// Whether a data set of this name is an output of the step.
 fn is_output(behind: &Behind<'_>, name: &DsName) -> bool
-    requires { behind.now.on.now.run ≤ 9999999 }
+    requires { MayMark behind.now }
     ensures { result ≡ is_output_of behind.now name.now }
 {
-    for dd in behind.own.dds.as_slice() {
-        if let Some(output) = output_name(dd, behind.on.run, behind.on.run, behind.own) {
+    let root = behind.table.job.root();
+    let own = behind.own;
+    for dd in own.step.dds.as_slice() {
+        if let Some(output) = output_name(dd, root, own.owner, own.step) {
             if name.is_same(&output) {
                 return true;
             }
@@ -57,7 +59,7 @@ fn is_output(behind: &Behind<'_>, name: &DsName) -> bool
 
 /// The length of a data set: an output has the one that the step gives it, another one that which is committed.
 fn length_of(behind: &Behind<'_>, name: &DsName, set: &DataSet) -> u32
-    requires { behind.now.on.now.run ≤ 9999999 }
+    requires { MayMark behind.now }
     ensures { result ≡ length_of behind.now name.now set.now }
 {
     if !is_output(behind, name) {
@@ -84,7 +86,7 @@ fn first_volume(parts: &[Part]) -> u8
 
 /// What a mark says of a data set.
 fn present_of(behind: &Behind<'_>, name: &DsName, set: &DataSet) -> Present
-    requires { behind.now.on.now.run ≤ 9999999 }
+    requires { MayMark behind.now }
     ensures { result ≡ present_behind behind.now name.now set.now }
 {
     Present {
@@ -99,7 +101,7 @@ fn present_of(behind: &Behind<'_>, name: &DsName, set: &DataSet) -> Present
 
 /// What a mark says of a name: nothing where there is no data set of this name.
 fn mark_of(behind: &Behind<'_>, name: DsName) -> Mark
-    requires { behind.now.on.now.run ≤ 9999999 }
+    requires { MayMark behind.now }
     ensures { result ≡ mark_behind behind.now name }
 {
     let present = match behind.committed.get(&name) {
@@ -151,46 +153,73 @@ fn enter(items: &mut Vec<Mark>, mark: Mark) -> Result<(), NoMemory>
 }
 
 /// Enters the mark of a DD's name, if it has a data set.
-fn mark_dd(behind: &Behind<'_>, step: &Step, dd: &Dd, items: &mut Vec<Mark>) -> Result<(), NoMemory>
-    requires run { behind.now.on.now.run ≤ 9999999 }
+fn mark_dd(
+    behind: &Behind<'_>,
+    root: u32,
+    own: &OwnStep<'_>,
+    dd: &Dd,
+    items: &mut Vec<Mark>,
+) -> Result<(), NoMemory>
+    requires may { MayMark behind.now }
+    requires root { root ≤ 9999999 }
+    requires owner { own.now.owner ≤ 9999999 }
     requires order { IsTrue (are_in_order items.old.items) }
-    ensures items { OnOk result (marked items.new.items ≡ marked_onto (mark_behind behind.now) (option_to_list (name_of behind.now.on.now.run (owned step.now behind.now.on.now.run []) dd.now)) (marked items.old.items)) }
+    ensures items { OnOk result (marked items.new.items ≡ marked_onto (mark_behind behind.now) (option_to_list (name_of root (own_of own.now) dd.now)) (marked items.old.items)) }
     ensures order { OnOk result (IsTrue (are_in_order items.new.items)) }
 {
-    match library_name(dd, behind.on.run, behind.on.run, &step.name) {
+    match library_name(dd, root, own.owner, &own.step.name) {
         Some(name) => enter(items, mark_of(behind, name)),
         None => Ok(()),
     }
 }
 
 /// Enters the marks of a step's names.
-fn mark_step(behind: &Behind<'_>, step: &Step, items: &mut Vec<Mark>) -> Result<(), NoMemory>
-    requires run { behind.now.on.now.run ≤ 9999999 }
+fn mark_step(
+    behind: &Behind<'_>,
+    root: u32,
+    own: &OwnStep<'_>,
+    items: &mut Vec<Mark>,
+) -> Result<(), NoMemory>
+    requires may { MayMark behind.now }
+    requires root { root ≤ 9999999 }
+    requires owner { own.now.owner ≤ 9999999 }
     requires order { IsTrue (are_in_order items.old.items) }
-    ensures items { OnOk result (marked items.new.items ≡ marked_onto (mark_behind behind.now) (names_of behind.now.on.now.run (owned step.now behind.now.on.now.run [])) (marked items.old.items)) }
+    ensures items { OnOk result (marked items.new.items ≡ marked_onto (mark_behind behind.now) (names_of root (own_of own.now)) (marked items.old.items)) }
     ensures order { OnOk result (IsTrue (are_in_order items.new.items)) }
 {
-    let dds = step.dds.as_slice();
+    let dds = own.step.dds.as_slice();
     let mut left = dds.len();
     while left > 0 {
         left -= 1;
-        mark_dd(behind, step, &dds[left], items)?;
+        mark_dd(behind, root, own, &dds[left], items)?;
     }
     Ok(())
 }
 
-/// The marks of all names of a run that continues none.
-fn mark_job(alloc: Global, behind: &Behind<'_>, job: &Job) -> Result<Vec<Mark>, NoMemory>
-    requires { behind.now.on.now.run ≤ 9999999 }
-    ensures items { IfOk result (λ items. items.items ≡ marks_for (mark_behind behind.now) (names_of_job (plain_job behind.now.on.now.run job.now))) }
+/// Enters the marks of the names of the step of a number, if the run has one.
+fn mark_step_at(behind: &Behind<'_>, step: u8, items: &mut Vec<Mark>) -> Result<(), NoMemory>
+    requires may { MayMark behind.now }
+    requires order { IsTrue (are_in_order items.old.items) }
+    ensures items { OnOk result (marked items.new.items ≡ marked_onto (mark_behind behind.now) (names_in behind.now.table.now.job.root (step_at (effective behind.now.on.now.run behind.now.table.now.job) step)) (marked items.old.items)) }
+    ensures order { OnOk result (IsTrue (are_in_order items.new.items)) }
+{
+    match step_at(&behind.table.job, behind.on.run, step) {
+        Some(own) => mark_step(behind, behind.table.job.root(), &own, items),
+        None => Ok(()),
+    }
+}
+
+/// The marks of all names of a run that continues none. It has at most 64 steps.
+fn mark_job(alloc: Global, behind: &Behind<'_>) -> Result<Vec<Mark>, NoMemory>
+    requires { MayMark behind.now }
+    ensures items { IfOk result (λ items. items.items ≡ marks_for (mark_behind behind.now) (names_of_job (effective behind.now.on.now.run behind.now.table.now.job))) }
     ensures order { IfOk result (λ items. IsTrue (are_in_order items.items)) }
 {
     let mut items = Vec::new(alloc);
-    let steps = job.steps.as_slice();
-    let mut left = steps.len();
+    let mut left = 64;
     while left > 0 {
+        mark_step_at(behind, left, &mut items)?;
         left -= 1;
-        mark_step(behind, &steps[left], &mut items)?;
     }
     Ok(items)
 }
@@ -232,13 +261,13 @@ fn copy_of_mark(mark: &Mark) -> Mark
 /// The marks of all names of a run that continues none, as a point has them, in ascending order of the names.
 ///
 /// `NoMemory`: there is none for them.
-pub(crate) fn marks_of(alloc: Global, behind: &Behind<'_>, job: &Job) -> Result<Marks, NoMemory>
-    requires { behind.now.on.now.run ≤ 9999999 }
-    ensures items { IfOk result (λ marks. marks.items ≡ marks_for (mark_behind behind.now) (names_of_job (plain_job behind.now.on.now.run job.now))) }
+pub(crate) fn marks_of(alloc: Global, behind: &Behind<'_>) -> Result<Marks, NoMemory>
+    requires { MayMark behind.now }
+    ensures items { IfOk result (λ marks. marks.items ≡ marks_for (mark_behind behind.now) (names_of_job (effective behind.now.on.now.run behind.now.table.now.job))) }
     ensures order { IfOk result (λ marks. IsTrue (are_in_order marks.items)) }
     ensures typed { IfOk result (λ marks. AllByRecursion IsTypedMark marks.items) }
 {
-    let items = mark_job(alloc, behind, job)?;
+    let items = mark_job(alloc, behind)?;
     let mut marks = Marks::new(alloc);
     for mark in items.as_slice() {
         marks.push(copy_of_mark(mark))?;

@@ -1,6 +1,8 @@
 //! The jobs go on by an event that was written.
 ghost use Rattle.std.specs.Prelude.{◌≡◌, ◌∷◌, ◌+◌, ◌-◌, ◌<◌, ◌≤◌, ◌==◌, List, true, false, not, filter, length, map, None, Option, IsTrue, vec_len, vec_capacity};
 ghost use Rattle.std.specs.List.{AllByRecursion};
+ghost use Rattle.std.specs.Option.{option_map};
+ghost use Rattle.std.specs.Rc.{rc_value};
 ghost use Rattle.ckr_jcl.specs.declared.deck.Job.{Job as JobOfDeck};
 ghost use Rattle.ckr_desk_memory.specs.EventChanges.{check_name_in, point_of, points_behind, queue_after, with_point, without_point, without_run, HasUses, MayQueue};
 ghost use Rattle.ckr_desk_memory.specs.RunningSteps.{GoesOn, IsStartedFrom, MayGoBack, MayLookUp, MayRun, StepGoesBack};
@@ -38,6 +40,7 @@ use ckr_points::step_in;
 use ckr_points_tables::{Tables, checkpoint_name, step_at};
 use ckr_queue::Queue;
 use ckr_uses::Uses;
+use std::rc::Rc;
 
 /// A run is queued, for which there is room.
 fn queue_run(queue: &mut Queue, number: u32, uses: Uses)
@@ -104,11 +107,12 @@ fn check_of(tables: &Tables, run: u32) -> Option<DsName>
     requires { MayLookUp tables.now.desk }
     ensures { result ≡ check_name_in tables.now.desk run }
 {
+    let _lines = tables.runs();
     let Some(table) = tables.run(run) else {
         return None;
     };
-    match step_at(&table.job, step_in(place_of(table))) {
-        Some(own) => checkpoint_name(run, own),
+    match step_at(&table.job, run, step_in(place_of(table))) {
+        Some(own) => checkpoint_name(table.job.root(), &own),
         None => None,
     }
 }
@@ -259,22 +263,22 @@ impl Jobs {
     /// Goes on by a forward event that follows, with the memory that `prepare` took for it. A deck is given exactly where the event is
     /// Submitted and its cards are a deck, and it is that deck, accepted and of a form that the desk runs. It takes no memory, and
     /// doesn't fail. A record that the event tells has its place then (this project's profile).
-    pub fn keep(&mut self, event: &Event, deck: Option<Job>, prepared: Prepared)
+    pub fn keep(&mut self, event: &Event, deck: Option<Rc<Job>>, prepared: Prepared)
         requires plain { IsTrue (is_forward_event event.now) }
-        requires follows { MayGoOn self.old event.now deck }
-        requires deck { MaySubmit event.now deck }
-        requires accepted { IsAnyAccepted event.now deck }
+        requires follows { MayGoOn self.old event.now (option_map rc_value deck) }
+        requires deck { MaySubmit event.now (option_map rc_value deck) }
+        requires accepted { IsAnyAccepted event.now (option_map rc_value deck) }
         requires count { MayCount event.now self.old.tables.desk.sets }
-        requires prepared { IsPrepared self.old event.now deck prepared }
-        ensures tables { self.new.tables.desk ≡ after_event event.now deck self.old.tables.desk }
+        requires prepared { IsPrepared self.old event.now (option_map rc_value deck) prepared }
+        ensures tables { self.new.tables.desk ≡ after_event event.now (option_map rc_value deck) self.old.tables.desk }
         ensures running { GoesOn event.now self.new.tables.desk self.old.points self.old.running self.new.running }
         ensures failed { self.new.failed ≡ failed_behind event.now self.old.failed }
         ensures points { self.new.points ≡ points_behind event.now self.new.running self.old.points }
         ensures place { HasRecordPlace event.now self.new.tables.desk }
-        ensures jobs { (layout : LayoutOfDisk) → AreJobs layout self.old → follows layout self.old.tables.desk event.now deck ≡ true → AreJobs layout self.new }
-        ensures own { (layout : LayoutOfDisk) → AreJobs layout self.old → HoldTheirOwn self.old → follows layout self.old.tables.desk event.now deck ≡ true
+        ensures jobs { (layout : LayoutOfDisk) → AreJobs layout self.old → follows layout self.old.tables.desk event.now (option_map rc_value deck) ≡ true → AreJobs layout self.new }
+        ensures own { (layout : LayoutOfDisk) → AreJobs layout self.old → HoldTheirOwn self.old → follows layout self.old.tables.desk event.now (option_map rc_value deck) ≡ true
             → CommitsItsOwn event.now self.old.tables.desk self.old.running → HoldTheirOwn self.new }
-        ensures left { (layout : LayoutOfDisk) → AreJobs layout self.old → AreLeft self.old → follows layout self.old.tables.desk event.now deck ≡ true
+        ensures left { (layout : LayoutOfDisk) → AreJobs layout self.old → AreLeft self.old → follows layout self.old.tables.desk event.now (option_map rc_value deck) ≡ true
             → LeavesLeft event.now self.old.failed → AreLeft self.new }
     {
         self.go_on(event, deck, prepared.uses);
@@ -285,15 +289,15 @@ impl Jobs {
 
     /// The tables go on by a forward event that follows, and the queue with them. There is room for the event, and the uses are those
     /// of the deck that it submits. It takes no memory, and doesn't fail.
-    pub(crate) fn go_on(&mut self, event: &Event, deck: Option<Job>, uses: Option<Uses>)
+    pub(crate) fn go_on(&mut self, event: &Event, deck: Option<Rc<Job>>, uses: Option<Uses>)
         requires plain { IsTrue (is_forward_event event.now) }
-        requires follows { MayFollow self.old.tables.desk event.now deck }
-        requires deck { MaySubmit event.now deck }
+        requires follows { MayFollow self.old.tables.desk event.now (option_map rc_value deck) }
+        requires deck { MaySubmit event.now (option_map rc_value deck) }
         requires count { MayCount event.now self.old.tables.desk.sets }
         requires tables { HasRoom self.old.tables event.now }
         requires queue { HasQueueRoom event.now self.old.queue_room }
-        requires uses { HasUses event.now deck uses }
-        ensures tables { self.new.tables.desk ≡ after_event event.now deck self.old.tables.desk }
+        requires uses { HasUses event.now (option_map rc_value deck) uses }
+        ensures tables { self.new.tables.desk ≡ after_event event.now (option_map rc_value deck) self.old.tables.desk }
         ensures running { self.new.running ≡ self.old.running }
         ensures failed { self.new.failed ≡ self.old.failed }
         ensures points { self.new.points ≡ self.old.points }

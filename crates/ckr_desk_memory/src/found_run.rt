@@ -86,6 +86,7 @@ impl Jobs {
         ensures none { IfNone result (run_of self.now.tables.desk job ≡ None) }
         ensures numbered { AreNumbered 1 self.now.tables.desk.runs }
     {
+        let _lines = self.tables.runs();
         self.tables.run(job)
     }
 
@@ -142,9 +143,9 @@ impl Jobs {
         ensures first { IfSome result (λ _. 1 ≤ number) }
         ensures run { IfSome result (λ _. IsSome (run_of self.now.tables.desk job)) }
     {
-        let table = self.tables.run(job)?;
-        let own = step_at(&table.job, number)?;
-        Some(own.name.copied())
+        let table = self.known(job)?;
+        let own = step_at(&table.job, job, number)?;
+        Some(own.step.name.copied())
     }
 
     /// The name of a DD of a step of a run, by their numbers from 1. None where there is no such DD.
@@ -152,9 +153,9 @@ impl Jobs {
         requires { AllByRecursion IsAcceptedRow self.now.tables.desk.runs }
         ensures { (row : RunRow) (own : OwnedStep) → run_of self.now.tables.desk job ≡ Some row → step_of_run row number ≡ Some own → result ≡ option_map (λ (one : DdOfDeck). one.name) (slice_get own.step.dds (pred dd)) }
     {
-        let table = self.tables.run(job)?;
-        let own = step_at(&table.job, number)?;
-        let found = dd_at(own.dds.as_slice(), dd)?;
+        let table = self.known(job)?;
+        let own = step_at(&table.job, job, number)?;
+        let found = dd_at(own.step.dds.as_slice(), dd)?;
         Some(found.name.copied())
     }
 

@@ -19,6 +19,7 @@ mod rewrite;
 mod run_code;
 mod served;
 mod set_copy;
+mod sharing;
 mod start;
 mod unit_due;
 mod unit_reply;
@@ -35,6 +36,7 @@ pub use holder_laws::{
 pub use jobs::{Jobs, RunningStep, StepPoint};
 pub use preparation::Prepared;
 pub use set_copy::copy_of_set;
+pub use sharing::shared_deck;
 
 // What the desk asks of the tables beside the jobs.
 pub use ckr_points_follows::{may_count, purged_follows, released_follows};

@@ -12,7 +12,7 @@ ghost use Rattle.ckr_points.specs.Follows.{own_step};
 ghost use Rattle.ckr_points.specs.Restart.{place_of as place_of_row, step_in as step_in_place};
 ghost use Rattle.ckr_points.specs.Rows.{run_of, step_of_run, RunRow};
 ghost use Rattle.ckr_steps.specs.StepUnit.{AreCounted};
-ghost use Rattle.ckr_points_decks.specs.DeckLimits.{IsWithinLimits};
+ghost use Rattle.ckr_points_tables.specs.RunJobs.{effective, IsFitting};
 ghost use Rattle.ckr_desk_turn.specs.Codes.{code_plan, initiator_of, reached_by};
 ghost use Rattle.ckr_desk_turn.specs.Invariant.{IsTurnOf};
 ghost use Rattle.ckr_desk_turn.specs.Jobs.{is_failed, running_in, step_name_of, waiting_code};
@@ -39,7 +39,7 @@ use ckr_volumes::Layout;
 fn step_ended(on: &RunningStep, run: u32, table: &RunTable, rc: u16) -> Plan
     requires run { run ≤ 9999999 }
     requires there { IsSome (own_step (row_for run table.now)) }
-    requires within { AllByRecursion IsWithinLimits table.now.job.steps }
+    requires fits { IsFitting (effective run table.now.job) }
     requires counted { AreCounted on.now.step }
     ensures plan { let row = row_for run table.now in result ≡ Plan.Tell (Reply.StepEnded run (step_name_of row) rc) (StepEndedEvent run (step_in_place (place_of_row row)) rc on.now.step.writes (record { items = lengths_of_row on.now.sets.sets row })) }
     ensures spelled { IsSpelledPlan result }

@@ -112,11 +112,11 @@ impl Jobs {
         ensures step { IfOk result (HasStep self.now.tables.desk job step) }
         ensures empty { IfOk result (λ begun. IfSome begun (IsEmpty job)) }
     {
-        let Some(table) = self.tables.run(job) else {
+        let Some(table) = self.known(job) else {
             return Ok(None);
         };
-        match step_at(&table.job, step) {
-            Some(own) => Ok(Some(begin_step(self.alloc, job, own)?)),
+        match step_at(&table.job, job, step) {
+            Some(own) => Ok(Some(begin_step(self.alloc, job, own.step)?)),
             None => Ok(None),
         }
     }
@@ -130,11 +130,11 @@ impl Jobs {
         let Some(point) = point_in(self.points.as_slice(), job) else {
             return Ok(None);
         };
-        let Some(table) = self.tables.run(job) else {
+        let Some(table) = self.known(job) else {
             return Ok(None);
         };
-        match step_at(&table.job, step_in(place_of(table))) {
-            Some(own) => Ok(Some(resume_step(self.alloc, job, own, point)?)),
+        match step_at(&table.job, job, step_in(place_of(table))) {
+            Some(own) => Ok(Some(resume_step(self.alloc, job, own.step, point)?)),
             None => Ok(None),
         }
     }

@@ -7,7 +7,7 @@ ghost use Rattle.ckr_desk_memory.specs.Replay.{deck_of, goes_on, is_run_as, is_r
 ghost use Rattle.ckr_points.specs.Follows.{follows};
 ghost use Rattle.ckr_desk_memory.specs.ForwardEvents.{is_forward_event};
 
-use crate::Jobs;
+use crate::{Jobs, shared_deck};
 use ckr_base::NoMemory;
 use ckr_events::Event;
 use ckr_jcl::Job;
@@ -113,7 +113,8 @@ impl Jobs {
             return Ok(false);
         }
         let uses = self.make_room(event, deck.as_ref())?;
-        self.go_on(event, deck, uses);
+        let shared = shared_deck(self.alloc, deck)?;
+        self.go_on(event, shared, uses);
         Ok(true)
     }
 }

@@ -5,6 +5,7 @@ ghost use Rattle.ckr_desk_memory.specs.Invariant.{IsAcceptedRow};
 ghost use Rattle.ckr_desk_memory.specs.Plans.{row_for};
 ghost use Rattle.ckr_desk_memory.specs.Rewrite.{updated_by};
 ghost use Rattle.ckr_points.specs.Rows.{run_of, RunRow};
+ghost use Rattle.ckr_points_tables.specs.RunJobs.{effective, IsFitting};
 
 use crate::Jobs;
 use crate::run_code::place_of;
@@ -15,12 +16,12 @@ use ckr_uses::library_name;
 
 /// The name of the data set that the step updates that a run is in, if it updates one.
 fn updated_name(run: u32, table: &RunTable) -> Option<DsName>
-    requires { run ≤ 9999999 }
+    requires { IsFitting (effective run table.now.job) }
     ensures { result ≡ updated_by (row_for run table.now) }
 {
-    let own = step_at(&table.job, step_in(place_of(table)))?;
-    let dd = master_dd(own)?;
-    library_name(dd, run, run, &own.name)
+    let own = step_at(&table.job, run, step_in(place_of(table)))?;
+    let dd = master_dd(own.step)?;
+    library_name(dd, table.job.root(), own.owner, &own.step.name)
 }
 
 impl Jobs {

@@ -3,7 +3,6 @@ ghost use Rattle.std.specs.Prelude.{◌≡◌, ◌≤◌, false, [], ℕ, IsSome
 ghost use Rattle.std.specs.List.{list_any, AllByRecursion};
 ghost use Rattle.std.specs.Option.{option_map};
 ghost use Rattle.ckr_base.specs.CodeText.{same_code};
-ghost use Rattle.ckr_points_library.specs.Holdings.{owned};
 ghost use Rattle.ckr_events.specs.Format.{length_list};
 ghost use Rattle.ckr_library.specs.Catalog.{fresh_holding};
 ghost use Rattle.ckr_library.specs.NameMaps.{with_entry};
@@ -16,7 +15,7 @@ ghost use Rattle.ckr_points.specs.Follows.{own_step};
 ghost use Rattle.ckr_points.specs.Restart.{place_of as place_of_row, step_in as step_in_place};
 ghost use Rattle.ckr_points.specs.Rows.{KeptEntry as EntryOfSet, RunRow};
 ghost use Rattle.ckr_rules.specs.RuleTables.{is_rnc, rule_number, suppresses};
-ghost use Rattle.ckr_points_decks.specs.DeckLimits.{IsWithinLimits};
+ghost use Rattle.ckr_points_tables.specs.RunJobs.{effective, own_of, IsFitting};
 ghost use Rattle.ckr_desk_turn.specs.Codes.{asked_at_entry, asked_at_start, code_plan, ended_by, judged_plan};
 ghost use Rattle.ckr_rules.specs.declared.cases.Verdict.TheVariants.{Checkpoint as AtCheckpoint};
 ghost use Rattle.ckr_desk_turn.specs.Jobs.{effect_entry, step_name_of};
@@ -26,12 +25,12 @@ use crate::RunningStep;
 use arrayvec::ArrayVec;
 use ckr_base::{CheckId, Code, DsName, Name8};
 use ckr_desk_turn::{How, Inquiry, Plan, Reply, coded_event};
-use ckr_jcl::{Rd, Step};
+use ckr_jcl::Rd;
 use ckr_library::{DataSet, Library};
 use ckr_meaning::Place;
 use ckr_points::step_in;
 use ckr_points_library::output_name;
-use ckr_points_tables::{RunTable, Tables, place_now, point_at, step_at};
+use ckr_points_tables::{OwnStep, RunTable, Tables, place_now, point_at, step_at};
 use ckr_rules::{AutoCase, Rule, Verdict, automatic};
 use ckr_steps::UnitAhead;
 use ckr_volumes::Layout;
@@ -101,16 +100,17 @@ fn length_in(extents: &Extents<'_>, name: &DsName) -> u32
 }
 
 /// The lengths of a step's outputs, in the order of the DDs.
-fn lengths_in(extents: &Extents<'_>, run: u32, step: &Step) -> ArrayVec<u32, 16>
-    requires run { run ≤ 9999999 }
-    requires few { length step.now.dds ≤ 16 }
+fn lengths_in(extents: &Extents<'_>, root: u32, own: &OwnStep<'_>) -> ArrayVec<u32, 16>
+    requires root { root ≤ 9999999 }
+    requires owner { own.now.owner ≤ 9999999 }
+    requires few { length own.now.step.now.dds ≤ 16 }
     requires short { AreShort extents.now }
-    ensures lengths { result.items ≡ lengths_in (sets_of extents.now) run (owned step.now run []) }
+    ensures lengths { result.items ≡ lengths_in (sets_of extents.now) root (own_of own.now) }
     ensures fits { length_list.fits result.items }
 {
     let mut lengths = ArrayVec::new();
-    for dd in step.dds.as_slice() {
-        if let Some(name) = output_name(dd, run, run, step) {
+    for dd in own.step.dds.as_slice() {
+        if let Some(name) = output_name(dd, root, own.owner, own.step) {
             lengths.push(length_in(extents, &name));
         }
     }
@@ -119,14 +119,13 @@ fn lengths_in(extents: &Extents<'_>, run: u32, step: &Step) -> ArrayVec<u32, 16>
 
 /// Those of the step that a run is before or in; none where there is no such step.
 pub(crate) fn lengths_of(extents: &Extents<'_>, run: u32, table: &RunTable) -> ArrayVec<u32, 16>
-    requires run { run ≤ 9999999 }
-    requires within { AllByRecursion IsWithinLimits table.now.job.steps }
+    requires fits { IsFitting (effective run table.now.job) }
     requires short { AreShort extents.now }
     ensures lengths { result.items ≡ lengths_of_row (sets_of extents.now) (row_for run table.now) }
     ensures fits { length_list.fits result.items }
 {
-    match step_at(&table.job, step_in(place_of(table))) {
-        Some(step) => lengths_in(extents, run, step),
+    match step_at(&table.job, run, step_in(place_of(table))) {
+        Some(own) => lengths_in(extents, table.job.root(), &own),
         None => ArrayVec::new(),
     }
 }
@@ -135,15 +134,11 @@ pub(crate) fn lengths_of(extents: &Extents<'_>, run: u32, table: &RunTable) -> A
 fn rd_of(table: &RunTable, step: u8) -> Option<Rd>
     ensures { (run : ℕ) → result ≡ rd_in_effect (row_for run table.now) step }
 {
-    if table.job.rd.is_some() {
-        return table.job.rd;
+    let deck = table.job.deck();
+    if deck.rd.is_some() {
+        return deck.rd;
     }
-    match table
-        .job
-        .steps
-        .as_slice()
-        .get(step.saturating_sub(1) as usize)
-    {
+    match deck.steps.as_slice().get(step.saturating_sub(1) as usize) {
         Some(own) => own.rd,
         None => None,
     }
@@ -221,8 +216,8 @@ pub(crate) fn name_within(run: u32, table: &RunTable) -> Name8
     requires there { IsSome (own_step (row_for run table.now)) }
     ensures { result ≡ step_name_of (row_for run table.now) }
 {
-    match step_at(&table.job, step_in(place_of(table))) {
-        Some(own) => own.name.copied(),
+    match step_at(&table.job, run, step_in(place_of(table))) {
+        Some(own) => own.step.name.copied(),
         None => unreachable!(),
     }
 }

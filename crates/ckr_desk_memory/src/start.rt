@@ -1,7 +1,6 @@
 //! A step that starts, with its data sets.
-ghost use Rattle.std.specs.Prelude.{◌≡◌, ◌∷◌, ◌+◌, ◌-◌, ◌<◌, ◌≤◌, if◌then◌else◌, ℕ, [], Option, None, Some, length, map, vec_len, vec_capacity};
+ghost use Rattle.std.specs.Prelude.{◌≡◌, ◌∷◌, ◌+◌, ◌-◌, ◌<◌, ◌≤◌, if◌then◌else◌, ℕ, Option, None, Some, length, map, vec_len, vec_capacity};
 ghost use Rattle.std.specs.List.{AllByRecursion};
-ghost use Rattle.ckr_points_library.specs.Holdings.{owned};
 ghost use Rattle.ckr_desk_memory.specs.Invariant.{IsAcceptedRow};
 ghost use Rattle.ckr_desk_memory.specs.Parts.{step_seen};
 ghost use Rattle.ckr_desk_memory.specs.Preparation.{HasAgain, IsEmpty};
@@ -12,6 +11,7 @@ ghost use Rattle.ckr_meaning.specs.EffectiveJob.{name_of, names_of, OwnedStep as
 ghost use Rattle.ckr_points.specs.Follows.{own_step};
 ghost use Rattle.ckr_points.specs.Restart.{place_of as place_of_row, step_in as step_in_place};
 ghost use Rattle.ckr_points.specs.Rows.{holding_of, run_of, step_of_run, RunRow as RowOfRun};
+ghost use Rattle.ckr_points_tables.specs.RunJobs.{own_of};
 ghost use Rattle.ckr_points_tables.specs.View.{seen_by};
 ghost use Rattle.ckr_desk_turn.specs.Queue.{AreNumbered};
 
@@ -21,10 +21,10 @@ use crate::lines::is_on;
 use crate::run_code::place_of;
 use crate::set_copy::copy_of_set;
 use ckr_base::DsName;
-use ckr_jcl::{Dd, Step};
+use ckr_jcl::Dd;
 use ckr_library::Library;
 use ckr_points::step_in;
-use ckr_points_tables::{Tables, step_at};
+use ckr_points_tables::{OwnStep, Tables, step_at};
 use ckr_uses::library_name;
 
 /// Takes the data set of a name, where it isn't there yet. There is room for it.
@@ -46,27 +46,29 @@ fn take_set(name: DsName, from: &Library, sets: &mut Library)
 }
 
 /// The same for a DD that has a data set or none.
-fn take_dd(job: u32, step: &Step, dd: &Dd, from: &Library, sets: &mut Library)
-    requires job { job ≤ 9999999 }
+fn take_dd(root: u32, own: &OwnStep<'_>, dd: &Dd, from: &Library, sets: &mut Library)
+    requires root { root ≤ 9999999 }
+    requires owner { own.now.owner ≤ 9999999 }
     requires fit { AllFit from.now.sets }
     requires room { 0 < sets.old.room }
-    ensures sets { sets.new.sets ≡ with_any_taken from.now.sets (name_of job (owned step.now job []) dd.now) sets.old.sets }
+    ensures sets { sets.new.sets ≡ with_any_taken from.now.sets (name_of root (own_of own.now) dd.now) sets.old.sets }
     ensures room { sets.old.room ≤ sets.new.room + 1 }
 {
-    if let Some(name) = library_name(dd, job, job, &step.name) {
+    if let Some(name) = library_name(dd, root, own.owner, &own.step.name) {
         take_set(name, from, sets);
     }
 }
 
 /// Takes the data sets of a step. There is room for them.
-fn take_sets(job: u32, step: &Step, from: &Library, sets: &mut Library)
-    requires job { job ≤ 9999999 }
+fn take_sets(root: u32, own: &OwnStep<'_>, from: &Library, sets: &mut Library)
+    requires root { root ≤ 9999999 }
+    requires owner { own.now.owner ≤ 9999999 }
     requires fit { AllFit from.now.sets }
-    requires room { length step.now.dds ≤ sets.old.room }
-    ensures { sets.new.sets ≡ with_all_taken (name_of job (owned step.now job [])) from.now.sets step.now.dds sets.old.sets }
+    requires room { length own.now.step.now.dds ≤ sets.old.room }
+    ensures { sets.new.sets ≡ with_all_taken (name_of root (own_of own.now)) from.now.sets own.now.step.now.dds sets.old.sets }
 {
-    for dd in step.dds.as_slice() {
-        take_dd(job, step, dd, from, sets);
+    for dd in own.step.dds.as_slice() {
+        take_dd(root, own, dd, from, sets);
     }
 }
 
@@ -99,13 +101,14 @@ fn start_step(
     requires room { vec_len running.old < vec_capacity running.old }
     ensures { (row : RowOfRun) (owned : OwnedStepOfRun) → run_of tables.now.desk job ≡ Some row → step_of_run row step ≡ Some owned → HasNew job owned on.step tables.now.desk.sets (map step_seen running.old.items) (map step_seen running.new.items) }
 {
+    let _lines = tables.runs();
     let Some(table) = tables.run(job) else {
         return;
     };
-    let Some(own) = step_at(&table.job, step) else {
+    let Some(own) = step_at(&table.job, job, step) else {
         return;
     };
-    take_sets(job, own, tables.library(), &mut on.sets);
+    take_sets(job, &own, tables.library(), &mut on.sets);
     leave(running, job);
     put_first(running, on);
 }
@@ -127,23 +130,25 @@ pub(crate) fn start_prepared(
 }
 
 /// Whether a library has the data set of a DD, where it names one.
-fn has_set(job: u32, step: &Step, dd: &Dd, from: &Library) -> bool
-    requires { job ≤ 9999999 }
-    ensures { result ≡ has_any from.now.sets (name_of job (owned step.now job []) dd.now) }
+fn has_set(root: u32, own: &OwnStep<'_>, dd: &Dd, from: &Library) -> bool
+    requires root { root ≤ 9999999 }
+    requires owner { own.now.owner ≤ 9999999 }
+    ensures { result ≡ has_any from.now.sets (name_of root (own_of own.now) dd.now) }
 {
-    match library_name(dd, job, job, &step.name) {
+    match library_name(dd, root, own.owner, &own.step.name) {
         Some(name) => from.get(&name).is_some(),
         None => true,
     }
 }
 
 /// Whether it has each data set that a step names.
-fn has_sets(job: u32, step: &Step, from: &Library) -> bool
-    requires { job ≤ 9999999 }
-    ensures { result ≡ has_all (name_of job (owned step.now job [])) from.now.sets step.now.dds }
+fn has_sets(root: u32, own: &OwnStep<'_>, from: &Library) -> bool
+    requires root { root ≤ 9999999 }
+    requires owner { own.now.owner ≤ 9999999 }
+    ensures { result ≡ has_all (name_of root (own_of own.now)) from.now.sets own.now.step.now.dds }
 {
-    for dd in step.dds.as_slice() {
-        if !has_set(job, step, dd, from) {
+    for dd in own.step.dds.as_slice() {
+        if !has_set(root, own, dd, from) {
             return false;
         }
     }
@@ -160,14 +165,15 @@ fn step_there(tables: &Tables, job: u32) -> Option<u8>
     if !is_on(tables, job) {
         return None;
     }
+    let _lines = tables.runs();
     let Some(table) = tables.run(job) else {
         return None;
     };
     let step = step_in(place_of(table));
-    let Some(own) = step_at(&table.job, step) else {
+    let Some(own) = step_at(&table.job, job, step) else {
         return None;
     };
-    if has_sets(job, own, tables.library()) {
+    if has_sets(job, &own, tables.library()) {
         Some(step)
     } else {
         None

@@ -18,7 +18,7 @@ ghost use Rattle.ckr_points.specs.Rows.{run_of, step_of_run, RunRow};
 ghost use Rattle.ckr_steps.specs.Inputs.{AreThere};
 ghost use Rattle.ckr_steps.specs.StepUnit.{behind_ahead, AreCounted, IsUnitFor};
 ghost use Rattle.ckr_steps.specs.Units.{taken_of};
-ghost use Rattle.ckr_points_decks.specs.DeckLimits.{IsWithinLimits};
+ghost use Rattle.ckr_points_tables.specs.RunJobs.{effective, IsFitting};
 ghost use Rattle.ckr_desk_turn.specs.Jobs.{step_name_of};
 ghost use Rattle.ckr_desk_turn.specs.Queue.{AreNumbered};
 ghost use Rattle.ckr_volumes.specs.declared.layout.Layout.{Layout as LayoutOfDisk};
@@ -38,10 +38,10 @@ fn worked_reply(on: &RunningStep, ahead: &UnitAhead, table: &RunTable) -> Option
     ensures told { IfSome result IsToldReply }
     ensures there { IfSome result (λ _. IsSome (own_step (row_for on.now.run table.now))) }
 {
-    let own = step_at(&table.job, step_in(place_of(table)))?;
+    let own = step_at(&table.job, on.run, step_in(place_of(table)))?;
     Some(Reply::Worked {
         job: on.run,
-        step: own.name.copied(),
+        step: own.step.name.copied(),
         taken: on.step.progress_behind(ahead).taken,
     })
 }
@@ -49,7 +49,7 @@ fn worked_reply(on: &RunningStep, ahead: &UnitAhead, table: &RunTable) -> Option
 /// How far a running step comes by a unit that was worked out.
 fn reached_by(on: &RunningStep, ahead: &UnitAhead, table: &RunTable) -> CodePlace
     requires run { on.now.run ≤ 9999999 }
-    requires within { AllByRecursion IsWithinLimits table.now.job.steps }
+    requires fits { IsFitting (effective on.now.run table.now.job) }
     requires counted { AreCounted (behind_ahead on.now.step ahead.now) }
     requires short { IsShort on.now.sets }
     ensures reached { let moved = behind_unit (step_seen on.now) ahead.now in reached_seen result ≡ record { writes = moved.step.writes; lengths = lengths_of_row moved.sets.sets (row_for on.now.run table.now) } }

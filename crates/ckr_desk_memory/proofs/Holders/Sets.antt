@@ -1,24 +1,19 @@
 -- What an event of a run makes of the data sets: those that its job doesn't name stay as they are, and what its step may change stays there.
-use Rattle.std.proofs.Common.{◌≡◌, ℕ, suc, Bool, true, false, cond, ◌&&◌, ◌||◌, List, [], ◌∷◌, ◌++◌, filter, map, refl, ap, sym, ◌∙◌, subst, Option, Some, None}
-use Rattle.std.specs.Prelude.{flat_map}
+use Rattle.std.proofs.Common.{◌≡◌, ℕ, suc, Bool, true, false, cond, ◌&&◌, ◌||◌, List, [], ◌∷◌, refl, ap, sym, ◌∙◌, subst, Option, Some, None}
 use Rattle.std.specs.List.{AllByRecursion, cons_option, filter_map, list_any}
 use Rattle.std.specs.Option.{is_none, is_some, option_map, option_map_or}
 use Rattle.std.proofs.lemmas.Bool.{false≢true, or_parts}
 use Rattle.ckr_base.proofs.Bools.{bool-cases}
-use Rattle.ckr_base.proofs.Sequences.{any-filter}
 use Rattle.ckr_entry.specs.declared.point.Mark.{Mark}
-use Rattle.ckr_entry.specs.declared.point.Passed.{Passed}
 use Rattle.ckr_entry.specs.declared.point.Present.{Present}
 use Rattle.ckr_events.specs.declared.event.Made.{Made}
 use Rattle.ckr_jcl.specs.declared.deck.Dd.{Dd}
-use Rattle.ckr_jcl.specs.declared.deck.Job.{Job}
-use Rattle.ckr_jcl.specs.declared.deck.Step.{Step}
 use Rattle.ckr_library.proofs.Named.{at-with_changed, at-with_changed-other, at-with_entry, name-same}
 use Rattle.ckr_library.specs.NameMaps.{Name, Named, entry_at, same_name, with_changed}
 use Rattle.ckr_library.specs.declared.sets.Stamp.{Stamp}
 use Rattle.ckr_meaning.specs.Allotments.{AllotmentModel, DdAllotment, found, made, refused, is_made, is_output, is_passed, opened_all, opened_by, opened_one}
 use Rattle.ckr_meaning.specs.Dispositions.{Disposal, Stock}
-use Rattle.ckr_meaning.specs.EffectiveJob.{Effective, OwnedStep, flaws_in, is_among, name_of, names_of, names_of_job, names_of_steps, owned_by, placed_from, placed_in, placed_one, plain_job, stamp_of}
+use Rattle.ckr_meaning.specs.EffectiveJob.{OwnedStep, flaws_in, is_among, name_of, names_of, placed_from, placed_in, placed_one, stamp_of}
 use Rattle.ckr_points.specs.Follows.{is_update}
 use Rattle.ckr_points.specs.Marks.{present_at, put_back, put_back_catalogs, put_back_length, put_back_lengths, removed_all}
 use Rattle.ckr_points.specs.Office.{passed_made}
@@ -27,7 +22,7 @@ use Rattle.ckr_points.specs.Rows.{RunRow, TableSet, TablesModel, cut_set, standi
 use Rattle.ckr_points.specs.Tables.{after_dispositions, after_started, committed, earlier_made, fresh_table, is_updates, made_table, made_tables, name_with_role, own_made, parts_from, run_disposal, run_disposals}
 use Rattle.ckr_points_invariant.proofs.Holders.Places.{outputs-among}
 use Rattle.ckr_points_invariant.proofs.Library.Likeness.{made_all-apart, opened_all-apart, placed-apart}
-use Rattle.ckr_points_invariant.proofs.Library.PassedList.{among-made, apart-unmade, disposed-apart, disposed-made}
+use Rattle.ckr_points_invariant.proofs.Library.PassedList.{apart-unmade, disposed-apart, disposed-made}
 use Rattle.ckr_points_invariant.proofs.Marks.Points.{own_made-out}
 use Rattle.ckr_points_invariant.proofs.PutBack.Sets.{at-removed_all, put_back-apart}
 use Rattle.ckr_points_invariant.proofs.StepEnd.Disposals.{flawless-first, flawless-rest, makes}

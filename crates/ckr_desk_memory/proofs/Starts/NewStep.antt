@@ -1,14 +1,11 @@
 -- A step has started: it is running before the others.
 use Rattle.std.proofs.Common.{◌≡◌, ◌==◌, ◌&&◌, ℕ, Bool, true, false, not, filter, List, [], ◌∷◌, map, refl, ap, sym, ◌∙◌, subst, Option, None, Some}
 use Rattle.std.proofs.lemmas.Option.{same_Some}
-use Rattle.std.specs.List.{AllByRecursion}
 use Rattle.std.specs.Prelude.{if◌then◌else◌}
 use Rattle.std.specs.List.{cons_option, filter_map}
 use Rattle.std.specs.Option.{is_some, option_map, option_map_or}
 use Rattle.ckr_base.proofs.Options.{some-not-none}
-use Rattle.ckr_points_library.specs.Holdings.{owned}
 use Rattle.ckr_jcl.specs.declared.deck.Dd.{Dd}
-use Rattle.ckr_jcl.specs.declared.deck.Step.{Step}
 use Rattle.ckr_library.specs.Catalog.{Catalog, Holding}
 use Rattle.ckr_library.specs.NameMaps.{Name, Named, entry_at}
 use Rattle.ckr_library.proofs.Named.{at-viewed}
@@ -18,12 +15,13 @@ use Rattle.ckr_points.specs.Follows.{is_in_state, of_run, own_step}
 use Rattle.ckr_points.specs.Restart.{place_of, step_in}
 use Rattle.ckr_points.specs.Rows.{RunRow, TableSet, TablesModel, holding_of, run_of, step_of_run}
 use Rattle.ckr_points_tables.specs.declared.run_table.RunTable.{RunTable}
-use Rattle.ckr_points_tables.specs.View.{facts_in, facts_of, seen_by}
+use Rattle.ckr_points_tables.specs.declared.own_step.OwnStep.{OwnStep}
+use Rattle.ckr_points_tables.specs.RunJobs.{own_of}
+use Rattle.ckr_points_tables.specs.View.{seen_by}
 use Rattle.ckr_steps.specs.declared.step_run.StepRun.{StepRun}
-use Rattle.ckr_desk_turn.specs.Queue.{AreNumbered}
 use Rattle.ckr_desk_memory.specs.declared.jobs.RunningStep.{RunningStep}
-use Rattle.ckr_desk_memory.specs.Invariant.{IsAcceptedRow}
 use Rattle.ckr_desk_memory.specs.Parts.{step_seen}
+use Rattle.ckr_desk_memory.specs.Plans.{IsKnown}
 use Rattle.ckr_desk_memory.specs.Preparation.{HasAgain, HasStep, IsEmpty}
 use Rattle.ckr_desk_memory.specs.EventChanges.{without_run}
 use Rattle.ckr_desk_memory.specs.View.{PointView, RunningStepView}
@@ -33,15 +31,14 @@ use Rattle.ckr_desk_memory.proofs.Starts.Steps.{IsNumberOf, IsStepAt, number-in,
 use Rattle.ckr_desk_memory.proofs.Invariant.{seen-without}
 use Rattle.ckr_desk_memory.proofs.SetCopies.{taken-sets}
 
-module _ (tables : TablesModel) (job step : ℕ) (table : RunTable) (own : Step) (on : RunningStep) where
-  pub has-new : (sets : Catalog) (from : Named Holding) (before after : List RunningStep) → AreNumbered 1 tables.runs → AllByRecursion IsAcceptedRow tables.runs
-      → option_map facts_of (Some table) ≡ option_map facts_in (run_of tables job) → IsStepAt table.job step (Some own) → IsEmpty job on
-      → from ≡ seen_by holding_of tables.sets → sets.sets ≡ with_all_taken (name_of job (owned own job [])) from own.dds on.sets.sets
+module _ (tables : TablesModel) (job step : ℕ) (table : RunTable) (known : IsKnown tables job table) (own : OwnStep) (is : IsStepAt job table step (Some own)) (on : RunningStep) where
+  pub has-new : (sets : Catalog) (from : Named Holding) (before after : List RunningStep) → IsEmpty job on
+      → from ≡ seen_by holding_of tables.sets → sets.sets ≡ with_all_taken (name_of job (own_of own)) from own.step.now.dds on.sets.sets
       → after ≡ record on { sets = sets } ∷ filter (λ (other : RunningStep). not (other.run == job)) before
       → (row : RunRow) (owned : OwnedStep) → run_of tables job ≡ Some row → step_of_run row step ≡ Some owned → HasNew job owned on.step tables.sets (map step_seen before) (map step_seen after)
-  has-new sets from before after numbered rows seen is empty from_is sets_is after_is row its at there =
+  has-new sets from before after empty from_is sets_is after_is row its at there =
       subst (λ (o : OwnedStep). HasNew job o on.step tables.sets (map step_seen before) (map step_seen after))
-      (sym (owned-is tables job step table own numbered rows seen is row its at there))
+      (sym (owned-is tables job table known step own is row its at there))
       (record {
         on = step_seen (record on { sets = sets });
         first =
@@ -50,7 +47,7 @@ module _ (tables : TablesModel) (job step : ℕ) (table : RunTable) (own : Step)
         run = empty.run;
         step = refl;
         code = empty.code;
-        sets = taken-sets (name_of job (owned own job [])) own.dds tables.sets from sets from_is (sets_is ∙ ap (with_all_taken (name_of job (owned own job [])) from own.dds) empty.empty);
+        sets = taken-sets (name_of job (own_of own)) own.step.now.dds tables.sets from sets from_is (sets_is ∙ ap (with_all_taken (name_of job (own_of own)) from own.step.now.dds) empty.empty);
       })
 
 -- ---- the step that a run is in
@@ -79,14 +76,14 @@ off-there tables job off row owned at found =
     (sym off ∙ ap (λ (o : Option RunRow). option_map_or (is_in_state On) o false) at)
 
 -- one that is has its step found, and its number
-pub found-there : (tables : TablesModel) (job step : ℕ) (table : RunTable) (own : Step) (from : Named Holding) (there : Bool) → of_run tables job (is_in_state On) ≡ true → AreNumbered 1 tables.runs → AllByRecursion IsAcceptedRow tables.runs → option_map facts_of (Some table) ≡ option_map facts_in (run_of tables job)
-    → IsStepAt table.job step (Some own) → IsNumberOf table step → from ≡ seen_by holding_of tables.sets → there ≡ has_all (name_of job (owned own job [])) from own.dds
+pub found-there : (tables : TablesModel) (job step : ℕ) (table : RunTable) (known : IsKnown tables job table) (own : OwnStep) (from : Named Holding) (there : Bool) → of_run tables job (is_in_state On) ≡ true
+    → IsStepAt job table step (Some own) → IsNumberOf table step → from ≡ seen_by holding_of tables.sets → there ≡ has_all (name_of job (own_of own)) from own.step.now.dds
     → (row : RunRow) (owned : OwnedStep) → run_of tables job ≡ Some row → own_step row ≡ Some owned → (if there then Some step else None) ≡ (if may_go_back tables job owned row then Some (step_in (place_of row)) else None)
-found-there tables job step table own from there on numbered rows seen is number from_is there_is row its at found =
-    let same = owned-is tables job step table own numbered rows seen is row its at (own-found tables job step table seen number row its at found) in
-    ap (λ n. if there then Some n else None) (number-in tables job step table seen number row at)
+found-there tables job step table known own from there on is number from_is there_is row its at found =
+    let same = owned-is tables job table known step own is row its at (own-found tables job table known step number row its at found) in
+    ap (λ n. if there then Some n else None) (number-in tables job table known step number row at)
     ∙ ap (λ b. if b then Some (step_in (place_of row)) else None)
-    (there_is ∙ ap (λ sets. has_all (name_of job (owned own job [])) sets own.dds) from_is ∙ has-all tables.sets (name_of job (owned own job [])) own.dds ∙ ap (λ (o : OwnedStep). has_sets tables.sets (names_of job o)) (sym same)
+    (there_is ∙ ap (λ sets. has_all (name_of job (own_of own)) sets own.step.now.dds) from_is ∙ has-all tables.sets (name_of job (own_of own)) own.step.now.dds ∙ ap (λ (o : OwnedStep). has_sets tables.sets (names_of job o)) (sym same)
     ∙ ap (λ b. b && has_sets tables.sets (names_of job its)) (sym on ∙ ap (λ (o : Option RunRow). option_map_or (is_in_state On) o false) at))
 
 -- what its number says of its data sets

@@ -3,7 +3,7 @@ use Rattle.std.proofs.Common.{◌≡◌, ◌≤◌, ◌<◌, ℕ, zero, suc, tru
 use Rattle.std.proofs.lemmas.Option.{same_Some}
 use Rattle.std.specs.List.{AllByRecursion}
 use Rattle.std.specs.Prelude.{IfSome, find}
-use Rattle.std.specs.Option.{option_map, option_map_or}
+use Rattle.std.specs.Option.{option_map}
 use Rattle.ckr_base.proofs.Options.{some-not-none}
 use Rattle.arrayvec.specs.ArrayVec.{ArrayVec}
 use Rattle.ckr_base.specs.declared.code.Code.{Code}
@@ -15,24 +15,24 @@ use Rattle.ckr_jcl.specs.declared.deck.Step.{Step}
 use Rattle.ckr_library.specs.declared.uses.Use.{Use}
 use Rattle.ckr_library.specs.NameMaps.{Name}
 use Rattle.ckr_meaning.specs.EffectiveJob.{Effective, OwnedStep, owned_by, plain_job, step_at}
-use Rattle.ckr_meaning.specs.declared.place.Place.TheVariants.{Before}
 use Rattle.ckr_programs.specs.Ranges.{IsInRange}
 use Rattle.ckr_points.specs.Follows.{own_step as own_step_of}
 use Rattle.ckr_points.specs.Restart.{place_of, step_in}
 use Rattle.ckr_points.specs.Rows.{RunRow, TablesModel, run_of, step_of_run}
 use Rattle.ckr_points_decks.specs.DeckLimits.{IsWithinLimits}
 use Rattle.ckr_points_decks.proofs.DeckLimits.{steps_within}
+use Rattle.ckr_points_tables.specs.declared.own_step.OwnStep.{OwnStep}
 use Rattle.ckr_points_tables.specs.declared.run_table.RunTable.{RunTable}
+use Rattle.ckr_points_tables.specs.RunJobs.{effective, own_of}
+use Rattle.ckr_points_tables.proofs.RunJobs.{fits-at}
 use Rattle.ckr_points_tables.specs.Invariant.{HasRoom}
-use Rattle.ckr_points_tables.specs.View.{RunTableView, facts_in, facts_of}
-use Rattle.ckr_desk_turn.specs.Queue.{AreNumbered}
-use Rattle.ckr_desk_turn.proofs.Queue.Events.{run_number}
 use Rattle.ckr_desk_memory.specs.declared.jobs.RunningStep.{RunningStep}
 use Rattle.ckr_desk_memory.specs.Invariant.{IsAcceptedRow}
 use Rattle.ckr_desk_memory.specs.EventChanges.{HasUses, is_point_of}
 use Rattle.ckr_desk_memory.specs.Preparation.{HasAgain, HasPointRoom, HasQueueRoom, HasStarted, HasStep, IsEmpty, IsPrepared, StandsEmpty}
-use Rattle.ckr_desk_memory.specs.Plans.{row_for}
+use Rattle.ckr_desk_memory.specs.Plans.{IsKnown, row_for}
 use Rattle.ckr_desk_memory.specs.View.{JobsView, PointView, begun, resumed}
+use Rattle.ckr_desk_memory.proofs.FoundRuns.{known-by, known-row}
 
 -- a row among rows
 pub row-among : (P : RunRow → Type 0) (tables : TablesModel) (job : ℕ) (row : RunRow) → AllByRecursion P tables.runs → run_of tables job ≡ Some row → P row
@@ -54,81 +54,66 @@ step-among P run deck (suc place) owned all at = each deck.steps place all at
     each (first ∷ steps) zero all at = subst (λ (o : OwnedStep). P o.step) (same_Some _ _ at) all.0
     each (first ∷ steps) (suc place) all at = each steps place all.1 at
 
--- the row of a run that is there, by what the tables keep of it
-record IsRowOf (tables : TablesModel) (job : ℕ) (table : RunTable) : Type 0 where
-  row : RunRow
-  at : run_of tables job ≡ Some row
-  deck : table.job ≡ row.deck
+-- a step of the run, as the code finds it
+abbrev pub IsStepAt : ℕ → RunTable → ℕ → Option OwnStep → Type 0
+IsStepAt run table step own = option_map own_of own ≡ step_at (effective run table.job) step
 
-row_of_table : (tables : TablesModel) (job : ℕ) (table : RunTable) → option_map facts_of (Some table) ≡ option_map facts_in (run_of tables job) → IsRowOf tables job table
-row_of_table tables job table seen = by (run_of tables job) refl seen
-  where
-    by : (found : Option RunRow) → run_of tables job ≡ found → option_map facts_of (Some table) ≡ option_map facts_in found → IsRowOf tables job table
-    by None at seen = absurd (some-not-none _ seen)
-    by (Some row) at seen = record { row = row; at = at; deck = ap (λ (f : RunTableView). f.job) (same_Some _ _ seen) }
-
-abbrev pub IsStepAt : Job → ℕ → Option Step → Type 0
-IsStepAt job step own = (run : ℕ) → option_map (owned_by run job) own ≡ step_at (plain_job run job) step
-
--- its PARM is one that the deck reader gives
-pub begun-parm : (tables : TablesModel) (job step : ℕ) (table : RunTable) (own : Step) → AllByRecursion IsAcceptedRow tables.runs → option_map facts_of (Some table) ≡ option_map facts_in (run_of tables job) → IsStepAt table.job step (Some own) → IsInRange own.parm
-begun-parm tables job step table own rows seen is =
-    let its = row_of_table tables job table seen in
-    let accepted = row-among IsAcceptedRow tables job its.row rows its.at in
-    let within = subst (λ (d : Job). AllByRecursion IsWithinLimits d.steps) (sym its.deck) (steps_within accepted.cards its.row.deck accepted.accepted) in
-    (step-among IsWithinLimits 0 table.job step (owned_by 0 table.job own) within (sym (is 0))).parm
-
--- the step of a run is that of its deck
-own_step : (tables : TablesModel) (job step : ℕ) (table : RunTable) (found : Option Step) → AllByRecursion IsAcceptedRow tables.runs → option_map facts_of (Some table) ≡ option_map facts_in (run_of tables job) → IsStepAt table.job step found
-    → (row : RunRow) → run_of tables job ≡ Some row → step_of_run row step ≡ option_map (owned_by row.number table.job) found
-own_step tables job step table found rows seen is row at =
-    let its = row_of_table tables job table seen in
-    let accepted = row-among IsAcceptedRow tables job row rows at in
-    let deck : row.deck ≡ table.job = ap (λ (r : RunRow). r.deck) (same_Some _ _ (sym at ∙ its.at)) ∙ sym its.deck in
-    ap (λ (j : Effective). step_at j step) (accepted.plain ∙ ap (plain_job row.number) deck) ∙ sym (is row.number)
-
-pub has-step : (tables : TablesModel) (job step : ℕ) (table : RunTable) (own : Step) (on : RunningStep) → AllByRecursion IsAcceptedRow tables.runs → option_map facts_of (Some table) ≡ option_map facts_in (run_of tables job) → IsStepAt table.job step (Some own)
-    → StandsEmpty job (begun job own) on → HasStep tables job step (Some on)
-has-step tables job step table own on rows seen is stands = λ row owned at there.
-    (on, refl, subst (λ (o : OwnedStep). StandsEmpty job (begun job o.step) on) (same_Some _ _ (sym (own_step tables job step table (Some own) rows seen is row at) ∙ there)) stands)
-
-pub no-step : (tables : TablesModel) (job step : ℕ) (table : RunTable) → AllByRecursion IsAcceptedRow tables.runs → option_map facts_of (Some table) ≡ option_map facts_in (run_of tables job) → IsStepAt table.job step None → HasStep tables job step None
-no-step tables job step table rows seen is = λ row owned at there. absurd (some-not-none owned (sym (sym (own_step tables job step table None rows seen is row at) ∙ there)))
-
--- where there is no such step, none starts
-pub none-starts : {A : Type 0} (tables : TablesModel) (job step : ℕ) (table : RunTable) → AllByRecursion IsAcceptedRow tables.runs → option_map facts_of (Some table) ≡ option_map facts_in (run_of tables job) → IsStepAt table.job step None
-    → (row : RunRow) (owned : OwnedStep) → run_of tables job ≡ Some row → step_of_run row step ≡ Some owned → A
-none-starts tables job step table rows seen is row owned at there = absurd (some-not-none owned (sym (sym (own_step tables job step table None rows seen is row at) ∙ there)))
-
-pub no-run : (tables : TablesModel) (job step : ℕ) (found : Option RunTable) → found ≡ None → option_map facts_of found ≡ option_map facts_in (run_of tables job) → HasStep tables job step None
-no-run tables job step found none seen = λ row owned at there. absurd (some-not-none _ (sym (sym (ap (option_map facts_of) none) ∙ seen ∙ ap (option_map facts_in) at)))
-
--- ---- the step that a run is in
-
--- its number, by what the tables keep of the run
+-- the number of the step that the run is in
 abbrev pub IsNumberOf : RunTable → ℕ → Type 0
 IsNumberOf table step = (run : ℕ) → step ≡ step_in (place_of (row_for run table))
 
-pub number-in : (tables : TablesModel) (job step : ℕ) (table : RunTable) → option_map facts_of (Some table) ≡ option_map facts_in (run_of tables job) → IsNumberOf table step → (row : RunRow) → run_of tables job ≡ Some row → step ≡ step_in (place_of row)
-number-in tables job step table seen is row at =
-    is job ∙ ap (λ (f : RunTableView). step_in (option_map_or (λ place. place) f.place (Before 1))) (same_Some _ _ (seen ∙ ap (option_map facts_in) at))
+module _ (tables : TablesModel) (job : ℕ) (table : RunTable) (known : IsKnown tables job table) where
+  -- its PARM is one that the deck reader gives
+  pub begun-parm : (step : ℕ) (own : OwnStep) → AllByRecursion IsAcceptedRow tables.runs → IsStepAt job table step (Some own) → IsInRange own.step.now.parm
+  begun-parm step own rows is =
+      let accepted = row-among IsAcceptedRow tables job known.row rows known.found in
+      (step-among IsWithinLimits known.row.number known.row.deck step (own_of own) (steps_within accepted.cards known.row.deck accepted.accepted)
+      (ap (λ (j : Effective). step_at j step) (sym accepted.plain ∙ known.job) ∙ sym is)).parm
 
--- the step that a run is in is found by that
-pub own-found : (tables : TablesModel) (job step : ℕ) (table : RunTable) → option_map facts_of (Some table) ≡ option_map facts_in (run_of tables job) → IsNumberOf table step → (row : RunRow) (owned : OwnedStep) → run_of tables job ≡ Some row → own_step_of row ≡ Some owned → step_of_run row step ≡ Some owned
-own-found tables job step table seen is row owned at there = ap (step_of_run row) (number-in tables job step table seen is row at) ∙ there
+  -- the step of the run is that
+  pub step-is : (step : ℕ) (found : Option OwnStep) → IsStepAt job table step found → (row : RunRow) → run_of tables job ≡ Some row → step_of_run row step ≡ option_map own_of found
+  step-is step found is row at =
+      ap (λ (r : RunRow). step_of_run r step) (sym (known-row tables job table known row at)) ∙ ap (λ (j : Effective). step_at j step) known.job ∙ sym is
 
-pub has-again : (tables : TablesModel) (job step : ℕ) (table : RunTable) (own : Step) (point : PointView) (on : RunningStep) → AllByRecursion IsAcceptedRow tables.runs → option_map facts_of (Some table) ≡ option_map facts_in (run_of tables job) → IsStepAt table.job step (Some own) → IsNumberOf table step
-    → StandsEmpty job (resumed job own point) on → HasAgain (Some point) tables job (Some on)
-has-again tables job step table own point on rows seen is number stands = λ row owned at there.
-    (on, refl, subst (λ (o : OwnedStep). StandsEmpty job (resumed job o.step point) on) (same_Some _ _ (sym (own_step tables job step table (Some own) rows seen is row at) ∙ own-found tables job step table seen number row owned at there)) stands)
+  pub owned-is : (step : ℕ) (own : OwnStep) → IsStepAt job table step (Some own) → (row : RunRow) (owned : OwnedStep) → run_of tables job ≡ Some row → step_of_run row step ≡ Some owned → owned ≡ own_of own
+  owned-is step own is row owned at there = same_Some _ _ (sym there ∙ step-is step (Some own) is row at)
 
-pub no-again-step : (tables : TablesModel) (job step : ℕ) (table : RunTable) (point : PointView) → AllByRecursion IsAcceptedRow tables.runs → option_map facts_of (Some table) ≡ option_map facts_in (run_of tables job) → IsStepAt table.job step None → IsNumberOf table step
-    → HasAgain (Some point) tables job None
-no-again-step tables job step table point rows seen is number = λ row owned at there.
-    none-starts tables job step table rows seen is row owned at (own-found tables job step table seen number row owned at there)
+  pub has-step : (step : ℕ) (own : OwnStep) (on : RunningStep) → IsStepAt job table step (Some own) → StandsEmpty job (begun job own.step.now) on → HasStep tables job step (Some on)
+  has-step step own on is stands = λ row owned at there.
+      (on, refl, subst (λ (o : OwnedStep). StandsEmpty job (begun job o.step) on) (sym (owned-is step own is row owned at there)) stands)
 
-pub no-again-run : (tables : TablesModel) (job : ℕ) (point : PointView) → None ≡ option_map facts_in (run_of tables job) → HasAgain (Some point) tables job None
-no-again-run tables job point seen = λ row owned at there. absurd (some-not-none _ (sym (seen ∙ ap (option_map facts_in) at)))
+  -- where there is no such step, none starts
+  pub none-starts : {A : Type 0} (step : ℕ) → IsStepAt job table step None → (row : RunRow) (owned : OwnedStep) → run_of tables job ≡ Some row → step_of_run row step ≡ Some owned → A
+  none-starts step is row owned at there = absurd (some-not-none owned (sym (sym (step-is step None is row at) ∙ there)))
+
+  pub no-step : (step : ℕ) → IsStepAt job table step None → HasStep tables job step None
+  no-step step is = λ row owned at there. none-starts step is row owned at there
+
+  -- ---- the step that the run is in
+
+  pub number-in : (step : ℕ) → IsNumberOf table step → (row : RunRow) → run_of tables job ≡ Some row → step ≡ step_in (place_of row)
+  number-in step is row at = is job ∙ sym (known-by tables job table known (λ (r : RunRow). step_in (place_of r)) refl row at)
+
+  -- the step that the run is in is found by that
+  pub own-found : (step : ℕ) → IsNumberOf table step → (row : RunRow) (owned : OwnedStep) → run_of tables job ≡ Some row → own_step_of row ≡ Some owned → step_of_run row step ≡ Some owned
+  own-found step is row owned at there = ap (step_of_run row) (number-in step is row at) ∙ there
+
+  pub has-again : (step : ℕ) (own : OwnStep) (point : PointView) (on : RunningStep) → IsStepAt job table step (Some own) → IsNumberOf table step → StandsEmpty job (resumed job own.step.now point) on → HasAgain (Some point) tables job (Some on)
+  has-again step own point on is number stands = λ row owned at there.
+      (on, refl, subst (λ (o : OwnedStep). StandsEmpty job (resumed job o.step point) on) (sym (owned-is step own is row owned at (own-found step number row owned at there))) stands)
+
+  pub no-again-step : (step : ℕ) (point : PointView) → IsStepAt job table step None → IsNumberOf table step → HasAgain (Some point) tables job None
+  no-again-step step point is number = λ row owned at there. none-starts step is row owned at (own-found step number row owned at there)
+
+  -- it has at most 16 DDs
+  pub few-dds : (step : ℕ) (own : OwnStep) → IsStepAt job table step (Some own) → length own.step.now.dds ≤ 16
+  few-dds step own is = (fits-at (effective job table.job) known.fits step (own_of own) (sym is)).dds
+
+pub no-run : (tables : TablesModel) (job step : ℕ) → run_of tables job ≡ None → HasStep tables job step None
+no-run tables job step none = λ row owned at there. absurd (some-not-none row (sym at ∙ none))
+
+pub no-again-run : (tables : TablesModel) (job : ℕ) (point : PointView) → run_of tables job ≡ None → HasAgain (Some point) tables job None
+no-again-run tables job point none = λ row owned at there. absurd (some-not-none row (sym at ∙ none))
 
 -- ---- the memory for a step
 
@@ -165,19 +150,3 @@ prepared-point jobs event deck job taken writes place bytes id lengths uses is t
   started = subst (λ (e : Event). HasStarted e jobs None) (sym is) tt;
   points = subst (λ (e : Event). HasPointRoom e jobs.points_room) (sym is) room;
 }
-
--- ---- a step that was prepared
-
--- it has at most 16 DDs
-pub few-dds : (tables : TablesModel) (job step : ℕ) (table : RunTable) (own : Step) → AllByRecursion IsAcceptedRow tables.runs → option_map facts_of (Some table) ≡ option_map facts_in (run_of tables job) → IsStepAt table.job step (Some own) → length own.dds ≤ 16
-few-dds tables job step table own rows seen is =
-    let its = row_of_table tables job table seen in
-    let accepted = row-among IsAcceptedRow tables job its.row rows its.at in
-    let within = subst (λ (d : Job). AllByRecursion IsWithinLimits d.steps) (sym its.deck) (steps_within accepted.cards its.row.deck accepted.accepted) in
-    (step-among IsWithinLimits 0 table.job step (owned_by 0 table.job own) within (sym (is 0))).few_dds
-
--- the step of a run, with the run that owns it
-pub owned-is : (tables : TablesModel) (job step : ℕ) (table : RunTable) (own : Step) → AreNumbered 1 tables.runs → AllByRecursion IsAcceptedRow tables.runs → option_map facts_of (Some table) ≡ option_map facts_in (run_of tables job) → IsStepAt table.job step (Some own)
-    → (row : RunRow) (owned : OwnedStep) → run_of tables job ≡ Some row → step_of_run row step ≡ Some owned → owned ≡ owned_by job table.job own
-owned-is tables job step table own numbered rows seen is row owned at there =
-    same_Some _ _ (sym there ∙ own_step tables job step table (Some own) rows seen is row at) ∙ ap (λ n. owned_by n table.job own) (run_number tables job row numbered at)

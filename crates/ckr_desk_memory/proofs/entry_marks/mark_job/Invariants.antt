@@ -1,13 +1,16 @@
-use Rattle.std.proofs.Common.{◌≡◌, ◌≤◌, [], IsTrue, length, drop, map}
-use Rattle.ckr_meaning.specs.EffectiveJob.{names_of_steps, owned_by}
+use Rattle.std.proofs.Common.{◌≡◌, ◌≤◌, [], IsTrue, drop}
+use Rattle.ckr_meaning.specs.EffectiveJob.{names_of_steps}
 use Rattle.ckr_points_tables.specs.MarkOrder.{are_in_order, marked, marked_onto}
+use Rattle.ckr_points_tables.specs.RunJobs.{effective}
 use Rattle.ckr_desk_memory.specs.EntryMarks.{mark_behind}
 use Rattle.ckr_desk_memory.proofs.entry_marks.mark_job.Given as goal
 
 abbrev pub invariant-loop-left : goal.invariant-loop-left
 invariant-loop-left l = record {
-  within : l.left ≤ length l.steps;
-  items : marked l.items.items ≡ marked_onto (mark_behind l.behind) (names_of_steps l.behind.on.now.run (map (owned_by l.behind.on.now.run l.job) (drop l.left l.steps))) [];
+  within : l.left ≤ 64;
+  items :
+      marked l.items.items
+      ≡ marked_onto (mark_behind l.behind) (names_of_steps l.behind.table.now.job.root (drop l.left (effective l.behind.on.now.run l.behind.table.now.job).steps)) [];
   order : IsTrue (are_in_order l.items.items);
 }
 

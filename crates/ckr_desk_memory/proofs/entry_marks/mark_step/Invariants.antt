@@ -1,6 +1,6 @@
-use Rattle.std.proofs.Common.{◌≡◌, ◌≤◌, [], IsTrue, length, drop}
+use Rattle.std.proofs.Common.{◌≡◌, ◌≤◌, IsTrue, length, drop}
 use Rattle.std.specs.List.{filter_map}
-use Rattle.ckr_points_library.specs.Holdings.{owned}
+use Rattle.ckr_points_tables.specs.RunJobs.{own_of}
 use Rattle.ckr_meaning.specs.EffectiveJob.{name_of}
 use Rattle.ckr_points_tables.specs.MarkOrder.{are_in_order, marked, marked_onto}
 use Rattle.ckr_desk_memory.specs.EntryMarks.{mark_behind}
@@ -11,7 +11,7 @@ invariant-loop-left l = record {
   within : l.left ≤ length l.dds;
   items :
       marked l.items.items
-      ≡ marked_onto (mark_behind l.behind) (filter_map (name_of l.behind.on.now.run (owned l.step l.behind.on.now.run [])) (drop l.left l.dds)) (marked l.initial.items.items);
+      ≡ marked_onto (mark_behind l.behind) (filter_map (name_of l.root (own_of l.own)) (drop l.left l.dds)) (marked l.initial.items.items);
   order : IsTrue (are_in_order l.items.items);
 }
 

@@ -1,27 +1,20 @@
-use Rattle.std.proofs.Common.{Some, None, sym, subst}
-use Rattle.std.specs.List.{AllByRecursion}
-use Rattle.ckr_desk_memory.specs.Invariant.{IsAcceptedRow}
-use Rattle.ckr_desk_memory.specs.Preparation.{HasStep}
-use Rattle.ckr_desk_memory.specs.View.{JobsView}
-use Rattle.ckr_desk_memory.proofs.Starts.Steps.{begun-parm, has-step, no-step}
+use Rattle.ckr_desk_memory.proofs.Starts.Steps.{begun-parm, has-step, no-run, no-step}
 use Rattle.ckr_desk_memory.proofs.jobs.Jobs.begun.Goals as goal
+
+pub returns-in_default-clause-step : goal.returns-in_default-clause-step
+returns-in_default-clause-step c = no-run c.args.self.now.tables.desk c.args.job c.args.step c.in_default.ensures.none
+
+pub begin_step-requires-clause-job : goal.begin_step-requires-clause-job
+begin_step-requires-clause-job c = c.in-Some.ensures.some.few
 
 pub begin_step-requires-clause-parm : goal.begin_step-requires-clause-parm
 begin_step-requires-clause-parm c =
-    begun-parm c.self.inside.tables.desk c.args.job c.args.step c.in-Some.table.now c.in-Some-step_at.own.now
-    (subst (λ (j : JobsView). AllByRecursion IsAcceptedRow j.tables.desk.runs) (sym c.self.view_is) c.requires)
-    c.in-Some.ensures c.in-Some-step_at.ensures
+    begun-parm c.args.self.now.tables.desk c.args.job c.in-Some.table.now c.in-Some.ensures.some c.args.step c.in-Some-step_at.own c.requires c.in-Some-step_at.ensures.step
 
 pub returns-in_ok-begin_step-in-Some-step_at-clause-step : goal.returns-in_ok-begin_step-in-Some-step_at-clause-step
 returns-in_ok-begin_step-in-Some-step_at-clause-step c =
-    subst (λ (j : JobsView). HasStep j.tables.desk c.args.job c.args.step (Some c.in_ok-begin_step-in-Some-step_at.field-0)) c.self.view_is
-    (has-step c.self.inside.tables.desk c.args.job c.args.step c.in-Some.table.now c.in-Some-step_at.own.now c.in_ok-begin_step-in-Some-step_at.field-0
-    (subst (λ (j : JobsView). AllByRecursion IsAcceptedRow j.tables.desk.runs) (sym c.self.view_is) c.requires)
-    c.in-Some.ensures c.in-Some-step_at.ensures c.in_ok-begin_step-in-Some-step_at.ensures)
+    has-step c.args.self.now.tables.desk c.args.job c.in-Some.table.now c.in-Some.ensures.some c.args.step c.in-Some-step_at.own c.in_ok-begin_step-in-Some-step_at.field-0
+    c.in-Some-step_at.ensures.step c.in_ok-begin_step-in-Some-step_at.ensures
 
 pub returns-in-None-clause-step : goal.returns-in-None-clause-step
-returns-in-None-clause-step c =
-    subst (λ (j : JobsView). HasStep j.tables.desk c.args.job c.args.step None) c.self.view_is
-    (no-step c.self.inside.tables.desk c.args.job c.args.step c.in-Some.table.now
-    (subst (λ (j : JobsView). AllByRecursion IsAcceptedRow j.tables.desk.runs) (sym c.self.view_is) c.requires)
-    c.in-Some.ensures c.in-None.ensures)
+returns-in-None-clause-step c = no-step c.args.self.now.tables.desk c.args.job c.in-Some.table.now c.in-Some.ensures.some c.args.step c.in-None.ensures.step

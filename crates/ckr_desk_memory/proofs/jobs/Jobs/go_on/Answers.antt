@@ -1,4 +1,6 @@
 use Rattle.std.proofs.Common.{◌≤◌, ap, length, subst}
+use Rattle.std.specs.Option.{option_map}
+use Rattle.std.specs.Rc.{rc_value}
 use Rattle.ckr_desk_turn.specs.Queue.{AreNumbered}
 use Rattle.ckr_desk_memory.specs.View.{JobsView}
 use Rattle.ckr_desk_memory.proofs.ForwardEvents.{forward-plain}
@@ -10,14 +12,14 @@ apply-requires-clause-kept c = forward-plain c.args.event.now c.requires.plain
 
 pub keep_queue-requires-clause-may : goal.keep_queue-requires-clause-may
 keep_queue-requires-clause-may c =
-    may-go c.self.inside.tables.desk c.args.self.now.tables.desk c.self.inside.queue.entries c.args.event.now c.args.deck
+    may-go c.self.inside.tables.desk c.args.self.now.tables.desk c.self.inside.queue.entries c.args.event.now (option_map rc_value c.args.deck)
     (ap (λ (j : JobsView). j.tables.desk) c.self.view_is) c.self.invariant.queued c.requires.plain c.requires.follows
 
 pub invariant_of-self : goal.invariant_of-self
 invariant_of-self c = record {
-  queued = queued-behind c.self.inside.tables.desk c.apply.new.self.desk c.self.inside.queue.entries c.keep_queue.new.queue.entries c.args.event.now c.args.deck c.requires.plain
-      (follow-inside c.self.inside.tables.desk c.args.self.now.tables.desk c.args.event.now c.args.deck (ap (λ (j : JobsView). j.tables.desk) c.self.view_is) c.requires.follows)
-      c.requires.deck c.self.invariant.queued c.apply.ensures (c.keep_queue.ensures c.args.deck c.requires.uses);
+  queued = queued-behind c.self.inside.tables.desk c.apply.new.self.desk c.self.inside.queue.entries c.keep_queue.new.queue.entries c.args.event.now (option_map rc_value c.args.deck) c.requires.plain
+      (follow-inside c.self.inside.tables.desk c.args.self.now.tables.desk c.args.event.now (option_map rc_value c.args.deck) (ap (λ (j : JobsView). j.tables.desk) c.self.view_is) c.requires.follows)
+      c.requires.deck c.self.invariant.queued c.apply.ensures (c.keep_queue.ensures (option_map rc_value c.args.deck) c.requires.uses);
   counted = c.self.invariant.counted;
 }
 

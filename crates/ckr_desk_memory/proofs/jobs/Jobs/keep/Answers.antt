@@ -1,4 +1,6 @@
 use Rattle.std.proofs.Common.{◌≡◌, true, List, ap, ◌∙◌, map, refl, sym, subst}
+use Rattle.std.specs.Option.{option_map}
+use Rattle.std.specs.Rc.{rc_value}
 use Rattle.std.specs.List.{AllByRecursion}
 use Rattle.ckr_desk_memory.specs.RunningSteps.{GoesOn, MayRun}
 use Rattle.ckr_desk_memory.specs.EventChanges.{points_behind}
@@ -29,7 +31,7 @@ pub keep_running-requires-clause-may : goal.keep_running-requires-clause-may
 keep_running-requires-clause-may c =
     subst (λ (j : JobsView). MayRun c.args.event.now j.tables.desk c.args.prepared.step j.running_room) (sym c.self.view_is)
     (subst (MayRun c.args.event.now c.go_on.new.self.tables.desk c.args.prepared.step) (sym c.go_on.ensures.room)
-    (may-run c.requires.follows.0 c.args.self.now c.args.event.now c.args.deck c.args.prepared.step c.go_on.new.self.tables.desk c.go_on.ensures.numbered c.go_on.ensures.few c.requires.follows.1
+    (may-run c.requires.follows.0 c.args.self.now c.args.event.now (option_map rc_value c.args.deck) c.args.prepared.step c.go_on.new.self.tables.desk c.go_on.ensures.numbered c.go_on.ensures.few c.requires.follows.1
     c.requires.plain c.requires.follows.2 c.requires.prepared.started c.go_on.ensures.tables))
 
 pub keep_running-requires-clause-counted : goal.keep_running-requires-clause-counted
@@ -41,7 +43,7 @@ keep_running-requires-clause-counted c =
 abbrev running_after : After-keep_running → List RunningStepView
 running_after c = map step_seen c.keep_running.new.running.items
 
-desk_is : (c : After-keep_running) → c.self.inside.tables.desk ≡ after_event c.args.event.now c.args.deck c.args.self.now.tables.desk
+desk_is : (c : After-keep_running) → c.self.inside.tables.desk ≡ after_event c.args.event.now (option_map rc_value c.args.deck) c.args.self.now.tables.desk
 desk_is c = ap (λ (j : JobsView). j.tables.desk) c.self.view_is ∙ c.go_on.ensures.tables
 
 goes-on : (c : After-keep_running) → GoesOn c.args.event.now c.self.inside.tables.desk c.args.self.now.points c.args.self.now.running (running_after c)
@@ -49,13 +51,13 @@ goes-on c =
     subst (λ (on : List RunningStepView). GoesOn c.args.event.now c.self.inside.tables.desk c.args.self.now.points on (running_after c))
     (ap (λ (j : JobsView). j.running) c.self.view_is ∙ c.go_on.ensures.running)
     (c.keep_running.ensures c.args.self.now.points
-    (started-behind c.requires.follows.0 c.args.self.now c.args.event.now c.args.deck c.args.prepared.step c.self.inside.tables.desk c.go_on.ensures.numbered c.requires.follows.1 c.requires.follows.2
+    (started-behind c.requires.follows.0 c.args.self.now c.args.event.now (option_map rc_value c.args.deck) c.args.prepared.step c.self.inside.tables.desk c.go_on.ensures.numbered c.requires.follows.1 c.requires.follows.2
     c.requires.prepared.started (desk_is c)))
 
 jobs-after : (c : After-keep_running) (layout : Layout) (new : JobsView) → new.tables.desk ≡ c.self.inside.tables.desk → new.running ≡ running_after c → AreJobs layout c.args.self.now
-    → follows layout c.args.self.now.tables.desk c.args.event.now c.args.deck ≡ true → AreJobs layout new
+    → follows layout c.args.self.now.tables.desk c.args.event.now (option_map rc_value c.args.deck) ≡ true → AreJobs layout new
 jobs-after c layout new desk running are follow =
-    jobs-behind layout c.args.self.now new c.args.event.now c.args.deck c.args.prepared.step c.go_on.ensures.numbered c.requires.plain c.requires.accepted follow c.requires.prepared.started
+    jobs-behind layout c.args.self.now new c.args.event.now (option_map rc_value c.args.deck) c.args.prepared.step c.go_on.ensures.numbered c.requires.plain c.requires.accepted follow c.requires.prepared.started
     (desk ∙ desk_is c)
     (subst (λ (t : TablesModel). GoesOn c.args.event.now t c.args.self.now.points c.args.self.now.running new.running) (sym desk)
     (subst (GoesOn c.args.event.now c.self.inside.tables.desk c.args.self.now.points c.args.self.now.running) (sym running) (goes-on c))) are
@@ -85,20 +87,20 @@ pub returns-clause-place : goal.returns-clause-place
 returns-clause-place c =
     let are = c.requires.follows.1 in
     subst (HasRecordPlace c.args.event.now) (sym (ap (λ (j : JobsView). j.tables.desk) c.self.view_is ∙ c.go_on.ensures.tables))
-    (place-behind c.requires.follows.0 c.args.self.now.tables.desk c.go_on.ensures.numbered are.rows are.laid c.args.event.now c.args.deck c.requires.follows.2)
+    (place-behind c.requires.follows.0 c.args.self.now.tables.desk c.go_on.ensures.numbered are.rows are.laid c.args.event.now (option_map rc_value c.args.deck) c.requires.follows.2)
 
 pub returns-clause-jobs : goal.returns-clause-jobs
 returns-clause-jobs c = λ layout are follow. jobs-after (goal.at.returns-clause-jobs c).After-keep_running layout _ refl refl are follow
 
 pub returns-clause-own : goal.returns-clause-own
 returns-clause-own c = λ layout are.
-    own-behind layout c.args.self.now _ c.args.event.now c.args.deck are.rows c.go_on.ensures.numbered are.placed c.requires.plain
+    own-behind layout c.args.self.now _ c.args.event.now (option_map rc_value c.args.deck) are.rows c.go_on.ensures.numbered are.placed c.requires.plain
     (desk_is (goal.at.returns-clause-own c).After-keep_running) (goes-on (goal.at.returns-clause-own c).After-keep_running)
     (c.keep_points.ensures ∙ ap (λ (items : List RunningStep). points_behind c.args.event.now (map step_seen items) c.self.inside.points.items) c.as_slice.ensures.value
     ∙ ap (points_behind c.args.event.now (map step_seen c.keep_running.new.running.items)) (ap (λ (j : JobsView). j.points) c.self.view_is ∙ c.go_on.ensures.points))
 
 pub returns-clause-left : goal.returns-clause-left
 returns-clause-left c = λ layout are.
-    left-behind layout c.args.self.now _ _ c.args.event.now c.args.deck are c.go_on.ensures.numbered c.requires.plain
+    left-behind layout c.args.self.now _ _ c.args.event.now (option_map rc_value c.args.deck) are c.go_on.ensures.numbered c.requires.plain
     (ap (λ (j : JobsView). j.tables.desk) c.self.view_is ∙ c.go_on.ensures.tables)
     (c.keep_failed.ensures ∙ ap (failed_behind c.args.event.now) (ap (λ (j : JobsView). j.failed) c.self.view_is ∙ c.go_on.ensures.failed))

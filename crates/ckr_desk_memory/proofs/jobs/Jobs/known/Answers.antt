@@ -1,15 +1,14 @@
-use Rattle.std.proofs.Common.{◌≡◌, ◌≤◌, None, Some, IfNone, ap, ◌∙◌, subst, length}
+use Rattle.std.proofs.Common.{◌≡◌, None, Some, IfNone, ap, ◌∙◌, subst}
 use Rattle.std.specs.Option.{option_copied, option_map}
 use Rattle.ckr_points.specs.Rows.{run_of}
 use Rattle.ckr_points_tables.specs.View.{facts_in, facts_of}
-use Rattle.ckr_desk_turn.specs.Queue.{AreNumbered}
-use Rattle.ckr_desk_memory.proofs.FoundRuns.{known-some, unknown-of}
+use Rattle.ckr_desk_memory.proofs.FoundRuns.{ArePlain, known-some, unknown-of}
 use Rattle.ckr_desk_memory.proofs.jobs.Jobs.known.Goals as goal
 
 pub returns-clause-some : goal.returns-clause-some
 returns-clause-some c =
     let same = ap (λ v. v.tables.desk) c.self.view_is in
-    known-some c.args.self.now.tables.desk (subst (λ tables. AreNumbered 1 tables.runs) same c.self.invariant.queued.numbered) (subst (λ tables. length tables.runs ≤ 9999999) same c.self.invariant.queued.few) c.requires c.args.job
+    known-some c.args.self.now.tables.desk (subst ArePlain same c.runs-lines.ensures.plain) c.args.job
     (option_copied c.run.result) (c.run.ensures ∙ ap (λ tables. option_map facts_in (run_of tables c.args.job)) same)
 
 pub returns-clause-none : goal.returns-clause-none

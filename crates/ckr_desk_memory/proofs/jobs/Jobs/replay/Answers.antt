@@ -38,12 +38,13 @@ go_on-requires c =
     let its = goes-on-with c.args.layout.now c.args.self.now.tables.desk c.args.event.now c.in_ok-deck.deck goes in
     record {
       plain = its.plain;
-      follows = subst (λ (t : TablesModel). MayFollow t c.args.event.now c.in_ok-deck.deck) (sym c.make_room.ensures.desk) (c.args.layout.now, its.follow);
-      deck = its.submits;
+      follows = subst (MayFollow c.make_room.new.self.tables.desk c.args.event.now) (sym c.in_ok-shared.ensures.value)
+          (subst (λ (t : TablesModel). MayFollow t c.args.event.now c.in_ok-deck.deck) (sym c.make_room.ensures.desk) (c.args.layout.now, its.follow));
+      deck = subst (MaySubmit c.args.event.now) (sym c.in_ok-shared.ensures.value) its.submits;
       count = subst (λ (t : TablesModel). MayCount c.args.event.now t.sets) (sym c.make_room.ensures.desk) its.count;
       tables = c.in_ok-uses.ensures.tables;
       queue = c.in_ok-uses.ensures.queue;
-      uses = subst (λ deck. HasUses c.args.event.now deck c.in_ok-uses.uses) c.as_ref.ensures.value c.in_ok-uses.ensures.uses;
+      uses = subst (λ deck. HasUses c.args.event.now deck c.in_ok-uses.uses) (c.as_ref.ensures.value ∙ sym c.in_ok-shared.ensures.value) c.in_ok-uses.ensures.uses;
     }
 
 pub returns-clause-answer : goal.returns-clause-answer
@@ -54,7 +55,7 @@ returns-clause-answer c =
 
 pub returns-clause-ok : goal.returns-clause-ok
 returns-clause-ok c =
-    c.go_on.ensures.tables ∙ ap (after_event c.args.event.now c.in_ok-deck.deck) c.make_room.ensures.desk
+    c.go_on.ensures.tables ∙ ap (λ deck. after_event c.args.event.now deck c.make_room.new.self.tables.desk) c.in_ok-shared.ensures.value ∙ ap (after_event c.args.event.now c.in_ok-deck.deck) c.make_room.ensures.desk
     ∙ ap (λ deck. after_event c.args.event.now deck c.args.self.now.tables.desk) c.in_ok-deck.ensures
     ∙ sym (ap (λ found. unwrap_or found c.args.self.now.tables.desk) (replayed-some c.args.layout.now c.args.self.now.tables.desk c.args.event.now
     (sym (ap (goes_on c.args.layout.now c.args.self.now.tables.desk c.args.event.now) c.in_ok-deck.ensures)
@@ -66,7 +67,7 @@ returns-clause-jobs c = λ are.
     (subst (λ (j : JobsView). AreNumbered 1 j.tables.desk.runs) c.self.view_is c.self.invariant.queued.numbered)
     (sym (ap (goes_on c.args.layout.now c.args.self.now.tables.desk c.args.event.now) c.in_ok-deck.ensures)
     ∙ sym (ap (λ (j : JobsView). goes_on c.args.layout.now j.tables.desk c.args.event.now c.in_ok-deck.deck) c.self.view_is) ∙ sym c.goes_on.ensures ∙ c.if-not-goes_on.false)
-    (c.go_on.ensures.tables ∙ ap (after_event c.args.event.now c.in_ok-deck.deck) c.make_room.ensures.desk
+    (c.go_on.ensures.tables ∙ ap (λ deck. after_event c.args.event.now deck c.make_room.new.self.tables.desk) c.in_ok-shared.ensures.value ∙ ap (after_event c.args.event.now c.in_ok-deck.deck) c.make_room.ensures.desk
     ∙ ap (λ deck. after_event c.args.event.now deck c.args.self.now.tables.desk) c.in_ok-deck.ensures)
     (c.go_on.ensures.running ∙ c.make_room.ensures.running) are
 
@@ -76,5 +77,5 @@ returns-clause-holders c =
     (subst (λ (j : JobsView). AreNumbered 1 j.tables.desk.runs) c.self.view_is c.self.invariant.queued.numbered)
     (sym (ap (goes_on c.args.layout.now c.args.self.now.tables.desk c.args.event.now) c.in_ok-deck.ensures)
     ∙ sym (ap (λ (j : JobsView). goes_on c.args.layout.now j.tables.desk c.args.event.now c.in_ok-deck.deck) c.self.view_is) ∙ sym c.goes_on.ensures ∙ c.if-not-goes_on.false)
-    (c.go_on.ensures.tables ∙ ap (after_event c.args.event.now c.in_ok-deck.deck) c.make_room.ensures.desk
+    (c.go_on.ensures.tables ∙ ap (λ deck. after_event c.args.event.now deck c.make_room.new.self.tables.desk) c.in_ok-shared.ensures.value ∙ ap (after_event c.args.event.now c.in_ok-deck.deck) c.make_room.ensures.desk
     ∙ ap (λ deck. after_event c.args.event.now deck c.args.self.now.tables.desk) c.in_ok-deck.ensures)
