@@ -6,16 +6,14 @@ use Rattle.ckr_entry.specs.Entry.{IsEntry, entry_in, told_offset}
 use Rattle.ckr_entry.specs.Parts.{Entry}
 use Rattle.ckr_entry.specs.declared.point.Mark.{Mark}
 use Rattle.ckr_jcl.specs.declared.deck.Dd.{Dd}
-use Rattle.ckr_jcl.specs.declared.deck.Step.{Step}
 use Rattle.ckr_library.specs.Catalog.{ends_within}
 use Rattle.ckr_library.specs.NameMaps.{entry_at}
 use Rattle.ckr_library.specs.declared.sets.Kept.{Kept}
-use Rattle.ckr_meaning.specs.EffectiveJob.{name_of}
+use Rattle.ckr_meaning.specs.EffectiveJob.{OwnedStep, name_of}
 use Rattle.ckr_points.specs.Marks.{present_at}
 use Rattle.ckr_points.specs.Office.{is_holder}
 use Rattle.ckr_points.specs.Rows.{EffectPoint, RunRow, TableSet, TablesModel, run_of}
 use Rattle.ckr_desk_memory.specs.EventChanges.{is_point_of}
-use Rattle.ckr_desk_memory.specs.Model.Holdings.{owned}
 use Rattle.ckr_desk_memory.specs.View.{PointView}
 use Rattle.ckr_desk_refines.specs.EntryRefusal.{effect_fault, first_fault, is_of_run}
 use Rattle.ckr_steps.specs.EntryRecords.{bytes_on}
@@ -44,8 +42,8 @@ unfoldable pub bad_entry : Layout → TablesModel → List ℕ → Option (ℕ �
 bad_entry layout tables image = first_fault (run_refusal layout tables image) tables.runs
 
 -- the data set of a DD of a step was there at a point, if the DD has one
-abbrev pub is_dd_present : List Mark → ℕ → Step → Dd → Bool
-is_dd_present marks run own dd = option_map_or (λ name. is_some (present_at marks name)) (name_of run (owned own run []) dd) true
+abbrev pub is_dd_present : List Mark → ℕ → OwnedStep → Dd → Bool
+is_dd_present marks root own dd = option_map_or (λ name. is_some (present_at marks name)) (name_of root own dd) true
 
 -- each checkpoint in effect has its places
 abbrev pub ArePlaced : TablesModel → Type 0

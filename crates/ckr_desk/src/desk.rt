@@ -1,5 +1,7 @@
 //! The jobs in memory with their disk, and the operator.
 ghost use Rattle.std.specs.Prelude.{◌≡◌, ◌≤◌, ◌++◌, ◌∷◌, [], IfErr, IfSome, IsTrue, OnOk, Err, None, Some, length, map, true};
+ghost use Rattle.std.specs.Option.{option_map};
+ghost use Rattle.std.specs.Rc.{rc_value};
 ghost use Rattle.ckr_events.specs.Event.{IsCounted, spelling};
 ghost use Rattle.ckr_desk_memory.specs.Invariant.{IsAnyAccepted};
 ghost use Rattle.ckr_desk_memory.specs.Rewrite.{HasRecordPlace};
@@ -21,7 +23,7 @@ use crate::DeskError;
 use crate::event_bytes::EventBytes;
 use crate::preparation::Ready;
 use ckr_console::{Console, Operator};
-use ckr_desk_memory::Jobs;
+use ckr_desk_memory::{Jobs, shared_deck};
 use ckr_desk_store::Store;
 use ckr_events::Event;
 use ckr_jcl::Job;
@@ -31,6 +33,7 @@ use ckr_points::Run;
 use ckr_volumes::Layout;
 use std::alloc::Global;
 use std::marker::Model;
+use std::rc::Rc;
 
 /// The jobs in memory with their disk, and the console with the operator in office, if anybody is.
 #[derive(Drop)]
@@ -98,24 +101,24 @@ impl<D: Disk, O: Operator> Desk<D, O> {
     pub(crate) fn enter(
         &mut self,
         event: &Event,
-        deck: Option<Job>,
+        deck: Option<Rc<Job>>,
         ready: Ready,
     ) -> Result<(), DeskError>
         requires plain { IsTrue (is_forward_event event.now) }
-        requires deck { MaySubmit event.now deck }
-        requires accepted { IsAnyAccepted event.now deck }
-        requires follows { may_follow event.now deck self.old ≡ true }
+        requires deck { MaySubmit event.now (option_map rc_value deck) }
+        requires accepted { IsAnyAccepted event.now (option_map rc_value deck) }
+        requires follows { may_follow event.now (option_map rc_value deck) self.old ≡ true }
         requires commits { CommitsItsOwn event.now self.old.jobs.tables.desk self.old.jobs.running }
         requires leaves { LeavesLeft event.now self.old.jobs.failed }
-        requires ready { IsReady event.now deck self.old ready }
+        requires ready { IsReady event.now (option_map rc_value deck) self.old ready }
         requires is_open { self.old.store.fault ≡ None }
-        ensures ok { OnOk result (HasGoneOn event.now deck self.old self.new) }
+        ensures ok { OnOk result (HasGoneOn event.now (option_map rc_value deck) self.old self.new) }
         ensures told { D.told → OnOk result (event_records self.old.store.layout (D.content self.new.store.disk)
             ≡ event_records self.old.store.layout (D.content self.old.store.disk) ++ spelling event.now ∷ []) }
         ensures records { D.told → OnOk result (HasSameRecords self.old.store.layout (D.content self.old.store.disk) (D.content self.new.store.disk)) }
         ensures settled { OnOk result (Only (D.content self.new.store.disk) (D.may_leave self.new.store.disk)) }
         ensures place { OnOk result (HasRecordPlace event.now self.new.jobs.tables.desk) }
-        ensures left { EachSince D.moment D.left_since self.old.store.disk self.new.store.disk (IsLeftBy D.content D.may_leave D.size event.now deck self.old) }
+        ensures left { EachSince D.moment D.left_since self.old.store.disk self.new.store.disk (IsLeftBy D.content D.may_leave D.size event.now (option_map rc_value deck) self.old) }
         ensures size { D.size self.new.store.disk ≡ D.size self.old.store.disk }
         ensures faults { D.faults self.old.store.disk ≤ D.faults self.new.store.disk }
         ensures layout { self.new.store.layout ≡ self.old.store.layout }
@@ -164,6 +167,7 @@ impl<D: Disk, O: Operator> Desk<D, O> {
             return Err(DeskError::Stopped { fault });
         }
         let ready = self.make_ready(event, deck.as_ref())?;
-        self.enter(event, deck, ready)
+        let shared = shared_deck(self.alloc, deck)?;
+        self.enter(event, shared, ready)
     }
 }

@@ -16,7 +16,7 @@ ghost use Rattle.ckr_points.specs.Marks.{mark_at, present_at};
 ghost use Rattle.ckr_points.specs.Office.{is_holder};
 ghost use Rattle.ckr_points.specs.Rows.{RunRow, TablesModel, run_of};
 ghost use Rattle.ckr_points.specs.Statements.{kind_number};
-ghost use Rattle.ckr_desk_memory.specs.Model.Holdings.{owned};
+ghost use Rattle.ckr_points_tables.specs.RunJobs.{effective, own_of, IsFitting};
 ghost use Rattle.ckr_points_tables.specs.View.{line_of};
 ghost use Rattle.ckr_steps.specs.EntryRecords.{bytes_on};
 ghost use Rattle.ckr_steps.specs.Units.{program_of};
@@ -28,11 +28,11 @@ use crate::OpenError;
 use ckr_base::{DsName, NoMemory};
 use ckr_desk_memory::{Jobs, StepPoint};
 use ckr_entry::{EntryError, Mark, Point, State, decode_entry};
-use ckr_jcl::{Dd, Kind, Step};
+use ckr_jcl::{Dd, Kind};
 use ckr_library::{DataSet, Kept};
 use ckr_outside::Disk;
 use ckr_points::{Run, RunState, step_in};
-use ckr_points_tables::{RunTable, place_now, step_at};
+use ckr_points_tables::{OwnStep, RunTable, place_now, step_at};
 use ckr_uses::library_name;
 use ckr_volumes::{Layout, read_record};
 use std::alloc::Global;
@@ -112,25 +112,28 @@ fn is_present(marks: &[Mark], name: &DsName) -> bool
 }
 
 /// Whether the data set of a DD was there at a point, if the DD has one.
-fn is_dd_present(marks: &[Mark], run: u32, own: &Step, dd: &Dd) -> bool
-    requires { run ≤ 9999999 }
-    ensures { result ≡ is_dd_present marks.now run own.now dd.now }
+fn is_dd_present(marks: &[Mark], root: u32, own: &OwnStep<'_>, dd: &Dd) -> bool
+    requires root { root ≤ 9999999 }
+    requires owner { own.now.owner ≤ 9999999 }
+    ensures { result ≡ is_dd_present marks.now root (own_of own.now) dd.now }
 {
-    match library_name(dd, run, run, &own.name) {
+    match library_name(dd, root, own.owner, &own.step.name) {
         Some(name) => is_present(marks, &name),
         None => true,
     }
 }
 
 /// Whether each data set of a step was there at a point.
-fn are_present(marks: &[Mark], run: u32, own: &Step) -> bool
-    requires { run ≤ 9999999 }
-    ensures { result ≡ list_all (is_dd_present marks.now run own.now) own.now.dds }
+fn are_present(marks: &[Mark], root: u32, own: &OwnStep<'_>) -> bool
+    requires root { root ≤ 9999999 }
+    requires owner { own.now.owner ≤ 9999999 }
+    ensures { result ≡ list_all (is_dd_present marks.now root (own_of own.now)) own.now.step.now.dds }
 {
-    own.dds
+    own.step
+        .dds
         .as_slice()
         .iter()
-        .all(|dd| is_dd_present(marks, run, own, dd))
+        .all(|dd| is_dd_present(marks, root, own, dd))
 }
 
 /// The program of a state.
@@ -158,26 +161,27 @@ fn kind_number(kind: Kind) -> u8
     }
 }
 
-/// Whether a point is one of this step of a run that continues none.
+/// Whether a point is one of this step of a run of this root.
 #[tactic(auto, using(crate::proofs::Openings::EntryReads::present))]
-fn is_of_step(point: &Point, run: u32, step: u8, own: &Step) -> bool
-    requires { run ≤ 9999999 }
-    ensures { result ≡ is_of_step run (owned own.now run []) step (entry_of point.now) }
+fn is_of_step(point: &Point, root: u32, step: u8, own: &OwnStep<'_>) -> bool
+    requires root { root ≤ 9999999 }
+    requires owner { own.now.owner ≤ 9999999 }
+    ensures { result ≡ is_of_step root (own_of own.now) step (entry_of point.now) }
 {
-    point.owner == run
+    point.owner == own.owner
         && point.step == step
-        && kind_number(program_of(&point.state)) == kind_number(own.program)
-        && are_present(point.marks.as_slice(), run, own)
+        && kind_number(program_of(&point.state)) == kind_number(own.step.program)
+        && are_present(point.marks.as_slice(), root, own)
 }
 
-/// Whether a point is one of the step that a run is in, which continues none.
+/// Whether a point is one of the step that a run is in.
 fn is_of_run(point: &Point, run: u32, table: &RunTable) -> bool
-    requires { run ≤ 9999999 }
+    requires { IsFitting (effective run table.now.job) }
     ensures { result ≡ is_of_run (row_for run table.now) (entry_of point.now) }
 {
     let step = step_in(place_now(table));
-    match step_at(&table.job, step) {
-        Some(own) => is_of_step(point, run, step, own),
+    match step_at(&table.job, run, step) {
+        Some(own) => is_of_step(point, table.job.root(), step, &own),
         None => false,
     }
 }
@@ -190,7 +194,7 @@ fn point_of(
     run: u32,
     table: &RunTable,
 ) -> Result<Result<StepPoint, u32>, NoMemory>
-    requires { run ≤ 9999999 }
+    requires { IsFitting (effective run table.now.job) }
     ensures found { IfOk result (λ found. found ≡ point_read run (is_of_run (row_for run table.now)) (entry_in bytes.now)) }
     ensures form { OnOk result (IfOk (entry_in bytes.now) IsEntry) }
 {
@@ -223,7 +227,7 @@ fn point_in<D: Disk>(
     requires layout { IsTrue (is_laid_out layout.now) }
     requires fits { disk_needed layout.now ≤ D.size disk.old }
     requires stands { StandsIn layout.now set.now }
-    requires run { run ≤ 9999999 }
+    requires job { IsFitting (effective run table.now.job) }
     ensures placed { IsTrue (ends_within set.now.space kept.now) → IfOk result (IsFoundAt D.told run (is_of_run (row_for run table.now))
         (entry_in (bytes_on (D.content disk.old) layout.now set.now kept.now.place kept.now.bytes))) }
     ensures unplaced { ends_within set.now.space kept.now ≡ false → IfOk result (λ found. found ≡ Err 0) }

@@ -47,7 +47,8 @@ fn is_held_in(tables: &Tables, line: &Run, name: &DsName) -> bool
     ensures { result ≡ is_held_in tables.now.desk name.now line.now }
 {
     match tables.run(line.number) {
-        Some(table) => is_holder(line.state) && has_name_in_job(&table.job, line.number, name),
+        Some(table) => is_holder(line.state)
+            && has_name_in_job(table.job.deck(), line.number, name),
         None => false,
     }
 }

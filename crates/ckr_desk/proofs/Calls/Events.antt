@@ -45,7 +45,7 @@ use Rattle.ckr_desk.specs.State.{RoomyDesk, DeskView, need_of}
 
 -- the number of a run that may be submitted has at most seven digits
 pub submittable-small : (number : ℕ) (deck : Job) → is_submittable number deck ≡ true → number ≤ 9999999
-submittable-small number deck fits = nat_le-true number 9999999 (and-first (nat_le number 9999999) _ (and-first _ _ (and-first _ _ fits)))
+submittable-small number deck fits = nat_le-true number 9999999 (and-first (nat_le number 9999999) _ (and-first _ _ (and-first _ _ (and-first _ _ fits))))
 
 module _ {D : Type 0} (told : Type 0) (content : D → List ℕ) (may_leave : D → List ℕ → Type 0) (size : D → ℕ)
     (old : DeskView D) (trusted : IsTrusted told content may_leave old) where

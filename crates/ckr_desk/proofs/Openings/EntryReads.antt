@@ -8,16 +8,14 @@ use Rattle.ckr_base.proofs.Options.{some-not-none, some-one}
 use Rattle.ckr_base.proofs.Sequences.{drop-at, get-inside}
 use Rattle.ckr_entry.specs.declared.point.Mark.{Mark}
 use Rattle.ckr_jcl.specs.declared.deck.Dd.{Dd}
-use Rattle.ckr_jcl.specs.declared.deck.Step.{Step}
 use Rattle.ckr_library.specs.Catalog.{records_of}
 use Rattle.ckr_library.specs.declared.sets.DataSet.{DataSet}
-use Rattle.ckr_meaning.specs.EffectiveJob.{name_of}
+use Rattle.ckr_meaning.specs.EffectiveJob.{OwnedStep, name_of}
 use Rattle.ckr_points.specs.Marks.{present_at}
 use Rattle.ckr_desk_turn.specs.Queue.{AreNumbered}
 use Rattle.ckr_points.specs.Rows.{RunRow, TablesModel, run_of}
 use Rattle.ckr_points.specs.declared.run.Run.{Run}
 use Rattle.ckr_points_tables.specs.View.{line_of}
-use Rattle.ckr_desk_memory.specs.Model.Holdings.{owned}
 use Rattle.ckr_desk_refines.specs.EntryRefusal.{are_present, first_fault}
 use Rattle.ckr_steps.specs.EntryRecords.{bytes_on}
 use Rattle.ckr_volumes.specs.declared.layout.Layout.{Layout}
@@ -56,11 +54,11 @@ pub ruleset pieces = (pieces-none, pieces-more, pieces-all)
 
 -- ---- the data sets of a step
 
-pub dds-present : (marks : List Mark) (run : ℕ) (own : Step) (dds : List Dd) → list_all (is_dd_present marks run own) dds ≡ are_present marks (filter_map (name_of run (owned own run [])) dds)
+pub dds-present : (marks : List Mark) (run : ℕ) (own : OwnedStep) (dds : List Dd) → list_all (is_dd_present marks run own) dds ≡ are_present marks (filter_map (name_of run own) dds)
 dds-present marks run own [] = refl
 dds-present marks run own (dd ∷ dds) =
-    elim (name_of run (owned own run []) dd) as (λ o.
-    (option_map_or (λ name. is_some (present_at marks name)) o true && list_all (is_dd_present marks run own) dds) ≡ are_present marks (cons_option o (filter_map (name_of run (owned own run [])) dds))) [
+    elim (name_of run own dd) as (λ o.
+    (option_map_or (λ name. is_some (present_at marks name)) o true && list_all (is_dd_present marks run own) dds) ≡ are_present marks (cons_option o (filter_map (name_of run own) dds))) [
       | None ↦ dds-present marks run own dds
       | Some one ↦ ap (λ (b : Bool). is_some (present_at marks one) && b) (dds-present marks run own dds)
     ]

@@ -16,7 +16,8 @@ use Rattle.ckr_points.specs.Office.{is_holder}
 use Rattle.ckr_points.specs.Rows.{EffectPoint, RunRow, TableSet, TablesModel, holding_of, run_of}
 use Rattle.ckr_points.specs.declared.run.Run.{Run}
 use Rattle.ckr_points_tables.specs.PlainRows.{IsPlainRow}
-use Rattle.ckr_points_tables.specs.View.{RunTableView, effect_of, facts_in, facts_of, line_of, row_with, seen_by}
+use Rattle.ckr_points_tables.specs.RunJobs.{IsFitting, effective}
+use Rattle.ckr_points_tables.specs.View.{RunTableView, effect_of, facts_in, facts_of, job_in, line_of, row_with, seen_by}
 use Rattle.ckr_points_tables.specs.declared.run_table.InEffect.{InEffect}
 use Rattle.ckr_points_tables.specs.declared.run_table.RunTable.{RunTable}
 use Rattle.ckr_desk_refines.specs.EntryRefusal.{fault_in, is_of_run}
@@ -51,14 +52,19 @@ none-known found rows row same is none = some-not-none (facts_in row) (sym (ap (
 pub facts-known : (found : Option RunTable) (rows : Option RunRow) (row : RunRow) (table : RunTable) → option_map facts_of found ≡ option_map facts_in rows → rows ≡ Some row → found ≡ Some table → facts_of table ≡ facts_in row
 facts-known found rows row table same is some = same_Some (facts_of table) (facts_in row) (sym (ap (option_map facts_of) some) ∙ same ∙ ap (option_map facts_in) is)
 
--- and its number has at most seven digits
-pub number-few : (tables : TablesModel) (number : ℕ) (found : Option RunTable) (table : RunTable) → option_map facts_of found ≡ option_map facts_in (run_of tables number) → found ≡ Some table
-    → ((job : ℕ) (row : RunRow) → run_of tables job ≡ Some row → IsPlainRow job row) → number ≤ 9999999
-number-few tables number found table same is plain = by (run_of tables number) refl
+-- and its job is within the limits
+pub job-fits : (tables : TablesModel) (number : ℕ) (found : Option RunTable) (table : RunTable) → option_map facts_of found ≡ option_map facts_in (run_of tables number) → found ≡ Some table
+    → ((job : ℕ) (row : RunRow) → run_of tables job ≡ Some row → IsPlainRow job row) → IsFitting (effective number table.job)
+job-fits tables number found table same is plain = by (run_of tables number) refl
   where
-    by : (rows : Option RunRow) → run_of tables number ≡ rows → number ≤ 9999999
+    by : (rows : Option RunRow) → run_of tables number ≡ rows → IsFitting (effective number table.job)
     by None at = absurd (some-not-none (facts_of table) (sym (ap (option_map facts_of) is) ∙ same ∙ ap (option_map facts_in) at))
-    by (Some row) at = (plain number row at).few
+    by (Some row) at =
+        let its = plain number row at in
+        let kept = facts-known found (run_of tables number) row table same at is in
+        subst IsFitting
+        (ap (λ (r : RunRow). r.job) its.told ∙ ap (λ n. effective n (job_in row)) its.numbered ∙ ap (λ (f : RunTableView). effective number f.job) (sym kept))
+        its.fits
 
 module _ (layout : Layout) (tables : TablesModel) (image : List ℕ) (row : RunRow) where
   -- a run that doesn't hold its names isn't judged

@@ -1,6 +1,6 @@
 -- The office behind an event of a step that is running: what holds of the tables behind each such step holds behind the event.
 use Rattle.std.proofs.Common.{◌≡◌, ℕ, true, false, List, refl, ap, sym, ◌∙◌, subst, Option, Some}
-use Rattle.std.specs.Prelude.{◌==◌, ◌&&◌, ◌||◌, length}
+use Rattle.std.specs.Prelude.{◌==◌, ◌&&◌, ◌||◌, length, nat_le}
 use Rattle.std.specs.Option.{option_map_or}
 use Rattle.arrayvec.specs.ArrayVec.{ArrayVec}
 use Rattle.ckr_points_library.specs.Commit.{output_names}
@@ -168,6 +168,6 @@ by-checkpointed Q layout office job taken writes place bytes id lengths deck kep
       running = running-so layout office job row leg owned holder (and-second (is_in_state On row) (is_within (place_of row)) runs) found;
       carried =
           and-first (commits office.tables.sets row writes lengths.items (its_start leg owned (step_now row))) (carries_taken taken writes (its_start leg owned (step_now row)))
-          (carried-of layout office job row leg owned (step_now row) (λ row start. commits office.tables.sets row writes lengths.items start && carries_taken taken writes start) kept holder refl found carried);
+          (carried-of layout office job row leg owned (step_now row) (λ row start. commits office.tables.sets row writes lengths.items start && carries_taken taken writes start) kept holder refl found (and-second (nat_le 1 bytes) _ carried));
       are = are;
     })))))

@@ -20,7 +20,7 @@ use Rattle.ckr_points_library.specs.Commit.{output_names}
 use Rattle.ckr_points_invariant.specs.Invariant.{IsKept}
 use Rattle.ckr_points_invariant.specs.Points.{ArePointed}
 use Rattle.ckr_points_invariant.specs.Readiness.{AreReady}
-use Rattle.ckr_points_invariant.proofs.PlainRuns.Office.{entries-restorable, steps-restorable}
+use Rattle.ckr_points_invariant.proofs.Readiness.Office.{entries-restorable, steps-restorable}
 use Rattle.ckr_points_invariant.proofs.Restart.Event.{entry-leaves, start-leaves}
 use Rattle.ckr_volumes.specs.declared.layout.Layout.{Layout}
 use Rattle.ckr_desk_refines.specs.Commits.{HasCommitted}

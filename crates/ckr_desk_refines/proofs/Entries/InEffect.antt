@@ -18,7 +18,7 @@ use Rattle.ckr_points.specs.Restart.{kept_at}
 use Rattle.ckr_points.specs.Rows.{EffectPoint, KeptEntry, RunRow, TableSet, run_of}
 use Rattle.ckr_points_invariant.specs.Invariant.{IsHolder, IsKept, step_now}
 use Rattle.ckr_points_invariant.specs.Readiness.{AreReady, IsCheck}
-use Rattle.ckr_points_invariant.proofs.PlainRuns.Readiness.{kept-entry}
+use Rattle.ckr_points_invariant.proofs.Readiness.Runs.{kept-entry}
 use Rattle.ckr_points_invariant.proofs.Steps.Events.{led-by}
 use Rattle.ckr_steps.specs.Units.{AreServed, is_closed}
 use Rattle.ckr_volumes.specs.declared.layout.Layout.{Layout}

@@ -17,7 +17,7 @@ use Rattle.ckr_points.specs.Restart.{Back, after_event, after_put_back, after_re
 use Rattle.ckr_points.specs.Rows.{EffectPoint, KeptEntry, RunRow, TableSet, TablesModel, run_of, step_of_run}
 use Rattle.ckr_points_invariant.specs.Invariant.{IsAgreed, step_now}
 use Rattle.ckr_points_invariant.specs.Readiness.{AreReady, IsCheck}
-use Rattle.ckr_points_invariant.proofs.PlainRuns.Readiness.{kept-entry}
+use Rattle.ckr_points_invariant.proofs.Readiness.Runs.{kept-entry}
 use Rattle.ckr_points_invariant.proofs.Steps.Events.{led-by}
 use Rattle.ckr_volumes.specs.declared.layout.Layout.{Layout}
 use Rattle.ckr_desk_refines.specs.EntryRefusal.{AreInEffect, IsInEffect}

@@ -28,8 +28,8 @@ use Rattle.ckr_points_invariant.specs.Invariant.{IsKept, step_now}
 use Rattle.ckr_points_invariant.specs.PlainRuns.{NoneContinues, continues}
 use Rattle.ckr_points_invariant.specs.Points.{ArePointed}
 use Rattle.ckr_points_invariant.specs.Readiness.{AreReady}
-use Rattle.ckr_points_invariant.proofs.PlainRuns.Office.{entries-restorable, steps-restorable}
-use Rattle.ckr_points_invariant.proofs.PlainRuns.SoundEvents.{AreKept, next-kept, prefix-kept}
+use Rattle.ckr_points_invariant.proofs.Readiness.Office.{entries-restorable, steps-restorable}
+use Rattle.ckr_points_invariant.proofs.KeptEvents.{next-kept, none-kept}
 use Rattle.ckr_points_invariant.proofs.Restart.Event.{entry-leaves, start-leaves}
 use Rattle.ckr_points_invariant.proofs.Start.Event.{running-so}
 use Rattle.ckr_points_invariant.proofs.Steps.Events.{led-by, running-holds, running-within, step-by}
@@ -47,6 +47,7 @@ use Rattle.ckr_desk_refines.proofs.Entries.Events.{within-next}
 use Rattle.ckr_desk_refines.proofs.Entries.Legs.{tables-behind}
 use Rattle.ckr_desk_refines.proofs.Entries.Refusal.{nothing-refused}
 use Rattle.ckr_desk_refines.proofs.Entries.RunningStep.{event-names, others-checkpointed}
+use Rattle.ckr_points_invariant.specs.KeptEvents.{AreKept}
 
 -- ---- what an event leaves of other runs
 
@@ -108,7 +109,7 @@ entries_from layout (event ∷ rest) more now sound on are within effects =
     let ahead : continues event.0 ≡ false = not-true (continues event.0) (and-first (not (continues event.0)) _ on) in
     let same : (office_after (event.0, event.1) now).tables ≡ after_event event.0 event.1 now.tables = tables-behind now event.0 event.1 in
     entries_from layout rest more (office_after event now) sound.1 (and-second (not (continues event.0)) _ on)
-    (next-kept layout now event.0 event.1 ahead are.kept are.pointed are.ready next)
+    (next-kept layout now are event.0 event.1 next)
     (subst (λ (tables : TablesModel). AreWithin tables.sets) (sym same) (within-event layout now are.kept event.0 event.1 ahead next within))
     (subst AreInEffect (sym same)
     (effects-next layout now are.kept.events are.ready effects within event.0 event.1 ahead next.may (event-names layout now are.kept.events event.0 event.1 next.may)
@@ -116,7 +117,7 @@ entries_from layout (event ∷ rest) more now sound on are within effects =
 
 pub sound-entries : (layout : Layout) (front more : List Decked) → AreSound layout (front ++ more) → NoneContinues (front ++ more) → AreWithin (office front).tables.sets × AreInEffect (office front).tables
 sound-entries layout front more sound on =
-    entries_from layout front more no_office sound on (prefix-kept layout [] (front ++ more) sound on) (λ name table e. absurd (some-not-none table (sym e))) no-effects
+    entries_from layout front more no_office sound on (none-kept layout) (λ name table e. absurd (some-not-none table (sym e))) no-effects
 
 -- so opening refuses no entry of sound events that the image has
 pub sound-refused : (layout : Layout) (events : List Decked) (image : List ℕ) → AreSound layout events → NoneContinues events → HasEntries layout (office events) image → entry_refusal layout (office events).tables image ≡ None

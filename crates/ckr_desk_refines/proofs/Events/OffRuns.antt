@@ -21,7 +21,7 @@ use Rattle.ckr_points.specs.Tables.{committed}
 use Rattle.ckr_points_invariant.specs.Invariant.{IsAgreed, step_now}
 use Rattle.ckr_points_invariant.specs.Readiness.{AreReady}
 use Rattle.ckr_points_invariant.proofs.Holders.Rows.{run-same}
-use Rattle.ckr_points_invariant.proofs.PlainRuns.Readiness.{kept-entry}
+use Rattle.ckr_points_invariant.proofs.Readiness.Runs.{kept-entry}
 use Rattle.ckr_volumes.specs.declared.layout.Layout.{Layout}
 use Rattle.ckr_desk_memory.specs.Invariant.{is_in_step}
 use Rattle.ckr_desk_memory.specs.View.{PointView}

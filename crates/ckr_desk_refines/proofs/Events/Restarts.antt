@@ -25,7 +25,7 @@ use Rattle.ckr_points.specs.Payload.{writes_in}
 use Rattle.ckr_points.specs.Restart.{after_put_back, after_restarted, back_to_entry, by_step, effect_restarted, kept_at, place_of, row_on, step_in}
 use Rattle.ckr_points.specs.Rows.{EffectPoint, KeptEntry, RunRow, TableSet, TablesModel, run_of, step_of_run}
 use Rattle.ckr_points_invariant.specs.Invariant.{step_now}
-use Rattle.ckr_points_invariant.proofs.PlainRuns.Readiness.{kept-entry}
+use Rattle.ckr_points_invariant.proofs.Readiness.Runs.{kept-entry}
 use Rattle.ckr_points_invariant.proofs.Steps.Commits.{IsRunning, its_start}
 use Rattle.ckr_points_invariant.proofs.Steps.Events.{led-by, running-holds, running-within}
 use Rattle.ckr_points_invariant.proofs.WaitingRuns.{follows-of, tested-run}

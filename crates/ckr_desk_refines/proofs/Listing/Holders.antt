@@ -23,12 +23,12 @@ use Rattle.ckr_desk_refines.specs.Listing.{is_held, is_held_by}
 
 -- the row of a run whose table is there
 pub row-there : (tables : TablesModel) (number : ℕ) (table : RunTable) → Some (facts_of table) ≡ option_map facts_in (run_of tables number)
-    → (row : RunRow) × (run_of tables number ≡ Some row) × (row.deck ≡ table.job)
+    → (row : RunRow) × (run_of tables number ≡ Some row) × (row.deck ≡ table.job.deck)
 row-there tables number table seen = by (run_of tables number) refl
   where
-    by : (found : Option RunRow) → run_of tables number ≡ found → (row : RunRow) × (run_of tables number ≡ Some row) × (row.deck ≡ table.job)
+    by : (found : Option RunRow) → run_of tables number ≡ found → (row : RunRow) × (run_of tables number ≡ Some row) × (row.deck ≡ table.job.deck)
     by None e = absurd (some-not-none (facts_of table) (seen ∙ ap (option_map facts_in) e))
-    by (Some row) e = (row, e, ap (λ (facts : RunTableView). facts.job) (sym (same_Some (facts_of table) (facts_in row) (seen ∙ ap (option_map facts_in) e))))
+    by (Some row) e = (row, e, ap (λ (facts : RunTableView). facts.job.deck) (sym (same_Some (facts_of table) (facts_in row) (seen ∙ ap (option_map facts_in) e))))
 
 pub few-there : (tables : TablesModel) → ((number : ℕ) (row : RunRow) → run_of tables number ≡ Some row → IsPlainRow number row)
     → (number : ℕ) (table : RunTable) → Some (facts_of table) ≡ option_map facts_in (run_of tables number) → number ≤ 9999999
@@ -68,4 +68,4 @@ held-so tables plain name = any-mapped line_of (is_held_in tables name) (is_held
         let is : IsPlainRow (suc place) row = plain (suc place) row there in
         ap (λ (o : Option RunRow). option_map_or (λ (found : RunRow). is_holder row.state && has_name_in_job name row.number found.deck) o false) (ap (run_of tables) is.numbered ∙ there)
         ∙ ap (λ b. is_holder row.state && b) (in-job name row.number row.deck)
-        ∙ ap (λ (job : Effective). is_holder row.state && is_among (names_of_job job) name) (sym (ap (λ (r : RunRow). r.job) is.told))
+        ∙ ap (λ (job : Effective). is_holder row.state && is_among (names_of_job job) name) (sym (is.job ∙ ap (λ n. plain_job n row.deck) (sym is.numbered)))

@@ -3,7 +3,7 @@ use Rattle.std.specs.Option.{option_copied, option_map}
 use Rattle.ckr_points.specs.Rows.{run_of}
 use Rattle.ckr_points_tables.specs.View.{RoomyTables, facts_in, facts_of}
 use Rattle.ckr_desk.proofs.Images.Rewrite.{set-stands}
-use Rattle.ckr_desk.proofs.Openings.EntryRefusals.{found-so, number-few, refused-so, refused-without}
+use Rattle.ckr_desk.proofs.Openings.EntryRefusals.{found-so, job-fits, refused-so, refused-without}
 use Rattle.ckr_desk.proofs.entries.effect_point.Goals as goal
 
 pub returns-in_default-get-clause-refused : goal.returns-in_default-get-clause-refused
@@ -23,9 +23,9 @@ point_in-requires-clause-stands g c κs within =
     set-stands c.args.layout.now c.library.result.now c.args.jobs.now.tables.desk.sets c.in-Some-in_effect.effect.set c.in-Some-get.set.now c.library.ensures.sets
     (sym c.get.ensures ∙ ap option_copied c.in-Some-get.is) c.requires.jobs.laid.stand
 
-pub point_in-requires-clause-run : goal.point_in-requires-clause-run
-point_in-requires-clause-run g c κs within =
-    number-few c.tables-tables.result.now.desk c.args.run.now.number (option_copied c.run.result) c.in-Some.table.now c.run.ensures (ap option_copied c.in-Some.is) c.runs-lines.ensures.plain
+pub point_in-requires-clause-job : goal.point_in-requires-clause-job
+point_in-requires-clause-job g c κs within =
+    job-fits c.tables-tables.result.now.desk c.args.run.now.number (option_copied c.run.result) c.in-Some.table.now c.run.ensures (ap option_copied c.in-Some.is) c.runs-lines.ensures.plain
 
 pub returns-clause-refused : goal.returns-clause-refused
 returns-clause-refused g c = λ told.

@@ -1,4 +1,6 @@
 use Rattle.std.proofs.Common.{◌≤◌, ◌+◌, IfErr, length, ap, refl, subst, sym, ◌∙◌}
+use Rattle.std.specs.Option.{option_map}
+use Rattle.std.specs.Rc.{rc_value}
 use Rattle.std.proofs.lemmas.Bool.{and_from}
 use Rattle.ckr_book.specs.Book.{IsBeforeOrAfter, room_of}
 use Rattle.ckr_events.specs.Event.{spelling}
@@ -42,11 +44,11 @@ returns-in_err-append-clause-left g c =
     let d = g.D.Disk in
     let old = c.self.inside in
     let is_open = ap (λ s. s.store.fault) c.self.view_is ∙ c.requires.is_open in
-    let follows = ap (may_follow c.args.event.now c.args.deck) c.self.view_is ∙ c.requires.follows in
+    let follows = ap (may_follow c.args.event.now (option_map rc_value c.args.deck)) c.self.view_is ∙ c.requires.follows in
     let counts = ap (λ s. may_count c.args.event.now s.jobs.tables.desk.sets) c.self.view_is ∙ c.requires.ready.counts in
     let mid = c.sync.new.self in
     rw (← c.self.view_is)
-    (appended-store d.told d.content d.may_leave d.moment d.left_since d.size c.args.event.now c.args.deck (record { store = old.store; jobs = old.jobs; operator = old.console }) mid c.append.new.self
+    (appended-store d.told d.content d.may_leave d.moment d.left_since d.size c.args.event.now (option_map rc_value c.args.deck) (record { store = old.store; jobs = old.jobs; operator = old.console }) mid c.append.new.self
     c.in_ok-sync.ensures.kept (and_from _ _ follows counts) c.layout-layout.ensures.sound.laid
     (c.sync.ensures.any_moment is_open) c.sync.ensures.only_reads c.sync.ensures.size c.in_ok-sync.ensures.settled
     (subst (λ bytes. EachSince d.moment d.left_since mid.disk c.append.new.self.disk (Opens mid.layout (d.size mid.disk) (IsBeforeOrAfter (event_records mid.layout (d.content mid.disk)) bytes))) c.of-bytes.ensures
@@ -57,11 +59,11 @@ returns-clause-left g c =
     let d = g.D.Disk in
     let old = c.self.inside in
     let is_open = ap (λ s. s.store.fault) c.self.view_is ∙ c.requires.is_open in
-    let follows = ap (may_follow c.args.event.now c.args.deck) c.self.view_is ∙ c.requires.follows in
+    let follows = ap (may_follow c.args.event.now (option_map rc_value c.args.deck)) c.self.view_is ∙ c.requires.follows in
     let counts = ap (λ s. may_count c.args.event.now s.jobs.tables.desk.sets) c.self.view_is ∙ c.requires.ready.counts in
     let mid = c.sync.new.self in
     rw (← c.self.view_is)
-    (appended-store d.told d.content d.may_leave d.moment d.left_since d.size c.args.event.now c.args.deck (record { store = old.store; jobs = old.jobs; operator = old.console }) mid c.append.new.self
+    (appended-store d.told d.content d.may_leave d.moment d.left_since d.size c.args.event.now (option_map rc_value c.args.deck) (record { store = old.store; jobs = old.jobs; operator = old.console }) mid c.append.new.self
     c.in_ok-sync.ensures.kept (and_from _ _ follows counts) c.layout-layout.ensures.sound.laid
     (c.sync.ensures.any_moment is_open) c.sync.ensures.only_reads c.sync.ensures.size c.in_ok-sync.ensures.settled
     (subst (λ bytes. EachSince d.moment d.left_since mid.disk c.append.new.self.disk (Opens mid.layout (d.size mid.disk) (IsBeforeOrAfter (event_records mid.layout (d.content mid.disk)) bytes))) c.of-bytes.ensures
@@ -80,7 +82,7 @@ invariant_of-self-in_err-append g c =
 pub invariant_of-self-2 : goal.invariant_of-self-2
 invariant_of-self-2 g c =
     let event = c.args.event.now in
-    let deck = c.args.deck in
+    let deck = (option_map rc_value c.args.deck) in
     let layout = c.self.inside.store.layout in
     let jobs = c.self.inside.jobs in
     let kept = c.self.invariant in
