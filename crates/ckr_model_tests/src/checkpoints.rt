@@ -11,6 +11,7 @@ use ckr_points_follows::follows;
 use ckr_points_tables::{Tables, is_submittable};
 use ckr_volumes::{Layout, Volume};
 use std::alloc::Global;
+use std::rc::Rc;
 use std::test::Fail;
 
 /// Four records for entries.
@@ -69,7 +70,7 @@ fn tell_deck(
         return Ok(false);
     }
     tables.make_room(&event)?;
-    tables.apply(&event, Some(deck));
+    tables.apply(&event, Some(Rc::new(alloc, deck)?));
     Ok(true)
 }
 

@@ -8,6 +8,8 @@ mod checkpoints;
 #[cfg(test)]
 mod decks;
 #[cfg(test)]
+mod deferred;
+#[cfg(test)]
 mod follows;
 #[cfg(test)]
 mod freshness;
