@@ -7,4 +7,3 @@ pub mod Turns
 pub mod Checkpoints
 pub mod Restarts
 pub mod Operators
-pub mod Deferred

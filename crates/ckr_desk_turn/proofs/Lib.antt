@@ -1,7 +1,6 @@
 pub mod Codes
 pub mod RunningSteps
 pub mod OtherRuns
-pub mod AdmittedSteps
 pub mod Moves
 pub mod Waits
 pub mod Inquiries
@@ -10,7 +9,6 @@ pub mod Select
 pub mod RunEnd
 pub mod Readiness
 pub mod Restart
-pub mod Deferred
 pub mod Runs
 pub mod Opening
 pub mod Definitions

@@ -19,5 +19,3 @@ pub mod EntryForms
 pub mod Taken
 pub mod Turns
 pub mod Restarts
-pub mod Deferred
-pub mod Permissions
