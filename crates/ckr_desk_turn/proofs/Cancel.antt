@@ -18,7 +18,7 @@ use Rattle.ckr_desk_turn.specs.Desk.{DeskModel, DeskStep, behind as desk_behind,
 use Rattle.ckr_desk_turn.specs.NextEvents.{Comes, IsWithinStep}
 use Rattle.ckr_desk_turn.specs.Invariant.{IsAdmitted, IsDesk, IsFailed, IsGoing, is_accounted}
 use Rattle.ckr_desk_turn.proofs.Checkpoints.Events.{cancel-comes}
-use Rattle.ckr_desk_turn.proofs.OtherRuns.{Changes, admitted-then, each_row, failed-there, going-rest, plain-then, row-admitted, row-plain, row-stepped, stepped-then}
+use Rattle.ckr_desk_turn.proofs.OtherRuns.{Changes, admitted-then, each_row, failed-there, going-rest, states-then, row-admitted, row-in-state, row-stepped, stepped-then}
 use Rattle.ckr_desk_turn.proofs.Readiness.{kept-on}
 use Rattle.ckr_desk_turn.proofs.Moves.{accounted_so, come-served, come-uncoded, with_change-found}
 use Rattle.ckr_points_invariant.specs.KeptEvents.{AreKept}
@@ -99,10 +99,10 @@ module _ (desk : DeskModel) (is : IsDesk desk) (row : RunRow) (number committed 
       kept = its_events.kept;
       going = (still_going, going-rest desk.office now row.number next changes desk.running is.going);
       failed = failed_now desk.failed is.failed;
-      plain = plain-then desk later is row.number next changes (row-plain desk is row.number row within.row_at);
+      states = states-then desk later is row.number next changes (row-in-state desk is row.number row within.row_at);
       admitted =
           admitted-then desk later is row.number next changes
-          (let was : IsAdmitted row = row-admitted desk is row.number row within.row_at in record { cards = was.cards; accepted = was.accepted; lodged = was.lodged });
+          (let was : IsAdmitted row = row-admitted desk is row.number row within.row_at in record { cards = was.cards; accepted = was.accepted; steps = was.steps; named = was.named; lodged = was.lodged });
       stepped = stepped-then desk later is row.number next changes (row-stepped desk is row.number row within.row_at);
       accounted =
           each_row desk later is row.number next changes (is_accounted desk) (is_accounted later) next_accounted is.accounted

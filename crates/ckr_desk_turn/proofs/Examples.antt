@@ -7,3 +7,4 @@ pub mod Turns
 pub mod Checkpoints
 pub mod Restarts
 pub mod Operators
+pub mod Deferred

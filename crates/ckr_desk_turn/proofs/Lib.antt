@@ -1,6 +1,7 @@
 pub mod Codes
 pub mod RunningSteps
 pub mod OtherRuns
+pub mod AdmittedSteps
 pub mod Moves
 pub mod Waits
 pub mod Inquiries
@@ -9,6 +10,7 @@ pub mod Select
 pub mod RunEnd
 pub mod Readiness
 pub mod Restart
+pub mod Deferred
 pub mod Runs
 pub mod Opening
 pub mod Definitions

@@ -50,7 +50,7 @@ module _ (desk : DeskModel) (is : IsDesk desk) (run : ℕ) (progress : StepProgr
     kept = is.kept;
     going = (going, all-filtered (IsGoing desk.office) (λ (step : DeskStep). not (step.run == run)) desk.running is.going);
     failed = is.failed;
-    plain = is.plain;
+    states = is.states;
     admitted = is.admitted;
     stepped = is.stepped;
     accounted = all-by (is_accounted moved) desk.office.tables.runs (λ place row at. accounted_so row (all-get (is_accounted desk) desk.office.tables.runs place row is.accounted at));

@@ -28,7 +28,7 @@ use Rattle.ckr_desk_turn.specs.Desk.{DeskModel, DeskStep, opened, is_running as 
 use Rattle.ckr_desk_turn.specs.Plans.{is_within as is_planned}
 use Rattle.ckr_volumes.specs.declared.layout.Layout.{Layout}
 use Rattle.ckr_desk_turn.specs.NextEvents.{IsWithinStep}
-use Rattle.ckr_desk_turn.specs.Invariant.{HasRuns, IsAdmitted, IsDesk, IsFailed, IsGoing, has_its_step, is_accounted, is_on_one, is_plain_row, is_plain_state}
+use Rattle.ckr_desk_turn.specs.Invariant.{HasRuns, IsAdmitted, IsDesk, IsFailed, IsGoing, has_its_step, is_accounted, is_in_its_state, is_on_one}
 use Rattle.ckr_desk_turn.proofs.OtherRuns.{all-by, some-holds, step-there}
 use Rattle.ckr_desk_turn.proofs.RunningSteps.{going-within}
 use Rattle.ckr_desk_turn.proofs.Start.Invariant.{planned-within}
@@ -92,7 +92,7 @@ running-stands {A = A} desk is row at accounted runs use_it =
 -- so a desk has its runs
 pub has-runs : (desk : DeskModel) → IsDesk desk → HasRuns desk.office
 has-runs desk is = record {
-  plain = is.plain;
+  states = is.states;
   admitted = is.admitted;
   stepped = is.stepped;
   spaced = is.spaced;
@@ -116,10 +116,10 @@ lodged-on (Some initiator) true one other = refl
 lodged-on (Some initiator) false one other = absurd (false≢true one)
 
 -- a run has an initiator where it is on one
-has-run : (row : RunRow) → is_plain_row row ≡ true → IsAdmitted row → has_run row ≡ is_running row
-has-run row plain admitted =
+has-run : (row : RunRow) → is_in_its_state row ≡ true → IsAdmitted row → has_run row ≡ is_running row
+has-run row state admitted =
     ap (λ b. b && is_planned (place_of row))
-    (lodged-on row.initiator (is_on_one row.state) (and-first (is_none row.initiator || is_on_one row.state) _ (and-second (is_plain_state row.state) _ plain)) admitted.lodged ∙ on_one row.state)
+    (lodged-on row.initiator (is_on_one row.state) (and-first (is_none row.initiator || is_on_one row.state) _ state) admitted.lodged ∙ on_one row.state)
     ∙ ap (λ b. is_in_state On row && b) (planned-within (place_of row))
 
 module _ (layout : Layout) (office : Office) (kept : IsKept layout office) (has : HasRuns office) where
@@ -147,14 +147,14 @@ module _ (layout : Layout) (office : Office) (kept : IsKept layout office) (has 
       }))
 
   ran : (place : ℕ) (row : RunRow) → slice_get office.tables.runs place ≡ Some row → has_run row ≡ is_running row
-  ran place row at = has-run row (all-get is_plain_row office.tables.runs place row has.plain at) (each-get IsAdmitted office.tables.runs place row has.admitted at)
+  ran place row at = has-run row (all-get is_in_its_state office.tables.runs place row has.states at) (each-get IsAdmitted office.tables.runs place row has.admitted at)
 
   pub opened-is : IsDesk (opened layout office)
   opened-is = record {
     kept = kept;
     going = tt;
     failed = filtered-every (IsFailed office) mark_of has_run office.tables.runs (λ place row at runs. failed-so place row at (sym (ran place row at) ∙ runs));
-    plain = has.plain;
+    states = has.states;
     admitted = has.admitted;
     stepped = has.stepped;
     accounted = all-by (is_accounted (opened layout office)) office.tables.runs accounted;

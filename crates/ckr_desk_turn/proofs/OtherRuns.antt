@@ -13,7 +13,6 @@ use Rattle.ckr_library.specs.NameMaps.{Name, entry_at, taken_over, with_moved}
 use Rattle.ckr_library.proofs.Named.{each-at, each-with_entry, each-without_entry}
 use Rattle.ckr_meaning.specs.LibrarySet.{AreWithinSpace, IsWithinSpace, Library, LibrarySet}
 use Rattle.ckr_meaning.specs.JobRun.{start_at}
-use Rattle.ckr_points_decks.specs.Form.{is_run}
 use Rattle.ckr_points.specs.declared.run.RunState.{RunState}
 use Rattle.ckr_points.specs.declared.run.RunState.TheVariants.{On}
 use Rattle.ckr_points.specs.Follows.{is_running, is_within, own_step, state_number}
@@ -22,7 +21,7 @@ use Rattle.ckr_points.specs.Restart.{place_of, step_in}
 use Rattle.ckr_points.specs.Rows.{RunRow, run_of}
 use Rattle.ckr_desk_turn.specs.declared.failed_run.FailedRun.{FailedRun}
 use Rattle.ckr_desk_turn.specs.Desk.{DeskModel, DeskStep, start_of, without_mark, without_run}
-use Rattle.ckr_desk_turn.specs.Invariant.{IsAdmitted, IsDesk, IsFailed, IsGoing, has_code_while_off, has_its_step, is_accounted, is_off, is_on_one, is_plain_row, is_plain_state}
+use Rattle.ckr_desk_turn.specs.Invariant.{IsAdmitted, IsDesk, IsFailed, IsGoing, has_code_while_off, has_its_step, is_accounted, is_in_its_state, is_off, is_on_one}
 
 -- ---- lists
 
@@ -42,23 +41,23 @@ some-holds P test (x ∷ xs) each some use_it =
     (λ does. use_it x each.0 does)
     (λ isnt. some-holds P test xs each.1 (sym (ap (λ b. b || list_any test xs) isnt) ∙ some) use_it)
 
--- a run of the desk is of a form that it runs
-pub row-plain : (desk : DeskModel) → IsDesk desk → (run : ℕ) (row : RunRow) → run_of desk.office.tables run ≡ Some row → is_plain_row row ≡ true
-row-plain desk is zero row at = absurd (some-not-none row (sym at))
-row-plain desk is (suc place) row at = all-get is_plain_row desk.office.tables.runs place row is.plain at
+-- a run of the desk is on an initiator, or has a code, only where its state says so
+pub row-in-state : (desk : DeskModel) → IsDesk desk → (run : ℕ) (row : RunRow) → run_of desk.office.tables run ≡ Some row → is_in_its_state row ≡ true
+row-in-state desk is zero row at = absurd (some-not-none row (sym at))
+row-in-state desk is (suc place) row at = all-get is_in_its_state desk.office.tables.runs place row is.states at
 
 -- the deck of a run of the desk was accepted
 pub row-admitted : (desk : DeskModel) → IsDesk desk → (run : ℕ) (row : RunRow) → run_of desk.office.tables run ≡ Some row → IsAdmitted row
 row-admitted desk is zero row at = absurd (some-not-none row (sym at))
 row-admitted desk is (suc place) row at = each-get IsAdmitted desk.office.tables.runs place row is.admitted at
 
--- the form of its deck
-pub plain-deck : (row : RunRow) → is_plain_row row ≡ true → is_run row.deck ≡ true
-plain-deck row plain = and-second (has_code_while_off row) (is_run row.deck) (and-second (is_none row.initiator || is_on_one row.state) _ (and-second (is_plain_state row.state) _ plain))
-
 -- it has a code while it is off its initiator
-pub plain-code : (row : RunRow) → is_plain_row row ≡ true → has_code_while_off row ≡ true
-plain-code row plain = and-first (has_code_while_off row) (is_run row.deck) (and-second (is_none row.initiator || is_on_one row.state) _ (and-second (is_plain_state row.state) _ plain))
+pub state-code : (row : RunRow) → is_in_its_state row ≡ true → has_code_while_off row ≡ true
+state-code row state = and-second (is_none row.initiator || is_on_one row.state) (has_code_while_off row) state
+
+-- and it has no initiator but where its state says so
+pub state-lodged : (row : RunRow) → is_in_its_state row ≡ true → (is_none row.initiator || is_on_one row.state) ≡ true
+state-lodged row state = and-first (is_none row.initiator || is_on_one row.state) (has_code_while_off row) state
 
 -- the step that it is within
 pub row-stepped : (desk : DeskModel) → IsDesk desk → (run : ℕ) (row : RunRow) → run_of desk.office.tables run ≡ Some row → has_its_step row ≡ true
@@ -189,8 +188,8 @@ module _ (desk later : DeskModel) (is : IsDesk desk) (job : ℕ) (next : RunRow)
       let was : run_of desk.office.tables (suc place) ≡ Some row = sym (changes.others (suc place) apart) ∙ at in
       goes row (λ e. apart (sym (is.kept.events.numbered (suc place) row was) ∙ e)) (all-get old desk.office.tables.runs place row each was)))
 
-  pub plain-then : is_plain_row next ≡ true → list_all is_plain_row later.office.tables.runs ≡ true
-  plain-then plain = each_row is_plain_row is_plain_row plain is.plain (λ row apart was. was)
+  pub states-then : is_in_its_state next ≡ true → list_all is_in_its_state later.office.tables.runs ≡ true
+  states-then state = each_row is_in_its_state is_in_its_state state is.states (λ row apart was. was)
 
   pub stepped-then : has_its_step next ≡ true → list_all has_its_step later.office.tables.runs ≡ true
   stepped-then stepped = each_row has_its_step has_its_step stepped is.stepped (λ row apart was. was)

@@ -1,5 +1,5 @@
 -- A run has passed on at most one data set for each DD of its steps.
-use Rattle.std.proofs.Common.{◌≡◌, ◌≤◌, ◌<◌, ◌+◌, ◌*◌, ℕ, zero, suc, pred, Bool, true, false, not, List, [], ◌∷◌, map, take, length, ap, sym, ◌∙◌, subst, Option, Some, None, Ok, arith, length-append}
+use Rattle.std.proofs.Common.{◌≡◌, ◌≤◌, ◌<◌, ◌+◌, ◌*◌, ℕ, zero, suc, pred, Bool, true, false, not, List, [], ◌∷◌, take, length, ap, sym, ◌∙◌, subst, Option, Some, None, arith, length-append}
 use Rattle.std.specs.List.{AllByRecursion, cons_option}
 use Rattle.std.specs.Option.{option_map}
 use Rattle.std.proofs.lemmas.List.{length-map}
@@ -8,23 +8,19 @@ use Rattle.ckr_entry.specs.declared.point.Passed.{Passed}
 use Rattle.ckr_jcl.specs.declared.deck.After.{After}
 use Rattle.ckr_jcl.specs.declared.deck.After.TheVariants.{Delete, Keep, Pass, Catlg, Uncatlg}
 use Rattle.ckr_jcl.specs.declared.deck.Dd.{Dd}
-use Rattle.ckr_jcl.specs.declared.deck.Job.{Job}
-use Rattle.ckr_jcl.specs.declared.deck.Step.{Step}
-use Rattle.ckr_jcl_decks.specs.Deck.{stored_deck}
 use Rattle.ckr_library.specs.NameMaps.{Name, same_name}
 use Rattle.ckr_meaning.specs.LibrarySet.{Library, SetWays, record_ways}
 use Rattle.ckr_meaning.specs.Dispositions.{Disposal, Stock, disposed_all, disposed_one, passed_after, unpassed}
-use Rattle.ckr_meaning.specs.EffectiveJob.{Effective, OwnedStep, disposal_of, disposals_of, name_of, owned_by, placed_from, placed_one, plain_job}
+use Rattle.ckr_meaning.specs.EffectiveJob.{Effective, OwnedStep, disposal_of, disposals_of, name_of, placed_from, placed_one}
 use Rattle.ckr_meaning.specs.JobRun.{Walk, is_bypassed, start_in, step_walked, walk_before, walk_from, walked, walked_by, walked_one}
 use Rattle.ckr_meaning.specs.StepRun.{StepStart, disposed_at, placed_at, within_at, work_at}
-use Rattle.ckr_points_decks.proofs.DeckLimits.{few_steps, steps_within}
-use Rattle.ckr_points_decks.specs.DeckLimits.{IsWithinLimits}
+use Rattle.ckr_points.specs.Rows.{RunRow}
 use Rattle.ckr_points_invariant.specs.Invariant.{step_now}
 use Rattle.ckr_desk_turn.specs.Desk.{DeskModel, DeskStep}
 use Rattle.ckr_desk_turn.specs.Invariant.{IsAdmitted, IsDesk, IsGoing}
-use Rattle.ckr_desk_turn.proofs.NextEvents.BetweenSteps.{no_restart, plain_parts}
+use Rattle.ckr_desk_turn.proofs.AdmittedSteps.{job-few, steps-few}
 use Rattle.ckr_desk_turn.proofs.NextEvents.WithinStep.{by-step}
-use Rattle.ckr_desk_turn.proofs.OtherRuns.{row-admitted, row-plain}
+use Rattle.ckr_desk_turn.proofs.OtherRuns.{row-admitted}
 use Rattle.ckr_desk_turn.proofs.RunningSteps.{going-within}
 
 -- ---- dispositions
@@ -79,18 +75,17 @@ walked_one-few root number owned walk = by (is_bypassed walk.rcs owned)
 -- ---- steps of an accepted deck: at most 64, each of at most 16 DDs
 
 -- a walk over the first of these steps
-walked-few : (root number count run : ℕ) (deck : Job) (steps : List Step) (walk : Walk) → AllByRecursion IsWithinLimits steps
-    → length (walked root number (take count (map (owned_by run deck) steps)) walk).standing.passed ≤ length walk.standing.passed + 16 * length steps
-walked-few root number zero run deck steps walk within = omega arith
-walked-few root number (suc count) run deck [] walk within = omega arith
-walked-few root number (suc count) run deck (step ∷ steps) walk within =
-    let next : Walk = walked_one root number (owned_by run deck step) walk in
-    omega (arith, walked-few root (suc number) count run deck steps next within.1, walked_one-few root number (owned_by run deck step) walk, within.0.few_dds)
+walked-few : (root number count : ℕ) (steps : List OwnedStep) (walk : Walk) → AllByRecursion (λ (owned : OwnedStep). length owned.step.dds ≤ 16) steps
+    → length (walked root number (take count steps) walk).standing.passed ≤ length walk.standing.passed + 16 * length steps
+walked-few root number zero steps walk few = omega arith
+walked-few root number (suc count) [] walk few = omega arith
+walked-few root number (suc count) (owned ∷ steps) walk few =
+    let next : Walk = walked_one root number owned walk in
+    omega (arith, walked-few root (suc number) count steps next few.1, walked_one-few root number owned walk, few.0)
 
-walk_before-few : (cards : List ℕ) (run number : ℕ) (deck : Job) (library : Library) → stored_deck cards ≡ Ok deck → length (walk_before (plain_job run deck) library number).standing.passed ≤ 1024
+walk_before-few : (row : RunRow) → IsAdmitted row → (library : Library) (number : ℕ) → length (walk_before row.job library number).standing.passed ≤ 1024
 unfolding walk_before
-walk_before-few cards run number deck library accepted =
-    omega (arith, walked-few run 1 (pred number) run deck deck.steps (walk_from library) (steps_within cards deck accepted), few_steps cards deck accepted)
+walk_before-few row was library number = omega (arith, walked-few row.job.root 1 (pred number) row.job.steps (walk_from library) (steps-few row was), job-few row was)
 
 -- ---- a running step
 
@@ -99,8 +94,7 @@ passed-few desk on going is =
     by-step desk is on.run going.row going.number going.committed going.start (going-within desk.office on going)
     (λ leg owned running same spaced.
     let was : IsAdmitted going.row = row-admitted desk is on.run going.row going.row_at in
-    let plain : leg.job ≡ plain_job going.row.number going.row.deck =
-    (is.kept.events.uses on.run going.row leg running.holder).plain (no_restart going.row.deck (plain_parts going.row (row-plain desk is on.run going.row going.row_at)).runs) in
-    let passed : going.row.passed ≡ (walk_before (plain_job going.row.number going.row.deck) leg.start (step_now going.row)).standing.passed =
-    (is.kept.events.places on.run going.row leg running.holder).passed ∙ ap (λ (job : Effective). (walk_before job leg.start (step_now going.row)).standing.passed) plain in
-    omega (arith, ap length passed, walk_before-few was.cards going.row.number (step_now going.row) going.row.deck leg.start was.accepted))
+    let place = is.kept.events.places on.run going.row leg running.holder in
+    let passed : going.row.passed ≡ (walk_before going.row.job leg.start (step_now going.row)).standing.passed =
+    place.passed ∙ ap (λ (job : Effective). (walk_before job leg.start (step_now going.row)).standing.passed) place.job in
+    omega (arith, ap length passed, walk_before-few going.row was leg.start (step_now going.row)))

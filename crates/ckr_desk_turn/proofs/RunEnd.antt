@@ -40,7 +40,7 @@ use Rattle.ckr_desk_turn.specs.Invariant.{IsAdmitted, IsDesk}
 use Rattle.ckr_desk_turn.specs.NextEvents.{Comes}
 use Rattle.ckr_desk_turn.proofs.Readiness.{kept-on}
 use Rattle.ckr_desk_turn.proofs.StepEnd.{Rests}
-use Rattle.ckr_desk_turn.proofs.OtherRuns.{accounted-then, admitted-then, failed-rest, failed-same, going-rest, plain-deck, plain-then, row-admitted, row-plain, running-same, stepped-then, taken_over-within}
+use Rattle.ckr_desk_turn.proofs.OtherRuns.{accounted-then, admitted-then, failed-rest, failed-same, going-rest, states-then, row-admitted, running-same, stepped-then, taken_over-within}
 use Rattle.ckr_desk_turn.proofs.Units.Outputs.{distinct-job}
 use Rattle.ckr_points_invariant.specs.KeptEvents.{AreKept}
 
@@ -108,8 +108,8 @@ module _ (desk : DeskModel) (is : IsDesk desk) (row : RunRow) (at : run_of desk.
           others = λ other apart. run-other (record desk.office.tables { sets = sets }) next other apart;
           legs = refl;
         };
-        plain = plain-deck row (row-plain desk is row.number row at);
-        admitted = record { cards = was.cards; accepted = was.accepted; lodged = refl };
+        in_state = refl;
+        admitted = record { cards = was.cards; accepted = was.accepted; steps = was.steps; named = was.named; lodged = refl };
         rests = refl;
         stepped = refl;
       }
@@ -134,7 +134,7 @@ module _ (desk : DeskModel) (is : IsDesk desk) (row : RunRow) (at : run_of desk.
           kept = on.kept;
           going = going-rest desk.office later row.number rests.next rests.changes desk.running is.going;
           failed = failed-rest desk.office later row.number rests.next rests.changes desk.failed is.failed;
-          plain = plain-then desk then is row.number rests.next rests.changes rests.plain;
+          states = states-then desk then is row.number rests.next rests.changes rests.in_state;
           admitted = admitted-then desk then is row.number rests.next rests.changes rests.admitted;
           stepped = stepped-then desk then is row.number rests.next rests.changes rests.stepped;
           accounted = accounted-then desk then is row.number rests.next rests.changes rests.rests (running-same row.number desk.running) (failed-same row.number desk.failed);

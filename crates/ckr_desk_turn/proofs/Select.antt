@@ -19,7 +19,6 @@ use Rattle.ckr_meaning.specs.JobRun.{start_at}
 use Rattle.ckr_points_decks.proofs.OrderlyDecks.{deck-orderly}
 use Rattle.ckr_points_decks.proofs.KeptCards.{kept_long}
 use Rattle.ckr_points_decks.specs.Cards.{kept_of_stored}
-use Rattle.ckr_points_decks.specs.Form.{is_run}
 use Rattle.ckr_points.specs.declared.run.RunState.{RunState}
 use Rattle.ckr_points.specs.declared.run.RunState.TheVariants.{Held as HeldRun, On, Queued, Purged, Released as ReleasedRun}
 use Rattle.ckr_points.specs.Tables.{after_submitted, queued_run}
@@ -37,9 +36,10 @@ use Rattle.ckr_desk_turn.proofs.Readiness.{desk-kept}
 use Rattle.ckr_points_invariant.proofs.Select.Holders.{all_legs}
 use Rattle.ckr_desk_turn.specs.declared.failed_run.FailedRun.{FailedRun}
 use Rattle.ckr_desk_turn.specs.Desk.{DeskModel, DeskStep, behind, start_of, submitted as submitted_desk, purged as purged_desk, released as released_desk}
-use Rattle.ckr_desk_turn.specs.Invariant.{IsAdmitted, IsDesk, IsFailed, IsGoing, has_its_step, is_off, is_on_one, is_plain_row, is_plain_state}
+use Rattle.ckr_desk_turn.specs.Invariant.{IsAdmitted, IsDesk, IsFailed, IsGoing, has_its_step, is_in_its_state, is_off, is_on_one}
+use Rattle.ckr_desk_turn.proofs.AdmittedSteps.{queued-admitted}
 use Rattle.ckr_desk_turn.proofs.NextEvents.BetweenSteps.{purged_comes, released_comes, submitted_comes}
-use Rattle.ckr_desk_turn.proofs.OtherRuns.{Changes, accounted-then, admitted-then, failed-still, going-still, plain-then, row-admitted, row-plain, row-stepped, stepped-then}
+use Rattle.ckr_desk_turn.proofs.OtherRuns.{Changes, accounted-then, admitted-then, failed-still, going-still, states-then, row-admitted, row-in-state, row-stepped, stepped-then}
 use Rattle.ckr_desk_turn.proofs.Readiness.{kept-on}
 use Rattle.ckr_points_invariant.specs.KeptEvents.{AreKept}
 
@@ -57,10 +57,10 @@ module _ (desk : DeskModel) (is : IsDesk desk) (after : Office) (stay : (run : �
       ap (λ (o : Option Leg). option_map_or (λ leg. start_at leg.job leg.start (step_in (place_of row))) o None)
       (ap (leg_of after) its ∙ (stay run row at on).leg ∙ ap (leg_of desk.office) (sym its))
 
-  going-stays : (on : DeskStep) → IsGoing desk.office on → IsGoing after on
+  pub going-stays : (on : DeskStep) → IsGoing desk.office on → IsGoing after on
   going-stays on going = going-still desk.office after on going (stay on.run going.row going.row_at going.on).row (start-stays on.run going.row going.row_at going.on)
 
-  failed-stays : (one : FailedRun) → IsFailed desk.office one → IsFailed after one
+  pub failed-stays : (one : FailedRun) → IsFailed desk.office one → IsFailed after one
   failed-stays one failed = failed-still desk.office after one failed (stay one.run failed.row failed.within.row_at failed.within.on).row (start-stays one.run failed.row failed.within.row_at failed.within.on)
 
 -- ---- one run that isn't on an initiator changes
@@ -72,7 +72,7 @@ pub record Enters (desk : DeskModel) (after : Office) (job : ℕ) (next : RunRow
   pub legs : (other : ℕ) → other ≢ job → leg_of after other ≡ leg_of desk.office other
   pub waits : (row : RunRow) → run_of desk.office.tables job ≡ Some row → row.state ≡ On → ⊥
   pub kept : AreKept desk.layout after
-  pub plain : is_plain_row next ≡ true
+  pub in_state : is_in_its_state next ≡ true
   pub admitted : IsAdmitted next
   pub rests : is_running next ≡ false
   pub stepped : has_its_step next ≡ true
@@ -85,7 +85,7 @@ entered desk is after job next enters = record {
   kept = enters.kept.kept;
   going = each-implies (IsGoing desk.office) (IsGoing after) desk.running (going-stays desk is after stay) is.going;
   failed = each-implies (IsFailed desk.office) (IsFailed after) desk.failed (failed-stays desk is after stay) is.failed;
-  plain = plain-then desk later is job next changes enters.plain;
+  states = states-then desk later is job next changes enters.in_state;
   admitted = admitted-then desk later is job next changes enters.admitted;
   stepped = stepped-then desk later is job next changes enters.stepped;
   accounted = accounted-then desk later is job next changes enters.rests (λ number apart. refl) (λ number apart. refl);
@@ -114,11 +114,11 @@ abbrev pub code_while : RunState → Option Code → Bool
 code_while state code = if is_off state then is_some code else is_none code
 
 -- a queued run that comes to an initiator
-pub queued-on : (row : RunRow) → row.state ≡ Queued → is_plain_row row ≡ true → (is_none row.code && is_run row.deck) ≡ true
-queued-on row queued plain =
-    and-second (is_none row.initiator || is_on_one Queued) _ (ap (λ s. is_plain_state s && ((is_none row.initiator || is_on_one s) && (code_while s row.code && is_run row.deck))) (sym queued) ∙ plain)
+pub queued-on : (row : RunRow) → row.state ≡ Queued → is_in_its_state row ≡ true → is_none row.code ≡ true
+queued-on row queued state =
+    and-second (is_none row.initiator || is_on_one Queued) (is_none row.code) (ap (λ s. (is_none row.initiator || is_on_one s) && code_while s row.code) (sym queued) ∙ state)
 
-queued-off : (state : RunState) → (state_number state == 1) ≡ true → state ≡ On → ⊥
+pub queued-off : (state : RunState) → (state_number state == 1) ≡ true → state ≡ On → ⊥
 queued-off state queued on = false≢true (ap (λ (s : RunState). state_number s == 1) (sym on) ∙ queued)
 
 -- ---- purged
@@ -128,7 +128,7 @@ purged-keeps desk is job row at queued =
     let its : row.number ≡ job = is.kept.events.numbered job row at in
     let next : RunRow = record row { state = Purged } in
     let was : IsAdmitted row = row-admitted desk is job row at in
-    let plain : is_plain_row row ≡ true = row-plain desk is job row at in
+    let state : is_in_its_state row ≡ true = row-in-state desk is job row at in
     let here : run_of desk.office.tables row.number ≡ Some row = ap (run_of desk.office.tables) its ∙ at in
     entered desk is (office_after (PurgedEvent job, None) desk.office) job next
     (record {
@@ -137,8 +137,8 @@ purged-keeps desk is job row at queued =
       legs = λ other apart. refl;
       waits = λ one there on. queued-off one.state (ap (λ (r : RunRow). state_number r.state == 1) (same_Some one row (sym there ∙ at)) ∙ ap (λ s. state_number s == 1) queued) on;
       kept = kept-on desk is (PurgedEvent job) (record { may = purged_comes desk job row at queued; carried = refl });
-      plain = off_plain plain;
-      admitted = record { cards = was.cards; accepted = was.accepted; lodged = refl };
+      in_state = off_state state;
+      admitted = record { cards = was.cards; accepted = was.accepted; steps = was.steps; named = was.named; lodged = refl };
       rests = refl;
       stepped = refl;
       spaced = is.spaced;
@@ -148,8 +148,8 @@ purged-keeps desk is job row at queued =
     of_tables : (number : ℕ) → run_of (option_map_or (λ row. with_run (record row { state = Purged }) desk.office.tables) (run_of desk.office.tables job) desk.office.tables) number ≡ run_of (with_run (record row { state = Purged }) desk.office.tables) number
     of_tables number = ap (λ (o : Option RunRow). run_of (option_map_or (λ row. with_run (record row { state = Purged }) desk.office.tables) o desk.office.tables) number) at
 
-    off_plain : is_plain_row row ≡ true → is_plain_row (record row { state = Purged }) ≡ true
-    off_plain plain = sym (ap (λ s. is_plain_state s && ((is_none row.initiator || is_on_one s) && (code_while s row.code && is_run row.deck))) queued) ∙ plain
+    off_state : is_in_its_state row ≡ true → is_in_its_state (record row { state = Purged }) ≡ true
+    off_state state = sym (ap (λ s. (is_none row.initiator || is_on_one s) && code_while s row.code) queued) ∙ state
 
 -- ---- released
 
@@ -165,8 +165,8 @@ released-keeps desk is job row at held =
       legs = λ other apart. refl;
       waits = λ one there on. held-off one.state (ap (λ (r : RunRow). state_number r.state == 3) (same_Some one row (sym there ∙ at)) ∙ ap (λ s. state_number s == 3) held) on;
       kept = kept-on desk is (ReleasedEvent job) (record { may = released_comes desk job row at held; carried = refl });
-      plain = off_plain (row-plain desk is job row at);
-      admitted = record { cards = was.cards; accepted = was.accepted; lodged = refl };
+      in_state = off_state (row-in-state desk is job row at);
+      admitted = record { cards = was.cards; accepted = was.accepted; steps = was.steps; named = was.named; lodged = refl };
       rests = refl;
       stepped = off_stepped (row-stepped desk is job row at);
       spaced = is.spaced;
@@ -179,8 +179,8 @@ released-keeps desk is job row at held =
     held-off : (state : RunState) → (state_number state == 3) ≡ true → state ≡ On → ⊥
     held-off state held on = false≢true (ap (λ (s : RunState). state_number s == 3) (sym on) ∙ held)
 
-    off_plain : is_plain_row row ≡ true → is_plain_row (record row { state = ReleasedRun }) ≡ true
-    off_plain plain = sym (ap (λ s. is_plain_state s && ((is_none row.initiator || is_on_one s) && (code_while s row.code && is_run row.deck))) held) ∙ plain
+    off_state : is_in_its_state row ≡ true → is_in_its_state (record row { state = ReleasedRun }) ≡ true
+    off_state state = sym (ap (λ s. (is_none row.initiator || is_on_one s) && code_while s row.code) held) ∙ state
 
     off_stepped : has_its_step row ≡ true → has_its_step (record row { state = ReleasedRun }) ≡ true
     off_stepped stepped = sym (ap (λ s. not ((state_number s == 2) && is_within (place_of row) || is_off s) || is_some (own_step row)) held) ∙ stepped
@@ -197,8 +197,8 @@ front_row [] row (suc place) apart = refl
 front_row (first ∷ rest) row zero apart = refl
 front_row (first ∷ rest) row (suc place) apart = front_row rest row place (λ e. apart (ap suc e))
 
-pub submitted-keeps : (desk : DeskModel) → IsDesk desk → (cards : List ℕ) (first : ℕ) (kept : List ℕ) (deck : Job) → suc (length desk.office.tables.runs) ≤ 9999999 → stored_deck cards ≡ Ok deck → is_run deck ≡ true → IsDesk (submitted_desk (first ∷ kept) deck desk)
-submitted-keeps desk is cards first kept deck few accepted runs =
+pub submitted-keeps : (desk : DeskModel) → IsDesk desk → (cards : List ℕ) (first : ℕ) (kept : List ℕ) (deck : Job) → suc (length desk.office.tables.runs) ≤ 9999999 → stored_deck cards ≡ Ok deck → IsDesk (submitted_desk (first ∷ kept) deck desk)
+submitted-keeps desk is cards first kept deck few accepted =
     entered desk is (office_after (SubmittedEvent job (first ∷ kept), Some deck) desk.office) job (queued_run job deck)
     (record {
       mine = last_row desk.office.tables.runs (queued_run job deck);
@@ -206,8 +206,8 @@ submitted-keeps desk is cards first kept deck few accepted runs =
       legs = λ other apart. refl;
       waits = λ row at on. some-not-none row (sym at ∙ slice_get_past desk.office.tables.runs (length desk.office.tables.runs) (omega arith));
       kept = next-kept desk.layout desk.office (desk-kept desk is) (SubmittedEvent job (first ∷ kept)) (Some deck) (record { may = submitted_comes desk first kept deck; carried = deck-orderly cards deck job few accepted });
-      plain = runs;
-      admitted = record { cards = cards; accepted = accepted; lodged = refl };
+      in_state = refl;
+      admitted = queued-admitted cards job deck accepted;
       rests = refl;
       stepped = refl;
       spaced = is.spaced;
@@ -222,13 +222,13 @@ submitted-keeps desk is cards first kept deck few accepted runs =
     others (suc place) apart = front_row desk.office.tables.runs (queued_run job deck) place (λ e. apart (ap suc e))
 
 -- the cards that its event keeps are at least one
-pub stored-keeps : (desk : DeskModel) → IsDesk desk → (cards : List ℕ) (deck : Job) → suc (length desk.office.tables.runs) ≤ 9999999 → 81 ≤ length cards → stored_deck cards ≡ Ok deck → is_run deck ≡ true → IsDesk (submitted_desk (kept_of_stored cards) deck desk)
-stored-keeps desk is cards deck few some accepted runs =
+pub stored-keeps : (desk : DeskModel) → IsDesk desk → (cards : List ℕ) (deck : Job) → suc (length desk.office.tables.runs) ≤ 9999999 → 81 ≤ length cards → stored_deck cards ≡ Ok deck → IsDesk (submitted_desk (kept_of_stored cards) deck desk)
+stored-keeps desk is cards deck few some accepted =
     by (kept_of_stored cards) (kept_long cards)
   where
     by : (kept : List ℕ) → length kept ≡ 80 * (length cards / 81) → IsDesk (submitted_desk kept deck desk)
     by [] long = absurd (omega (arith, long, some))
-    by (first ∷ kept) long = submitted-keeps desk is cards first kept deck few accepted runs
+    by (first ∷ kept) long = submitted-keeps desk is cards first kept deck few accepted
 
 -- its event may come, and carries what the job gives
 pub stored-comes : (desk : DeskModel) (cards : List ℕ) (deck : Job) → suc (length desk.office.tables.runs) ≤ 9999999 → 81 ≤ length cards → stored_deck cards ≡ Ok deck
@@ -255,8 +255,8 @@ selected-keeps desk is job initiator may =
       legs = λ other apart. led_there desk.layout desk.office row initiator is.kept.events row_at queued plain free other apart;
       waits = λ one there on. queued-off one.state (ap (λ (r : RunRow). state_number r.state == 1) (same_Some one row (sym there ∙ row_at)) ∙ queued) on;
       kept = kept;
-      plain = queued-on row (queued-is row.state queued) (row-plain desk is row.number row row_at);
-      admitted = record { cards = was.cards; accepted = was.accepted; lodged = refl };
+      in_state = queued-on row (queued-is row.state queued) (row-in-state desk is row.number row row_at);
+      admitted = record { cards = was.cards; accepted = was.accepted; steps = was.steps; named = was.named; lodged = refl };
       rests = refl;
       stepped = refl;
       spaced = is.spaced;

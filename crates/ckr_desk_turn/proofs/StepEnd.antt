@@ -28,8 +28,8 @@ use Rattle.ckr_points_invariant.proofs.Holders.Rows.{run-other, run-same}
 use Rattle.ckr_desk_turn.specs.declared.failed_run.FailedRun.{FailedRun}
 use Rattle.ckr_desk_turn.specs.Desk.{DeskModel, behind}
 use Rattle.ckr_desk_turn.specs.NextEvents.{Comes, IsWithinStep}
-use Rattle.ckr_desk_turn.specs.Invariant.{IsAdmitted, IsDesk, has_its_step, is_plain_row}
-use Rattle.ckr_desk_turn.proofs.OtherRuns.{Changes, accounted-then, admitted-then, failed-all, failed-rest, between-steps, failed-same, going-rest, plain-deck, plain-then, row-admitted, row-plain, running-same, stepped-then, taken_over-within}
+use Rattle.ckr_desk_turn.specs.Invariant.{IsAdmitted, IsDesk, has_its_step, is_in_its_state}
+use Rattle.ckr_desk_turn.proofs.OtherRuns.{Changes, accounted-then, admitted-then, failed-all, failed-rest, between-steps, failed-same, going-rest, states-then, row-admitted, row-in-state, running-same, stepped-then, taken_over-within}
 use Rattle.ckr_desk_turn.proofs.Readiness.{kept-on}
 use Rattle.ckr_desk_turn.proofs.Units.Outputs.{distinct-job}
 use Rattle.ckr_desk_turn.proofs.NextEvents.Holders.{HoldsStep, by-holder, by-spaced, on-holder}
@@ -39,7 +39,7 @@ use Rattle.ckr_points_invariant.specs.KeptEvents.{AreKept}
 pub record Rests (office after : Office) (job : ℕ) : Type 0 where
   pub next : RunRow
   pub changes : Changes office after job next
-  pub plain : is_plain_row next ≡ true
+  pub in_state : is_in_its_state next ≡ true
   pub admitted : IsAdmitted next
   pub rests : is_running next ≡ false
   pub stepped : has_its_step next ≡ true
@@ -56,10 +56,10 @@ twice tables first second job row one two same again at number its = (
       ∙ ap (λ runs. run_of (let t : TablesModel = record { sets = first.sets; runs = runs } in t) other) same,
 )
 
-pub rests-twice : (office : Office) (library : Library) (job : ℕ) (row one two : RunRow) (sets others : Named TableSet) → run_of office.tables job ≡ Some row → one.number ≡ job → two.number ≡ job → is_plain_row two ≡ true → IsAdmitted two → is_running two ≡ false → has_its_step two ≡ true → Rests office (record office { tables = with_run two (record (with_run one (record office.tables { sets = sets })) { sets = others }); library = library }) job
-rests-twice office library job row one two sets others at number its plain admitted rests stepped =
+pub rests-twice : (office : Office) (library : Library) (job : ℕ) (row one two : RunRow) (sets others : Named TableSet) → run_of office.tables job ≡ Some row → one.number ≡ job → two.number ≡ job → is_in_its_state two ≡ true → IsAdmitted two → is_running two ≡ false → has_its_step two ≡ true → Rests office (record office { tables = with_run two (record (with_run one (record office.tables { sets = sets })) { sets = others }); library = library }) job
+rests-twice office library job row one two sets others at number its state admitted rests stepped =
     let both = twice office.tables (record office.tables { sets = sets }) (record (with_run one (record office.tables { sets = sets })) { sets = others }) job row one two refl refl at number its in
-    record { next = two; changes = record { mine = both.0; others = both.1; legs = refl }; plain = plain; admitted = admitted; rests = rests; stepped = stepped }
+    record { next = two; changes = record { mine = both.0; others = both.1; legs = refl }; in_state = state; admitted = admitted; rests = rests; stepped = stepped }
 
 -- what holds of the tables that a run's step brings about
 pub by-changed : (Q : TablesModel → Type 0) (tables : TablesModel) (job : ℕ) (row : RunRow) (owned : OwnedStep) (change : RunRow → OwnedStep → ℕ → TablesModel) → run_of tables job ≡ Some row → step_of_run row (step_in (place_of row)) ≡ Some owned → Q (change row owned (step_in (place_of row))) → Q (option_map_or (λ row. by_step (λ owned step. change row owned step) row tables) (run_of tables job) tables)
@@ -89,7 +89,7 @@ module _ (desk : DeskModel) (is : IsDesk desk) (run : ℕ) (row : RunRow) (numbe
       (subst (λ (o : Option OwnedStep). Rests desk.office (record desk.office { tables = abnormal_by owned o; library = option_map_or (λ row. library_after desk.office row (CodedEnding code rule writes lengths)) (run_of desk.office.tables run) desk.office.library }) run) (sym found)
       (rests-twice desk.office (option_map_or (λ row. library_after desk.office row (CodedEnding code rule writes lengths)) (run_of desk.office.tables run) desk.office.library) run row (record row { place = Some (Within (step_in (place_of row)) writes) })
       (record row { place = Some (Within (step_in (place_of row)) writes); state = EndedRun; initiator = None; code = None; passed = []; lost = []; in_effect = None })
-      (committed (output_names row.job.root owned) lengths.items desk.office.tables.sets) _ held.row_at its_number its_number ended_plain (record { cards = its_deck.cards; accepted = its_deck.accepted; lodged = refl }) refl refl)))
+      (committed (output_names row.job.root owned) lengths.items desk.office.tables.sets) _ held.row_at its_number its_number refl (record { cards = its_deck.cards; accepted = its_deck.accepted; steps = its_deck.steps; named = its_deck.named; lodged = refl }) refl refl)))
     where
       abnormal_by : OwnedStep → Option OwnedStep → TablesModel
       abnormal_by owned o =
@@ -100,9 +100,6 @@ module _ (desk : DeskModel) (is : IsDesk desk) (run : ℕ) (row : RunRow) (numbe
           let done : Stock TableSet = after_dispositions then owned_then (step_in (place_of row)) true tables in
           after_passed_ended (record then { passed = done.passed }) (record tables { sets = done.sets }))
           o (after_commit row owned (step_in (place_of row)) writes lengths.items desk.office.tables)
-
-      ended_plain : is_plain_row (record row { place = Some (Within (step_in (place_of row)) writes); state = EndedRun; initiator = None; code = None; passed = []; lost = []; in_effect = None }) ≡ true
-      ended_plain = plain-deck row (row-plain desk is run row held.row_at)
 
   -- what the run leaves keeps to its space
   left-within : (code : Code) (rule writes : ℕ) (lengths : ArrayVec ℕ) → AreWithinSpace (option_map_or (λ row. library_after desk.office row (CodedEnding code rule writes lengths)) (run_of desk.office.tables run) desk.office.library)
@@ -124,7 +121,7 @@ module _ (desk : DeskModel) (is : IsDesk desk) (run : ℕ) (row : RunRow) (numbe
         kept = on.kept;
         going = going-rest desk.office (office_after (EndedEvent run (CodedEnding code rule writes lengths), None) desk.office) run rests.next rests.changes desk.running is.going;
         failed = failed-rest desk.office (office_after (EndedEvent run (CodedEnding code rule writes lengths), None) desk.office) run rests.next rests.changes desk.failed is.failed;
-        plain = plain-then desk (behind (EndedEvent run (CodedEnding code rule writes lengths)) None desk) is run rests.next rests.changes rests.plain;
+        states = states-then desk (behind (EndedEvent run (CodedEnding code rule writes lengths)) None desk) is run rests.next rests.changes rests.in_state;
         admitted = admitted-then desk (behind (EndedEvent run (CodedEnding code rule writes lengths)) None desk) is run rests.next rests.changes rests.admitted;
         stepped = stepped-then desk (behind (EndedEvent run (CodedEnding code rule writes lengths)) None desk) is run rests.next rests.changes rests.stepped;
         accounted = accounted-then desk (behind (EndedEvent run (CodedEnding code rule writes lengths)) None desk) is run rests.next rests.changes rests.rests (running-same run desk.running) (failed-same run desk.failed);
@@ -152,8 +149,8 @@ module _ (desk : DeskModel) (is : IsDesk desk) (run : ℕ) (row : RunRow) (numbe
           others = λ other apart. run-other (record desk.office.tables { sets = sets }) next other (λ e. apart (e ∙ its_number));
           legs = refl;
         };
-        plain = plain-deck row (row-plain desk is run row held.row_at);
-        admitted = record { cards = its_deck.cards; accepted = its_deck.accepted; lodged = refl };
+        in_state = refl;
+        admitted = record { cards = its_deck.cards; accepted = its_deck.accepted; steps = its_deck.steps; named = its_deck.named; lodged = refl };
         rests = refl;
         stepped = ap is_some found;
       }))
@@ -167,7 +164,7 @@ module _ (desk : DeskModel) (is : IsDesk desk) (run : ℕ) (row : RunRow) (numbe
         kept = on.kept;
         going = going-rest desk.office (office_after (HeldEvent run code writes lengths, None) desk.office) run rests.next rests.changes desk.running is.going;
         failed = failed-rest desk.office (office_after (HeldEvent run code writes lengths, None) desk.office) run rests.next rests.changes desk.failed is.failed;
-        plain = plain-then desk (behind (HeldEvent run code writes lengths) None desk) is run rests.next rests.changes rests.plain;
+        states = states-then desk (behind (HeldEvent run code writes lengths) None desk) is run rests.next rests.changes rests.in_state;
         admitted = admitted-then desk (behind (HeldEvent run code writes lengths) None desk) is run rests.next rests.changes rests.admitted;
         stepped = stepped-then desk (behind (HeldEvent run code writes lengths) None desk) is run rests.next rests.changes rests.stepped;
         accounted = accounted-then desk (behind (HeldEvent run code writes lengths) None desk) is run rests.next rests.changes rests.rests (running-same run desk.running) (failed-same run desk.failed);
@@ -194,7 +191,7 @@ module _ (desk : DeskModel) (is : IsDesk desk) (run : ℕ) (row : RunRow) (numbe
       by-changed (λ tables. Rests desk.office (record desk.office { tables = tables }) run) desk.office.tables run row owned (λ row owned step. after_step_ended row owned step rc writes lengths.items desk.office.tables) within.row_at found
       (rests-twice desk.office desk.office.library run row (record row { place = Some (Within (step_in (place_of row)) writes) })
       next
-      (committed (output_names row.job.root owned) lengths.items desk.office.tables.sets) _ within.row_at numbered numbered (row-plain desk is run row within.row_at) (record { cards = deck.cards; accepted = deck.accepted; lodged = deck.lodged }) (ap (λ (state : RunState). (state_number state == 2) && false) within.on)
+      (committed (output_names row.job.root owned) lengths.items desk.office.tables.sets) _ within.row_at numbered numbered (row-in-state desk is run row within.row_at) (record { cards = deck.cards; accepted = deck.accepted; steps = deck.steps; named = deck.named; lodged = deck.lodged }) (ap (λ (state : RunState). (state_number state == 2) && false) within.on)
       (between-steps next within.on refl)))
 
   -- the desk behind the end of a step
@@ -206,7 +203,7 @@ module _ (desk : DeskModel) (is : IsDesk desk) (run : ℕ) (row : RunRow) (numbe
         kept = on.kept;
         going = going-rest desk.office (office_after (StepEndedEvent run number rc writes lengths, None) desk.office) run rests.next rests.changes desk.running is.going;
         failed = failed-all desk.office (office_after (StepEndedEvent run number rc writes lengths, None) desk.office) run rests.next rests.changes desk.failed isnt is.failed;
-        plain = plain-then desk (behind (StepEndedEvent run number rc writes lengths) None desk) is run rests.next rests.changes rests.plain;
+        states = states-then desk (behind (StepEndedEvent run number rc writes lengths) None desk) is run rests.next rests.changes rests.in_state;
         admitted = admitted-then desk (behind (StepEndedEvent run number rc writes lengths) None desk) is run rests.next rests.changes rests.admitted;
         stepped = stepped-then desk (behind (StepEndedEvent run number rc writes lengths) None desk) is run rests.next rests.changes rests.stepped;
         accounted = accounted-then desk (behind (StepEndedEvent run number rc writes lengths) None desk) is run rests.next rests.changes rests.rests (running-same run desk.running) (λ other apart. refl);

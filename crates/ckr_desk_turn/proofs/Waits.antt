@@ -103,7 +103,7 @@ waiting-kept desk is run code = record {
   kept = is.kept;
   going = coded-all desk.office run code desk.running is.going;
   failed = asked-all desk.office run desk.failed is.failed;
-  plain = is.plain;
+  states = is.states;
   admitted = is.admitted;
   stepped = is.stepped;
   accounted = all-implies (is_accounted desk) (is_accounted (waiting run code desk)) desk.office.tables.runs (accounted-still desk run code) is.accounted;
@@ -124,7 +124,7 @@ moved-waits desk is run progress code going = record {
     coded-all desk.office run code (without_run run desk.running) (all-filtered (IsGoing desk.office) (λ (step : DeskStep). not (step.run == run)) desk.running is.going),
   );
   failed = asked-all desk.office run desk.failed is.failed;
-  plain = is.plain;
+  states = is.states;
   admitted = is.admitted;
   stepped = is.stepped;
   accounted =

@@ -1,17 +1,18 @@
 -- The desk between two turns, with all that its jobs are to do: a plan and a unit with the desk behind each, and the calls that are no turns.
-use Rattle.std.specs.Prelude.{ℕ, suc, ◌==◌, Bool, true, false, ◌&&◌, not, if◌then◌else◌, List, [], ◌∷◌, map, filter, find, length, Option, None, Some}
+use Rattle.std.specs.Prelude.{ℕ, zero, suc, ◌==◌, Bool, true, false, ◌&&◌, not, if◌then◌else◌, List, [], ◌∷◌, map, filter, find, length, Option, None, Some}
 use Rattle.std.specs.Option.{option_map_or, is_some}
 use Rattle.ckr_base.specs.declared.code.Code.{Code}
 use Rattle.ckr_base.specs.declared.programs.NextDue.TheVariants.{Unit as OneUnit}
 use Rattle.ckr_console.specs.declared.question.Answer.{Answer}
 use Rattle.ckr_events.specs.declared.event.Event.{Event}
-use Rattle.ckr_events.specs.declared.event.Event.TheVariants.{Submitted, Started, Cancelled, StepEnded, Restarted, Held, Released, Ended, Purged}
+use Rattle.ckr_events.specs.declared.event.Event.TheVariants.{Submitted, Selected, Started, Cancelled, StepEnded, Restarted, Held, Released, Ended, Purged}
 use Rattle.ckr_jcl.specs.declared.deck.Job.{Job}
+use Rattle.ckr_library.specs.NameMaps.{Name}
 use Rattle.ckr_meaning.specs.JobRun.{start_at}
 use Rattle.ckr_meaning.specs.StepRun.{StepStart}
 use Rattle.ckr_points.specs.Payload.{lengths_at}
 use Rattle.ckr_points.specs.Office.{Office, office_after, leg_of}
-use Rattle.ckr_points.specs.Restart.{place_of, step_in}
+use Rattle.ckr_points.specs.Restart.{kept_at, place_of, step_in, syschk_name}
 use Rattle.ckr_points.specs.Rows.{EntryPoint, RunRow, TablesModel, run_of}
 use Rattle.ckr_volumes.specs.declared.layout.Layout.{Layout}
 use Rattle.ckr_desk_turn.specs.declared.plan.Plan.{Plan}
@@ -109,8 +110,17 @@ abbrev pub running_again : TablesModel → ℕ → List DeskStep → List DeskSt
 running_again tables run running =
     option_map_or (λ entry. at_entry run entry.point ∷ without_run run running) (option_map_or (effect_entry tables) (run_of tables run) None) (without_run run running)
 
--- a step is running from its start, or from a checkpoint at which its run is restarted, until it ends, or its run ends, is held or restarted
+-- a run that goes on at a checkpoint of an earlier one goes on from its entry
+abbrev pub running_from : TablesModel → ℕ → Name → List DeskStep → List DeskStep
+running_from tables run id running =
+    option_map_or (λ entry. at_entry run entry.point ∷ without_run run running)
+    (option_map_or (λ row. kept_at tables.sets (syschk_name row.deck) id) (run_of tables run) None) running
+
+-- a step is running from its start, or from a checkpoint at which its run is restarted or goes on with an earlier one, until it ends, or its run ends, is held or restarted
 abbrev pub running_behind : TablesModel → Event → List DeskStep → List DeskStep
+running_behind tables (Selected job initiator (suc before) step (Some id)) running = running_from tables job id running
+running_behind tables (Selected job initiator (suc before) step None) running = running
+running_behind tables (Selected job initiator zero step id) running = running
 running_behind tables (Started job step items) running = at_first job ∷ without_run job running
 running_behind tables (Cancelled job) running = with_change job cancel_done running
 running_behind tables (StepEnded job step rc writes lengths) running = without_run job running

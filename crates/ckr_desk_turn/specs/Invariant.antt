@@ -1,16 +1,20 @@
 -- A desk whose events are kept, and whose running steps stand where their jobs come to.
-use Rattle.std.specs.Prelude.{◌≡◌, ◌+◌, ◌≤◌, ◌==◌, ◌||◌, ◌&&◌, ℕ, Bool, true, false, not, if◌then◌else◌, List, length, Option, None, Some, Ok}
+use Rattle.std.specs.Prelude.{◌≡◌, ◌+◌, ◌≤◌, ◌==◌, ◌||◌, ◌&&◌, ℕ, pred, Bool, true, false, not, if◌then◌else◌, List, length, slice_get, Option, None, Some, Ok}
 use Rattle.std.specs.List.{list_any, list_all, AllByRecursion}
 use Rattle.std.specs.Option.{is_none, is_some}
 use Rattle.ckr_base.specs.declared.code.Code.{Code}
 use Rattle.ckr_base.specs.declared.programs.Finish.TheVariants.{Returned}
+use Rattle.ckr_jcl.specs.declared.deck.Job.{Job}
+use Rattle.ckr_jcl.specs.declared.deck.Step.{Step}
+use Rattle.ckr_library.specs.NameMaps.{Name}
 use Rattle.ckr_jcl_decks.specs.Deck.{stored_deck}
+use Rattle.ckr_meaning.specs.EffectiveJob.{OwnedStep, plain_job, step_at}
 use Rattle.ckr_meaning.specs.declared.place.Place.TheVariants.{Within}
 use Rattle.ckr_meaning.specs.LibrarySet.{AreWithinSpace}
 use Rattle.ckr_meaning.specs.Program.{records_taken, unit_done, upto}
 use Rattle.ckr_meaning.specs.StepRun.{StepStart, case_at, work_at}
 use Rattle.ckr_points.specs.declared.run.RunState.{RunState}
-use Rattle.ckr_points.specs.declared.run.RunState.TheVariants.{Queued, On, Held, Released, Denied}
+use Rattle.ckr_points.specs.declared.run.RunState.TheVariants.{Queued, On, Held, Released}
 use Rattle.ckr_points.specs.Follows.{is_running, own_step}
 use Rattle.ckr_points.specs.Payload.{rewrites_nothing}
 use Rattle.ckr_points.specs.Office.{Leg, Office}
@@ -20,7 +24,6 @@ use Rattle.ckr_points_invariant.specs.Points.{ArePointed}
 use Rattle.ckr_points_invariant.specs.Readiness.{AreReady}
 use Rattle.ckr_points_invariant.specs.StartedSteps.{AreBegunSteps}
 use Rattle.ckr_points_invariant.specs.WrittenEntries.{AreWrittenEntries}
-use Rattle.ckr_points_decks.specs.Form.{is_run}
 use Rattle.ckr_desk_turn.specs.declared.failed_run.FailedRun.{FailedRun}
 use Rattle.ckr_desk_turn.specs.declared.reply.Turn.{Turn}
 use Rattle.ckr_desk_turn.specs.Desk.{DeskModel, DeskStep, TurnDone, start_of}
@@ -76,11 +79,6 @@ is_on_one Queued = false
 is_on_one On = true
 is_on_one _ = false
 
--- a run that was never denied
-abbrev pub is_plain_state : RunState → Bool
-is_plain_state Denied = false
-is_plain_state _ = true
-
 -- whether a run is off its initiator within a step: it is held, or was released
 abbrev pub is_off : RunState → Bool
 is_off Held = true
@@ -91,14 +89,28 @@ is_off _ = false
 abbrev pub has_code_while_off : RunRow → Bool
 has_code_while_off row = if is_off row.state then is_some row.code else is_none row.code
 
--- a run of a form that the desk runs, on an initiator or with a code as its state says
-abbrev pub is_plain_row : RunRow → Bool
-is_plain_row row = is_plain_state row.state && ((is_none row.initiator || is_on_one row.state) && (has_code_while_off row && is_run row.deck))
+-- a run is on an initiator only where its state says so, and has a code exactly while it is off one
+abbrev pub is_in_its_state : RunRow → Bool
+is_in_its_state row = (is_none row.initiator || is_on_one row.state) && has_code_while_off row
 
--- the cards of an accepted deck were read, and a run that is on an initiator has one
+-- a step is one of an accepted deck, at its number
+pub record IsAdmittedStep (number : ℕ) (owned : OwnedStep) : Type 0 where
+  pub cards : List ℕ
+  pub deck : Job
+  pub accepted : stored_deck cards ≡ Ok deck
+  pub owned_so : step_at (plain_job owned.owner deck) number ≡ Some owned
+
+-- the step of that number in a deck has this name
+abbrev pub HasStepName : Job → ℕ → Name → Type 0
+HasStepName deck number name = (step : Step) × (slice_get deck.steps (pred number) ≡ Some step) × (step.name ≡ name)
+
+-- the cards of an accepted deck were read, a run that is on an initiator has one, and each step of its job is of an accepted deck; those from where
+-- it runs itself have the names that its deck gives them
 pub record IsAdmitted (row : RunRow) : Type 0 where
   pub cards : List ℕ
   pub accepted : stored_deck cards ≡ Ok row.deck
+  pub steps : (number : ℕ) (owned : OwnedStep) → step_at row.job number ≡ Some owned → IsAdmittedStep number owned
+  pub named : (number : ℕ) (owned : OwnedStep) → row.earlier_step ≤ number → step_at row.job number ≡ Some owned → HasStepName row.deck number owned.step.name
   pub lodged : (not (is_on_one row.state) || is_some row.initiator) ≡ true
 
 -- a run on an initiator within a step is running, or was when the system failed
@@ -115,7 +127,7 @@ pub record IsDesk (desk : DeskModel) : Type 0 where
   pub kept : IsKept desk.layout desk.office
   pub going : AllByRecursion (IsGoing desk.office) desk.running
   pub failed : AllByRecursion (IsFailed desk.office) desk.failed
-  pub plain : list_all is_plain_row desk.office.tables.runs ≡ true
+  pub states : list_all is_in_its_state desk.office.tables.runs ≡ true
   pub admitted : AllByRecursion IsAdmitted desk.office.tables.runs
   pub stepped : list_all has_its_step desk.office.tables.runs ≡ true
   pub accounted : list_all (is_accounted desk) desk.office.tables.runs ≡ true
@@ -128,7 +140,7 @@ pub record IsDesk (desk : DeskModel) : Type 0 where
 
 -- what the events of a desk have brought about beside kept tables, whichever steps are running
 pub record HasRuns (office : Office) : Type 0 where
-  pub plain : list_all is_plain_row office.tables.runs ≡ true
+  pub states : list_all is_in_its_state office.tables.runs ≡ true
   pub admitted : AllByRecursion IsAdmitted office.tables.runs
   pub stepped : list_all has_its_step office.tables.runs ≡ true
   pub spaced : AreWithinSpace office.library

@@ -19,3 +19,5 @@ pub mod EntryForms
 pub mod Taken
 pub mod Turns
 pub mod Restarts
+pub mod Deferred
+pub mod Permissions

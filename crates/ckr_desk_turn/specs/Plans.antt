@@ -5,7 +5,7 @@ use Rattle.ckr_points_library.specs.declared.cause.Cause.{Cause}
 use Rattle.ckr_base.specs.declared.code.Code.{Code}
 use Rattle.ckr_base.specs.declared.programs.NextDue.{NextDue}
 use Rattle.ckr_base.specs.declared.programs.NextDue.TheVariants.{Unit as OneUnit, Checkpoint, Cancel, Finished}
-use Rattle.ckr_events.specs.declared.event.Event.TheVariants.{Selected as SelectedEvent, Started as StartedEvent, Cancelled as CancelledEvent, StepEnded as StepEndedEvent, Ended as EndedEvent}
+use Rattle.ckr_events.specs.declared.event.Event.TheVariants.{Started as StartedEvent, Cancelled as CancelledEvent, StepEnded as StepEndedEvent, Ended as EndedEvent}
 use Rattle.ckr_events.specs.declared.event.Ending.TheVariants.{Completed as CompletedEnding, Allocation as AllocationEnding}
 use Rattle.ckr_meaning.specs.EffectiveJob.{OwnedStep}
 use Rattle.ckr_meaning.specs.declared.place.Place.{Place}
@@ -19,11 +19,12 @@ use Rattle.ckr_desk_turn.specs.declared.plan.Plan.{Plan}
 use Rattle.ckr_desk_turn.specs.declared.plan.Plan.TheVariants.{Rest, Tell, Work, Pass, Take}
 use Rattle.ckr_desk_turn.specs.declared.reply.Chkpt.TheVariants.{Suppressed}
 use Rattle.ckr_desk_turn.specs.declared.reply.How.TheVariants.{Completed, Allocation}
-use Rattle.ckr_desk_turn.specs.declared.reply.Reply.TheVariants.{Idle, NothingToFail, Selected, Started, Checkpointed, Cancelled, StepEnded, JobEnded}
+use Rattle.ckr_desk_turn.specs.declared.reply.Reply.TheVariants.{Idle, NothingToFail, Started, Checkpointed, Cancelled, StepEnded, JobEnded}
 use Rattle.ckr_desk_turn.specs.declared.reply.Turn.{Turn}
 use Rattle.ckr_desk_turn.specs.Allocation.{allocation_of, cause_numbers}
 use Rattle.ckr_desk_turn.specs.Select.{next_run, run_on_initiator}
 use Rattle.ckr_desk_turn.specs.Codes.{code_plan, initiator_of, reached_by}
+use Rattle.ckr_desk_turn.specs.Deferred.{queued_plan}
 use Rattle.ckr_desk_turn.specs.Jobs.{TurnJobs, TurnStep, is_failed, running_in, step_name_of, waiting_code}
 pub use Rattle.ckr_desk_turn.specs.Jobs.{system_failure}
 
@@ -124,7 +125,7 @@ run_plan layout jobs fail row =
 abbrev pub chosen_plan : Layout → TurnJobs → ℕ → RunRow → Plan
 chosen_plan layout jobs initiator row =
     elim row.code [
-      | None ↦ Tell (Selected row.number) (SelectedEvent row.number initiator 0 0 None)
+      | None ↦ queued_plan layout jobs.tables initiator row row.deck.restart
       | Some code ↦ code_plan layout jobs.tables row initiator false code (reached_by jobs row)
     ]
 

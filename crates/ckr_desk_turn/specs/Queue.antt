@@ -46,7 +46,7 @@ abbrev pub AreNumbered : ℕ → List RunRow → Type 0
 AreNumbered number [] = Unit {0}
 AreNumbered number (row ∷ rows) = (row.number ≡ number) × AreNumbered (suc number) rows
 
--- the queue behind an event of a run that continues none; the deck is given for one that is submitted
+-- the queue behind an event; the deck is given for one that is submitted
 abbrev pub queue_behind : Event → Option Deck → List QueueEntry → List QueueEntry
 queue_behind (Submitted job cards) (Some deck) queue = with_entry (queued job (uses_of job deck)) queue
 queue_behind (Submitted job cards) None queue = queue

@@ -1,4 +1,4 @@
--- The events of what the desk runs: decks of its form, and runs that continue no other one.
+-- The events of a desk: its decks are those of their cards. And those of what the desk runs: decks of its form, and runs that continue no other one.
 use Rattle.std.specs.Prelude.{◌≡◌, ◌==◌, ℕ, true, List, Option, None, Some}
 use Rattle.std.specs.List.{AllByRecursion}
 use Rattle.ckr_events.specs.declared.event.Event.{Event}
@@ -7,6 +7,18 @@ use Rattle.ckr_jcl.specs.declared.deck.Job.{Job}
 use Rattle.ckr_points.specs.Restart.{Decked}
 use Rattle.ckr_points_decks.specs.Cards.{kept_deck}
 use Rattle.ckr_points_decks.specs.Form.{is_run}
+
+-- the deck of an event is that of its cards
+abbrev pub IsKeptDeck : List ℕ → Option Job → Type 0
+IsKeptDeck cards None = ⊥
+IsKeptDeck cards (Some deck) = kept_deck cards ≡ Some deck
+
+abbrev pub IsDeckEvent : Event → Option Job → Type 0
+IsDeckEvent (Submitted job cards) deck = IsKeptDeck cards deck
+IsDeckEvent _ deck = Unit {0}
+
+abbrev pub AreDeckEvents : List Decked → Type 0
+AreDeckEvents events = AllByRecursion (λ (event : Decked). IsDeckEvent event.0 event.1) events
 
 -- the deck that cards keep is of a form that the desk runs
 abbrev pub IsRunDeck : List ℕ → Option Job → Type 0

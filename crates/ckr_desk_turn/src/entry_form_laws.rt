@@ -12,7 +12,7 @@ ghost use Rattle.ckr_desk_turn.specs.CheckSets.{HaveCheckRecords};
 ghost use Rattle.ckr_desk_turn.specs.Checkpoints.{check_set, is_in_range, next_entry, next_id};
 ghost use Rattle.ckr_desk_turn.specs.Desk.{DeskModel, DeskStep};
 ghost use Rattle.ckr_desk_turn.specs.Invariant.{IsDesk, IsGoing};
-ghost use Rattle.ckr_desk_turn.specs.RunEvents.{AreRunEvents};
+ghost use Rattle.ckr_desk_turn.specs.RunEvents.{AreDeckEvents};
 
 /// The identifier of the next entry of a running step is in the grammar of identifiers, where the run has written fewer than 9,999,999
 /// entries: so it is wherever the numbers of the entry are in the ranges that a checkpoint asks for. For IDS of an accepted deck has at most
@@ -22,11 +22,11 @@ pub fn next_entries_have_an_identifier()
     ensures ranged { (desk : DeskModel) (on : DeskStep) (going : IsGoing desk.office on) → IsDesk desk → is_in_range (next_entry desk.office.tables.sets going.row going.start on.progress) ≡ true → is_check_id (next_id going.row going.start) ≡ true }
 {}
 
-/// A data set for checkpoints has records of 256 bytes, behind any sound events of what the desk runs: whatever its DD says of them, it is
+/// A data set for checkpoints has records of 256 bytes, behind any sound events of decks: whatever its DD says of them, it is
 /// made so, and it stays so. What stands under the name of a running step's DD for checkpoints is such a data set, since allocation refuses
 /// one of another kind (this project's profile).
 pub fn check_sets_have_records_of_256_bytes()
-    ensures sound { (layout : LayoutOfDisk) (events : List Decked) → AreSound layout events → AreRunEvents events → HaveCheckRecords (office events).tables.sets }
+    ensures sound { (layout : LayoutOfDisk) (events : List Decked) → AreSound layout events → AreDeckEvents events → HaveCheckRecords (office events).tables.sets }
     ensures content { (desk : DeskModel) (on : DeskStep) (going : IsGoing desk.office on) → IsDesk desk → (set : Name) (table : TableSet) → check_set going.start ≡ Some set → entry_at desk.office.tables.sets set ≡ Some table → table.set.content ≡ Checkpoints }
     ensures records { (desk : DeskModel) (on : DeskStep) (going : IsGoing desk.office on) → IsDesk desk → HaveCheckRecords desk.office.tables.sets → (set : Name) (table : TableSet) → check_set going.start ≡ Some set → entry_at desk.office.tables.sets set ≡ Some table → table.set.lrecl ≡ 256 }
 {}

@@ -13,10 +13,10 @@ ghost use Rattle.ckr_desk_turn.specs.Select.{next_run, run_on_initiator};
 ghost use Rattle.ckr_desk_turn.specs.Desk.{DeskModel};
 ghost use Rattle.ckr_desk_turn.specs.Invariant.{IsDesk};
 
-/// The event of a turn that selects a run, ends one behind its last step, or ends one since a DD of its next step isn't allocated,
+/// The event of a turn that selects a run without RESTART, ends one behind its last step, or ends one since a DD of its next step isn't allocated,
 /// may come.
 pub fn events_between_steps_may_come()
-    ensures selected { (desk : DeskModel) (i : ℕ) (row : RunRow) → IsDesk desk → 1 ≤ i → i ≤ desk.layout.initiators → run_on_initiator desk.office.tables i ≡ None → next_run desk.office.tables ≡ Some row → row.state ≡ Queued
+    ensures selected { (desk : DeskModel) (i : ℕ) (row : RunRow) → IsDesk desk → 1 ≤ i → i ≤ desk.layout.initiators → run_on_initiator desk.office.tables i ≡ None → next_run desk.office.tables ≡ Some row → row.state ≡ Queued → row.deck.restart ≡ None
         → may_come desk.layout desk.office (SelectedEvent row.number i 0 0 None, None) ≡ true }
     ensures completed { (desk : DeskModel) (i : ℕ) (row : RunRow) → IsDesk desk → run_on_initiator desk.office.tables i ≡ Some row → is_within (place_of row) ≡ false → own_step row ≡ None
         → may_come desk.layout desk.office (EndedEvent row.number Completed, None) ≡ true }

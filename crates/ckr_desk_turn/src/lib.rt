@@ -2,6 +2,7 @@
 #![tactic(auto)]
 
 mod checkpoint_laws;
+mod deferred_laws;
 mod entry_form_laws;
 mod event_laws;
 mod events;
@@ -22,6 +23,7 @@ pub use checkpoint_laws::{
     events_of_checkpoints_may_come, written_entries_are_kept, written_entries_count,
 };
 pub use ckr_points_library::Cause;
+pub use deferred_laws::deferred_restarts_are_judged;
 pub use entry_form_laws::{
     check_sets_have_records_of_256_bytes, next_entries_have_an_identifier, passed_lists_are_short,
 };

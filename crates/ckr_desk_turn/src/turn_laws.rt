@@ -21,7 +21,6 @@ ghost use Rattle.ckr_points.specs.Restart.{place_of, step_in};
 ghost use Rattle.ckr_points.specs.Rows.{RunRow, run_of};
 ghost use Rattle.ckr_points_invariant.specs.Invariant.{AreAlike, IsFree, IsKept};
 ghost use Rattle.ckr_points_decks.specs.Cards.{kept_of_stored};
-ghost use Rattle.ckr_points_decks.specs.Form.{is_run};
 ghost use Rattle.ckr_desk_turn.specs.Allocation.{allocation_of};
 ghost use Rattle.ckr_desk_turn.specs.Select.{run_on_initiator};
 ghost use Rattle.ckr_desk_turn.specs.declared.reply.Turn.{Turn};
@@ -44,14 +43,14 @@ pub fn desks_behind_turns_between_steps()
         → Keeps desk (carried_out answer (start_plan desk.layout (jobs_of desk) row owned (step_in (place_of row))) desk) }
 {}
 
-/// The event of an accepted deck carries what its job gives. The desk behind one of a form that it runs, and the desk behind a queued run
-/// that is purged, or behind a held one that is released, are as their events have brought them about. An event keeps at least one card, and
-/// the number of its run has at most seven digits.
+/// The event of an accepted deck carries what its job gives. The desk behind it, and the desk behind a queued run that is purged, or behind a
+/// held one that is released, are as their events have brought them about. An event keeps at least one card, and the number of its run has at
+/// most seven digits.
 pub fn desks_behind_calls()
     ensures carried { (desk : DeskModel) (cards kept : List ℕ) (deck : JobOfDeck) → suc (length desk.office.tables.runs) ≤ 9999999 → stored_deck cards ≡ Ok deck → carries desk.layout desk.office (SubmittedEvent (suc (length desk.office.tables.runs)) kept) (Some deck) ≡ true }
-    ensures submitted { (desk : DeskModel) (cards : List ℕ) (first : ℕ) (kept : List ℕ) (deck : JobOfDeck) → IsDesk desk → suc (length desk.office.tables.runs) ≤ 9999999 → stored_deck cards ≡ Ok deck → is_run deck ≡ true
+    ensures submitted { (desk : DeskModel) (cards : List ℕ) (first : ℕ) (kept : List ℕ) (deck : JobOfDeck) → IsDesk desk → suc (length desk.office.tables.runs) ≤ 9999999 → stored_deck cards ≡ Ok deck
         → IsDesk (submitted_desk (first ∷ kept) deck desk) }
-    ensures kept_so { (desk : DeskModel) (cards : List ℕ) (deck : JobOfDeck) → IsDesk desk → suc (length desk.office.tables.runs) ≤ 9999999 → 81 ≤ length cards → stored_deck cards ≡ Ok deck → is_run deck ≡ true → IsDesk (submitted_desk (kept_of_stored cards) deck desk) }
+    ensures kept_so { (desk : DeskModel) (cards : List ℕ) (deck : JobOfDeck) → IsDesk desk → suc (length desk.office.tables.runs) ≤ 9999999 → 81 ≤ length cards → stored_deck cards ≡ Ok deck → IsDesk (submitted_desk (kept_of_stored cards) deck desk) }
     ensures purged { (desk : DeskModel) (job : ℕ) (row : RunRow) → IsDesk desk → run_of desk.office.tables job ≡ Some row → row.state ≡ Queued → IsDesk (purged_desk job desk) }
     ensures released { (desk : DeskModel) (job : ℕ) (row : RunRow) → IsDesk desk → run_of desk.office.tables job ≡ Some row → row.state ≡ Held → IsDesk (released_desk job desk) }
 {}

@@ -1,11 +1,9 @@
 -- Data sets for checkpoints have records of 256 bytes behind one more event of what the desk runs.
-use Rattle.std.proofs.Common.{◌≡◌, ℕ, zero, suc, Bool, true, false, List, ap, sym, ◌∙◌, Option, Some, None, arith}
-use Rattle.std.specs.Prelude.{◌==◌}
+use Rattle.std.proofs.Common.{◌≡◌, ℕ, zero, suc, Bool, true, false, List, Option, Some, None}
 use Rattle.std.specs.Option.{option_map_or}
 use Rattle.arrayvec.specs.ArrayVec.{ArrayVec}
-use Rattle.ckr_base.proofs.Numbers.{equal-true}
 use Rattle.ckr_events.specs.declared.event.Event.{Event}
-use Rattle.ckr_events.specs.declared.event.Event.TheVariants.{Cancelled, Checkpointed, Ended, Held, Purged, Released, Restarted, Rewritten, Selected, Started, StepEnded, Submitted}
+use Rattle.ckr_events.specs.declared.event.Event.TheVariants.{Cancelled, Checkpointed, Denied, Ended, Held, Purged, Released, Restarted, Rewritten, Selected, Started, StepEnded, Submitted}
 use Rattle.ckr_events.specs.declared.event.Ending.{Ending}
 use Rattle.ckr_events.specs.declared.event.Ending.TheVariants.{Allocation, Coded, Completed}
 use Rattle.ckr_events.specs.declared.event.Made.{Made}
@@ -13,16 +11,17 @@ use Rattle.ckr_jcl.specs.declared.deck.Job.{Job}
 use Rattle.ckr_library.specs.declared.sets.Kept.{Kept}
 use Rattle.ckr_library.proofs.Named.{each-with_changed}
 use Rattle.ckr_meaning.specs.Allotments.{DdAllotment, opened_all}
-use Rattle.ckr_meaning.specs.EffectiveJob.{Effective, OwnedStep, placed_in, plain_job, stamp_of, step_at}
+use Rattle.ckr_library.specs.NameMaps.{Name}
+use Rattle.ckr_meaning.specs.EffectiveJob.{OwnedStep, placed_in, stamp_of}
 use Rattle.ckr_meaning.specs.declared.place.Place.{Place}
 use Rattle.ckr_meaning.specs.declared.place.Place.TheVariants.{Before, Opened, Within}
 use Rattle.ckr_points_library.specs.Commit.{output_names}
-use Rattle.ckr_points.specs.declared.run.RunState.TheVariants.{Purged as PurgedRun, Released as ReleasedRun}
+use Rattle.ckr_points.specs.declared.run.RunState.TheVariants.{Denied as DeniedRun, Purged as PurgedRun, Released as ReleasedRun}
 use Rattle.ckr_points.specs.Events.{IsNext}
 use Rattle.ckr_points.specs.Office.{Leg, Office, office_after}
 use Rattle.ckr_points.specs.Marks.{point_at, removed_all, with_point, has_passed, without_passed}
-use Rattle.ckr_points.specs.Restart.{Back, after_abnormal, after_ended, after_passed_ended, after_put_back, after_restarted, back_to_entry, back_to_start, by_step, effect_restarted, kept_at, place_of, point_restarted, row_on, step_in}
-use Rattle.ckr_points.specs.Rows.{EffectPoint, KeptEntry, RunRow, TablesModel, run_of, standing_of, step_of_run, table_ways, with_run}
+use Rattle.ckr_points.specs.Restart.{Back, after_abnormal, after_continued, after_continued_at, after_ended, after_entry_continued, after_passed_ended, after_put_back, after_restarted, back_to_entry, back_to_start, by_run, by_step, continued_row, deferred_entry, deferred_start, effect_restarted, kept_at, place_of, point_restarted, row_on, step_in, syschk_name}
+use Rattle.ckr_points.specs.Rows.{EffectPoint, KeptEntry, RunRow, StartPoint, TablesModel, run_of, standing_of, step_of_run, table_ways, with_run}
 use Rattle.ckr_points.specs.Tables.{after_cancelled, after_checkpointed, after_commit, after_dispositions, after_held, after_rewritten, after_selected, after_step_ended, earlier_made, is_checkpoints, is_updates, name_with_role, own_made, row_rewritten, run_disposals, table_rewritten}
 use Rattle.ckr_points_decks.specs.DeckLimits.{HasCheckParts}
 use Rattle.ckr_points_invariant.specs.Invariant.{IsHolder, IsKept}
@@ -30,11 +29,10 @@ use Rattle.ckr_points_invariant.proofs.PutBack.Sets.{removed_all-holds}
 use Rattle.ckr_points_invariant.proofs.Start.Event.{by-start}
 use Rattle.ckr_volumes.specs.declared.layout.Layout.{Layout}
 use Rattle.ckr_desk_turn.specs.CheckSets.{HasCheckRecords, HaveCheckRecords}
-use Rattle.ckr_desk_turn.specs.RunEvents.{IsRunEvent}
+use Rattle.ckr_desk_turn.specs.RunEvents.{IsDeckEvent}
 use Rattle.ckr_desk_turn.proofs.CheckSets.Changes.{committed-have, disposed_all-have, made_all-have, opened_all-have, passed_ended-have, placed-right, put_back-have}
-use Rattle.ckr_desk_turn.proofs.NextEvents.BetweenSteps.{no_restart, plain_parts}
+use Rattle.ckr_desk_turn.proofs.AdmittedSteps.{admitted-parts}
 use Rattle.ckr_desk_turn.proofs.Runs.Rows.{HasRow, HasRows, has-row}
-use Rattle.ckr_desk_turn.proofs.Start.Decks.{check-parts}
 
 -- each data set for checkpoints of the tables
 abbrev Have : TablesModel → Type 0
@@ -78,17 +76,12 @@ ended-has tables row (Allocation dd cause first second) each = abnormal-has tabl
 
 -- ---- one more event
 
-pub none-before : (before : ℕ) → (suc before == 0) ≡ true → ⊥
-none-before before e = let same : suc before ≡ 0 = equal-true (suc before) 0 e in omega (arith, same)
-
 module _ (layout : Layout) (now : Office) (kept : IsKept layout now) (has : HasRows now) (each : Have now.tables) where
-  -- what an accepted deck gives to a step of a run
+  -- what an accepted deck gives to a step of a run, its own or taken over
   own-parts : (job : ℕ) (row : RunRow) (leg : Leg) (owned : OwnedStep) (step : ℕ) → IsHolder now job row leg → step_of_run row step ≡ Some owned → HasCheckParts owned.step
   own-parts job row leg owned step holder found =
       let was : HasRow row = has-row now has job row holder.row_at in
-      let plain : leg.job ≡ plain_job row.number row.deck = (kept.events.uses job row leg holder).plain (no_restart row.deck (plain_parts row was.plain).runs) in
-      let same : leg.job ≡ row.job = (kept.events.places job row leg holder).job in
-      check-parts was.admitted.cards row.number row.deck step owned was.admitted.accepted (ap (λ (job : Effective). step_at job step) (sym plain ∙ same) ∙ found)
+      admitted-parts step owned (was.admitted.steps step owned found)
 
   started-has : (job step : ℕ) (items : ArrayVec Made) (deck : Option Job) → IsNext layout now (Started job step items, deck) → Have (office_after (Started job step items, deck) now).tables
   started-has job step items deck next =
@@ -135,11 +128,28 @@ module _ (layout : Layout) (now : Office) (kept : IsKept layout now) (has : HasR
       (kept_at now.tables.sets effect.set effect.kept.id) each
       (λ entry. back-has (record (row_on initiator row) { in_effect = Some (effect_restarted effect) }) owned (back_to_entry row owned step entry.point)))
 
-  pub have-next : (event : Event) (deck : Option Job) → IsRunEvent event deck → IsNext layout now (event, deck) → Have (office_after (event, deck) now).tables
+  -- a run goes on with an earlier one
+  continued-has : (row earlier : RunRow) (step initiator : ℕ) (id : Option Name) → Have (after_continued row earlier step initiator id now.tables)
+  continued-has row earlier step initiator id =
+      by now.tables (λ (owned : OwnedStep). option_map_or (λ point. after_continued_at (continued_row row earlier step point initiator now.tables.sets) owned step point id now.tables) (point_at earlier.points step) now.tables) (step_of_run earlier step) each
+      (λ owned.
+      by now.tables (λ (point : StartPoint). after_continued_at (continued_row row earlier step point initiator now.tables.sets) owned step point id now.tables) (point_at earlier.points step) each
+      (λ point. at-id (continued_row row earlier step point initiator now.tables.sets) owned point id))
+    where
+      at-id : (next : RunRow) (owned : OwnedStep) (point : StartPoint) (id : Option Name) → Have (after_continued_at next owned step point id now.tables)
+      at-id next owned point None = back-has next owned (deferred_start next owned step point)
+      at-id next owned point (Some id) =
+          by now.tables (λ (entry : KeptEntry). after_entry_continued next owned step (syschk_name next.deck) entry now.tables) (kept_at now.tables.sets (syschk_name next.deck) id) each
+          (λ entry. back-has next owned (deferred_entry next step entry.point))
+
+  pub have-next : (event : Event) (deck : Option Job) → IsDeckEvent event deck → IsNext layout now (event, deck) → Have (office_after (event, deck) now).tables
   have-next (Submitted job cards) None is next = absurd is
   have-next (Submitted job cards) (Some deck) is next = each
   have-next (Selected job initiator zero step id) deck is next = by now.tables (λ (row : RunRow). after_selected row initiator now.tables) (run_of now.tables job) each (λ row. each)
-  have-next (Selected job initiator (suc before) step id) deck is next = absurd (none-before before is)
+  have-next (Selected job initiator (suc before) step id) deck is next =
+      by now.tables (λ (row : RunRow). by_run (suc before) now.tables (λ earlier. after_continued row earlier step initiator id now.tables)) (run_of now.tables job) each
+      (λ row. by now.tables (λ (earlier : RunRow). after_continued row earlier step initiator id now.tables) (run_of now.tables (suc before)) each (λ earlier. continued-has row earlier step initiator id))
+  have-next (Denied job rule name) deck is next = by now.tables (λ (row : RunRow). with_run (record row { state = DeniedRun }) now.tables) (run_of now.tables job) each (λ row. each)
   have-next (Started job step items) deck is next = started-has job step items deck next
   have-next (Rewritten job taken writes lengths place image) deck is next =
       by-step now.tables job (λ row owned step. after_rewritten row owned step writes lengths.items now.tables) each (λ row owned step. rewritten-has row owned step writes lengths.items)
@@ -156,4 +166,3 @@ module _ (layout : Layout) (now : Office) (kept : IsKept layout now) (has : HasR
   have-next (Released job) deck is next = by now.tables (λ (row : RunRow). with_run (record row { state = ReleasedRun }) now.tables) (run_of now.tables job) each (λ row. each)
   have-next (Ended job ending) deck is next = by now.tables (λ (row : RunRow). after_ended row ending now.tables) (run_of now.tables job) each (λ row. ended-has now.tables row ending each)
   have-next (Purged job) deck is next = by now.tables (λ (row : RunRow). with_run (record row { state = PurgedRun }) now.tables) (run_of now.tables job) each (λ row. each)
-  have-next _ deck is next = absurd is

@@ -25,7 +25,7 @@ use Rattle.ckr_desk_turn.specs.Units.{StepProgress}
 use Rattle.ckr_desk_turn.proofs.Checkpoints.Events.{behind-by, committed_now, kept_now, may-come, next_row, row-now}
 use Rattle.ckr_desk_turn.proofs.Checkpoints.Plans.{takes}
 use Rattle.ckr_desk_turn.proofs.NextEvents.WithinStep.{runs}
-use Rattle.ckr_desk_turn.proofs.OtherRuns.{Changes, admitted-then, each_row, failed-there, going-rest, plain-then, row-admitted, row-plain, row-stepped, same-step, stepped-then}
+use Rattle.ckr_desk_turn.proofs.OtherRuns.{Changes, admitted-then, each_row, failed-there, going-rest, states-then, row-admitted, row-in-state, row-stepped, same-step, stepped-then}
 use Rattle.ckr_desk_turn.proofs.Readiness.{kept-on}
 use Rattle.ckr_desk_turn.proofs.RunningSteps.{going-within, nothing-between}
 use Rattle.ckr_desk_turn.proofs.Units.AnyUnit.{found-going}
@@ -126,10 +126,10 @@ module _ (desk : DeskModel) (is : IsDesk desk) (on : DeskStep) (going : IsGoing 
     kept = its_events.kept;
     going = (still_going, subst (λ n. AllByRecursion (IsGoing now) (without_run n desk.running)) (sym its_number) (going-rest desk.office now on.run next changes desk.running is.going));
     failed = failed_now desk.failed is.failed;
-    plain = plain-then desk later is on.run next changes (row-plain desk is on.run going.row going.row_at);
+    states = states-then desk later is on.run next changes (row-in-state desk is on.run going.row going.row_at);
     admitted =
         admitted-then desk later is on.run next changes
-        (let was : IsAdmitted going.row = row-admitted desk is on.run going.row going.row_at in record { cards = was.cards; accepted = was.accepted; lodged = was.lodged });
+        (let was : IsAdmitted going.row = row-admitted desk is on.run going.row going.row_at in record { cards = was.cards; accepted = was.accepted; steps = was.steps; named = was.named; lodged = was.lodged });
     stepped = stepped-then desk later is on.run next changes (same-step going.row next (row-stepped desk is on.run going.row going.row_at) (runs desk is on.run going.row going.number going.committed going.start here) refl);
     accounted =
         each_row desk later is on.run next changes (is_accounted desk) (is_accounted later) next_accounted is.accounted

@@ -9,7 +9,7 @@ use Rattle.ckr_base.proofs.Numbers.{equal-itself}
 use Rattle.ckr_console.specs.declared.question.Answer.{Answer}
 use Rattle.ckr_events.specs.declared.event.Event.TheVariants.{Cancelled as CancelledEvent}
 use Rattle.ckr_library.specs.NameMaps.{Name}
-use Rattle.ckr_meaning.specs.EffectiveJob.{Effective, OwnedStep, plain_job, step_at}
+use Rattle.ckr_meaning.specs.EffectiveJob.{OwnedStep}
 use Rattle.ckr_meaning.specs.StepRun.{StepStart}
 use Rattle.ckr_points.specs.Restart.{place_of, step_in}
 use Rattle.ckr_points.specs.RuleCases.{rd_in_effect}
@@ -21,7 +21,7 @@ use Rattle.ckr_desk_turn.specs.declared.reply.Reply.TheVariants.{Checkpointed as
 use Rattle.ckr_desk_turn.specs.Checkpoints.{ServedTurn, checkpoint_turn, checkpoint_unless}
 use Rattle.ckr_desk_turn.specs.Desk.{DeskModel, DeskStep, TurnDone, behind, cancel_done, checkpoint_done, done_by, jobs_of, progress_of, progress_unless, seen_from, start_of, with_change, with_progress, without_run}
 use Rattle.ckr_desk_turn.specs.Due.{next_due}
-use Rattle.ckr_desk_turn.specs.Invariant.{IsDesk, IsGoing}
+use Rattle.ckr_desk_turn.specs.Invariant.{IsAdmittedStep, IsDesk, IsGoing}
 use Rattle.ckr_desk_turn.specs.Jobs.{is_failed, step_name_of, waiting_code}
 use Rattle.ckr_desk_turn.specs.NextEvents.{IsWithinStep}
 use Rattle.ckr_desk_turn.specs.Plans.{checkpoint_plan, due_plan, run_plan, suppressed_plan}
@@ -29,9 +29,8 @@ use Rattle.ckr_desk_turn.specs.Taken.{behind_entry, served_by, taken_of}
 use Rattle.ckr_desk_turn.specs.Turns.{carried_out}
 use Rattle.ckr_desk_turn.specs.Units.{StepProgress}
 use Rattle.ckr_desk_turn.proofs.Checkpoints.Due.{checkpoint-behind}
-use Rattle.ckr_desk_turn.proofs.NextEvents.BetweenSteps.{no_restart, plain_parts}
 use Rattle.ckr_desk_turn.proofs.NextEvents.WithinStep.{by-step}
-use Rattle.ckr_desk_turn.proofs.OtherRuns.{row-plain}
+use Rattle.ckr_desk_turn.proofs.OtherRuns.{row-admitted}
 use Rattle.ckr_desk_turn.proofs.RunningSteps.{going-within, plain_step, progress-found}
 use Rattle.ckr_desk_turn.proofs.Turns.Due.{plan-due}
 use Rattle.ckr_desk_turn.proofs.Units.AnyUnit.{found-going}
@@ -58,17 +57,14 @@ cancelled-behind desk run progress known =
 -- ---- a step of a desk
 
 module _ (desk : DeskModel) (on : DeskStep) (going : IsGoing desk.office on) (is : IsDesk desk) where
-  -- what is said of the step by the one of its deck
-  pub by-own : {A : Type 0} → (step_at (plain_job going.row.number going.row.deck) going.number ≡ Some going.start.owned → going.start.number ≡ going.number → step_of_run going.row (step_in (place_of going.row)) ≡ Some going.start.owned → A) → A
+  -- what is said of the step by the one of an accepted deck
+  pub by-own : {A : Type 0} → (IsAdmittedStep going.number going.start.owned → going.start.number ≡ going.number → step_of_run going.row (step_in (place_of going.row)) ≡ Some going.start.owned → A) → A
   by-own use_it =
       by-step desk is on.run going.row going.number going.committed going.start (going-within desk.office on going)
       (λ leg owned running same spaced.
-      let at_leg : step_at leg.job going.number ≡ Some owned = ap (λ (job : Effective). step_at job going.number) (is.kept.events.places on.run going.row leg running.holder).job ∙ running.found in
-      let plain : leg.job ≡ plain_job going.row.number going.row.deck =
-      (is.kept.events.uses on.run going.row leg running.holder).plain (no_restart going.row.deck (plain_parts going.row (row-plain desk is on.run going.row going.row_at)).runs) in
       let its : owned ≡ going.start.owned = ap (λ (s : StepStart). s.owned) (sym same) in
       use_it
-      (ap (λ (job : Effective). step_at job going.number) (sym plain) ∙ at_leg ∙ ap Some its)
+      ((row-admitted desk is on.run going.row going.row_at).steps going.number going.start.owned (running.found ∙ ap Some its))
       (ap (λ (s : StepStart). s.number) same)
       (ap (λ place. step_of_run going.row (step_in place)) running.stands ∙ running.found ∙ ap Some its))
 

@@ -11,22 +11,18 @@ use Rattle.ckr_points_decks.specs.DeckLimits.{HasCheckParts}
 use Rattle.ckr_desk_turn.specs.CheckSets.{HasCheckRecords, HaveCheckRecords}
 use Rattle.ckr_desk_turn.specs.Checkpoints.{check_set, is_in_range, is_state_in_range, next_entry, next_id, step_entries}
 use Rattle.ckr_desk_turn.specs.Desk.{DeskModel, DeskStep}
-use Rattle.ckr_desk_turn.specs.Invariant.{IsAdmitted, IsDesk, IsGoing}
+use Rattle.ckr_desk_turn.specs.Invariant.{IsDesk, IsGoing}
+use Rattle.ckr_desk_turn.proofs.AdmittedSteps.{admitted-parts}
 use Rattle.ckr_desk_turn.proofs.Checkpoints.Events.{content-now}
 use Rattle.ckr_desk_turn.proofs.Checkpoints.Identifiers.{id-holds}
 use Rattle.ckr_desk_turn.proofs.Checkpoints.Plans.{by-own}
 use Rattle.ckr_desk_turn.proofs.NextEvents.WithinStep.{by-step}
-use Rattle.ckr_desk_turn.proofs.OtherRuns.{row-admitted}
 use Rattle.ckr_desk_turn.proofs.RunningSteps.{going-within}
-use Rattle.ckr_desk_turn.proofs.Start.Decks.{check-parts}
 
 module _ (desk : DeskModel) (on : DeskStep) (going : IsGoing desk.office on) (is : IsDesk desk) where
-  -- its step is one of its deck
+  -- its step is one of an accepted deck
   has-parts : HasCheckParts going.start.owned.step
-  has-parts =
-      by-own desk on going is (λ own same found.
-      let was : IsAdmitted going.row = row-admitted desk is on.run going.row going.row_at in
-      check-parts was.cards going.row.number going.row.deck going.number going.start.owned was.accepted own)
+  has-parts = by-own desk on going is (λ own same found. admitted-parts going.number going.start.owned own)
 
   pub id-counted : going.row.count ≤ 9999998 → is_check_id (next_id going.row going.start) ≡ true
   id-counted few =

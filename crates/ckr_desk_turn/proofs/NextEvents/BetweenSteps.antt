@@ -2,12 +2,12 @@
 use Rattle.std.proofs.Common.{◌≡◌, ◌≤◌, ℕ, suc, Bool, true, false, ◌&&◌, ◌||◌, not, nat_le, nat_eq, ◌==◌, List, [], ◌∷◌, refl, ap, sym, ◌∙◌, subst, cond, Option, None, Some, arith, slice_get, find, length}
 use Rattle.std.specs.Option.{option_map_or, option_eq, is_none}
 use Rattle.std.specs.List.{list_all}
-use Rattle.std.proofs.lemmas.Bool.{and_from, and_parts}
+use Rattle.std.proofs.lemmas.Bool.{and_from}
 use Rattle.std.proofs.lemmas.Bool.{false≢true}
 use Rattle.std.proofs.lemmas.Bool.Decides.{nat_tests}
 use Rattle.ckr_base.proofs.Bools.{bool-cases}
 use Rattle.ckr_base.proofs.Numbers.{equal-itself}
-use Rattle.ckr_base.proofs.Options.{is_none-true, some-not-none}
+use Rattle.ckr_base.proofs.Options.{some-not-none}
 use Rattle.ckr_base.proofs.Sequences.{find-all, find-passes}
 use Rattle.ckr_events.specs.declared.event.Event.TheVariants.{Submitted as SubmittedEvent, Selected as SelectedEvent, Ended as EndedEvent, Purged as PurgedEvent, Released as ReleasedEvent}
 use Rattle.ckr_events.specs.declared.event.Ending.TheVariants.{Completed, Allocation}
@@ -22,10 +22,10 @@ use Rattle.ckr_points.specs.Restart.{place_of}
 use Rattle.ckr_points.specs.Rows.{RunRow, TablesModel, run_of}
 use Rattle.ckr_points.specs.Soundness.{ending_names_first, may_come}
 use Rattle.ckr_points_invariant.specs.Invariant.{IsKept}
-use Rattle.ckr_points_decks.specs.Form.{is_run}
 use Rattle.ckr_desk_turn.specs.Select.{is_on, may_select, next_run, run_on_initiator}
 use Rattle.ckr_desk_turn.specs.Desk.{DeskModel}
-use Rattle.ckr_desk_turn.specs.Invariant.{IsDesk, has_code_while_off, is_on_one, is_plain_row, is_plain_state}
+use Rattle.ckr_desk_turn.specs.Invariant.{IsDesk, is_in_its_state, is_on_one}
+use Rattle.ckr_desk_turn.proofs.OtherRuns.{state-lodged}
 
 -- ---- runs that are found
 
@@ -46,8 +46,8 @@ row_of_found layout office test row kept found =
     let at = found_at test office.tables.runs row found in
     subst (λ n. run_of office.tables n ≡ Some row) (sym (kept.events.numbered (suc at.place) row at.at)) at.at
 
-pub plain_found : (desk : DeskModel) (test : RunRow → Bool) (row : RunRow) → IsDesk desk → find test desk.office.tables.runs ≡ Some row → is_plain_row row ≡ true
-plain_found desk test row is found = find-all is_plain_row test desk.office.tables.runs row is.plain found
+pub state_found : (desk : DeskModel) (test : RunRow → Bool) (row : RunRow) → IsDesk desk → find test desk.office.tables.runs ≡ Some row → is_in_its_state row ≡ true
+state_found desk test row is found = find-all is_in_its_state test desk.office.tables.runs row is.states found
 
 -- ---- a run is selected
 
@@ -79,7 +79,7 @@ free-there layout tables i above below free = and_from _ _ (and_from _ _ within 
     below_most = grind (arith, nat_tests, below)
 
 -- a queued run that comes next: its uses don't hold against those of a selected one
-next_waits : (tables : TablesModel) (row : RunRow) → may_select tables row.state row ≡ true → row.state ≡ Queued → may_hold tables row ≡ true
+pub next_waits : (tables : TablesModel) (row : RunRow) → may_select tables row.state row ≡ true → row.state ≡ Queued → may_hold tables row ≡ true
 next_waits tables row may queued = ap (λ s. may_select tables s row) (sym queued) ∙ may
 
 -- a run that comes next is queued, or was released
@@ -96,27 +96,10 @@ next_cases {A = A} tables row next queued released =
     by Denied its may = absurd (false≢true may)
     by Purged its may = absurd (false≢true may)
 
--- what a plain run's test says, part by part
-pub record Plain (row : RunRow) : Type 0 where
-  pub state : is_plain_state row.state ≡ true
-  pub initiator : (is_none row.initiator || is_on_one row.state) ≡ true
-  pub code : has_code_while_off row ≡ true
-  pub runs : is_run row.deck ≡ true
-
-pub plain_parts : (row : RunRow) → is_plain_row row ≡ true → Plain row
-plain_parts row plain =
-    let one = and_parts (is_plain_state row.state) _ plain in
-    let two = and_parts (is_none row.initiator || is_on_one row.state) _ one.1 in
-    let three = and_parts (has_code_while_off row) (is_run row.deck) two.1 in
-    record { state = one.0; initiator = two.0; code = three.0; runs = three.1 }
-
-pub no_restart : (deck : Job) → is_run deck ≡ true → deck.restart ≡ None
-no_restart deck runs = is_none-true deck.restart (and_parts (is_none deck.restart) _ runs).0
-
 -- a run that comes next to an initiator that no run is on
-pub selected-follows : (layout : Layout) (tables : TablesModel) (i : ℕ) (row : RunRow) → run_of tables row.number ≡ Some row → row.state ≡ Queued → is_run row.deck ≡ true → 1 ≤ i → i ≤ layout.initiators → run_on_initiator tables i ≡ None → next_run tables ≡ Some row
+pub selected-follows : (layout : Layout) (tables : TablesModel) (i : ℕ) (row : RunRow) → run_of tables row.number ≡ Some row → row.state ≡ Queued → row.deck.restart ≡ None → 1 ≤ i → i ≤ layout.initiators → run_on_initiator tables i ≡ None → next_run tables ≡ Some row
     → follows layout tables (SelectedEvent row.number i 0 0 None) None ≡ true
-selected-follows layout tables i row at waits runs above below free next =
+selected-follows layout tables i row at waits none above below free next =
     ap (λ o. option_map_or (selected_follows layout tables i 0 0 None) o false) at
     ∙ and_from _ _ (and_from _ _ (and_from _ _ queued is_there) held) alone
   where
@@ -130,14 +113,13 @@ selected-follows layout tables i row at waits runs above below free next =
     is_there = free-there layout tables i above below free
 
     alone : option_map_or (λ restart. may_restart tables row restart 0 0 None) row.deck.restart true ≡ true
-    alone = ap (λ r. option_map_or (λ restart. may_restart tables row restart 0 0 None) r true) (no_restart row.deck runs)
+    alone = ap (λ r. option_map_or (λ restart. may_restart tables row restart 0 0 None) r true) none
 
-pub selected_comes : (desk : DeskModel) (i : ℕ) (row : RunRow) → IsDesk desk → 1 ≤ i → i ≤ desk.layout.initiators → run_on_initiator desk.office.tables i ≡ None → next_run desk.office.tables ≡ Some row → row.state ≡ Queued
+pub selected_comes : (desk : DeskModel) (i : ℕ) (row : RunRow) → IsDesk desk → 1 ≤ i → i ≤ desk.layout.initiators → run_on_initiator desk.office.tables i ≡ None → next_run desk.office.tables ≡ Some row → row.state ≡ Queued → row.deck.restart ≡ None
     → may_come desk.layout desk.office (SelectedEvent row.number i 0 0 None, None) ≡ true
-selected_comes desk i row is above below free next waits =
+selected_comes desk i row is above below free next waits none =
     let selects : RunRow → Bool = λ other. may_select desk.office.tables other.state other in
-    let plain : Plain row = plain_parts row (plain_found desk selects row is next) in
-    and_from _ _ (selected-follows desk.layout desk.office.tables i row (row_of_found desk.layout desk.office selects row is.kept next) waits plain.runs above below free next) refl
+    and_from _ _ (selected-follows desk.layout desk.office.tables i row (row_of_found desk.layout desk.office selects row is.kept next) waits none above below free next) refl
 
 -- ---- a run that is on an initiator
 
@@ -162,8 +144,7 @@ lodged-on i row is lodged = on_it row.state (placed_on i row.initiator (is_on_on
 pub state_on : (desk : DeskModel) (i : ℕ) (row : RunRow) → IsDesk desk → run_on_initiator desk.office.tables i ≡ Some row → row.state ≡ On
 state_on desk i row is found =
     let here = λ (other : RunRow). is_on i other.initiator in
-    let plain = plain_parts row (plain_found desk here row is found) in
-    lodged-on i row (find-passes here desk.office.tables.runs row found) plain.initiator
+    lodged-on i row (find-passes here desk.office.tables.runs row found) (state-lodged row (state_found desk here row is found))
 
 -- a run ends behind its last step
 pub completed-follows : (layout : Layout) (tables : TablesModel) (row : RunRow) → run_of tables row.number ≡ Some row → row.state ≡ On → is_within (place_of row) ≡ false → own_step row ≡ None → follows layout tables (EndedEvent row.number Completed) None ≡ true

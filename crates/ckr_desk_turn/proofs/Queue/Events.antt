@@ -5,21 +5,25 @@ use Rattle.std.specs.List.{filter_map}
 use Rattle.std.specs.Option.{option_map_or}
 use Rattle.arrayvec.specs.ArrayVec.{ArrayVec}
 use Rattle.ckr_events.specs.declared.event.Made.{Made}
-use Rattle.ckr_events.specs.declared.event.Event.TheVariants.{Selected as SelectedEvent, Started as StartedEvent, Rewritten as RewrittenEvent, StepEnded as StepEndedEvent, Ended as EndedEvent, Purged as PurgedEvent}
+use Rattle.ckr_events.specs.declared.event.Event.TheVariants.{Denied as DeniedEvent, Selected as SelectedEvent, Started as StartedEvent, Rewritten as RewrittenEvent, StepEnded as StepEndedEvent, Ended as EndedEvent, Purged as PurgedEvent}
 use Rattle.ckr_events.specs.declared.event.Ending.TheVariants.{Completed, Coded, Allocation}
 use Rattle.ckr_base.specs.declared.code.Code.{Code}
 use Rattle.ckr_base.proofs.Numbers.{one-plus}
 use Rattle.ckr_meaning.specs.EffectiveJob.{OwnedStep}
 use Rattle.ckr_jcl.specs.declared.deck.Job.{Job}
+use Rattle.ckr_library.specs.NameMaps.{Name}
+use Rattle.ckr_points_invariant.proofs.Continuations.Follows.{IsEntryOf, MayContinue, after-selected}
+use Rattle.ckr_points_invariant.proofs.Holders.Rows.{queued-is}
+use Rattle.ckr_volumes.specs.declared.layout.Layout.{Layout}
 use Rattle.ckr_queue.specs.declared.entry.QueueEntry.{QueueEntry}
 use Rattle.ckr_queue.specs.declared.entry.QueueState.{QueueState}
 use Rattle.ckr_queue.specs.declared.entry.QueueState.TheVariants as InQueue
 use Rattle.ckr_queue.specs.Queue.{with_state, without}
 use Rattle.ckr_meaning.specs.declared.place.Place.TheVariants.{Before, Opened, Within}
-use Rattle.ckr_points.specs.declared.run.RunState.TheVariants.{Queued, On, Purged as PurgedRun}
+use Rattle.ckr_points.specs.declared.run.RunState.TheVariants.{Denied as DeniedRun, Queued, On, Purged as PurgedRun}
 use Rattle.ckr_points.specs.Tables.{after_selected, after_started, after_commit, after_rewritten, after_step_ended, after_dispositions}
-use Rattle.ckr_points.specs.Restart.{after_event, after_passed_ended, after_coded, after_abnormal, by_step, place_of, step_in}
-use Rattle.ckr_points.specs.Rows.{RunRow, TablesModel, run_of, step_of_run, with_row, with_run}
+use Rattle.ckr_points.specs.Restart.{after_abnormal, after_coded, after_continued_at, after_entry_continued, after_event, after_passed_ended, by_step, continued_row, kept_at, place_of, step_in, syschk_name}
+use Rattle.ckr_points.specs.Rows.{KeptEntry, RunRow, TablesModel, run_of, step_of_run, with_row, with_run}
 use Rattle.ckr_desk_turn.specs.Queue.{entry_of, queue_of, queue_state, AreNumbered}
 use Rattle.ckr_desk_turn.proofs.Queue.Changes.{moved, left, stayed}
 
@@ -89,6 +93,39 @@ purged tables job deck row numbered at is =
   where
     gone : RunRow
     gone = record row { state = PurgedRun }
+
+pub denied : (tables : TablesModel) (job rule : ℕ) (name : Option (List ℕ)) (deck : Option Job) (row : RunRow) → AreNumbered 1 tables.runs → run_of tables job ≡ Some row → row.state ≡ Queued
+    → queue_of (after_event (DeniedEvent job rule name) deck tables) ≡ without job (queue_of tables)
+denied tables job rule name deck row numbered at is =
+    ap (behind_by (λ row. with_run (record row { state = DeniedRun }) tables) tables) at
+    ∙ ap (λ n. queue_in (with_row gone n tables.runs)) (run_number tables job row numbered at)
+    ∙ no_state tables job row gone InQueue.Queued numbered at (ap queue_state is) refl
+  where
+    gone : RunRow
+    gone = record row { state = DeniedRun }
+
+-- a run that is put into its row, and is selected
+taken_row : (tables : TablesModel) (job : ℕ) (row new : RunRow) → AreNumbered 1 tables.runs → run_of tables job ≡ Some row → row.state ≡ Queued → new.number ≡ row.number → new.deck ≡ row.deck → new.state ≡ On
+    → queue_in (with_row new new.number tables.runs) ≡ with_state job InQueue.Selected (queue_of tables)
+taken_row tables job row new numbered at queued number deck on =
+    ap (λ n. queue_in (with_row new n tables.runs)) (number ∙ run_number tables job row numbered at)
+    ∙ new_state tables job row new InQueue.Queued InQueue.Selected numbered at number deck (ap queue_state queued) (ap queue_state on)
+
+-- a run is selected to continue an earlier one
+pub continued : (layout : Layout) (tables : TablesModel) (job initiator before step : ℕ) (id : Option Name) (deck : Option Job) → AreNumbered 1 tables.runs → MayContinue layout tables job initiator (suc before) step id
+    → queue_of (after_event (SelectedEvent job initiator (suc before) step id) deck tables) ≡ with_state job InQueue.Selected (queue_of tables)
+continued layout tables job initiator before step id deck numbered its =
+    ap queue_of (after-selected layout tables job initiator before step id deck its) ∙ by id its
+  where
+    by : (id : Option Name) (its : MayContinue layout tables job initiator (suc before) step id)
+        → queue_of (after_continued_at (continued_row its.row its.other step its.point initiator tables.sets) its.owned step its.point id tables) ≡ with_state job InQueue.Selected (queue_of tables)
+    by None its = taken_row tables job its.row _ numbered its.row_at (queued-is its.row.state its.queued) refl refl refl
+    by (Some id) its = at-entry (kept_at tables.sets (syschk_name its.row.deck) id) its.entry
+      where
+        at-entry : (entry : Option KeptEntry) → IsEntryOf its.other step (Some id) entry
+            → queue_of (option_map_or (λ entry. after_entry_continued (continued_row its.row its.other step its.point initiator tables.sets) its.owned step (syschk_name its.row.deck) entry tables) entry tables) ≡ with_state job InQueue.Selected (queue_of tables)
+        at-entry None of_run = absurd of_run
+        at-entry (Some entry) of_run = taken_row tables job its.row _ numbered its.row_at (queued-is its.row.state its.queued) refl refl refl
 
 -- a run that is put into its row, with its state as it was
 kept_row : (tables : TablesModel) (job : ℕ) (row new : RunRow) → AreNumbered 1 tables.runs → run_of tables job ≡ Some row → new.number ≡ row.number → new.deck ≡ row.deck → new.state ≡ row.state

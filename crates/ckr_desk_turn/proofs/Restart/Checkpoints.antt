@@ -31,16 +31,16 @@ use Rattle.ckr_points_invariant.proofs.Steps.Commits.{IsRunning, its_start, unde
 use Rattle.ckr_rules.specs.declared.cases.Verdict.TheVariants.{Checkpoint}
 use Rattle.ckr_volumes.specs.declared.layout.Layout.{Layout}
 use Rattle.ckr_desk_turn.specs.Desk.{at_entry}
-use Rattle.ckr_desk_turn.specs.Invariant.{IsAdmitted, IsGoing, IsOpen, has_its_step, is_off, is_plain_row}
+use Rattle.ckr_desk_turn.specs.Invariant.{IsAdmitted, IsGoing, IsOpen, has_its_step, is_off, is_in_its_state}
 use Rattle.ckr_desk_turn.specs.Jobs.{effect_entry}
 use Rattle.ckr_desk_turn.specs.Restarts.{restart_of}
-use Rattle.ckr_desk_turn.proofs.OtherRuns.{Changes, plain-deck}
+use Rattle.ckr_desk_turn.proofs.OtherRuns.{Changes}
 use Rattle.ckr_desk_turn.proofs.Restart.Events.{MayRestart, by-run, here, judged-so, restart-comes}
 use Rattle.ckr_desk_turn.proofs.RunningSteps.{nothing-between}
 use Rattle.ckr_points_invariant.specs.KeptEvents.{AreKept}
 
 -- behind the records taken and the writes that an entry tells
-open-so : (start : StepStart) (point : EntryPoint) → carries_taken point.taken point.writes start ≡ true → IsOpen start (at_entry 0 point).progress
+pub open-so : (start : StepStart) (point : EntryPoint) → carries_taken point.taken point.writes start ≡ true → IsOpen start (at_entry 0 point).progress
 open-so start point told = record {
   taken = nat_le-true point.taken (records_taken (case_at start)) (and-first (nat_le point.taken (records_taken (case_at start))) (point.writes == length (upto (case_at start) point.taken)) told);
   writes = equal-true point.writes (length (upto (case_at start) point.taken)) (and-second (nat_le point.taken (records_taken (case_at start))) (point.writes == length (upto (case_at start) point.taken)) told);
@@ -50,7 +50,7 @@ open-so start point told = record {
 pub record IsBack (office after : Office) (row : RunRow) : Type 0 where
   pub next : RunRow
   pub changes : Changes office after row.number next
-  pub plain : is_plain_row row ≡ true → is_plain_row next ≡ true
+  pub in_state : is_in_its_state next ≡ true
   pub admitted : IsAdmitted row → IsAdmitted next
   pub stepped : has_its_step next ≡ true
   pub entry : KeptEntry
@@ -107,8 +107,8 @@ module _ (layout : Layout) (office : Office) (are : AreKept layout office) (row 
         (record {
           next = next;
           changes = record { mine = holder.row_at; others = λ other apart. run-other (record office.tables { sets = sets }) next other apart; legs = refl };
-          plain = plain-deck row;
-          admitted = λ was. record { cards = was.cards; accepted = was.accepted; lodged = refl };
+          in_state = refl;
+          admitted = λ was. record { cards = was.cards; accepted = was.accepted; steps = was.steps; named = was.named; lodged = refl };
           stepped = or_right (not (is_running next || is_off next.state)) (is_some (own_step next)) (ap is_some found);
           entry = check.entry;
           there = ap (λ (o : Option EffectPoint). option_map_or (λ effect. kept_at office.tables.sets effect.set effect.kept.id) o None) got ∙ there;

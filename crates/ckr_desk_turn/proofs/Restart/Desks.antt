@@ -23,7 +23,7 @@ use Rattle.ckr_desk_turn.specs.Invariant.{IsDesk, Keeps, is_accounted}
 use Rattle.ckr_desk_turn.specs.NextEvents.{IsWithinStep}
 use Rattle.ckr_desk_turn.specs.Restarts.{GoesOnBy, restart_of}
 use Rattle.ckr_desk_turn.proofs.Codes.{may_end, initiator-its}
-use Rattle.ckr_desk_turn.proofs.OtherRuns.{accounted-then, admitted-then, each_row, failed-rest, failed-same, going-rest, plain-then, row-admitted, row-plain, running-same, stepped-then}
+use Rattle.ckr_desk_turn.proofs.OtherRuns.{accounted-then, admitted-then, each_row, failed-rest, failed-same, going-rest, states-then, row-admitted, running-same, stepped-then}
 use Rattle.ckr_desk_turn.proofs.Restart.Checkpoints.{IsBack, back}
 use Rattle.ckr_desk_turn.proofs.Restart.Events.{MayGoOn, MayRestart, on-goes, restart-comes, restart-keeps}
 use Rattle.ckr_desk_turn.proofs.NextEvents.Holders.{HoldsStep, may_go}
@@ -64,7 +64,7 @@ module _ (desk : DeskModel) (is : IsDesk desk) (row : RunRow) (initiator : ℕ) 
           kept = on.kept;
           going = going-rest desk.office start_after row.number then.next then.changes desk.running is.going;
           failed = failed-rest desk.office start_after row.number then.next then.changes desk.failed is.failed;
-          plain = plain-then desk start_later is row.number then.next then.changes (then.plain (row-plain desk is row.number row its.on.held.row_at));
+          states = states-then desk start_later is row.number then.next then.changes then.in_state;
           admitted = admitted-then desk start_later is row.number then.next then.changes (then.admitted (row-admitted desk is row.number row its.on.held.row_at));
           stepped = stepped-then desk start_later is row.number then.next then.changes then.stepped;
           accounted = accounted-then desk start_later is row.number then.next then.changes then.rests (running-same row.number desk.running) (failed-same row.number desk.failed);
@@ -107,7 +107,7 @@ module _ (desk : DeskModel) (is : IsDesk desk) (row : RunRow) (initiator : ℕ) 
           kept = on.kept;
           going = (then.going, going-rest desk.office after row.number then.next then.changes desk.running is.going);
           failed = failed-rest desk.office after row.number then.next then.changes desk.failed is.failed;
-          plain = plain-then desk later is row.number then.next then.changes (then.plain (row-plain desk is row.number row its.on.held.row_at));
+          states = states-then desk later is row.number then.next then.changes then.in_state;
           admitted = admitted-then desk later is row.number then.next then.changes (then.admitted (row-admitted desk is row.number row its.on.held.row_at));
           stepped = stepped-then desk later is row.number then.next then.changes then.stepped;
           accounted = each_row desk later is row.number then.next then.changes (is_accounted desk) (is_accounted later)

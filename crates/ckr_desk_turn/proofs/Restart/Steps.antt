@@ -17,9 +17,9 @@ use Rattle.ckr_points_invariant.proofs.Readiness.Office.{steps-restorable}
 use Rattle.ckr_points_invariant.proofs.Restart.Event.{RestartsNow, at-step, holder-start, restarts-now, row_then, sets_then, start-stands, to-start}
 use Rattle.ckr_rules.specs.declared.cases.Verdict.TheVariants.{Step}
 use Rattle.ckr_volumes.specs.declared.layout.Layout.{Layout}
-use Rattle.ckr_desk_turn.specs.Invariant.{IsAdmitted, has_its_step, is_plain_row}
+use Rattle.ckr_desk_turn.specs.Invariant.{IsAdmitted, has_its_step, is_in_its_state}
 use Rattle.ckr_desk_turn.specs.Restarts.{restart_of}
-use Rattle.ckr_desk_turn.proofs.OtherRuns.{Changes, plain-deck}
+use Rattle.ckr_desk_turn.proofs.OtherRuns.{Changes}
 use Rattle.ckr_desk_turn.proofs.Restart.Events.{MayRestart, begun, by-run, here, restart-comes}
 use Rattle.ckr_points_invariant.specs.KeptEvents.{AreKept}
 
@@ -27,7 +27,7 @@ use Rattle.ckr_points_invariant.specs.KeptEvents.{AreKept}
 pub record IsAtStart (office after : Office) (row : RunRow) : Type 0 where
   pub next : RunRow
   pub changes : Changes office after row.number next
-  pub plain : is_plain_row row ≡ true → is_plain_row next ≡ true
+  pub in_state : is_in_its_state next ≡ true
   pub admitted : IsAdmitted row → IsAdmitted next
   pub rests : is_running next ≡ false
   pub stepped : has_its_step next ≡ true
@@ -60,8 +60,8 @@ module _ (layout : Layout) (office : Office) (are : AreKept layout office) (row 
           others = λ other apart. run-other (record office.tables { sets = sets }) next other apart;
           legs = refl;
         };
-        plain = plain-deck row;
-        admitted = λ was. record { cards = was.cards; accepted = was.accepted; lodged = refl };
+        in_state = refl;
+        admitted = λ was. record { cards = was.cards; accepted = was.accepted; steps = was.steps; named = was.named; lodged = refl };
         rests = refl;
         stepped = refl;
       }))))

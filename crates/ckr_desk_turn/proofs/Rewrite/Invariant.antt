@@ -29,7 +29,7 @@ use Rattle.ckr_desk_turn.specs.Units.{StepProgress, arrived}
 use Rattle.ckr_desk_turn.specs.NextEvents.{Comes, IsWithinStep}
 use Rattle.ckr_desk_turn.specs.Invariant.{IsAdmitted, IsDesk, IsFailed, IsGoing, is_accounted}
 use Rattle.ckr_desk_turn.proofs.StepEnd.{by-changed}
-use Rattle.ckr_desk_turn.proofs.OtherRuns.{Changes, admitted-then, each_row, failed-there, going-rest, plain-then, row-admitted, row-plain, row-stepped, same-step, stepped-then}
+use Rattle.ckr_desk_turn.proofs.OtherRuns.{Changes, admitted-then, each_row, failed-there, going-rest, states-then, row-admitted, row-in-state, row-stepped, same-step, stepped-then}
 use Rattle.ckr_desk_turn.proofs.Readiness.{kept-on}
 use Rattle.ckr_desk_turn.proofs.RunningSteps.{nothing-between}
 use Rattle.ckr_desk_turn.proofs.Rewrite.Event.{Rewrites, carry_so, follow_so, its_table, lrecl_so, rewrite_carried, rewrite_follows}
@@ -175,8 +175,8 @@ module _ (desk : DeskModel) (is : IsDesk desk) (run : ℕ) (row : RunRow) (numbe
     kept = on.kept;
     going = (still_going, subst (λ n. AllByRecursion (IsGoing now) (without_run n desk.running)) (sym its_number) (going-rest desk.office now run next changes desk.running is.going));
     failed = failed_now desk.failed is.failed;
-    plain = plain-then desk later is run next changes (row-plain desk is run row within.row_at);
-    admitted = admitted-then desk later is run next changes (let was : IsAdmitted row = row-admitted desk is run row within.row_at in record { cards = was.cards; accepted = was.accepted; lodged = was.lodged });
+    states = states-then desk later is run next changes (row-in-state desk is run row within.row_at);
+    admitted = admitted-then desk later is run next changes (let was : IsAdmitted row = row-admitted desk is run row within.row_at in record { cards = was.cards; accepted = was.accepted; steps = was.steps; named = was.named; lodged = was.lodged });
     stepped = stepped-then desk later is run next changes (same-step row next (row-stepped desk is run row within.row_at) (runs desk is run row number from start within) refl);
     accounted =
         each_row desk later is run next changes (is_accounted desk) (is_accounted later) next_accounted is.accounted

@@ -31,7 +31,7 @@ use Rattle.ckr_points_invariant.specs.Invariant.{IsAgreed}
 use Rattle.ckr_points_invariant.proofs.Steps.Events.{led-by, on-holds, running-holds, step-by}
 use Rattle.ckr_points_invariant.proofs.WaitingRuns.{follows-of, tested-run}
 use Rattle.ckr_volumes.specs.declared.layout.Layout.{Layout}
-use Rattle.ckr_desk_turn.proofs.OtherRuns.{plain-deck, taken_over-within}
+use Rattle.ckr_desk_turn.proofs.OtherRuns.{taken_over-within}
 use Rattle.ckr_desk_turn.proofs.Runs.Events.{has-step}
 use Rattle.ckr_desk_turn.proofs.Runs.Rows.{HasRow, HasRows, Renewed, Stands, has-row, runs-renewed, stands-more, stands-one}
 use Rattle.ckr_desk_turn.proofs.Units.Outputs.{distinct-job}
@@ -42,8 +42,8 @@ ended row = record row { state = EndedRun; initiator = None; code = None; passed
 
 has-ended : (row : RunRow) → HasRow row → HasRow (ended row)
 has-ended row was = record {
-  plain = plain-deck row was.plain;
-  admitted = record { cards = was.admitted.cards; accepted = was.admitted.accepted; lodged = refl };
+  in_state = refl;
+  admitted = record { cards = was.admitted.cards; accepted = was.admitted.accepted; steps = was.admitted.steps; named = was.admitted.named; lodged = refl };
   stepped = refl;
 }
 
@@ -112,4 +112,4 @@ module _ (layout : Layout) (office : Office) (kept : IsAgreed layout office) (ha
       (abnormal-renewed office.tables (after_commit row owned step writes lengths.items office.tables) job moved (Within step writes)
       (stands-one office.tables (committed (output_names row.job.root owned) lengths.items office.tables.sets) job row moved at (kept.numbered job row at))
       (kept.numbered job row at)
-      (has-step moved owned found was.plain (record { cards = was.admitted.cards; accepted = was.admitted.accepted; lodged = was.admitted.lodged }))))))
+      (has-step moved owned found was.in_state (record { cards = was.admitted.cards; accepted = was.admitted.accepted; steps = was.admitted.steps; named = was.admitted.named; lodged = was.admitted.lodged }))))))

@@ -8,7 +8,7 @@ use Rattle.arrayvec.specs.ArrayVec.{ArrayVec}
 use Rattle.ckr_base.specs.declared.code.Code.{Code}
 use Rattle.ckr_base.proofs.Bools.{and-first, and-second}
 use Rattle.ckr_base.proofs.Numbers.{equal-true}
-use Rattle.ckr_events.specs.declared.event.Event.TheVariants.{Cancelled as CancelledEvent, Checkpointed as CheckpointedEvent, Held as HeldEvent, Purged as PurgedEvent, Released as ReleasedEvent, Rewritten as RewrittenEvent, Selected as SelectedEvent, Started as StartedEvent, StepEnded as StepEndedEvent, Submitted as SubmittedEvent}
+use Rattle.ckr_events.specs.declared.event.Event.TheVariants.{Cancelled as CancelledEvent, Checkpointed as CheckpointedEvent, Denied as DeniedEvent, Held as HeldEvent, Purged as PurgedEvent, Released as ReleasedEvent, Rewritten as RewrittenEvent, Selected as SelectedEvent, Started as StartedEvent, StepEnded as StepEndedEvent, Submitted as SubmittedEvent}
 use Rattle.ckr_events.specs.declared.event.Made.{Made}
 use Rattle.ckr_jcl.specs.declared.deck.Job.{Job}
 use Rattle.ckr_jcl_decks.specs.Parts.Fault.{Fault}
@@ -21,9 +21,8 @@ use Rattle.ckr_meaning.specs.LibrarySet.{AreWithinSpace}
 use Rattle.ckr_meaning.specs.declared.place.Place.TheVariants.{Before, Within}
 use Rattle.ckr_points_library.specs.Commit.{output_names}
 use Rattle.ckr_points_decks.specs.Cards.{job_in, kept_deck, stored_of_kept}
-use Rattle.ckr_points_decks.specs.Form.{is_run}
 use Rattle.ckr_points.specs.declared.run.RunState.{RunState}
-use Rattle.ckr_points.specs.declared.run.RunState.TheVariants.{Held as HeldRun, On, Queued, Purged, Released as ReleasedRun}
+use Rattle.ckr_points.specs.declared.run.RunState.TheVariants.{Denied, Held as HeldRun, On, Queued, Purged, Released as ReleasedRun}
 use Rattle.ckr_points.specs.Follows.{is_checkpoint, is_empty, is_in_state, is_rewrite, is_running, is_within, lengths_follow, of_step, own_step, state_number}
 use Rattle.ckr_points.specs.Marks.{with_point}
 use Rattle.ckr_points.specs.Office.{Leg, Office, office_after}
@@ -40,9 +39,10 @@ use Rattle.ckr_points_invariant.proofs.Start.Event.{by-start}
 use Rattle.ckr_points_invariant.proofs.Steps.Events.{step-by}
 use Rattle.ckr_points_invariant.proofs.WaitingRuns.{by-selected, follows-of, tested-run}
 use Rattle.ckr_volumes.specs.declared.layout.Layout.{Layout}
-use Rattle.ckr_desk_turn.specs.Invariant.{IsAdmitted, has_its_step, is_off, is_on_one, is_plain_row, is_plain_state}
-use Rattle.ckr_desk_turn.specs.RunEvents.{IsRunDeck}
-use Rattle.ckr_desk_turn.proofs.OtherRuns.{between-steps, plain-deck}
+use Rattle.ckr_desk_turn.specs.Invariant.{IsAdmitted, has_its_step, is_in_its_state, is_off, is_on_one}
+use Rattle.ckr_desk_turn.specs.RunEvents.{IsKeptDeck}
+use Rattle.ckr_desk_turn.proofs.AdmittedSteps.{queued-admitted}
+use Rattle.ckr_desk_turn.proofs.OtherRuns.{between-steps}
 use Rattle.ckr_desk_turn.proofs.Runs.Rows.{HasRow, HasRows, Stands, has-row, runs-renewed, stands-more, stands-one}
 use Rattle.ckr_desk_turn.proofs.Select.{code_while, front_row, last_row, queued-on}
 use Rattle.ckr_desk_turn.proofs.StepEnd.{by-changed}
@@ -66,17 +66,17 @@ held-is HeldRun e = refl
 held-is _ e = absurd (false≢true e)
 
 -- a row within a step that it has
-pub has-step : (row : RunRow) (owned : OwnedStep) → own_step row ≡ Some owned → is_plain_row row ≡ true → IsAdmitted row → HasRow row
-has-step row owned found plain admitted = record {
-  plain = plain;
+pub has-step : (row : RunRow) (owned : OwnedStep) → own_step row ≡ Some owned → is_in_its_state row ≡ true → IsAdmitted row → HasRow row
+has-step row owned found state admitted = record {
+  in_state = state;
   admitted = admitted;
   stepped = or_right (not (is_running row || is_off row.state)) (is_some (own_step row)) (ap is_some found);
 }
 
 module _ (layout : Layout) (office : Office) (kept : IsAgreed layout office) (has : HasRows office) where
-  pub submitted-runs : (job : ℕ) (cards : List ℕ) (deck : Option Job) → may_come layout office (SubmittedEvent job cards, deck) ≡ true → IsRunDeck cards deck → HasRows (office_after (SubmittedEvent job cards, deck) office)
-  submitted-runs job cards None may runs = absurd runs
-  submitted-runs job cards (Some deck) may runs =
+  pub submitted-runs : (job : ℕ) (cards : List ℕ) (deck : Option Job) → may_come layout office (SubmittedEvent job cards, deck) ≡ true → IsKeptDeck cards deck → HasRows (office_after (SubmittedEvent job cards, deck) office)
+  submitted-runs job cards None may kept_so = absurd kept_so
+  submitted-runs job cards (Some deck) may kept_so =
       let its : job ≡ suc (length office.tables.runs) =
       equal-true job (suc (length office.tables.runs))
       (and-first (job == suc (length office.tables.runs)) (not (is_empty cards))
@@ -86,7 +86,7 @@ module _ (layout : Layout) (office : Office) (kept : IsAgreed layout office) (ha
       (record {
         next = queued_run (suc (length office.tables.runs)) deck;
         stands = record { mine = last_row office.tables.runs (queued_run (suc (length office.tables.runs)) deck); others = others };
-        has = record { plain = runs.1; admitted = record { cards = stored_of_kept cards; accepted = kept-stored cards deck runs.0; lodged = refl }; stepped = refl };
+        has = record { in_state = refl; admitted = queued-admitted (stored_of_kept cards) (suc (length office.tables.runs)) deck (kept-stored cards deck kept_so); stepped = refl };
       })
       has.spaced has.spaced_legs)
     where
@@ -104,7 +104,7 @@ module _ (layout : Layout) (office : Office) (kept : IsAgreed layout office) (ha
       (record {
         next = next;
         stands = record { mine = run-same office.tables next row row.number row_at refl; others = λ other apart. run-other office.tables next other apart };
-        has = record { plain = queued-on row (queued-is row.state queued) was.plain; admitted = record { cards = was.admitted.cards; accepted = was.admitted.accepted; lodged = refl }; stepped = refl };
+        has = record { in_state = queued-on row (queued-is row.state queued) was.in_state; admitted = record { cards = was.admitted.cards; accepted = was.admitted.accepted; steps = was.admitted.steps; named = was.admitted.named; lodged = refl }; stepped = refl };
       })
       has.spaced (all_legs (λ (leg : Leg). AreWithinSpace leg.start) _ office.legs has.spaced has.spaced_legs))
 
@@ -118,12 +118,30 @@ module _ (layout : Layout) (office : Office) (kept : IsAgreed layout office) (ha
       (record {
         next = record row { state = Purged };
         stands = stands-one office.tables office.tables.sets job row (record row { state = Purged }) at (kept.numbered job row at);
-        has = record { plain = off row queued was.plain; admitted = record { cards = was.admitted.cards; accepted = was.admitted.accepted; lodged = refl }; stepped = refl };
+        has = record { in_state = off row queued was.in_state; admitted = record { cards = was.admitted.cards; accepted = was.admitted.accepted; steps = was.admitted.steps; named = was.admitted.named; lodged = refl }; stepped = refl };
       })
       has.spaced has.spaced_legs))
     where
-      off : (row : RunRow) → is_in_state Queued row ≡ true → is_plain_row row ≡ true → is_plain_row (record row { state = Purged }) ≡ true
-      off row queued plain = sym (ap (λ (s : RunState). is_plain_state s && ((is_none row.initiator || is_on_one s) && (code_while s row.code && is_run row.deck))) (queued-is row.state queued)) ∙ plain
+      off : (row : RunRow) → is_in_state Queued row ≡ true → is_in_its_state row ≡ true → is_in_its_state (record row { state = Purged }) ≡ true
+      off row queued state = sym (ap (λ (s : RunState). (is_none row.initiator || is_on_one s) && code_while s row.code) (queued-is row.state queued)) ∙ state
+
+  pub denied-runs : (job rule : ℕ) (name : Option Name) (deck : Option Job) → may_come layout office (DeniedEvent job rule name, deck) ≡ true → HasRows (office_after (DeniedEvent job rule name, deck) office)
+  denied-runs job rule name deck may =
+      tested-run office.tables job (λ row. is_in_state Queued row && is_some row.deck.restart) (follows-of layout office (DeniedEvent job rule name) deck may)
+      (λ row at passes.
+      let queued : is_in_state Queued row ≡ true = and-first (is_in_state Queued row) (is_some row.deck.restart) passes in
+      let was : HasRow row = has-row office has job row at in
+      subst (λ (o : Option RunRow). HasRows (record office { tables = option_map_or (λ row. with_run (record row { state = Denied }) office.tables) o office.tables })) (sym at)
+      (runs-renewed office (record office { tables = with_run (record row { state = Denied }) office.tables }) job has
+      (record {
+        next = record row { state = Denied };
+        stands = stands-one office.tables office.tables.sets job row (record row { state = Denied }) at (kept.numbered job row at);
+        has = record { in_state = off row queued was.in_state; admitted = record { cards = was.admitted.cards; accepted = was.admitted.accepted; steps = was.admitted.steps; named = was.admitted.named; lodged = refl }; stepped = refl };
+      })
+      has.spaced has.spaced_legs))
+    where
+      off : (row : RunRow) → is_in_state Queued row ≡ true → is_in_its_state row ≡ true → is_in_its_state (record row { state = Denied }) ≡ true
+      off row queued state = sym (ap (λ (s : RunState). (is_none row.initiator || is_on_one s) && code_while s row.code) (queued-is row.state queued)) ∙ state
 
   pub cancelled-runs : (job : ℕ) (deck : Option Job) → may_come layout office (CancelledEvent job, deck) ≡ true → HasRows (office_after (CancelledEvent job, deck) office)
   cancelled-runs job deck may =
@@ -136,7 +154,7 @@ module _ (layout : Layout) (office : Office) (kept : IsAgreed layout office) (ha
       (record {
         next = next;
         stands = stands-one office.tables office.tables.sets job row next at (kept.numbered job row at);
-        has = record { plain = was.plain; admitted = record { cards = was.admitted.cards; accepted = was.admitted.accepted; lodged = was.admitted.lodged }; stepped = was.stepped };
+        has = record { in_state = was.in_state; admitted = record { cards = was.admitted.cards; accepted = was.admitted.accepted; steps = was.admitted.steps; named = was.admitted.named; lodged = was.admitted.lodged }; stepped = was.stepped };
       })
       has.spaced has.spaced_legs))
 
@@ -153,7 +171,7 @@ module _ (layout : Layout) (office : Office) (kept : IsAgreed layout office) (ha
       (record {
         next = next;
         stands = stands-one office.tables (made_tables stamp items.items placed opened) job row next now.holder.row_at (kept.numbered job row now.holder.row_at);
-        has = has-step next owned now.found was.plain (record { cards = was.admitted.cards; accepted = was.admitted.accepted; lodged = was.admitted.lodged });
+        has = has-step next owned now.found was.in_state (record { cards = was.admitted.cards; accepted = was.admitted.accepted; steps = was.admitted.steps; named = was.admitted.named; lodged = was.admitted.lodged });
       })
       has.spaced has.spaced_legs)
 
@@ -173,7 +191,7 @@ module _ (layout : Layout) (office : Office) (kept : IsAgreed layout office) (ha
       (record {
         next = next;
         stands = stands-one office.tables sets job row next at (kept.numbered job row at);
-        has = has-step next owned found was.plain (record { cards = was.admitted.cards; accepted = was.admitted.accepted; lodged = was.admitted.lodged });
+        has = has-step next owned found was.in_state (record { cards = was.admitted.cards; accepted = was.admitted.accepted; steps = was.admitted.steps; named = was.admitted.named; lodged = was.admitted.lodged });
       })
       has.spaced has.spaced_legs)))
 
@@ -196,7 +214,7 @@ module _ (layout : Layout) (office : Office) (kept : IsAgreed layout office) (ha
       (record {
         next = next;
         stands = record { mine = stands.mine; others = stands.others };
-        has = has-step next owned found was.plain (record { cards = was.admitted.cards; accepted = was.admitted.accepted; lodged = was.admitted.lodged });
+        has = has-step next owned found was.in_state (record { cards = was.admitted.cards; accepted = was.admitted.accepted; steps = was.admitted.steps; named = was.admitted.named; lodged = was.admitted.lodged });
       })
       has.spaced has.spaced_legs)))
 
@@ -221,8 +239,8 @@ module _ (layout : Layout) (office : Office) (kept : IsAgreed layout office) (ha
             (stands-one office.tables (committed (output_names row.job.root owned) lengths.items office.tables.sets) job row (record row { place = Some (Within step writes) }) at (kept.numbered job row at))
             (kept.numbered job row at);
         has = record {
-          plain = was.plain;
-          admitted = record { cards = was.admitted.cards; accepted = was.admitted.accepted; lodged = was.admitted.lodged };
+          in_state = was.in_state;
+          admitted = record { cards = was.admitted.cards; accepted = was.admitted.accepted; steps = was.admitted.steps; named = was.admitted.named; lodged = was.admitted.lodged };
           stepped = between-steps next (on-is row.state on) refl;
         };
       })
@@ -244,7 +262,7 @@ module _ (layout : Layout) (office : Office) (kept : IsAgreed layout office) (ha
       (record {
         next = next;
         stands = stands-one office.tables sets job row next at (kept.numbered job row at);
-        has = has-step next owned found (plain-deck row was.plain) (record { cards = was.admitted.cards; accepted = was.admitted.accepted; lodged = refl });
+        has = has-step next owned found refl (record { cards = was.admitted.cards; accepted = was.admitted.accepted; steps = was.admitted.steps; named = was.admitted.named; lodged = refl });
       })
       has.spaced has.spaced_legs)))
 
@@ -259,12 +277,12 @@ module _ (layout : Layout) (office : Office) (kept : IsAgreed layout office) (ha
       (record {
         next = next;
         stands = stands-one office.tables office.tables.sets job row next at (kept.numbered job row at);
-        has = record { plain = off row (held-is row.state held) was.plain; admitted = record { cards = was.admitted.cards; accepted = was.admitted.accepted; lodged = refl }; stepped = off_step row (held-is row.state held) was.stepped };
+        has = record { in_state = off row (held-is row.state held) was.in_state; admitted = record { cards = was.admitted.cards; accepted = was.admitted.accepted; steps = was.admitted.steps; named = was.admitted.named; lodged = refl }; stepped = off_step row (held-is row.state held) was.stepped };
       })
       has.spaced has.spaced_legs))
     where
-      off : (row : RunRow) → row.state ≡ HeldRun → is_plain_row row ≡ true → is_plain_row (record row { state = ReleasedRun }) ≡ true
-      off row held plain = sym (ap (λ (s : RunState). is_plain_state s && ((is_none row.initiator || is_on_one s) && (code_while s row.code && is_run row.deck))) held) ∙ plain
+      off : (row : RunRow) → row.state ≡ HeldRun → is_in_its_state row ≡ true → is_in_its_state (record row { state = ReleasedRun }) ≡ true
+      off row held state = sym (ap (λ (s : RunState). (is_none row.initiator || is_on_one s) && code_while s row.code) held) ∙ state
 
       off_step : (row : RunRow) → row.state ≡ HeldRun → has_its_step row ≡ true → has_its_step (record row { state = ReleasedRun }) ≡ true
       off_step row held stepped = sym (ap (λ (s : RunState). not ((state_number s == 2) && is_within (place_of row) || is_off s) || is_some (own_step row)) held) ∙ stepped

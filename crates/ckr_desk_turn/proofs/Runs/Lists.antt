@@ -1,7 +1,7 @@
--- Sound events of what the desk runs leave what a desk of its runs has.
-use Rattle.std.proofs.Common.{◌≡◌, zero, suc, false, List, [], ◌∷◌, refl, Option}
+-- Sound events of decks leave what a desk of its runs has.
+use Rattle.std.proofs.Common.{zero, suc, List, [], ◌∷◌, refl, Option, Some, None}
 use Rattle.ckr_events.specs.declared.event.Event.{Event}
-use Rattle.ckr_events.specs.declared.event.Event.TheVariants.{Cancelled, Checkpointed, Ended, Held, Purged, Released, Restarted, Rewritten, Selected, Started, StepEnded, Submitted}
+use Rattle.ckr_events.specs.declared.event.Event.TheVariants.{Cancelled, Checkpointed, Denied, Ended, Held, Purged, Released, Restarted, Rewritten, Selected, Started, StepEnded, Submitted}
 use Rattle.ckr_events.specs.declared.event.Ending.TheVariants.{Allocation, Coded, Completed}
 use Rattle.ckr_jcl.specs.declared.deck.Job.{Job}
 use Rattle.ckr_volumes.specs.declared.layout.Layout.{Layout}
@@ -13,20 +13,22 @@ use Rattle.ckr_points_invariant.proofs.KeptEvents.{next-kept, none-kept}
 use Rattle.ckr_desk_turn.specs.CheckSets.{HaveCheckRecords}
 use Rattle.ckr_desk_turn.specs.Desk.{opened}
 use Rattle.ckr_desk_turn.specs.Invariant.{HasRuns, IsDesk}
-use Rattle.ckr_desk_turn.specs.RunEvents.{AreRunEvents, IsRunEvent}
-use Rattle.ckr_desk_turn.proofs.CheckSets.Events.{have-next, none-before}
+use Rattle.ckr_desk_turn.specs.RunEvents.{AreDeckEvents, AreRunEvents, IsDeckEvent, IsRunEvent}
+use Rattle.ckr_desk_turn.proofs.CheckSets.Events.{have-next}
 use Rattle.ckr_desk_turn.proofs.Opening.{opened-is}
+use Rattle.ckr_desk_turn.proofs.Runs.Continuations.{continued-runs}
 use Rattle.ckr_desk_turn.proofs.Runs.Ends.{coded-runs, completed-runs, refused-runs}
-use Rattle.ckr_desk_turn.proofs.Runs.Events.{cancelled-runs, checkpointed-runs, held-runs, purged-runs, released-runs, rewritten-runs, selected-runs, started-runs, step_ended-runs, submitted-runs}
+use Rattle.ckr_desk_turn.proofs.Runs.Events.{cancelled-runs, checkpointed-runs, denied-runs, held-runs, purged-runs, released-runs, rewritten-runs, selected-runs, started-runs, step_ended-runs, submitted-runs}
 use Rattle.ckr_desk_turn.proofs.Runs.Restarts.{restarted-runs}
 use Rattle.ckr_desk_turn.proofs.Runs.Rows.{HasRows, runs-of}
 use Rattle.ckr_points_invariant.specs.KeptEvents.{AreKept}
 
 module _ (layout : Layout) (now : Office) (are : AreKept layout now) (has : HasRows now) where
-  runs-next : (event : Event) (deck : Option Job) → IsRunEvent event deck → IsNext layout now (event, deck) → HasRows (office_after (event, deck) now)
+  pub runs-next : (event : Event) (deck : Option Job) → IsDeckEvent event deck → IsNext layout now (event, deck) → HasRows (office_after (event, deck) now)
   runs-next (Submitted job cards) deck is next = submitted-runs layout now are.kept.events has job cards deck next.may is
   runs-next (Selected job initiator zero step id) deck is next = selected-runs layout now are.kept.events has job initiator step id deck next.may
-  runs-next (Selected job initiator (suc before) step id) deck is next = absurd (none-before before is)
+  runs-next (Selected job initiator (suc before) step id) deck is next = continued-runs layout now are has job initiator before step id deck next
+  runs-next (Denied job rule name) deck is next = denied-runs layout now are.kept.events has job rule name deck next.may
   runs-next (Started job step items) deck is next = started-runs layout now are.kept.events has job step items deck next.may next.carried
   runs-next (Rewritten job taken writes lengths place image) deck is next = rewritten-runs layout now are.kept.events has job taken writes place lengths image deck next.may
   runs-next (Checkpointed job id taken writes lengths place bytes) deck is next = checkpointed-runs layout now are.kept.events has job taken writes place bytes id lengths deck next.may
@@ -39,7 +41,16 @@ module _ (layout : Layout) (now : Office) (are : AreKept layout now) (has : HasR
   runs-next (Ended job (Coded code rule writes lengths)) deck is next = coded-runs layout now are.kept.events has job rule writes code lengths deck next.may
   runs-next (Ended job (Allocation dd cause first second)) deck is next = refused-runs layout now are.kept.events has job dd cause first second deck next.may
   runs-next (Purged job) deck is next = purged-runs layout now are.kept.events has job deck next.may
-  runs-next _ deck is next = absurd is
+
+-- the events of what the desk runs are such
+run-deck : (event : Event) (deck : Option Job) → IsRunEvent event deck → IsDeckEvent event deck
+run-deck (Submitted job cards) (Some deck) is = is.0
+run-deck (Submitted job cards) None is = is
+run-deck _ deck is = tt
+
+pub run-decks : (events : List Decked) → AreRunEvents events → AreDeckEvents events
+run-decks [] are = tt
+run-decks (event ∷ events) are = (run-deck event.0 event.1 are.0, run-decks events are.1)
 
 -- what the events have brought about, from some office on
 record AreLeft (layout : Layout) (office : Office) : Type 0 where
@@ -47,7 +58,7 @@ record AreLeft (layout : Layout) (office : Office) : Type 0 where
   pub has : HasRows office
   pub checks : HaveCheckRecords office.tables.sets
 
-left-from : (layout : Layout) (events : List Decked) (now : Office) → AreSoundFrom layout now events → AreRunEvents events → AreLeft layout now → AreLeft layout (office_from events now)
+left-from : (layout : Layout) (events : List Decked) (now : Office) → AreSoundFrom layout now events → AreDeckEvents events → AreLeft layout now → AreLeft layout (office_from events now)
 left-from layout [] now are run left = left
 left-from layout (event ∷ rest) now are run left =
     let next : IsNext layout now (event.0, event.1) = record { may = are.0.may; carried = are.0.carried } in
@@ -58,28 +69,28 @@ left-from layout (event ∷ rest) now are run left =
       checks = have-next layout now left.are.kept left.has left.checks event.0 event.1 run.0 next;
     })
 
-left-at : (layout : Layout) (events : List Decked) → AreSound layout events → AreRunEvents events → AreLeft layout (office events)
+left-at : (layout : Layout) (events : List Decked) → AreSound layout events → AreDeckEvents events → AreLeft layout (office events)
 left-at layout events are run =
     left-from layout events no_office are run
     (record {
       are = none-kept layout;
-      has = record { plain = refl; admitted = tt; stepped = refl; spaced = tt; spaced_legs = tt };
+      has = record { states = refl; admitted = tt; stepped = refl; spaced = tt; spaced_legs = tt };
       checks = tt;
     })
 
 -- ---- what they leave
 
-pub events-kept : (layout : Layout) (events : List Decked) → AreSound layout events → AreRunEvents events → IsKept layout (office events)
+pub events-kept : (layout : Layout) (events : List Decked) → AreSound layout events → AreDeckEvents events → IsKept layout (office events)
 events-kept layout events are run = (left-at layout events are run).are.kept
 
-pub events-run : (layout : Layout) (events : List Decked) → AreSound layout events → AreRunEvents events → HasRuns (office events)
+pub events-run : (layout : Layout) (events : List Decked) → AreSound layout events → AreDeckEvents events → HasRuns (office events)
 events-run layout events are run =
     let left : AreLeft layout (office events) = left-at layout events are run in
     runs-of (office events) left.has layout left.are
 
-pub events-checked : (layout : Layout) (events : List Decked) → AreSound layout events → AreRunEvents events → HaveCheckRecords (office events).tables.sets
+pub events-checked : (layout : Layout) (events : List Decked) → AreSound layout events → AreDeckEvents events → HaveCheckRecords (office events).tables.sets
 events-checked layout events are run = (left-at layout events are run).checks
 
 -- a desk that is opened on them
-pub events-opened : (layout : Layout) (events : List Decked) → AreSound layout events → AreRunEvents events → IsDesk (opened layout (office events))
+pub events-opened : (layout : Layout) (events : List Decked) → AreSound layout events → AreDeckEvents events → IsDesk (opened layout (office events))
 events-opened layout events are run = opened-is layout (office events) (events-kept layout events are run) (events-run layout events are run)

@@ -10,7 +10,6 @@ use Rattle.ckr_points.specs.Rows.{RunRow, TableSet, run_of, with_run}
 use Rattle.ckr_points_invariant.proofs.Readiness.Office.{entries-restorable, steps-restorable}
 use Rattle.ckr_points_invariant.proofs.Restart.Event.{by-run, entry-by, row_back, row_then, sets_then, sets_then_back, start-by}
 use Rattle.ckr_volumes.specs.declared.layout.Layout.{Layout}
-use Rattle.ckr_desk_turn.proofs.OtherRuns.{plain-deck}
 use Rattle.ckr_desk_turn.proofs.Runs.Events.{has-step}
 use Rattle.ckr_desk_turn.proofs.Runs.Rows.{HasRow, HasRows, has-row, runs-renewed, stands-one}
 use Rattle.ckr_points_invariant.specs.KeptEvents.{AreKept}
@@ -35,8 +34,8 @@ module _ (layout : Layout) (now : Office) (are : AreKept layout now) (has : HasR
       (row_then layout now job initiator code deck are.kept.events are.pointed can row leg its owned found point got)
       (sets_then layout now job initiator code deck are.kept.events are.pointed can row leg its owned found point got) its.holder.row_at refl
       (record {
-        plain = plain-deck row was.plain;
-        admitted = record { cards = was.admitted.cards; accepted = was.admitted.accepted; lodged = refl };
+        in_state = refl;
+        admitted = record { cards = was.admitted.cards; accepted = was.admitted.accepted; steps = was.admitted.steps; named = was.admitted.named; lodged = refl };
         stepped = refl;
       })))
   restarted-runs true job initiator code deck comes =
@@ -49,4 +48,4 @@ module _ (layout : Layout) (now : Office) (are : AreKept layout now) (has : HasR
       let next : RunRow = row_back layout now job initiator code deck are.kept.events are.pointed can row leg its owned found effect got entry there in
       renewed-one job row next
       (sets_then_back layout now job initiator code deck are.kept.events are.pointed can row leg its owned found effect got entry there) its.holder.row_at refl
-      (has-step next owned found (plain-deck row was.plain) (record { cards = was.admitted.cards; accepted = was.admitted.accepted; lodged = refl }))))
+      (has-step next owned found refl (record { cards = was.admitted.cards; accepted = was.admitted.accepted; steps = was.admitted.steps; named = was.admitted.named; lodged = refl }))))

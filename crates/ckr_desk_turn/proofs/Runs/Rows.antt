@@ -13,23 +13,23 @@ use Rattle.ckr_points_invariant.proofs.Holders.Rows.{run-other, run-same}
 use Rattle.ckr_volumes.specs.declared.layout.Layout.{Layout}
 use Rattle.ckr_points_invariant.specs.Invariant.{IsKept}
 use Rattle.ckr_points_invariant.specs.KeptEvents.{AreKept}
-use Rattle.ckr_desk_turn.specs.Invariant.{HasRuns, IsAdmitted, has_its_step, is_plain_row}
+use Rattle.ckr_desk_turn.specs.Invariant.{HasRuns, IsAdmitted, has_its_step, is_in_its_state}
 use Rattle.ckr_desk_turn.proofs.OtherRuns.{all-by, every-by}
 
 -- what the events of a desk have brought about, its points aside
 pub record HasRows (office : Office) : Type 0 where
-  pub plain : list_all is_plain_row office.tables.runs ≡ true
+  pub states : list_all is_in_its_state office.tables.runs ≡ true
   pub admitted : AllByRecursion IsAdmitted office.tables.runs
   pub stepped : list_all has_its_step office.tables.runs ≡ true
   pub spaced : AreWithinSpace office.library
   pub spaced_legs : AllByRecursion (λ (leg : Leg). AreWithinSpace leg.start) office.legs
 
 pub rows-of : (office : Office) → HasRuns office → HasRows office
-rows-of office has = record { plain = has.plain; admitted = has.admitted; stepped = has.stepped; spaced = has.spaced; spaced_legs = has.spaced_legs }
+rows-of office has = record { states = has.states; admitted = has.admitted; stepped = has.stepped; spaced = has.spaced; spaced_legs = has.spaced_legs }
 
 pub runs-of : (office : Office) → HasRows office → (layout : Layout) → AreKept layout office → HasRuns office
 runs-of office has layout are = record {
-  plain = has.plain;
+  states = has.states;
   admitted = has.admitted;
   stepped = has.stepped;
   spaced = has.spaced;
@@ -46,14 +46,14 @@ runs-kept layout office kept has = record { kept = kept; pointed = has.pointed; 
 
 -- what each row of the desk has
 pub record HasRow (row : RunRow) : Type 0 where
-  pub plain : is_plain_row row ≡ true
+  pub in_state : is_in_its_state row ≡ true
   pub admitted : IsAdmitted row
   pub stepped : has_its_step row ≡ true
 
 pub has-row : (office : Office) → HasRows office → (run : ℕ) (row : RunRow) → run_of office.tables run ≡ Some row → HasRow row
 has-row office has zero row at = absurd (some-not-none row (sym at))
 has-row office has (suc place) row at = record {
-  plain = all-get is_plain_row office.tables.runs place row has.plain at;
+  in_state = all-get is_in_its_state office.tables.runs place row has.states at;
   admitted = each-get IsAdmitted office.tables.runs place row has.admitted at;
   stepped = all-get has_its_step office.tables.runs place row has.stepped at;
 }
@@ -85,7 +85,7 @@ stands-more tables after sets job row next stands its = record {
 -- the rows with one that is renewed
 pub runs-renewed : (office after : Office) (job : ℕ) → HasRows office → Renewed office.tables after.tables job → AreWithinSpace after.library → AllByRecursion (λ (leg : Leg). AreWithinSpace leg.start) after.legs → HasRows after
 runs-renewed office after job has renewed spaced spaced_legs = record {
-  plain = all-by is_plain_row after.tables.runs (λ place row at. (each place row at).plain);
+  states = all-by is_in_its_state after.tables.runs (λ place row at. (each place row at).in_state);
   admitted = every-by IsAdmitted after.tables.runs (λ place row at. (each place row at).admitted);
   stepped = all-by has_its_step after.tables.runs (λ place row at. (each place row at).stepped);
   spaced = spaced;

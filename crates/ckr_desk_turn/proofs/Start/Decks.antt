@@ -55,13 +55,13 @@ untested-text job read =
 -- ---- a step of a run
 
 -- the step is one of its deck
-record IsOfDeck (run : ℕ) (deck : Job) (owned : OwnedStep) : Type 0 where
-  place : ℕ
-  step : Step
-  at : slice_get deck.steps place ≡ Some step
-  is : owned_by run deck step ≡ owned
+pub record IsOfDeck (run : ℕ) (deck : Job) (owned : OwnedStep) : Type 0 where
+  pub place : ℕ
+  pub step : Step
+  pub at : slice_get deck.steps place ≡ Some step
+  pub is : owned_by run deck step ≡ owned
 
-of-deck : (run : ℕ) (deck : Job) (number : ℕ) (owned : OwnedStep) → step_at (plain_job run deck) number ≡ Some owned → IsOfDeck run deck owned
+pub of-deck : (run : ℕ) (deck : Job) (number : ℕ) (owned : OwnedStep) → step_at (plain_job run deck) number ≡ Some owned → IsOfDeck run deck owned
 of-deck run deck zero owned found = absurd (some-not-none owned (sym found))
 of-deck run deck (suc place) owned found =
     option-cases (slice_get deck.steps place)

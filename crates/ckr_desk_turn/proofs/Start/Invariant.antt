@@ -13,10 +13,9 @@ use Rattle.ckr_points_library.specs.Allocation.{Allocation}
 use Rattle.ckr_points_library.proofs.Meaning.{no_flaw}
 use Rattle.ckr_events.specs.declared.event.Event.TheVariants.{Started as StartedEvent}
 use Rattle.ckr_events.specs.declared.event.Made.{Made}
-use Rattle.ckr_jcl_decks.specs.Deck.{stored_deck}
 use Rattle.ckr_library.specs.NameMaps.{EachEntry, Named}
 use Rattle.ckr_meaning.specs.Allotments.{DdAllotment, opened_all}
-use Rattle.ckr_meaning.specs.EffectiveJob.{Effective, OwnedStep, flaws_in, placed_in, plain_job, stamp_of, step_at}
+use Rattle.ckr_meaning.specs.EffectiveJob.{OwnedStep, flaws_in, placed_in, stamp_of, step_at}
 use Rattle.ckr_meaning.specs.declared.place.Place.{Place}
 use Rattle.ckr_meaning.specs.declared.place.Place.TheVariants.{Before, Opened, Within}
 use Rattle.ckr_meaning.specs.JobRun.{is_bypassed, start_at}
@@ -38,17 +37,16 @@ use Rattle.ckr_points_invariant.proofs.Steps.Commits.{its_start}
 use Rattle.ckr_points_invariant.proofs.Holders.Rows.{run-other, run-same}
 use Rattle.ckr_points_invariant.proofs.Steps.Events.{led-by}
 use Rattle.ckr_points_invariant.proofs.Steps.Walks.{start_at-of}
-use Rattle.ckr_points_invariant.specs.Invariant.{IsHolder}
 use Rattle.ckr_desk_turn.specs.Allocation.{allocation_of, holdings, items_in}
 use Rattle.ckr_desk_turn.specs.Plans.{is_within as is_planned}
 use Rattle.ckr_desk_turn.specs.declared.failed_run.FailedRun.{FailedRun}
 use Rattle.ckr_desk_turn.specs.Desk.{DeskModel, at_first, behind}
 use Rattle.ckr_desk_turn.specs.NextEvents.{Comes}
-use Rattle.ckr_desk_turn.specs.Invariant.{IsAdmitted, IsDesk, IsFailed, IsGoing, is_accounted, is_off}
-use Rattle.ckr_desk_turn.proofs.NextEvents.BetweenSteps.{no_restart, plain_parts}
-use Rattle.ckr_desk_turn.proofs.Start.Decks.{asks, fits-allocation, never-bypassed, rises}
+use Rattle.ckr_desk_turn.specs.Invariant.{IsAdmitted, IsAdmittedStep, IsDesk, IsFailed, IsGoing, is_accounted, is_off}
+use Rattle.ckr_desk_turn.proofs.AdmittedSteps.{admitted-fits, admitted-runs}
+use Rattle.ckr_desk_turn.proofs.Start.Decks.{asks, rises}
 use Rattle.ckr_desk_turn.proofs.Start.Items.{items-follow}
-use Rattle.ckr_desk_turn.proofs.OtherRuns.{Changes, admitted-then, each_row, failed-all, going-rest, plain-then, row-admitted, row-plain, running-same, some-holds, stepped-then}
+use Rattle.ckr_desk_turn.proofs.OtherRuns.{Changes, admitted-then, each_row, failed-all, going-rest, states-then, row-admitted, row-in-state, running-same, some-holds, stepped-then}
 use Rattle.ckr_desk_turn.proofs.Readiness.{kept-on}
 use Rattle.ckr_desk_turn.proofs.RunningSteps.{nothing-between}
 use Rattle.ckr_points_invariant.specs.KeptEvents.{AreKept}
@@ -90,9 +88,9 @@ not-failed desk is row at out =
 
 -- ---- the event follows
 
-module _ (layout : Layout) (tables : TablesModel) (row : RunRow) (cards : List ℕ) (accepted : stored_deck cards ≡ Ok row.deck) (stand : EachEntry (λ (table : TableSet). StandsIn layout table.set) tables.sets)
+module _ (layout : Layout) (tables : TablesModel) (row : RunRow) (stand : EachEntry (λ (table : TableSet). StandsIn layout table.set) tables.sets)
     (at : run_of tables row.number ≡ Some row) (on : row.state ≡ On) (out : is_within (place_of row) ≡ false) (owned : OwnedStep) (there : own_step row ≡ Some owned)
-    (found : step_at (plain_job row.number row.deck) (step_in (place_of row)) ≡ Some owned) (items : List Made) (got : allocation_of layout row owned (step_in (place_of row)) tables ≡ Ok items) where
+    (admitted : IsAdmittedStep (step_in (place_of row)) owned) (items : List Made) (got : allocation_of layout row owned (step_in (place_of row)) tables ≡ Ok items) where
   abbrev its_step : ℕ
   its_step = step_in (place_of row)
 
@@ -103,7 +101,7 @@ module _ (layout : Layout) (tables : TablesModel) (row : RunRow) (cards : List �
   its-items =
       items-follow layout (stamp_of owned its_step) 1 its_placed
       (rises table_ways (standing_of row tables) row.job.root owned 1 1 owned.step.dds (omega arith))
-      (asks table_ways (standing_of row tables) row.job.root owned 1 owned.step.dds (fits-allocation cards row.number row.deck its_step owned row.job.root accepted found))
+      (asks table_ways (standing_of row tables) row.job.root owned 1 owned.step.dds (admitted-fits its_step owned admitted row.job.root))
       tables.sets items stand got
 
   its-flawless : flaws_in its_placed ≡ []
@@ -132,28 +130,23 @@ module _ (desk : DeskModel) (is : IsDesk desk) (row : RunRow) (at : run_of desk.
   abbrev placed : List DdAllotment
   placed = placed_in table_ways (standing_of row desk.office.tables) row.job.root owned
 
-  -- its job is that of its deck
-  of-deck : {A : Type 0} → ((leg : Leg) → IsHolder desk.office row.number row leg → step_at (plain_job row.number row.deck) step ≡ Some owned → A) → A
-  of-deck use_it =
-      led-by desk.layout desk.office row.number row is.kept.events at (ap is_holder on)
-      (λ leg holder.
-      use_it leg holder
-      (ap (λ (job : Effective). step_at job step)
-      (sym ((is.kept.events.uses row.number row leg holder).plain (no_restart row.deck (plain_parts row (row-plain desk is row.number row at)).runs)) ∙ (is.kept.events.places row.number row leg holder).job) ∙ there))
-
   its_deck : IsAdmitted row
   its_deck = row-admitted desk is row.number row at
+
+  -- its step is one of an accepted deck
+  its_admitted : IsAdmittedStep step owned
+  its_admitted = its_deck.steps step owned there
 
   -- the event may come, and carries what the job gives
   pub started-comes : Comes desk (StartedEvent row.number step (record { items = items }))
   started-comes = record {
     may =
         and_from _ true
-        (of-deck (λ leg holder found. started-follows desk.layout desk.office.tables row its_deck.cards its_deck.accepted is.kept.events.extents.stand at on out owned there found items got)) refl;
+        (started-follows desk.layout desk.office.tables row is.kept.events.extents.stand at on out owned there its_admitted items got) refl;
     carried =
         ap (λ (o : Option RunRow). option_map_or (λ row. option_map_or (λ owned. not (is_bypassed row.rcs owned)) (step_of_run row step) false) o false) at
         ∙ ap (λ (o : Option OwnedStep). option_map_or (λ owned. not (is_bypassed row.rcs owned)) o false) there
-        ∙ of-deck (λ leg holder found. ap not (never-bypassed its_deck.cards row.number row.deck step owned row.rcs its_deck.accepted found));
+        ∙ ap not (admitted-runs step owned its_admitted row.rcs);
   }
 
   -- ---- the desk behind it
@@ -220,8 +213,8 @@ module _ (desk : DeskModel) (is : IsDesk desk) (row : RunRow) (at : run_of desk.
         kept = on_now.kept;
         going = (goes, going-rest desk.office later.office row.number next changes desk.running is.going);
         failed = failed-all desk.office later.office row.number next changes desk.failed (not-failed desk is row at out) is.failed;
-        plain = plain-then desk later is row.number next changes (row-plain desk is row.number row at);
-        admitted = admitted-then desk later is row.number next changes (record { cards = mine.cards; accepted = mine.accepted; lodged = mine.lodged });
+        states = states-then desk later is row.number next changes (row-in-state desk is row.number row at);
+        admitted = admitted-then desk later is row.number next changes (record { cards = mine.cards; accepted = mine.accepted; steps = mine.steps; named = mine.named; lodged = mine.lodged });
         stepped = stepped-then desk later is row.number next changes (or_right (not (is_running next || is_off next.state)) (is_some (own_step next)) (ap is_some there));
         accounted = each_row desk later is row.number next changes (is_accounted desk) (is_accounted later)
             (or_right (not (is_running next)) _ (or_left _ _ (or_left (row.number == row.number) _ (equal-itself row.number)))) is.accounted accounted-so;

@@ -30,10 +30,11 @@ use Rattle.ckr_points.specs.Soundness.{may_come}
 use Rattle.ckr_points_invariant.proofs.Steps.Commits.{its_start}
 use Rattle.ckr_points_invariant.proofs.Steps.Events.{led-by, within-is}
 use Rattle.ckr_points_invariant.proofs.Steps.Walks.{start_at-of}
+use Rattle.ckr_jcl.specs.declared.deck.Restart.{Restart}
 use Rattle.ckr_desk_turn.specs.declared.failed_run.FailedRun.{FailedRun}
 use Rattle.ckr_desk_turn.specs.declared.plan.Plan.TheVariants.{Rest, Tell}
 use Rattle.ckr_desk_turn.specs.declared.reply.How.TheVariants.{Completed}
-use Rattle.ckr_desk_turn.specs.declared.reply.Reply.TheVariants.{Idle, JobEnded, NothingToFail, Selected, Started}
+use Rattle.ckr_desk_turn.specs.declared.reply.Reply.TheVariants.{Idle, JobEnded, NothingToFail, Started}
 use Rattle.ckr_desk_turn.specs.declared.reply.Turn.{Turn}
 use Rattle.ckr_desk_turn.specs.Allocation.{allocation_of, cause_numbers, holdings, items_in}
 use Rattle.ckr_desk_turn.specs.Select.{is_on, may_select, next_run, run_on_initiator}
@@ -43,11 +44,13 @@ use Rattle.ckr_desk_turn.specs.Plans.{allocation_ended, between_plan, chosen_pla
 use Rattle.ckr_desk_turn.specs.Jobs.{TurnStep, running_in, waiting_code}
 use Rattle.ckr_desk_turn.specs.Invariant.{IsDesk, Keeps, is_accounted, is_off}
 use Rattle.ckr_desk_turn.specs.Turns.{turn_of}
-use Rattle.ckr_desk_turn.proofs.NextEvents.BetweenSteps.{completed_comes, free-there, next_cases, plain_found, plain_parts, refused_comes, row_of_found, selected_comes, state_on}
+use Rattle.ckr_desk_turn.proofs.NextEvents.BetweenSteps.{completed_comes, free-there, next_cases, refused_comes, row_of_found, selected_comes, state_found, state_on}
 use Rattle.ckr_desk_turn.proofs.RunEnd.{completed-kept, refused-inside, refused-kept}
 use Rattle.ckr_desk_turn.proofs.Select.{code_while, selected-keeps}
 use Rattle.ckr_desk_turn.proofs.Inquiries.{coded-keeps}
-use Rattle.ckr_desk_turn.proofs.OtherRuns.{row-stepped}
+use Rattle.ckr_desk_turn.specs.Deferred.{queued_plan}
+use Rattle.ckr_desk_turn.proofs.Deferred.Turns.{deferred-keeps}
+use Rattle.ckr_desk_turn.proofs.OtherRuns.{row-stepped, state-code}
 use Rattle.ckr_desk_turn.proofs.Restart.Events.{MayGoOn, off-goes}
 use Rattle.ckr_desk_turn.proofs.RunningSteps.{FoundStep, found-step, going-within}
 use Rattle.ckr_desk_turn.proofs.Opening.{running-stands}
@@ -63,17 +66,23 @@ fewer-marked (first ∷ rest) run also none =
 
 -- ---- an initiator that no run is on
 
--- a queued run that is chosen has no code
+-- a queued run that is chosen has no code, and is selected, or judged by the deferred rules where it has RESTART
 queued-keeps : (answer : Answer) (desk : DeskModel) → IsDesk desk → (i : ℕ) (row : RunRow) → 1 ≤ i → i ≤ desk.layout.initiators → run_on_initiator desk.office.tables i ≡ None → next_run desk.office.tables ≡ Some row → row.state ≡ Queued → PlanKeeps answer desk (chosen_plan desk.layout (jobs_of desk) i row)
 queued-keeps answer desk is i row above below free next queued =
-    let may : may_come desk.layout desk.office (SelectedEvent row.number i 0 0 None, None) ≡ true = selected_comes desk i row is above below free next queued in
     let no_code : row.code ≡ None =
-    is_none-true row.code (ap (λ s. code_while s row.code) (sym queued) ∙ (plain_parts row (plain_found desk (λ other. may_select desk.office.tables other.state other) row is next)).code) in
+    is_none-true row.code (ap (λ s. code_while s row.code) (sym queued) ∙ state-code row (state_found desk (λ other. may_select desk.office.tables other.state other) row is next)) in
     subst (λ (o : Option Code). PlanKeeps answer desk (elim o [
-      | None ↦ Tell (Selected row.number) (SelectedEvent row.number i 0 0 None)
+      | None ↦ queued_plan desk.layout desk.office.tables i row row.deck.restart
       | Some code ↦ code_plan desk.layout desk.office.tables row i false code (reached_by (jobs_of desk) row)
     ])) (sym no_code)
-    (record { comes = record { may = may; carried = refl }; kept = selected-keeps desk is row.number i may })
+    (by row.deck.restart refl)
+  where
+    by : (restart : Option Restart) → row.deck.restart ≡ restart → PlanKeeps answer desk (queued_plan desk.layout desk.office.tables i row restart)
+    by None none =
+        let may : may_come desk.layout desk.office (SelectedEvent row.number i 0 0 None, None) ≡ true = selected_comes desk i row is above below free next queued none in
+        record { comes = record { may = may; carried = refl }; kept = selected-keeps desk is row.number i may }
+    by (Some restart) has =
+        deferred-keeps answer desk is i row restart (λ verdict judged. record { above = above; below = below; free = free; next = next; queued = queued; has = has; judged = judged })
 
 -- a released one stands within its step
 pub released-stands : (desk : DeskModel) → IsDesk desk → (row : RunRow) (initiator : ℕ) → run_of desk.office.tables row.number ≡ Some row → row.state ≡ Released → is_free desk.layout desk.office.tables initiator ≡ true → MayGoOn desk.layout desk.office row initiator
@@ -94,11 +103,11 @@ released-stands desk is row initiator at released free =
 released-keeps : (answer : Answer) (desk : DeskModel) → IsDesk desk → (i : ℕ) (row : RunRow) → 1 ≤ i → i ≤ desk.layout.initiators → run_on_initiator desk.office.tables i ≡ None → next_run desk.office.tables ≡ Some row → row.state ≡ Released → PlanKeeps answer desk (chosen_plan desk.layout (jobs_of desk) i row)
 released-keeps answer desk is i row above below free next released =
     let selects : RunRow → Bool = λ other. may_select desk.office.tables other.state other in
-    let coded : is_some row.code ≡ true = ap (λ s. code_while s row.code) (sym released) ∙ (plain_parts row (plain_found desk selects row is next)).code in
+    let coded : is_some row.code ≡ true = ap (λ s. code_while s row.code) (sym released) ∙ state-code row (state_found desk selects row is next) in
     is_some-true row.code coded
     (λ code its.
     subst (λ (o : Option Code). PlanKeeps answer desk (elim o [
-      | None ↦ Tell (Selected row.number) (SelectedEvent row.number i 0 0 None)
+      | None ↦ queued_plan desk.layout desk.office.tables i row row.deck.restart
       | Some code ↦ code_plan desk.layout desk.office.tables row i false code (reached_by (jobs_of desk) row)
     ])) (sym its)
     (coded-keeps desk is row i

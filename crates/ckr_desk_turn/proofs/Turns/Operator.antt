@@ -13,7 +13,7 @@ use Rattle.ckr_base.proofs.Options.{is_none-true, is_some-true, option-cases, so
 use Rattle.ckr_console.specs.declared.question.Answer.{Answer}
 use Rattle.ckr_console.specs.declared.question.Answer.TheVariants.{Yes, No, Hold, Silent}
 use Rattle.ckr_events.specs.declared.event.Event.{Event}
-use Rattle.ckr_events.specs.declared.event.Event.TheVariants.{Ended as EndedEvent, Held as HeldEvent, Restarted as RestartedEvent, Selected as SelectedEvent, Started as StartedEvent}
+use Rattle.ckr_events.specs.declared.event.Event.TheVariants.{Ended as EndedEvent, Held as HeldEvent, Restarted as RestartedEvent, Started as StartedEvent}
 use Rattle.ckr_events.specs.declared.event.Ending.TheVariants.{Coded as CodedEnding, Completed as CompletedEnding}
 use Rattle.ckr_events.specs.declared.event.Made.{Made}
 use Rattle.ckr_meaning.specs.EffectiveJob.{OwnedStep}
@@ -23,9 +23,10 @@ use Rattle.ckr_meaning.specs.declared.place.Place.TheVariants.{Before, Opened, W
 use Rattle.ckr_points_library.specs.declared.cause.Refusal.{Refusal}
 use Rattle.ckr_points.specs.Office.{is_holder}
 use Rattle.ckr_points.specs.Restart.{kept_at, place_of, step_in}
-use Rattle.ckr_points.specs.RuleCases.{auto_case, rd_in_effect}
+use Rattle.ckr_points.specs.RuleCases.{Wanted, auto_case, rd_in_effect, wanted_of}
 use Rattle.ckr_points.specs.Follows.{is_within as is_within_step}
 use Rattle.ckr_points.specs.Payload.{is_verdict}
+use Rattle.ckr_jcl.specs.declared.deck.Restart.{Restart}
 use Rattle.ckr_points.specs.Rows.{EffectPoint, KeptEntry, RunRow, TablesModel, run_of, step_of_run}
 use Rattle.ckr_points.specs.Soundness.{denying}
 use Rattle.ckr_points_invariant.specs.Invariant.{step_now}
@@ -42,8 +43,9 @@ use Rattle.ckr_volumes.specs.declared.layout.Layout.{Layout}
 use Rattle.ckr_desk_turn.specs.declared.inquiry.Inquiry.{Inquiry}
 use Rattle.ckr_desk_turn.specs.declared.plan.Plan.{Plan}
 use Rattle.ckr_desk_turn.specs.declared.plan.Plan.TheVariants.{Ask, Rest, Tell, Work, Pass, Take, Wait}
+use Rattle.ckr_desk_turn.specs.Deferred.{continued_at_entry, continued_by, deferred_verdict, queued_plan}
 use Rattle.ckr_desk_turn.specs.declared.reply.Reply.{Reply}
-use Rattle.ckr_desk_turn.specs.declared.reply.Reply.TheVariants.{AwaitingReply, Idle, JobEnded, NothingToFail, Selected, Started}
+use Rattle.ckr_desk_turn.specs.declared.reply.Reply.TheVariants.{AwaitingReply, Idle, JobEnded, NothingToFail, Started}
 use Rattle.ckr_desk_turn.specs.declared.reply.How.TheVariants.{Completed}
 use Rattle.ckr_desk_turn.specs.declared.reply.Turn.{Turn}
 use Rattle.ckr_desk_turn.specs.Allocation.{allocation_of}
@@ -58,7 +60,8 @@ use Rattle.ckr_desk_turn.specs.Select.{is_on, may_select, next_run, run_on_initi
 use Rattle.ckr_desk_turn.specs.Taken.{served_by, taken_of}
 use Rattle.ckr_desk_turn.specs.Turns.{carried_out, turn_of}
 use Rattle.ckr_desk_turn.specs.Units.{StepProgress, UnitEnd, UnitOutcome, abended, unit_end, unit_plan, went}
-use Rattle.ckr_desk_turn.proofs.NextEvents.BetweenSteps.{next_cases, plain_found, plain_parts, row_of_found, state_on}
+use Rattle.ckr_desk_turn.proofs.OtherRuns.{state-code}
+use Rattle.ckr_desk_turn.proofs.NextEvents.BetweenSteps.{next_cases, row_of_found, state_found, state_on}
 use Rattle.ckr_desk_turn.proofs.Select.{code_while}
 use Rattle.ckr_desk_turn.proofs.Units.AnyUnit.{found-going}
 
@@ -239,15 +242,29 @@ module _ (also : Bool) where
           by true = coded-apart (initiator_of row) true system_failure
           by false = unmarked-apart fail (waiting_code jobs row.number)
 
+    -- a run with RESTART is denied, or goes on, without him
+    deferred-apart : (row : RunRow) (initiator : ℕ) (wanted : Wanted) (verdict : Verdict) → is_his_plan also (continued_by verdict jobs.tables initiator row wanted) ≡ false
+    deferred-apart row initiator wanted (Denied rule) = refl
+    deferred-apart row initiator wanted Step = refl
+    deferred-apart row initiator wanted Checkpoint = by wanted.entry
+      where
+        by : (entry : Option KeptEntry) → is_his_plan also (option_map_or (continued_at_entry initiator row wanted) entry (Rest Idle)) ≡ false
+        by None = refl
+        by (Some entry) = refl
+
+    queued-apart : (row : RunRow) (initiator : ℕ) (restart : Option Restart) → is_his_plan also (queued_plan layout jobs.tables initiator row restart) ≡ false
+    queued-apart row initiator None = refl
+    queued-apart row initiator (Some restart) = deferred-apart row initiator (wanted_of row jobs.tables restart) (deferred_verdict layout jobs.tables row (wanted_of row jobs.tables restart))
+
     -- a run that is chosen has a code only where it was released
     chosen-apart : (row : RunRow) (initiator : ℕ) → ((code : Code) → row.code ≡ Some code → HasEntry row) → is_his_plan also (chosen_plan layout jobs initiator row) ≡ false
     chosen-apart row initiator has = by row.code refl
       where
         by : (code : Option Code) → row.code ≡ code → is_his_plan also (elim code as (λ _. Plan) [
-          | None ↦ Tell (Selected row.number) (SelectedEvent row.number initiator 0 0 None)
+          | None ↦ queued_plan layout jobs.tables initiator row row.deck.restart
           | Some code ↦ code_plan layout jobs.tables row initiator false code (reached_by jobs row)
         ]) ≡ false
-        by None its = refl
+        by None its = queued-apart row initiator row.deck.restart
         by (Some code) its = coded-apart row (has code its) initiator false code
 
     free-apart : (initiator : ℕ) (fail : Option Code) → ((row : RunRow) (code : Code) → next_run jobs.tables ≡ Some row → row.code ≡ Some code → HasEntry row) → is_his_plan also (free_plan layout jobs initiator fail) ≡ false
@@ -378,7 +395,7 @@ module _ (also : Bool) where
         next_cases desk.office.tables row next
         (λ queued.
         absurd (some-not-none code
-        (sym coded ∙ is_none-true row.code (ap (λ s. code_while s row.code) (sym queued) ∙ (plain_parts row (plain_found desk (λ other. may_select desk.office.tables other.state other) row (is sure) next)).code))))
+        (sym coded ∙ is_none-true row.code (ap (λ s. code_while s row.code) (sym queued) ∙ state-code row (state_found desk (λ other. may_select desk.office.tables other.state other) row (is sure) next)))))
         (λ released. ap is_holder released))
 
     going-has : (run : ℕ) (row : RunRow) (progress : StepProgress) → run_of desk.office.tables run ≡ Some row → progress_of desk run ≡ Some progress → HasEntry desk.layout (jobs_of desk) row

@@ -10,5 +10,5 @@ pub returns : goal.returns
 returns c = record {
   opened_so = λ layout office kept has. opened-is layout office kept has;
   at_any_time = λ desk is. has-runs desk is;
-  at_first = λ layout. let are : AreKept layout no_office = none-kept layout in opened-is layout no_office are.kept (runs-of no_office (record { plain = refl; admitted = tt; stepped = refl; spaced = tt; spaced_legs = tt }) layout are);
+  at_first = λ layout. let are : AreKept layout no_office = none-kept layout in opened-is layout no_office are.kept (runs-of no_office (record { states = refl; admitted = tt; stepped = refl; spaced = tt; spaced_legs = tt }) layout are);
 }

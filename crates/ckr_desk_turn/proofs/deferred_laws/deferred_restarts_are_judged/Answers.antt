@@ -1,0 +1,12 @@
+use Rattle.ckr_rules.specs.declared.cases.Verdict.TheVariants.{Denied}
+use Rattle.ckr_desk_turn.proofs.Deferred.Turns.{denied-goes, entry-so, first-rule, start-so, turn-judged}
+use Rattle.ckr_desk_turn.proofs.deferred_laws.deferred_restarts_are_judged.Goals as goal
+
+pub returns : goal.returns
+returns c = record {
+  turn = λ desk turn row restart verdict answer is judged unforced. turn-judged desk is turn row restart verdict judged unforced answer;
+  denied = λ desk initiator row restart rule name is judged. denied-goes desk is initiator row restart rule name judged;
+  first = λ desk initiator row restart rule is judged. first-rule desk is initiator row restart (Denied rule) judged;
+  step = λ desk initiator row restart is judged. start-so desk is initiator row restart judged;
+  checkpoint = λ desk initiator row restart is judged. entry-so desk is initiator row restart judged;
+}
