@@ -4,3 +4,4 @@ pub mod EarlierRuns
 pub mod Permissions
 pub mod Desks
 pub mod Turns
+pub mod Plans
