@@ -27,6 +27,7 @@ use Rattle.ckr_desk_turn.specs.Codes.{code_plan, initiator_of, reached_by}
 use Rattle.ckr_desk_turn.specs.Jobs.{TurnStep, is_failed, running_in, waiting_code}
 use Rattle.ckr_desk_turn.specs.Plans.{between_plan, chosen_plan, due_plan, fail_plan, free_plan, is_within, placed_plan, plan_of, run_plan, running_plan, suppressed_plan, system_failure, unmarked_plan}
 use Rattle.ckr_desk_turn.proofs.Codes.{by-verdict}
+use Rattle.ckr_desk_turn.proofs.Deferred.Plans.{by-queued}
 use Rattle.ckr_volumes.specs.declared.layout.Layout.{Layout}
 use Rattle.ckr_desk_memory.specs.EventChanges.{is_of_run}
 use Rattle.ckr_desk_memory.specs.Plans.{HasDue, IsDue}
@@ -109,7 +110,9 @@ module _ (layout : Layout) (jobs : JobsView) where
 
   chosen-due : (initiator : ℕ) (row : RunRow) → HasDue jobs (chosen_plan layout (jobs_of jobs) initiator row)
   unfolding jobs_of
-  chosen-due initiator row = some-due row.code _ _ (λ none. tt) (λ code. coded-due row initiator false code)
+  chosen-due initiator row =
+      some-due row.code _ _ (λ none. by-queued (HasDue jobs) layout jobs.tables.desk initiator row tt (λ reply rule name. tt) (λ reply earlier step id. tt) row.deck.restart)
+      (λ code. coded-due row initiator false code)
 
   free-due : (initiator : ℕ) (fail : Option Code) → HasDue jobs (free_plan layout (jobs_of jobs) initiator fail)
   free-due initiator (Some code) = tt

@@ -45,6 +45,7 @@ use Rattle.ckr_desk_turn.specs.declared.reply.Reply.TheVariants.{Idle, NothingTo
 use Rattle.ckr_desk_turn.specs.Allocation.{allocation_of, cause_numbers, items_in}
 use Rattle.ckr_desk_turn.specs.Select.{is_on, next_run, run_on_initiator}
 use Rattle.ckr_desk_turn.specs.Codes.{code_plan, initiator_of, reached_by}
+use Rattle.ckr_desk_turn.specs.Deferred.{queued_plan}
 use Rattle.ckr_desk_turn.specs.Invariant.{is_off}
 use Rattle.ckr_desk_turn.specs.Jobs.{TurnJobs, TurnStep, is_failed, running_in, waiting_code}
 use Rattle.ckr_desk_turn.specs.Plans.{allocation_ended, between_plan, chosen_plan, due_plan, fail_plan, finished_plan, free_plan, is_within, placed_plan, run_plan, running_plan, system_failure, unmarked_plan, waiting_plan}
@@ -325,15 +326,16 @@ module _ (layout : Layout) (jobs : JobsView) (initiator job : ℕ) (table : RunT
   abbrev if_coded : Option Code → Plan
   if_coded code =
       elim code [
-        | None ↦ Tell (SelectedReply row.number) (SelectedEvent row.number initiator 0 0 None)
+        | None ↦ queued_plan layout jobs.tables.desk initiator row row.deck.restart
         | Some code ↦ code_plan layout jobs.tables.desk row initiator false code (reached_by (jobs_of jobs) row)
       ]
 
-  -- it is selected where it has none, and goes on with it else
-  pub chosen-queued : None ≡ table.code → Tell (SelectedReply job) (SelectedEvent job initiator 0 0 None) ≡ chosen_plan layout (jobs_of jobs) initiator row
+  -- it is selected where it has none and its deck no RESTART, and goes on with it else
+  pub chosen-queued : row.deck.restart ≡ None → None ≡ table.code → Tell (SelectedReply job) (SelectedEvent job initiator 0 0 None) ≡ chosen_plan layout (jobs_of jobs) initiator row
   unfolding jobs_of
-  chosen-queued none =
+  chosen-queued restartless none =
       ap (λ n. Tell (SelectedReply n) (SelectedEvent n initiator 0 0 None)) (sym (number-known jobs.tables.desk job table known row at))
+      ∙ ap (queued_plan layout jobs.tables.desk initiator row) (sym restartless)
       ∙ ap if_coded (none ∙ sym (code-kept jobs.tables.desk job table known row at))
 
   pub chosen-coded : (code : Code) → Some code ≡ table.code → code_plan layout jobs.tables.desk (row_for job table) initiator false code (reached_by (jobs_of jobs) (row_for job table)) ≡ chosen_plan layout (jobs_of jobs) initiator row

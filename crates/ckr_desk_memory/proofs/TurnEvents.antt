@@ -10,9 +10,10 @@ use Rattle.ckr_base.specs.declared.programs.NextDue.TheVariants.{Unit as OneUnit
 use Rattle.ckr_base.proofs.Options.{option-cases}
 use Rattle.ckr_base.proofs.Sequences.{find-passes}
 use Rattle.ckr_events.specs.declared.event.Event.{Event}
-use Rattle.ckr_events.specs.declared.event.Event.TheVariants.{Cancelled as CancelledEvent, Checkpointed as CheckpointedEvent, Ended as EndedEvent, Held as HeldEvent, Restarted as RestartedEvent, Rewritten as RewrittenEvent, Selected as SelectedEvent, Started as StartedEvent, StepEnded as StepEndedEvent}
+use Rattle.ckr_events.specs.declared.event.Event.TheVariants.{Cancelled as CancelledEvent, Checkpointed as CheckpointedEvent, Ended as EndedEvent, Held as HeldEvent, Restarted as RestartedEvent, Rewritten as RewrittenEvent, Started as StartedEvent, StepEnded as StepEndedEvent}
 use Rattle.ckr_events.specs.declared.event.Ending.TheVariants.{Completed as CompletedEnding}
 use Rattle.ckr_events.specs.declared.event.Made.{Made}
+use Rattle.ckr_jcl.specs.declared.deck.Restart.{Restart}
 use Rattle.ckr_meaning.specs.EffectiveJob.{Effective, OwnedStep, stamp_of, step_at}
 use Rattle.ckr_meaning.specs.declared.place.Place.{Place}
 use Rattle.ckr_meaning.specs.declared.place.Place.TheVariants.{Before, Opened, Within}
@@ -30,15 +31,17 @@ use Rattle.ckr_rules.specs.RuleTables.{suppresses}
 use Rattle.ckr_desk_turn.specs.declared.plan.Plan.{Plan}
 use Rattle.ckr_desk_turn.specs.declared.plan.Plan.TheVariants.{Ask, Pass, Rest, Take, Tell, Wait, Work}
 use Rattle.ckr_desk_turn.specs.declared.reply.How.TheVariants.{Completed}
-use Rattle.ckr_desk_turn.specs.declared.reply.Reply.TheVariants.{Idle, JobEnded, NothingToFail, Selected, Started}
+use Rattle.ckr_desk_turn.specs.declared.reply.Reply.TheVariants.{Idle, JobEnded, NothingToFail, Started}
 use Rattle.ckr_desk_turn.specs.declared.reply.Turn.{Turn}
 use Rattle.ckr_desk_turn.specs.Allocation.{allocation_of, cause_numbers, holdings, items_in}
 use Rattle.ckr_desk_turn.specs.Codes.{CodePlaceModel, code_plan, initiator_of, reached_by}
+use Rattle.ckr_desk_turn.specs.Deferred.{queued_plan}
 use Rattle.ckr_desk_turn.specs.Invariant.{IsTurnOf, is_off}
 use Rattle.ckr_desk_turn.specs.Jobs.{TurnJobs, TurnStep, is_failed, running_in, waiting_code}
 use Rattle.ckr_desk_turn.specs.Plans.{allocation_ended, between_plan, chosen_plan, due_plan, fail_plan, free_plan, is_within as is_planned, placed_plan, plan_of, run_plan, running_plan, start_plan, suppressed_plan, system_failure, unmarked_plan}
 use Rattle.ckr_desk_turn.specs.Queue.{AreNumbered}
 use Rattle.ckr_desk_turn.specs.Select.{is_on, may_select, next_run, run_on_initiator}
+use Rattle.ckr_desk_turn.proofs.AdmittedSteps.{own-step}
 use Rattle.ckr_desk_turn.proofs.Codes.{by-verdict}
 use Rattle.ckr_desk_turn.proofs.NextEvents.BetweenSteps.{completed-follows, lodged-on, next_cases, refused-follows, selected-follows}
 use Rattle.ckr_desk_turn.proofs.RunEnd.{refused-inside}
@@ -47,6 +50,7 @@ use Rattle.ckr_desk_memory.specs.Invariant.{AreJobs, IsAcceptedRow, IsPlacedRow}
 use Rattle.ckr_desk_memory.specs.Plans.{is_coded}
 use Rattle.ckr_desk_memory.specs.View.{JobsView, jobs_of}
 use Rattle.ckr_desk_memory.proofs.FoundRuns.{found-run}
+use Rattle.ckr_desk_memory.proofs.Holders.Names.{accepted-plain}
 use Rattle.ckr_desk_memory.proofs.Starts.Steps.{row-among}
 
 -- whether an event commits what a running step has written, or puts it back: a rewrite in place, a checkpoint, the end of the step, its restart, or the
@@ -94,14 +98,15 @@ module _ (layout : Layout) (seen : TurnJobs) (numbered : AreNumbered 1 seen.tabl
       option-cases row.code
       (λ none.
       subst (λ (o : Option Code). Follows (plan o)) (sym none)
+      (subst (λ (r : Option Restart). Follows (queued_plan layout tables i row r)) (sym restartless)
       (λ not.
       next_cases tables row next
-      (λ queued. selected-follows layout tables i row at queued accepted.is_run above below free next)
+      (λ queued. selected-follows layout tables i row at queued restartless above below free next)
       (λ released.
       absurd
       (some-not-none-code
       (ap (λ (state : RunState). if is_off state then is_some row.code else is_none row.code) (sym released) ∙ is.code)
-      none))))
+      none)))))
       (λ code some. subst (λ (o : Option Code). Follows (plan o)) (sym some) (coded-follows row i false code (reached_by seen row)))
     where
       at : run_of tables row.number ≡ Some row
@@ -110,13 +115,13 @@ module _ (layout : Layout) (seen : TurnJobs) (numbered : AreNumbered 1 seen.tabl
       is : IsPlacedRow row
       is = row-among IsPlacedRow tables row.number row placed at
 
-      accepted : IsAcceptedRow row
-      accepted = row-among IsAcceptedRow tables row.number row rows at
+      restartless : row.deck.restart ≡ None
+      restartless = accepted-plain row (row-among IsAcceptedRow tables row.number row rows at)
 
       plan : Option Code → Plan
       plan o =
           elim o [
-            | None ↦ Tell (Selected row.number) (SelectedEvent row.number i 0 0 None)
+            | None ↦ queued_plan layout tables i row row.deck.restart
             | Some code ↦ code_plan layout tables row i false code (reached_by seen row)
           ]
 
@@ -156,8 +161,8 @@ module _ (layout : Layout) (seen : TurnJobs) (numbered : AreNumbered 1 seen.tabl
         by (Ok items) got =
             subst (λ (given : Result (List Made) Refusal). Follows (plan given)) (sym got)
             (λ not.
-            started-follows layout tables row accepted.cards accepted.accepted laid.stand at on out owned there
-            (ap (λ (job : Effective). step_at job (step_in (place_of row))) (sym accepted.plain) ∙ there) items got)
+            started-follows layout tables row laid.stand at on out owned there
+            (own-step accepted.cards row.number row.deck accepted.accepted (step_in (place_of row)) owned (ap (λ (job : Effective). step_at job (step_in (place_of row))) (sym accepted.plain) ∙ there)) items got)
         by (Err refusal) failed =
             let numbers = cause_numbers refusal.cause in
             let inside = refused-inside table_ways (standing_of row tables) layout (stamp_of owned (step_in (place_of row))) row.job.root owned (holdings tables.sets) refusal (refused-all _ refusal failed) in

@@ -1,5 +1,5 @@
 -- What holds of the jobs in memory, whatever the disk reads.
-use Rattle.std.specs.Prelude.{◌≡◌, ◌||◌, ◌&&◌, ℕ, Bool, true, not, IsSome, List, Ok, Option, None, Some}
+use Rattle.std.specs.Prelude.{◌≡◌, ◌||◌, ◌&&◌, ℕ, Bool, true, false, not, IsSome, List, Ok, Option, None, Some}
 use Rattle.std.specs.List.{AllByRecursion}
 use Rattle.std.specs.Option.{is_none, is_some}
 use Rattle.ckr_events.specs.declared.event.Event.{Event}
@@ -9,6 +9,8 @@ use Rattle.ckr_jcl_decks.specs.Deck.{stored_deck}
 use Rattle.ckr_meaning.specs.EffectiveJob.{Effective, plain_job, step_at}
 use Rattle.ckr_meaning.specs.declared.place.Place.{Place}
 use Rattle.ckr_meaning.specs.declared.place.Place.TheVariants.{Before, Opened, Within}
+use Rattle.ckr_points.specs.declared.run.RunState.{RunState}
+use Rattle.ckr_points.specs.declared.run.RunState.TheVariants.{Denied}
 use Rattle.ckr_points.specs.Tables.{queued_run}
 use Rattle.ckr_points.specs.Follows.{follows, is_within}
 use Rattle.ckr_points.specs.Marks.{point_at}
@@ -17,7 +19,7 @@ use Rattle.ckr_points.specs.Restart.{place_of, step_in}
 use Rattle.ckr_points.specs.Rows.{RunRow}
 use Rattle.ckr_points.specs.Soundness.{AreLaidOut}
 use Rattle.ckr_desk_turn.specs.Spelling.{IsCode}
-use Rattle.ckr_desk_turn.specs.Invariant.{has_code_while_off, is_off, is_on_one, is_plain_state}
+use Rattle.ckr_desk_turn.specs.Invariant.{has_code_while_off, is_off, is_on_one}
 use Rattle.ckr_steps.specs.Inputs.{AreStored, AreThere}
 use Rattle.ckr_steps.specs.StepUnit.{AreCounted}
 use Rattle.ckr_points_decks.specs.Form.{is_run}
@@ -63,6 +65,11 @@ is_in_step row = is_holder row.state && is_within (place_of row)
 -- a checkpoint is in effect only of such a run
 abbrev pub is_idle : RunRow → Bool
 is_idle row = is_in_step row || is_none row.in_effect
+
+-- a run that was never denied
+abbrev pub is_plain_state : RunState → Bool
+is_plain_state Denied = false
+is_plain_state _ = true
 
 -- so it is with this run; it was never denied, it has an initiator exactly where it is on one, and a code, which has a spelling, exactly while it is off
 -- its initiator within a step

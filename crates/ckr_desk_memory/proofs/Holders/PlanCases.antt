@@ -20,6 +20,7 @@ use Rattle.ckr_desk_turn.specs.declared.reply.Reply.{Reply}
 use Rattle.ckr_desk_turn.specs.declared.reply.Turn.{Turn}
 use Rattle.ckr_desk_turn.specs.Allocation.{allocation_of}
 use Rattle.ckr_desk_turn.specs.Codes.{code_plan, initiator_of, reached_by}
+use Rattle.ckr_desk_turn.proofs.Deferred.Plans.{by-queued}
 use Rattle.ckr_desk_turn.specs.Jobs.{TurnJobs, TurnStep, is_failed, running_in, waiting_code}
 use Rattle.ckr_desk_turn.specs.Plans.{between_plan, checkpoint_plan, chosen_plan, due_plan, fail_plan, finished_plan, free_plan, is_within, placed_plan, plan_of, run_plan, running_plan, suppressed_plan, system_failure, unmarked_plan}
 use Rattle.ckr_desk_turn.specs.Select.{next_run, run_on_initiator}
@@ -104,7 +105,10 @@ module _ (layout : Layout) (seen : TurnJobs) (initiator : ℕ) (Q : Plan → Typ
 
   module _ (free : run_on_initiator seen.tables initiator ≡ None) where
     chosen_case : (row : RunRow) → next_run seen.tables ≡ Some row → Q (chosen_plan layout seen initiator row)
-    chosen_case row next = by-option Q row.code _ _ (λ none. cases.between _ _ refl) (cases.chosen row free next)
+    chosen_case row next =
+        by-option Q row.code _ _
+        (λ none. by-queued Q layout seen.tables initiator row (cases.rest _) (λ reply rule name. cases.between reply _ refl) (λ reply earlier step id. cases.between reply _ refl) row.deck.restart)
+        (cases.chosen row free next)
 
     free_case : (fail : Option Code) → Q (free_plan layout seen initiator fail)
     free_case (Some code) = cases.rest _

@@ -3,9 +3,10 @@ use Rattle.std.specs.Option.{is_some}
 use Rattle.ckr_points.specs.Follows.{own_step}
 use Rattle.ckr_desk_turn.specs.declared.plan.Plan.TheVariants.{Tell}
 use Rattle.ckr_desk_turn.specs.declared.reply.Reply.TheVariants.{Selected}
-use Rattle.ckr_desk_memory.specs.Invariant.{IsPlacedRow}
+use Rattle.ckr_desk_memory.specs.Invariant.{IsAcceptedRow, IsPlacedRow}
 use Rattle.ckr_desk_memory.specs.Plans.{IsAnyCode}
 use Rattle.ckr_desk_memory.proofs.FoundRuns.{known-is}
+use Rattle.ckr_desk_memory.proofs.Holders.Names.{accepted-plain}
 use Rattle.ckr_desk_memory.proofs.Plans.{chosen-coded, chosen-queued, code-kept, coded-there}
 use Rattle.ckr_desk_memory.proofs.RunningSteps.Served.{counted-all}
 use Rattle.ckr_desk_memory.proofs.Starts.Steps.{row-among}
@@ -40,5 +41,6 @@ returns-in-Some-code-clause-plan c = λ row at.
 
 pub returns-in-None-clause-plan : goal.returns-in-None-clause-plan
 returns-in-None-clause-plan c = λ row at.
+    let restartless = accepted-plain row (row-among IsAcceptedRow c.args.self.now.tables.desk c.args.job row c.requires.jobs.rows at) in
     ap (Tell (Selected c.args.job)) c.selected_event.ensures.event
-    ∙ chosen-queued c.args.layout.now c.args.self.now c.args.initiator c.args.job c.in-Some.table.now c.in-Some.ensures.some row at (sym c.in-None.is)
+    ∙ chosen-queued c.args.layout.now c.args.self.now c.args.initiator c.args.job c.in-Some.table.now c.in-Some.ensures.some row at restartless (sym c.in-None.is)
