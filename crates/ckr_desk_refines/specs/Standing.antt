@@ -13,6 +13,7 @@ use Rattle.ckr_base.specs.declared.programs.NextDue.TheVariants.{Checkpoint}
 use Rattle.ckr_desk_turn.specs.Due.{next_due}
 use Rattle.ckr_desk_turn.specs.Invariant.{IsDesk}
 use Rattle.ckr_desk_refines.specs.Commits.{HasCommitted}
+use Rattle.ckr_desk_refines.specs.Restartless.{AreRestartless}
 use Rattle.ckr_desk_refines.specs.StepSets.{HasSets}
 use Rattle.ckr_meaning.specs.EffectiveJob.{is_among, names_of}
 use Rattle.ckr_meaning.specs.States.{StandsFor}
@@ -83,7 +84,7 @@ PointsStand office points =
     → start_of office row ≡ Some start → StandsForPoint points run start entry
 
 -- The desk is kept, and the jobs in memory stand for it: their tables, their failed runs, their running steps and the points of their
--- checkpoints in effect are those of the desk, and the image has what the events have committed.
+-- checkpoints in effect are those of the desk, and the image has what the events have committed. No run has RESTART.
 pub record StandsForDesk (layout : Layout) (jobs : JobsView) (image : List ℕ) (desk : DeskModel) : Type 0 where
   pub layout_is : desk.layout ≡ layout
   pub is_desk : IsDesk desk
@@ -93,6 +94,7 @@ pub record StandsForDesk (layout : Layout) (jobs : JobsView) (image : List ℕ) 
   pub differ_so : differ desk.running ≡ true
   pub points : PointsStand desk.office jobs.points
   pub committed : HasCommitted desk.layout desk.office image
+  pub restartless : AreRestartless desk.office.tables
 
 -- ---- while a run ends
 
@@ -112,6 +114,7 @@ pub record StandsBut (run : ℕ) (layout : Layout) (jobs : JobsView) (image : Li
   pub differ_so : differ desk.running ≡ true
   pub points : PointsStand desk.office jobs.points
   pub committed : HasCommitted desk.layout desk.office image
+  pub restartless : AreRestartless desk.office.tables
 
 -- ---- what is seen of the desk in memory
 

@@ -6,42 +6,40 @@ use Rattle.std.specs.Option.{option_map_or}
 use Rattle.std.proofs.lemmas.List.{append-nil, append_assoc}
 use Rattle.std.proofs.lemmas.Option.{same_Some}
 use Rattle.arrayvec.specs.ArrayVec.{ArrayVec}
-use Rattle.ckr_base.proofs.Bools.{and-first, and-second, false-not-true}
+use Rattle.ckr_base.proofs.Bools.{and-second, false-not-true}
 use Rattle.ckr_base.proofs.Numbers.{equal-true}
 use Rattle.ckr_base.proofs.Options.{some-not-none}
-use Rattle.ckr_base.proofs.Sequences.{all-get, each-get}
 use Rattle.ckr_events.specs.declared.event.Event.{Event}
 use Rattle.ckr_events.specs.declared.event.Event.TheVariants.{Checkpointed, Selected}
 use Rattle.ckr_jcl.specs.declared.deck.Dd.{Dd}
 use Rattle.ckr_jcl.specs.declared.deck.Job.{Job}
 use Rattle.ckr_library.specs.Catalog.{records_of}
 use Rattle.ckr_library.specs.NameMaps.{Name}
-use Rattle.ckr_meaning.specs.EffectiveJob.{OwnedStep, is_among, name_of, names_of, plain_job}
+use Rattle.ckr_meaning.specs.EffectiveJob.{OwnedStep, is_among, name_of, names_of}
 use Rattle.ckr_points_library.specs.Commit.{is_named, output_names}
 use Rattle.ckr_points.specs.Events.{AreSound, AreSoundFrom, IsNext}
 use Rattle.ckr_points.specs.Follows.{is_checkpoint, is_length_of, is_running, lengths_follow, of_step, own_step}
 use Rattle.ckr_points.specs.Office.{Office, no_office, office, office_after, office_from}
 use Rattle.ckr_points.specs.Restart.{Decked, after_event}
-use Rattle.ckr_points.specs.Rows.{RunRow, TablesModel, run_of}
+use Rattle.ckr_points.specs.Rows.{RunRow, TablesModel}
 use Rattle.ckr_points.specs.Soundness.{may_come}
 use Rattle.ckr_points.specs.Tables.{is_checkpoints, name_with_role}
 use Rattle.ckr_points_invariant.specs.Invariant.{IsKept, step_now}
 use Rattle.ckr_points_invariant.specs.PlainRuns.{continues}
 use Rattle.ckr_points_invariant.proofs.EventList.{office-more, sound-front}
 use Rattle.ckr_points_invariant.proofs.Holders.Places.{outputs-among}
-use Rattle.ckr_points_invariant.proofs.Holders.Rows.{step-all}
 use Rattle.ckr_points_invariant.proofs.WaitingRuns.{follows-of, tested-run}
 use Rattle.ckr_volumes.specs.declared.layout.Layout.{Layout}
-use Rattle.ckr_desk_turn.specs.Invariant.{HasRuns, IsAdmitted, is_plain_row}
+use Rattle.ckr_desk_memory.proofs.Starts.Steps.{row-among}
+use Rattle.ckr_desk_turn.specs.Invariant.{HasRuns, IsAdmitted}
 use Rattle.ckr_desk_turn.specs.RunEvents.{AreRunEvents, IsRunEvent}
-use Rattle.ckr_desk_turn.proofs.NextEvents.BetweenSteps.{no_restart, plain_parts}
-use Rattle.ckr_desk_turn.proofs.Runs.Lists.{events-kept, events-run}
+use Rattle.ckr_desk_turn.proofs.Runs.Lists.{events-kept, events-run, run-decks}
 use Rattle.ckr_desk_refines.specs.Entries.{HasCheckDd, IsCheckDd, OnlyCheckSetsKeep}
 use Rattle.ckr_desk_refines.proofs.Entries.Checkpoint.{plain-taken}
-use Rattle.ckr_desk_refines.proofs.Entries.DeckNames.{among-named, is_named_job, is_named_step, job-named}
+use Rattle.ckr_desk_refines.proofs.Entries.DeckNames.{admitted-named, among-named}
 use Rattle.ckr_desk_refines.proofs.Entries.EffectEvents.{length-among, of-found}
 use Rattle.ckr_desk_refines.proofs.Entries.Events.{plain-next}
-use Rattle.ckr_desk_refines.proofs.Entries.RunningStep.{checkpoint-checks, running-by}
+use Rattle.ckr_desk_refines.proofs.Entries.RunningStep.{checkpoint-checks}
 use Rattle.ckr_desk_refines.proofs.Entries.Legs.{tables-behind}
 
 -- ---- a DD with a name
@@ -58,20 +56,6 @@ dd-named root owned row same named = by (find (λ one. is_checkpoints one.role) 
     by (Some dd) first has = by_name dd (name_of root owned dd) first refl has
 
 module _ (layout : Layout) (now : Office) (kept : IsKept layout now) (has : HasRuns now) where
-  -- the job of a run that holds its names is that of its accepted deck
-  admitted-named : (number : ℕ) (row : RunRow) → run_of now.tables number ≡ Some row → row.job ≡ plain_job row.number row.deck → is_named_job row.job ≡ true
-  admitted-named number row e is = by number e
-    where
-      by : (number : ℕ) → run_of now.tables number ≡ Some row → is_named_job row.job ≡ true
-      by zero e = absurd (some-not-none row (sym e))
-      by (suc before) e =
-          let its : IsAdmitted row = each-get IsAdmitted now.tables.runs before row has.admitted e in
-          ap is_named_job is ∙ job-named its.cards row.deck row.number its.accepted
-
-  no-restart : (number : ℕ) (row : RunRow) → run_of now.tables number ≡ Some row → row.deck.restart ≡ None
-  no-restart zero row e = absurd (some-not-none row (sym e))
-  no-restart (suc before) row e = no_restart row.deck (plain_parts row (all-get is_plain_row now.tables.runs before row has.plain e)).runs
-
   -- ---- a checkpoint that follows
 
   pub check-dd : (job taken writes place bytes : ℕ) (id : Name) (lengths : ArrayVec ℕ) (deck : Option Job) → may_come layout now (Checkpointed job id taken writes lengths place bytes, deck) ≡ true → HasCheckDd now.tables job
@@ -87,15 +71,12 @@ module _ (layout : Layout) (now : Office) (kept : IsKept layout now) (has : HasR
 
       its : test row ≡ true → IsCheckDd row owned
       its passes =
-          let both = and-first (is_running row && lengths_follow now.tables row lengths.items) _ passes in
           let check = of-found (is_checkpoint now.tables id lengths.items place bytes row) (own_step row) owned (and-second (is_running row && lengths_follow now.tables row lengths.items) _ passes) found in
           let among : is_among (names_of row.job.root owned) set ≡ true =
           outputs-among row.job.root owned set (length-among set (place + records_of bytes) (output_names row.job.root owned) lengths.items (and-second _ (is_length_of set (place + records_of bytes) (output_names row.job.root owned) lengths.items) check)) in
-          running-by layout now kept.events job row owned e found (and-first (is_running row) _ both)
-          (λ leg running.
-          let plain : row.job ≡ plain_job row.number row.deck = sym (kept.events.places job row leg running.holder).job ∙ (kept.events.uses job row leg running.holder).plain (no-restart job row e) in
+          let admitted : IsAdmitted row = row-among IsAdmitted now.tables job row has.admitted e in
           dd-named row.job.root owned row refl
-          (among-named row.job.root owned owned.step.dds set (step-all (is_named_step row.job.root) row.job (step_now row) owned (admitted-named job row e plain) found) among))
+          (among-named row.job.root owned owned.step.dds set (admitted-named row.job.root (step_now row) owned (admitted.steps (step_now row) owned found)) among)
 
   -- one more event of what the desk runs
   plain-event : (event : Event) (deck : Option Job) → continues event ≡ false → IsNext layout now (event, deck) → OnlyCheckSetsKeep now.tables.sets → OnlyCheckSetsKeep (after_event event deck now.tables).sets
@@ -137,7 +118,7 @@ plain-behind layout front (event ∷ more) are run only =
     let ran : AreRunEvents front = run-front front (event ∷ more) run in
     let next : IsNext layout (office front) event = next-at layout front more event no_office are in
     let behind : OnlyCheckSetsKeep (after_event event.0 event.1 (office front).tables).sets =
-    plain-event layout (office front) (events-kept layout front before ran) (events-run layout front before ran) event.0 event.1 (run-on event.0 event.1 (run-at front more event run)) (record { may = next.may; carried = next.carried }) only in
+    plain-event layout (office front) (events-kept layout front before (run-decks front ran)) (events-run layout front before (run-decks front ran)) event.0 event.1 (run-on event.0 event.1 (run-at front more event run)) (record { may = next.may; carried = next.carried }) only in
     subst (λ events. OnlyCheckSetsKeep (office events).tables.sets) seam
     (plain-behind layout (front ++ event ∷ []) more (subst (AreSound layout) (sym seam) are) (subst AreRunEvents (sym seam) run)
     (subst (λ (office : Office). OnlyCheckSetsKeep office.tables.sets) (sym (office-more front event))

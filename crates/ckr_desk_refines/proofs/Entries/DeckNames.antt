@@ -1,10 +1,10 @@
 -- Each data set of an accepted deck has a name.
-use Rattle.std.proofs.Common.{◌≡◌, ℕ, Bool, true, false, cond, ◌&&◌, ◌||◌, not, List, [], ◌∷◌, ◌++◌, drop, map, refl, ap, sym, ◌∙◌, subst, Option, Some, None, Ok}
+use Rattle.std.proofs.Common.{◌≡◌, ℕ, Bool, true, false, cond, ◌&&◌, ◌||◌, not, List, [], ◌∷◌, ◌++◌, drop, map, refl, ap, sym, ◌∙◌, subst, Option, Some, None}
 use Rattle.std.specs.List.{AllByRecursion, cons_option, filter_map, list_all}
 use Rattle.std.specs.Option.{option_map, option_map_or}
 use Rattle.ckr_base.specs.Grammar.{is_ds_name, is_name8}
 use Rattle.ckr_base.proofs.Bools.{and-first, and-second, bool-cases, false-not-true}
-use Rattle.ckr_base.proofs.Sequences.{each-implies}
+use Rattle.ckr_base.proofs.Sequences.{each-get, each-implies}
 use Rattle.ckr_jcl.specs.declared.deck.Cond.{Cond}
 use Rattle.ckr_jcl.specs.declared.deck.Dd.{Dd}
 use Rattle.ckr_jcl.specs.declared.deck.Job.{Job}
@@ -19,15 +19,17 @@ use Rattle.ckr_jcl_decks.specs.Parts.DeckText.{dd_text}
 use Rattle.ckr_jcl_decks.specs.Parts.DsnText.{DsnText}
 use Rattle.ckr_jcl_decks.specs.Parts.DsnText.TheVariants.{Permanent, Passing, Referring, IllFormed}
 use Rattle.ckr_jcl_decks.specs.Parts.StepText.{StepText}
-use Rattle.ckr_jcl_decks.specs.Deck.{bytes_of, dd_of, job_of, named_origin, origin_of, step_with, stored_deck}
+use Rattle.ckr_jcl_decks.specs.Deck.{bytes_of, dd_of, job_of, named_origin, origin_of, step_with}
 use Rattle.ckr_library.specs.NameMaps.{Name, same_name}
 use Rattle.ckr_library.proofs.Named.{name-same}
 use Rattle.ckr_uses.specs.SetNames.{origin_name, run_name}
-use Rattle.ckr_meaning.specs.EffectiveJob.{Effective, OwnedStep, is_among, name_of, owned_by, plain_job}
+use Rattle.ckr_meaning.specs.EffectiveJob.{OwnedStep, is_among, name_of}
 use Rattle.ckr_points_library.specs.Commit.{is_named}
 use Rattle.ckr_points_decks.proofs.DeckTests.{OfStep, all_pass, steps_hold}
 use Rattle.ckr_points_decks.proofs.Origins.{dd_origin, origin-dummy, origin-named, origin-stream, origin-sysout}
 use Rattle.ckr_points_decks.proofs.Texts.{AreStated, IsReadFrom, IsStated, read_from}
+use Rattle.ckr_desk_turn.specs.Invariant.{IsAdmittedStep}
+use Rattle.ckr_desk_turn.proofs.Start.Decks.{IsOfDeck, of-deck}
 
 -- a name, if there is one, isn't empty
 abbrev pub is_named_or_none : Option Name → Bool
@@ -97,31 +99,31 @@ module _ (root owner : ℕ) (step : Name) where
       bool-cases dd.sysout (λ sysout. by-origin dd Sysout (origin-sysout dd stream dummy sysout) refl)
       (λ sysout. by-origin dd (named_origin dd.dsn) (origin-named dd stream dummy sysout) (named-dsn dd.dsn (run_name root) (run_name owner) step (dd_of dd).name (stated-dsn program dd stated)))))
 
--- ---- a job
+-- ---- a step
 
 -- each data set of a step has a name
 abbrev pub is_named_step : ℕ → OwnedStep → Bool
 is_named_step root owned = list_all (λ dd. is_named_or_none (name_of root owned dd)) owned.step.dds
 
-abbrev pub is_named_job : Effective → Bool
-is_named_job job = list_all (is_named_step job.root) job.steps
-
+-- so it is with a step of a deck, whose job and root any run may be
 abbrev IsNamedStep : Step → Type 0
-IsNamedStep step = (run : ℕ) (tests : List Cond) → is_named_step run (record { step = step; owner = run; tests = tests }) ≡ true
+IsNamedStep step = (root owner : ℕ) (tests : List Cond) → is_named_step root (record { step = step; owner = owner; tests = tests }) ≡ true
 
 step-named : (step : StepText) → AreStated step → OfStep IsNamedStep step
 unfolding step_with
-step-named step stated kind is run tests =
-    all_pass (named_by run run step.name) dd_of step.dds (each-implies (IsStated step.program) (λ dd. named_by run run step.name (dd_of dd) ≡ true) step.dds (dd-named run run step.name step.program) stated)
+step-named step stated kind is root owner tests =
+    all_pass (named_by root owner step.name) dd_of step.dds (each-implies (IsStated step.program) (λ dd. named_by root owner step.name (dd_of dd) ≡ true) step.dds (dd-named root owner step.name step.program) stated)
 
 steps-named : (job : Job) → IsReadFrom job → AllByRecursion IsNamedStep job.steps
 unfolding job_of
 steps-named job read = subst (λ (j : Job). AllByRecursion IsNamedStep j.steps) (sym read.is) (steps_hold IsNamedStep read.text.steps (each-implies AreStated (OfStep IsNamedStep) read.text.steps step-named read.stated))
 
-pub job-named : (cards : List ℕ) (job : Job) (run : ℕ) → stored_deck cards ≡ Ok job → is_named_job (plain_job run job) ≡ true
-job-named cards job run accepted =
-    all_pass (is_named_step run) (owned_by run job) job.steps
-    (each-implies IsNamedStep (λ step. is_named_step run (owned_by run job step) ≡ true) job.steps (λ step is. is run (job.cond ++ step.cond)) (steps-named job (read_from cards job accepted)))
+-- each data set of a step that is one of an accepted deck
+pub admitted-named : (root number : ℕ) (owned : OwnedStep) → IsAdmittedStep number owned → is_named_step root owned ≡ true
+admitted-named root number owned its =
+    let from : IsOfDeck owned.owner its.deck owned = of-deck owned.owner its.deck number owned its.owned_so in
+    subst (λ (one : OwnedStep). is_named_step root one ≡ true) from.is
+    (each-get IsNamedStep its.deck.steps from.place from.step (steps-named its.deck (read_from its.cards its.deck its.accepted)) from.at root owned.owner (its.deck.cond ++ from.step.cond))
 
 -- a name among those of such a step isn't empty
 pub among-named : (root : ℕ) (owned : OwnedStep) (dds : List Dd) (name : Name) → list_all (λ dd. is_named_or_none (name_of root owned dd)) dds ≡ true → is_among (filter_map (name_of root owned) dds) name ≡ true → is_named name ≡ true

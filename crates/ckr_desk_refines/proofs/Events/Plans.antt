@@ -12,7 +12,7 @@ use Rattle.ckr_base.specs.declared.programs.NextDue.{NextDue}
 use Rattle.ckr_base.specs.declared.programs.NextDue.TheVariants.{Unit as OneUnit, Checkpoint, Cancel, Finished}
 use Rattle.ckr_base.proofs.Bools.{bool-cases, or-first-false, or-second-false}
 use Rattle.ckr_base.proofs.Options.{is_none-true, is_some-true, option-cases}
-use Rattle.ckr_base.proofs.Sequences.{find-all}
+use Rattle.ckr_base.proofs.Sequences.{find-all, find-holds}
 use Rattle.ckr_console.specs.declared.question.Answer.{Answer}
 use Rattle.ckr_console.specs.declared.question.Answer.TheVariants.{Yes, No, Hold, Silent}
 use Rattle.ckr_events.specs.declared.event.Ending.TheVariants.{Allocation, Coded, Completed}
@@ -23,9 +23,10 @@ use Rattle.ckr_desk_memory.specs.View.{RunningStepView}
 use Rattle.ckr_desk_turn.specs.NextEvents.{IsWithinStep}
 use Rattle.ckr_desk_turn.specs.Invariant.{IsDesk, IsTurnOf, has_code_while_off, is_accounted}
 use Rattle.ckr_desk_turn.proofs.Codes.{by-verdict}
-use Rattle.ckr_desk_turn.proofs.NextEvents.BetweenSteps.{free-there, next_cases, plain_found, plain_parts, row_of_found, state_on}
+use Rattle.ckr_desk_turn.proofs.NextEvents.BetweenSteps.{free-there, next_cases, row_of_found, state_found, state_on}
 use Rattle.ckr_desk_turn.proofs.NextEvents.Holders.{HoldsStep, on-holder}
 use Rattle.ckr_desk_turn.proofs.Opening.{running-stands}
+use Rattle.ckr_desk_turn.proofs.OtherRuns.{state-code}
 use Rattle.ckr_desk_turn.proofs.Restart.Events.{MayGoOn}
 use Rattle.ckr_desk_turn.proofs.RunningSteps.{FoundStep, found-step, going-within}
 use Rattle.ckr_desk_turn.proofs.Select.{code_while}
@@ -46,6 +47,7 @@ use Rattle.ckr_library.specs.NameMaps.{Name}
 use Rattle.ckr_rules.specs.RuleTables.{rule_number}
 use Rattle.ckr_rules.specs.declared.cases.Rule.{Rule}
 use Rattle.ckr_rules.specs.declared.cases.Rule.TheVariants.{A6}
+use Rattle.ckr_desk_refines.specs.Restartless.{AreRestartless, IsRestartless}
 use Rattle.ckr_desk_refines.specs.Standing.{AllStand}
 use Rattle.ckr_rules.specs.RuleTables.{suppresses}
 use Rattle.ckr_desk_turn.specs.declared.plan.Plan.{Plan}
@@ -53,11 +55,12 @@ use Rattle.ckr_desk_turn.specs.declared.plan.Plan.TheVariants.{Rest, Tell, Work,
 use Rattle.ckr_desk_turn.specs.declared.failed_run.FailedRun.{FailedRun}
 use Rattle.ckr_desk_turn.specs.declared.inquiry.Inquiry.{Inquiry}
 use Rattle.ckr_desk_turn.specs.declared.reply.How.TheVariants.{Completed as CompletedJob}
-use Rattle.ckr_desk_turn.specs.declared.reply.Reply.TheVariants.{AwaitingReply, Idle, JobEnded, NothingToFail, Selected as SelectedReply, Started as StartedReply}
+use Rattle.ckr_desk_turn.specs.declared.reply.Reply.TheVariants.{AwaitingReply, Idle, JobEnded, NothingToFail, Started as StartedReply}
 use Rattle.ckr_desk_turn.specs.declared.reply.Turn.{Turn}
 use Rattle.ckr_desk_turn.specs.Allocation.{allocation_of, cause_numbers}
 use Rattle.ckr_desk_turn.specs.Select.{is_on, may_select, next_run, run_on_initiator}
 use Rattle.ckr_desk_turn.specs.Codes.{code_plan, initiator_of, inquiry_of, reached_by}
+use Rattle.ckr_desk_turn.specs.Deferred.{queued_plan}
 use Rattle.ckr_desk_turn.specs.Inquiries.{awaits, decide, hold_event, refusal_event, restart_event}
 use Rattle.ckr_desk_turn.specs.Desk.{DeskModel, jobs_of}
 use Rattle.ckr_desk_turn.specs.Jobs.{TurnStep, is_failed, running_in, waiting_code}
@@ -120,7 +123,7 @@ fewer-marked (first ∷ rest) run also none =
     ap (λ b. b && also first || list_any (λ (one : FailedRun). one.run == run && also one) rest) (or-first-false (first.run == run) (list_any (λ (one : FailedRun). one.run == run) rest) none)
     ∙ fewer-marked rest run also (or-second-false (first.run == run) (list_any (λ (one : FailedRun). one.run == run) rest) none)
 
-module _ (desk : DeskModel) (is : IsDesk desk) (image : List ℕ) (seen : List RunningStepView) (all : AllStand desk.layout desk.office image seen desk.running) (had : HasCommitted desk.layout desk.office image)
+module _ (desk : DeskModel) (is : IsDesk desk) (restartless : AreRestartless desk.office.tables) (image : List ℕ) (seen : List RunningStepView) (all : AllStand desk.layout desk.office image seen desk.running) (had : HasCommitted desk.layout desk.office image)
     (Q : Event → Type 0) (each : OfEach desk image Q) where
   -- ---- a run within a step
 
@@ -272,7 +275,7 @@ module _ (desk : DeskModel) (is : IsDesk desk) (image : List ℕ) (seen : List R
     abbrev chosen_by : RunRow → Option Code → Plan
     chosen_by row code =
         elim code as (λ _. Plan) [
-          | None ↦ Tell (SelectedReply row.number) (Selected row.number i 0 0 None)
+          | None ↦ queued_plan desk.layout desk.office.tables i row row.deck.restart
           | Some code ↦ code_plan desk.layout desk.office.tables row i false code (reached_by (jobs_of desk) row)
         ]
 
@@ -284,9 +287,11 @@ module _ (desk : DeskModel) (is : IsDesk desk) (image : List ℕ) (seen : List R
 
     chosen-tells : (row : RunRow) → next_run desk.office.tables ≡ Some row → OfPlan Q (chosen_plan desk.layout (jobs_of desk) i row)
     chosen-tells row next =
-        let coded : has_code_while_off row ≡ true = (plain_parts row (plain_found desk selects row is next)).code in
+        let coded : has_code_while_off row ≡ true = state-code row (state_found desk selects row is next) in
         next_cases desk.office.tables row next
-        (λ queued. subst (λ o. OfPlan Q (chosen_by row o)) (sym (is_none-true row.code (ap (λ s. code_while s row.code) (sym queued) ∙ coded))) (each.selected row.number i))
+        (λ queued.
+        subst (λ o. OfPlan Q (chosen_by row o)) (sym (is_none-true row.code (ap (λ s. code_while s row.code) (sym queued) ∙ coded)))
+        (subst (λ r. OfPlan Q (queued_plan desk.layout desk.office.tables i row r)) (sym (find-holds IsRestartless selects desk.office.tables.runs row restartless next)) (each.selected row.number i)))
         (λ released.
         is_some-true row.code (ap (λ s. code_while s row.code) (sym released) ∙ coded)
         (λ code its. subst (λ o. OfPlan Q (chosen_by row o)) (sym its) (released-tells row next released code)))

@@ -11,14 +11,14 @@ use Rattle.ckr_jcl.specs.declared.deck.Step.{Step}
 use Rattle.ckr_desk_memory.specs.View.{RunningStepView, begun}
 use Rattle.ckr_desk_memory.specs.Start.{HasNew, set_in_tables}
 use Rattle.ckr_desk_turn.specs.Invariant.{IsDesk, IsGoing}
-use Rattle.ckr_desk_turn.proofs.NextEvents.BetweenSteps.{no_restart, plain_parts}
-use Rattle.ckr_desk_turn.proofs.OtherRuns.{row-plain}
 use Rattle.ckr_desk_turn.proofs.RunningSteps.{going-within}
 use Rattle.ckr_desk_turn.proofs.NextEvents.WithinStep.{by-step}
 use Rattle.ckr_desk_refines.specs.Commits.{HasCommitted}
+use Rattle.ckr_desk_refines.specs.Restartless.{AreRestartless}
 use Rattle.ckr_desk_refines.specs.StepSets.{HasSets}
 use Rattle.ckr_desk_refines.proofs.Durable.Start.{none-long}
 use Rattle.ckr_desk_refines.proofs.Durable.Stamps.{as-office}
+use Rattle.ckr_desk_refines.proofs.Standing.Restartless.{row-restartless}
 use Rattle.ckr_library.specs.declared.sets.Content.TheVariants.{Plain}
 use Rattle.ckr_library.specs.declared.sets.DataSet.{DataSet}
 use Rattle.ckr_library.specs.Catalog.{set_of}
@@ -91,7 +91,7 @@ in-tables None true set e = absurd (some-not-none set (sym e))
 in-tables (Some table) true set e = record { table = table; at = refl; is = same_Some table.set set e; named = refl }
 in-tables tables false set e = absurd (some-not-none set (sym e))
 
-module _ (desk : DeskModel) (is : IsDesk desk) (on : DeskStep) (going : IsGoing desk.office on) (image : List ℕ) (committed : HasCommitted desk.layout desk.office image) (old new : List RunningStepView) where
+module _ (desk : DeskModel) (is : IsDesk desk) (restartless : AreRestartless desk.office.tables) (on : DeskStep) (going : IsGoing desk.office on) (image : List ℕ) (committed : HasCommitted desk.layout desk.office image) (old new : List RunningStepView) where
   abbrev run : ℕ
   run = on.run
 
@@ -104,7 +104,7 @@ module _ (desk : DeskModel) (is : IsDesk desk) (on : DeskStep) (going : IsGoing 
 
     of_deck : leg.job ≡ plain_job going.row.number going.row.deck
     of_deck =
-        (is.kept.events.uses run going.row leg running.holder).plain (no_restart going.row.deck (plain_parts going.row (row-plain desk is run going.row going.row_at)).runs)
+        (is.kept.events.uses run going.row leg running.holder).plain (row-restartless desk.office.tables restartless run going.row going.row_at)
 
     root_is : leg.job.root ≡ run
     root_is = ap (λ (job : Effective). job.root) of_deck ∙ is.kept.events.numbered run going.row going.row_at
@@ -209,7 +209,7 @@ module _ (desk : DeskModel) (is : IsDesk desk) (on : DeskStep) (going : IsGoing 
 
 -- ---- a step at its beginning
 
-module _ (desk : DeskModel) (is : IsDesk desk) (run : ℕ) (going : IsGoing desk.office (at_first run)) (image : List ℕ) (committed : HasCommitted desk.layout desk.office image) (old new : List RunningStepView) where
+module _ (desk : DeskModel) (is : IsDesk desk) (restartless : AreRestartless desk.office.tables) (run : ℕ) (going : IsGoing desk.office (at_first run)) (image : List ℕ) (committed : HasCommitted desk.layout desk.office image) (old new : List RunningStepView) where
   module _ (leg : Leg) (owned : OwnedStep) (running : IsRunning desk.office run going.row leg owned going.number 0) (same : going.start ≡ its_start leg owned going.number)
       (has : HasNew run owned (begun run owned.step) desk.office.tables.sets old new) where
     abbrev first : StepStart
@@ -219,18 +219,18 @@ module _ (desk : DeskModel) (is : IsDesk desk) (run : ℕ) (going : IsGoing desk
     made_so =
         shows_made (Unit {0}) image desk.layout first has.on.sets
         (subst (λ library. Shows (Unit {0}) image desk.layout (names_at first) library has.on.sets) (within_at-none first)
-        (shows_so desk is (at_first run) going image committed old new leg owned running same (begun run owned.step) has))
+        (shows_so desk is restartless (at_first run) going image committed old new leg owned running same (begun run owned.step) has))
 
     stands_so : IsStepPlace first 0 false has.on.step has.on.sets
     stands_so =
         subst (λ (s : StepRun). IsStepPlace first 0 false s has.on.sets)
         (ap (λ (files : Files). (let step : StepRun = record { state = first_state owned.step.program; parm = owned.step.parm; files = files; writes = 0 } in step))
-        (files_are desk is (at_first run) going image committed old new leg owned running same (begun run owned.step) has) ∙ sym has.step)
-        (begins desk.layout first (may-so desk is (at_first run) going image committed old new leg owned running same (begun run owned.step) has) has.on.sets made_so owned.step.parm refl)
+        (files_are desk is restartless (at_first run) going image committed old new leg owned running same (begun run owned.step) has) ∙ sym has.step)
+        (begins desk.layout first (may-so desk is restartless (at_first run) going image committed old new leg owned running same (begun run owned.step) has) has.on.sets made_so owned.step.parm refl)
 
     step-stands : StandsForStep desk.layout desk.office image has.on (at_first run)
     step-stands =
-        placed-stands desk is (at_first run) going image committed old new leg owned running same (begun run owned.step) has refl stands_so
+        placed-stands desk is restartless (at_first run) going image committed old new leg owned running same (begun run owned.step) has refl stands_so
         (subst (λ (s : StepRun). AreServed false false s.state) (sym has.step) (first-fresh owned.step.program)) refl
         (ap (λ (s : StepRun). s.writes) has.step)
 

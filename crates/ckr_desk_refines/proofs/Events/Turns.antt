@@ -41,6 +41,7 @@ use Rattle.ckr_desk_refines.proofs.Events.Plans.{OfPlan, answer-tells, turn-tell
 use Rattle.ckr_desk_refines.proofs.Events.OtherRows.{EntersOut, ended-leaves, purged-enters, released-enters, released-run, submitted-enters}
 use Rattle.ckr_desk_refines.proofs.Events.OffRuns.{released-stands}
 use Rattle.ckr_desk_refines.proofs.Standing.Points.{OwnStands, idle-stands}
+use Rattle.ckr_desk_refines.proofs.Standing.Restartless.{run-restartless}
 use Rattle.ckr_desk_refines.proofs.Standing.Waits.{waited-stands}
 use Rattle.ckr_desk_refines.proofs.Events.IdleRuns.{ended-idle}
 
@@ -79,7 +80,7 @@ told-committed layout jobs before desk turn answer reply event stands its tells 
     let so : IsCommitted desk before event =
     subst (OfPlan (IsCommitted desk before)) tells
     (answer-tells (IsCommitted desk before) answer (plan_of desk.layout (jobs_of desk) turn)
-    (turn-tells desk stands.is_desk before jobs.running stands.running stands.committed (IsCommitted desk before) (each-committed desk stands.is_desk before stands.committed) turn its)) in
+    (turn-tells desk stands.is_desk stands.restartless before jobs.running stands.running stands.committed (IsCommitted desk before) (each-committed desk stands.is_desk before stands.committed) turn its)) in
     committed-moves desk.layout (behind event None desk).office before image comes.1.kept same (so comes.0 comes.1)
 
 pub told-stands : (layout : Layout) (old new : JobsView) (before after : List ℕ) (desk : DeskModel) (turn : Turn) (answer : Answer) (reply : Reply) (event : Event) → StandsForDesk layout old before desk → IsTurnOf desk.layout turn → decide answer (plan_of desk.layout (jobs_of desk) turn) ≡ Tell reply event
@@ -89,7 +90,7 @@ told-stands layout old new before after desk turn answer reply event stands its 
     let so : BehindStands layout old new before after desk stands same event =
     subst (OfPlan (BehindStands layout old new before after desk stands same)) tells
     (answer-tells (BehindStands layout old new before after desk stands same) answer (plan_of desk.layout (jobs_of desk) turn)
-    (turn-tells desk stands.is_desk before old.running stands.running stands.committed (BehindStands layout old new before after desk stands same) (each-stands layout old new before after desk stands same) turn its)) in
+    (turn-tells desk stands.is_desk stands.restartless before old.running stands.running stands.committed (BehindStands layout old new before after desk stands same) (each-stands layout old new before after desk stands same) turn its)) in
     so comes.0 comes.1 moved (told-committed layout old before desk turn answer reply event stands its tells after same)
 
 -- and one by which the run waits
@@ -113,7 +114,7 @@ turn-waits layout old new image desk turn answer job code stands its waits waite
 pub submitted-committed : (layout : Layout) (jobs : JobsView) (before : List ℕ) (desk : DeskModel) (cards : List ℕ) (deck : Job) → StandsForDesk layout jobs before desk → suc (length desk.office.tables.runs) ≤ 9999999 → 81 ≤ length cards → stored_deck cards ≡ Ok deck → is_run deck ≡ true
     → (image : List ℕ) → HasSameRecords desk.layout before image → HasCommitted desk.layout (submitted (kept_of_stored cards) deck desk).office image
 submitted-committed layout jobs before desk cards deck stands few some accepted runs image same =
-    let later : IsDesk (submitted (kept_of_stored cards) deck desk) = stored-keeps desk stands.is_desk cards deck few some accepted runs in
+    let later : IsDesk (submitted (kept_of_stored cards) deck desk) = stored-keeps desk stands.is_desk cards deck few some accepted in
     committed-moves desk.layout (submitted (kept_of_stored cards) deck desk).office before image later.kept same
     (submitted-stays desk.layout desk.office before (suc (length desk.office.tables.runs)) (kept_of_stored cards) (Some deck) stands.is_desk.kept later.kept stands.committed)
 
@@ -121,8 +122,8 @@ pub submitted-stands : (layout : Layout) (old new : JobsView) (before after : Li
     → HaveMoved (Submitted (suc (length desk.office.tables.runs)) (kept_of_stored cards)) (Some deck) old new → HasSameRecords desk.layout before after → StandsForDesk layout new after (submitted (kept_of_stored cards) deck desk)
 submitted-stands layout old new before after desk cards deck stands few some accepted runs moved same =
     let out : EntersOut desk.office (submitted (kept_of_stored cards) deck desk).office = submitted-enters desk.office (kept_of_stored cards) deck in
-    entered-stands layout old new before after desk (Submitted (suc (length desk.office.tables.runs)) (kept_of_stored cards)) (Some deck) stands moved same refl
-    (stored-keeps desk stands.is_desk cards deck few some accepted runs) out.enters moved.running refl moved.points
+    entered-stands layout old new before after desk (Submitted (suc (length desk.office.tables.runs)) (kept_of_stored cards)) (Some deck) stands (run-restartless deck runs) moved same refl
+    (stored-keeps desk stands.is_desk cards deck few some accepted) out.enters moved.running refl moved.points
     (out-stands desk.office (submitted (kept_of_stored cards) deck desk).office out old.points)
     (submitted-committed layout old before desk cards deck stands few some accepted runs after same)
 
@@ -137,7 +138,7 @@ pub purged-stands : (layout : Layout) (old new : JobsView) (before after : List 
     → HaveMoved (Purged job) None old new → HasSameRecords desk.layout before after → StandsForDesk layout new after (purged job desk)
 purged-stands layout old new before after desk job row stands at queued moved same =
     let out : EntersOut desk.office (purged job desk).office = purged-enters desk.layout desk.office job row stands.is_desk.kept.events at queued in
-    entered-stands layout old new before after desk (Purged job) None stands moved same refl
+    entered-stands layout old new before after desk (Purged job) None stands tt moved same refl
     (purged-keeps desk stands.is_desk job row at queued) out.enters moved.running refl moved.points (out-stands desk.office (purged job desk).office out old.points)
     (purged-committed layout old before desk job row stands at queued after same)
 
@@ -151,7 +152,7 @@ released-committed layout jobs before desk job row stands at held image same =
 pub release-stands : (layout : Layout) (old new : JobsView) (before after : List ℕ) (desk : DeskModel) (job : ℕ) (row : RunRow) → StandsForDesk layout old before desk → run_of desk.office.tables job ≡ Some row → row.state ≡ HeldRun
     → HaveMoved (Released job) None old new → HasSameRecords desk.layout before after → StandsForDesk layout new after (released job desk)
 release-stands layout old new before after desk job row stands at held moved same =
-    entered-stands layout old new before after desk (Released job) None stands moved same refl
+    entered-stands layout old new before after desk (Released job) None stands tt moved same refl
     (released-keeps desk stands.is_desk job row at held) (released-enters desk.layout desk.office job row stands.is_desk.kept.events at held) moved.running refl moved.points
     (subst (OwnStands (office_after (Released job, None) desk.office) old.points) (sym (released-run desk.layout desk.office job row stands.is_desk.kept.events at held))
     (released-stands desk.layout desk.office stands.is_desk.kept.events stands.is_desk.ready old.points stands.points job row at held))
@@ -170,7 +171,7 @@ pub code-stands : (layout : Layout) (old new : JobsView) (before after : List �
     → IsDesk (behind (Ended run (Coded code rule writes lengths)) None desk) → HasWithinRun desk.layout desk.office run writes before
     → HaveMoved (Ended run (Coded code rule writes lengths)) None old new → HasSameRecords desk.layout before after → StandsForDesk layout new after (behind (Ended run (Coded code rule writes lengths)) None desk)
 code-stands layout old new before after desk run rule writes code lengths stands comes later has moved same =
-    ended-stands layout old new before after desk (Ended run (Coded code rule writes lengths)) run refl stands.layout_is stands.is_desk stands.tables stands.failed stands.differ_so stands.points
+    ended-stands layout old new before after desk (Ended run (Coded code rule writes lengths)) run refl stands.layout_is stands.is_desk stands.tables stands.failed stands.restartless stands.differ_so stands.points
     (idle-stands (office_after (Ended run (Coded code rule writes lengths), None) desk.office) new.points run
     (ended-idle desk.layout desk.office stands.is_desk.kept.events stands.is_desk.ready run (Coded code rule writes lengths))) stands.running moved same refl later
     (ended-leaves desk.layout desk.office run (Coded code rule writes lengths) stands.is_desk.kept.events)
@@ -190,7 +191,7 @@ pub held-stands : (layout : Layout) (old new : JobsView) (before after : List �
     → IsDesk (behind (Held run code writes lengths) None desk) → HasWithinRun desk.layout desk.office run writes before
     → HaveMoved (Held run code writes lengths) None old new → HasSameRecords desk.layout before after → StandsForDesk layout new after (behind (Held run code writes lengths) None desk)
 held-stands layout old new before after desk run writes code lengths stands comes later has moved same =
-    hold-stands layout old new before after desk run writes code lengths stands.layout_is stands.is_desk stands.tables stands.failed stands.differ_so stands.points stands.running moved same comes later
+    hold-stands layout old new before after desk run writes code lengths stands.layout_is stands.is_desk stands.tables stands.failed stands.restartless stands.differ_so stands.points stands.running moved same comes later
     (hold-committed layout old before desk run writes code lengths stands comes later has after same)
 
 -- ---- a restart, whatever the step has come to
@@ -206,5 +207,5 @@ pub restarted-stands : (layout : Layout) (old new : JobsView) (before after : Li
     → IsDesk (behind (Restarted run initiator code checkpoint) None desk)
     → HaveMoved (Restarted run initiator code checkpoint) None old new → HasSameRecords desk.layout before after → StandsForDesk layout new after (behind (Restarted run initiator code checkpoint) None desk)
 restarted-stands layout old new before after desk run initiator code checkpoint stands comes later moved same =
-    restart-stands layout old new before after desk run initiator code checkpoint stands.layout_is stands.is_desk stands.tables stands.failed stands.differ_so stands.points stands.running moved same comes later
+    restart-stands layout old new before after desk run initiator code checkpoint stands.layout_is stands.is_desk stands.tables stands.failed stands.restartless stands.differ_so stands.points stands.running moved same comes later
     (restart-committed layout old before desk run initiator code checkpoint stands comes later after same)

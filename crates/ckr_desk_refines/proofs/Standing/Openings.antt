@@ -21,12 +21,14 @@ use Rattle.ckr_desk_turn.specs.Jobs.{effect_entry}
 use Rattle.ckr_desk_refines.specs.Commits.{HasCommitted}
 use Rattle.ckr_desk_refines.specs.Entries.{AreRead, HasEntries, IsPointOfEntry, IsReadInEffect}
 use Rattle.ckr_desk_refines.specs.EntryRefusal.{AreInEffect, IsInEffect}
+use Rattle.ckr_desk_refines.specs.Restartless.{AreRestartless}
 use Rattle.ckr_desk_refines.specs.Standing.{AllStand, StandsForDesk, StandsForPoint}
 use Rattle.ckr_desk_refines.proofs.Entries.InEffect.{effect-read}
 use Rattle.ckr_desk_refines.proofs.Standing.Points.{entry_in_effect}
 
 module _ (layout : Layout) (office : Office) (jobs : JobsView) (earlier image : List ℕ) (is : IsDesk (opened layout office)) (are : AreInEffect office.tables) (committed : HasCommitted layout office image) (has : HasEntries layout office earlier)
-    (tables : jobs.tables.desk ≡ office.tables) (failed : jobs.failed ≡ (opened layout office).failed) (running : jobs.running ≡ []) (read : AreRead layout office.tables earlier jobs.points) where
+    (tables : jobs.tables.desk ≡ office.tables) (failed : jobs.failed ≡ (opened layout office).failed) (running : jobs.running ≡ []) (read : AreRead layout office.tables earlier jobs.points)
+    (restartless : AreRestartless office.tables) where
   -- a point that was read stands for its entry
   point-read : (run : ℕ) (row : RunRow) (entry : KeptEntry) (start : StepStart) → run_of office.tables run ≡ Some row → is_in_step row ≡ true → effect_entry office.tables row ≡ Some entry → start_of office row ≡ Some start → StandsForPoint jobs.points run start entry
   point-read run row entry start at runs found starts =
@@ -57,4 +59,5 @@ module _ (layout : Layout) (office : Office) (jobs : JobsView) (earlier image : 
     differ_so = refl;
     points = point-read;
     committed = committed;
+    restartless = restartless;
   }

@@ -13,6 +13,7 @@ use Rattle.ckr_events.specs.declared.event.Event.TheVariants.{Started as Started
 use Rattle.ckr_events.specs.declared.event.Ending.TheVariants.{Completed as CompletedEnding}
 use Rattle.ckr_events.specs.declared.event.Made.{Made}
 use Rattle.ckr_desk_turn.proofs.Codes.{by-verdict}
+use Rattle.ckr_desk_turn.proofs.Deferred.Plans.{by-queued}
 use Rattle.ckr_desk_turn.proofs.NextEvents.BetweenSteps.{row_of_found}
 use Rattle.ckr_desk_turn.specs.Invariant.{IsDesk}
 use Rattle.ckr_meaning.specs.declared.place.Place.{Place}
@@ -89,7 +90,7 @@ module _ (layout : Layout) (jobs : TurnJobs) (run : ℕ) (due : NextDue) (takes 
   chosen-none initiator row = by row.code
     where
       by : (code : Option Code) → asked_in (chosen_plan layout jobs initiator (record row { code = code })) ≡ None
-      by None = refl
+      by None = by-queued (λ plan. asked_in plan ≡ None) layout jobs.tables initiator (record row { code = None }) refl (λ reply rule name. refl) (λ reply earlier step id. refl) row.deck.restart
       by (Some code) = code-none (record row { code = Some code }) initiator false code (reached_by jobs (record row { code = Some code }))
 
   free-none : (initiator : ℕ) (fail : Option Code) → asked_in (free_plan layout jobs initiator fail) ≡ None
