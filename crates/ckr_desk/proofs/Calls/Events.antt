@@ -151,7 +151,7 @@ module _ {D : Type 0} (told : Type 0) (content : D → List ℕ) (may_leave : D 
         takes = λ now image. tt;
         next = subst (λ n. IsNext layout desk.office (Submitted n (kept_of_stored cards), Some deck)) (sym number) (stored-comes desk cards deck few some accepted);
         kept = subst (λ n. IsDesk (behind (Submitted n (kept_of_stored cards)) (Some deck) desk)) (sym number)
-            (stored-keeps desk trusted.stands.is_desk cards deck few some accepted runs);
+            (stored-keeps desk trusted.stands.is_desk cards deck few some accepted);
         stand = λ new moved records.
             subst (λ n. StandsForDesk layout new.jobs (content new.store.disk) (behind (Submitted n (kept_of_stored cards)) (Some deck) desk)) (sym number)
             (submitted-stands layout old.jobs new.jobs (content old.store.disk) (content new.store.disk) desk cards deck trusted.stands few some accepted runs

@@ -17,7 +17,7 @@ use Rattle.ckr_desk_refines.specs.Entries.{AreWithin, HasEntries, HasNewEntry, O
 use Rattle.ckr_desk_refines.specs.EntryRefusal.{AreInEffect, IsInEffect, effect_fault, entry_refusal, first_fault, run_fault}
 use Rattle.ckr_desk_refines.specs.Moves.{HasSameRecords}
 use Rattle.ckr_desk_store.specs.OpenImages.{event_records}
-use Rattle.ckr_desk_turn.proofs.Runs.Lists.{events-kept}
+use Rattle.ckr_desk_turn.proofs.Runs.Lists.{events-kept, run-decks}
 use Rattle.ckr_desk_turn.specs.Desk.{DeskModel}
 use Rattle.ckr_desk_turn.specs.RunEvents.{AreRunEvents}
 use Rattle.ckr_jcl.specs.declared.deck.Job.{Job}
@@ -113,7 +113,7 @@ module _ (layout : Layout) (records : List (List ℕ)) (tables : TablesModel) (s
   none-bad image has =
       placed-same layout (office (events_in records)).tables image
       (λ number row effect at is.
-      effect-placed layout (office (events_in records)).tables (events-kept layout (events_in records) sound run).events.extents kept-within.0 row effect (kept-within.1 number row effect at is))
+      effect-placed layout (office (events_in records)).tables (events-kept layout (events_in records) sound (run-decks (events_in records) run)).events.extents kept-within.0 row effect (kept-within.1 number row effect at is))
       ∙ sound-refused layout (events_in records) image sound none-other has
 
 -- so it is with an image that has these records

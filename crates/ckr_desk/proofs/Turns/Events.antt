@@ -18,6 +18,7 @@ use Rattle.ckr_points.specs.Restart.{after_event}
 use Rattle.ckr_points.specs.Rows.{TablesModel}
 use Rattle.ckr_desk_refines.proofs.Standing.Plans.{plans-so}
 use Rattle.ckr_desk_refines.specs.Entries.{HasEntries}
+use Rattle.ckr_desk_refines.specs.Restartless.{AreRestartless}
 use Rattle.ckr_desk_refines.specs.RewriteRecord.{RewriteRecord, rewrite_of}
 use Rattle.ckr_desk_refines.specs.Moves.{HasSameRecords}
 use Rattle.ckr_desk_store.specs.OpenImages.{Opens, event_records}
@@ -37,7 +38,7 @@ use Rattle.ckr_desk.proofs.Images.NextEvent.{deck-none}
 use Rattle.ckr_desk.proofs.Images.Entries.{HasNewOne, behind-same}
 use Rattle.ckr_desk.proofs.Images.Soundness.{again-so, kept-behind, kept-left, kept-same}
 use Rattle.ckr_desk.proofs.Images.WrittenRecord.{TellsRecord}
-use Rattle.ckr_desk.proofs.Turns.PlainEvents.{IsQuietPlan, decided-quiet, is_quiet, plan-quiet, quiet-plain}
+use Rattle.ckr_desk.proofs.Turns.PlainEvents.{IsQuietPlan, decided-quiet, is_quiet, plan-quiet, quiet-plain, seen-restartless}
 use Rattle.ckr_desk.proofs.Trust.Events.{IsBehind, IsComing, desk-behind}
 use Rattle.ckr_desk.specs.Requests.{has_room, room_behind}
 use Rattle.ckr_desk.specs.Calls.{HasGoneOn, IsLeftBy, IsSettledBehind, may_keep}
@@ -112,7 +113,7 @@ module _ {D : Type 0} (told : Type 0) (content : D → List ℕ) (may_leave : D 
 
   module _ (answer : Answer) (reply : Reply) (event : Event) (planned : decide answer (plan_of layout (jobs_of old.jobs) turn) ≡ Tell reply event) (shape : IsSpelled event) where
     pub quiet-so : is_quiet event ≡ true
-    quiet-so = subst IsQuietPlan planned (decided-quiet answer (plan_of layout (jobs_of old.jobs) turn) (plan-quiet layout (jobs_of old.jobs) turn))
+    quiet-so = subst IsQuietPlan planned (decided-quiet answer (plan_of layout (jobs_of old.jobs) turn) (plan-quiet layout (jobs_of old.jobs) (seen-restartless old.jobs (subst AreRestartless (sym trusted.stands.tables) trusted.stands.restartless)) turn))
 
     pub told-so : turn_of desk turn answer ≡ done_so (Tell reply event) (is_ask (plan_of layout (jobs_of old.jobs) turn)) desk
     told-so = turned-settled answer (Tell reply event) planned (quiet-plain event quiet-so)

@@ -1,16 +1,23 @@
 -- What a turn tells is a forward event.
 use Rattle.std.proofs.Common.{◌≡◌, ℕ, Bool, true, false, cond, List, refl, subst, sym, Option, Some, None, Result, Ok, Err}
 use Rattle.std.proofs.lemmas.Bool.{false≢true}
+use Rattle.std.specs.List.{AllByRecursion}
 use Rattle.std.specs.Option.{option_map_or}
 use Rattle.ckr_desk_memory.specs.Model.Refusal.{Refusal}
 use Rattle.ckr_base.specs.declared.code.Code.{Code}
 use Rattle.ckr_console.specs.declared.question.Answer.{Answer}
 use Rattle.ckr_base.specs.declared.programs.NextDue.{NextDue}
 use Rattle.ckr_base.specs.declared.programs.NextDue.TheVariants.{Unit as OneUnit, Checkpoint, Cancel, Finished}
+use Rattle.ckr_base.proofs.Sequences.{each-implies, find-holds}
 use Rattle.ckr_events.specs.declared.event.Event.{Event}
 use Rattle.ckr_events.specs.declared.event.Event.TheVariants.{Checkpointed, Submitted, Rewritten}
 use Rattle.ckr_events.specs.declared.event.Made.{Made}
+use Rattle.ckr_jcl.specs.declared.deck.Restart.{Restart}
+use Rattle.ckr_desk_memory.specs.Invariant.{IsAcceptedRow}
 use Rattle.ckr_desk_memory.specs.Plans.{told_by}
+use Rattle.ckr_desk_memory.specs.View.{JobsView, jobs_of}
+use Rattle.ckr_desk_memory.proofs.Holders.Names.{accepted-plain}
+use Rattle.ckr_desk_refines.specs.Restartless.{AreRestartless, IsRestartless}
 use Rattle.ckr_meaning.specs.EffectiveJob.{OwnedStep}
 use Rattle.ckr_meaning.specs.declared.place.Place.{Place}
 use Rattle.ckr_meaning.specs.declared.place.Place.TheVariants.{Before, Opened, Within}
@@ -27,7 +34,8 @@ use Rattle.ckr_desk_turn.specs.declared.plan.Plan.{Plan}
 use Rattle.ckr_desk_turn.specs.declared.plan.Plan.TheVariants.{Rest, Tell, Work, Pass, Take, Ask, Wait}
 use Rattle.ckr_desk_turn.specs.declared.reply.Turn.{Turn}
 use Rattle.ckr_desk_turn.specs.Allocation.{allocation_of}
-use Rattle.ckr_desk_turn.specs.Select.{next_run, run_on_initiator}
+use Rattle.ckr_desk_turn.specs.Select.{may_select, next_run, run_on_initiator}
+use Rattle.ckr_desk_turn.specs.Deferred.{queued_plan}
 use Rattle.ckr_desk_turn.specs.Inquiries.{decide}
 use Rattle.ckr_desk_turn.specs.Jobs.{TurnJobs, TurnStep, is_failed, running_in, waiting_code}
 use Rattle.ckr_desk_turn.specs.Plans.{between_plan, chosen_plan, due_plan, fail_plan, free_plan, is_within, placed_plan, plan_of, run_plan, running_plan, start_plan, suppressed_plan, system_failure, unmarked_plan, waiting_plan}
@@ -59,6 +67,10 @@ either-quiet (Ok items) f g first second = second items
 any-quiet : {X : Type 0} (o : Option X) (f : X → Plan) (none : Plan) → IsQuietPlan none → ((x : X) → IsQuietPlan (f x)) → IsQuietPlan (option_map_or f o none)
 any-quiet None f none first second = first
 any-quiet (Some x) f none first second = second x
+
+found-quiet : {X : Type 0} (o : Option X) (f : X → Plan) (none : Plan) → IsQuietPlan none → ((x : X) → o ≡ Some x → IsQuietPlan (f x)) → IsQuietPlan (option_map_or f o none)
+found-quiet None f none first second = first
+found-quiet (Some x) f none first second = second x refl
 
 some-quiet : {X : Type 0} (o : Option X) (none : Plan) (f : X → Plan) → IsQuietPlan none → ((x : X) → IsQuietPlan (f x)) → IsQuietPlan (elim o as (λ _. Plan) [ None ↦ none | Some x ↦ f x ])
 some-quiet None none f first second = first
@@ -113,16 +125,30 @@ module _ (layout : Layout) (jobs : TurnJobs) where
   run-quiet fail row =
       if-quiet (is_failed jobs row.number) _ _ (code-quiet layout jobs.tables row (initiator_of row) true system_failure (reached_by jobs row)) (unmarked-quiet row fail (waiting_code jobs row.number))
 
-  chosen-quiet : (initiator : ℕ) (row : RunRow) → IsQuietPlan (chosen_plan layout jobs initiator row)
-  chosen-quiet initiator row = some-quiet row.code _ _ refl (λ code. code-quiet layout jobs.tables row initiator false code (reached_by jobs row))
+  -- a run with no RESTART is selected
+  chosen-quiet : (initiator : ℕ) (row : RunRow) → row.deck.restart ≡ None → IsQuietPlan (chosen_plan layout jobs initiator row)
+  chosen-quiet initiator row restartless =
+      some-quiet row.code _ _ (subst (λ (restart : Option Restart). IsQuietPlan (queued_plan layout jobs.tables initiator row restart)) (sym restartless) refl)
+      (λ code. code-quiet layout jobs.tables row initiator false code (reached_by jobs row))
 
-  free-quiet : (initiator : ℕ) (fail : Option Code) → IsQuietPlan (free_plan layout jobs initiator fail)
-  free-quiet initiator (Some code) = tt
-  free-quiet initiator None = any-quiet (next_run jobs.tables) (chosen_plan layout jobs initiator) _ tt (chosen-quiet initiator)
+  module _ (restartless : AreRestartless jobs.tables) where
+    free-quiet : (initiator : ℕ) (fail : Option Code) → IsQuietPlan (free_plan layout jobs initiator fail)
+    free-quiet initiator (Some code) = tt
+    free-quiet initiator None =
+        found-quiet (next_run jobs.tables) (chosen_plan layout jobs initiator) _ tt
+        (λ row next. chosen-quiet initiator row (find-holds IsRestartless (λ other. may_select jobs.tables other.state other) jobs.tables.runs row restartless next))
 
-  pub plan-quiet : (turn : Turn) → IsQuietPlan (plan_of layout jobs turn)
-  unfolding plan_of
-  plan-quiet turn = any-quiet (run_on_initiator jobs.tables turn.initiator) (run_plan layout jobs turn.fail) _ (free-quiet turn.initiator turn.fail) (run-quiet turn.fail)
+    pub plan-quiet : (turn : Turn) → IsQuietPlan (plan_of layout jobs turn)
+    unfolding plan_of
+    plan-quiet turn = any-quiet (run_on_initiator jobs.tables turn.initiator) (run_plan layout jobs turn.fail) _ (free-quiet turn.initiator turn.fail) (run-quiet turn.fail)
+
+-- no run that is seen of the jobs in memory has RESTART, where none of them has, as where their decks are accepted ones
+pub seen-restartless : (jobs : JobsView) → AreRestartless jobs.tables.desk → AreRestartless (jobs_of jobs).tables
+unfolding jobs_of
+seen-restartless jobs restartless = restartless
+
+pub accepted-restartless : (tables : TablesModel) → AllByRecursion IsAcceptedRow tables.runs → AreRestartless tables
+accepted-restartless tables rows = each-implies IsAcceptedRow IsRestartless tables.runs accepted-plain rows
 
 -- and what is quiet is plain
 pub quiet-plain : (event : Event) → is_quiet event ≡ true → is_forward_event event ≡ true
@@ -140,8 +166,8 @@ plain-by (Take job) quiet = tt
 plain-by (Ask inquiry) quiet = tt
 plain-by (Wait job code) quiet = tt
 
-pub plan-plain : (layout : Layout) (jobs : TurnJobs) (turn : Turn) (plan : Plan) → plan ≡ plan_of layout jobs turn → IsPlainPlan plan
-plan-plain layout jobs turn plan is = plain-by plan (subst IsQuietPlan (sym is) (plan-quiet layout jobs turn))
+pub plan-plain : (layout : Layout) (jobs : TurnJobs) → AreRestartless jobs.tables → (turn : Turn) (plan : Plan) → plan ≡ plan_of layout jobs turn → IsPlainPlan plan
+plan-plain layout jobs restartless turn plan is = plain-by plan (subst IsQuietPlan (sym is) (plan-quiet layout jobs restartless turn))
 
 -- ---- what the operator's answer comes to
 

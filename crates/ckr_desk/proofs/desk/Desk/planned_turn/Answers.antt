@@ -6,7 +6,7 @@ use Rattle.ckr_desk_turn.specs.Invariant.{IsTurnOf}
 use Rattle.ckr_desk_turn.specs.Plans.{plan_of}
 use Rattle.ckr_volumes.specs.declared.layout.Layout.{Layout}
 use Rattle.ckr_desk.proofs.Turns.Preparation.{planned-before, turned-before, turned-not}
-use Rattle.ckr_desk.proofs.Turns.PlainEvents.{plan-plain}
+use Rattle.ckr_desk.proofs.Turns.PlainEvents.{accepted-restartless, plan-plain, seen-restartless}
 use Rattle.ckr_desk.proofs.Turns.Answers.{stands-before}
 use Rattle.ckr_desk.proofs.Turns.Plans.{go-needs}
 use Rattle.ckr_console.specs.Answering.{restart_answer}
@@ -42,11 +42,13 @@ returns-in_err-plan-clause-turned g c =
     subst (HasTurned d.told d.content d.may_leave d.moment d.left_since d.size turn (restart_answer old.operator) old mid) (sym (err-is c.from_residual.result NoMemory c.from_residual.ensures.1))
     (turned-not d.told d.content d.may_leave d.moment d.left_since d.size old mid is refl since turn (restart_answer old.operator) trusted NoMemory tt
     (go-needs d.told d.content d.may_leave d.moment d.left_since d.size d.faults old trusted turn its (restart_answer old.operator)
-    (plan-plain old.store.layout (jobs_of old.jobs) turn (plan_of old.store.layout (jobs_of old.jobs) turn) refl)
+    (plan-plain old.store.layout (jobs_of old.jobs) (seen-restartless old.jobs (accepted-restartless old.jobs.tables.desk c.self.invariant.are.rows)) turn (plan_of old.store.layout (jobs_of old.jobs) turn) refl)
     (subst (λ (l : Layout). NeedsRoom (plan_of l (jobs_of c.self.inside.jobs) turn)) c.layout.ensures.layout c.in_err-plan.ensures.takes))))
 
 pub carry_out-requires-clause-plain : goal.carry_out-requires-clause-plain
-carry_out-requires-clause-plain g c κs within = plan-plain _ _ c.args.turn c.in_ok-plan.plan c.in_ok-plan.ensures.plan
+carry_out-requires-clause-plain g c κs within =
+    plan-plain _ (jobs_of c.self.inside.jobs) (seen-restartless c.self.inside.jobs (accepted-restartless c.self.inside.jobs.tables.desk c.self.invariant.are.rows)) c.args.turn c.in_ok-plan.plan
+    c.in_ok-plan.ensures.plan
 
 pub plan-requires-clause-turn : goal.plan-requires-clause-turn
 plan-requires-clause-turn g c =
