@@ -3,6 +3,9 @@ pub mod Masters
 pub mod Sets
 pub mod CheckSets
 pub mod Moves
+pub mod OwnEntries
+pub mod Submissions
+pub mod Continuations
 pub mod Events
 pub mod OwnSets
 pub mod Points

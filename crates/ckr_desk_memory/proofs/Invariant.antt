@@ -1,12 +1,12 @@
 -- What holds of the jobs in memory holds behind an event that follows.
 use Rattle.std.proofs.Common.{◌≡◌, ◌+◌, ◌≤◌, ◌==◌, ◌&&◌, ◌||◌, ℕ, zero, suc, Bool, true, false, not, cond, List, [], ◌∷◌, ◌++◌, map, filter, length, refl, ap, sym, ◌∙◌, slice_set, subst, Option, None, Some, Ok, arith, length-append}
 use Rattle.std.proofs.lemmas.Bool.{and_from, false≢true, or_right}
-use Rattle.std.specs.Prelude.{if◌then◌else◌, nat_eq}
+use Rattle.std.specs.Prelude.{if◌then◌else◌, nat_eq, nat_le}
 use Rattle.std.specs.List.{AllByRecursion}
-use Rattle.std.specs.Option.{is_none, is_some, option_eq, option_map}
-use Rattle.ckr_base.proofs.Bools.{and-first, and-second, if-then, or-cases}
-use Rattle.ckr_base.proofs.Options.{is_some-from}
-use Rattle.ckr_base.proofs.Numbers.{equal-true, nat_le-true}
+use Rattle.std.specs.Option.{is_none, is_some, option_eq, option_map, option_map_or}
+use Rattle.ckr_base.proofs.Bools.{and-first, and-second, bool-cases, if-then, or-cases}
+use Rattle.ckr_base.proofs.Options.{is_none-true, is_some-from}
+use Rattle.ckr_base.proofs.Numbers.{equal-true, nat_le-from, nat_le-true}
 use Rattle.ckr_base.proofs.Sequences.{each-append}
 use Rattle.ckr_events.specs.declared.event.Event.{Event}
 use Rattle.ckr_events.specs.declared.event.Event.TheVariants.{Submitted, Selected, Started, Rewritten, Checkpointed, Cancelled, StepEnded, Restarted, Held, Released, Ended, Purged}
@@ -15,7 +15,7 @@ use Rattle.ckr_events.specs.declared.event.Ending.{Ending}
 use Rattle.ckr_events.specs.declared.event.Ending.TheVariants.{Completed, Coded, Allocation}
 use Rattle.ckr_jcl.specs.declared.deck.Job.{Job}
 use Rattle.ckr_meaning.specs.Allotments.{opened_all}
-use Rattle.ckr_meaning.specs.EffectiveJob.{OwnedStep, flaws_in, placed_in, plain_job, stamp_of}
+use Rattle.ckr_meaning.specs.EffectiveJob.{OwnedStep, flaws_in, placed_in, plain_job, stamp_of, step_at}
 use Rattle.ckr_meaning.specs.declared.place.Place.{Place}
 use Rattle.ckr_meaning.specs.declared.place.Place.TheVariants.{Before, Opened, Within}
 use Rattle.ckr_volumes.specs.declared.layout.Layout.{Layout}
@@ -24,7 +24,7 @@ use Rattle.ckr_points.specs.Office.{is_holder}
 use Rattle.ckr_points.specs.Tables.{after_commit, after_held, effect_rewritten, point_rewritten, queued_run, start_point}
 use Rattle.ckr_points.specs.declared.run.RunState.{RunState}
 use Rattle.ckr_points.specs.declared.run.RunState.TheVariants.{Queued, On, Held as HeldRun, Released as ReleasedRun, Purged as PurgedRun}
-use Rattle.ckr_points.specs.Follows.{ended_follows, follows, is_checkpoint, is_empty, is_free, is_in_state, is_rewrite, is_running, is_within, lengths_follow, may_hold, may_restart_again, may_start, of_run, of_step, selected_follows, started_follows}
+use Rattle.ckr_points.specs.Follows.{ended_follows, follows, is_checkpoint, is_empty, is_free, is_in_state, is_rewrite, is_running, is_within, lengths_follow, may_hold, may_restart_again, may_start, of_run, of_step, selected_follows, started_follows, state_number}
 use Rattle.ckr_points.specs.Restart.{after_abnormal, after_coded, after_ended, after_event, after_restarted, by_step, kept_at, place_of, step_in}
 use Rattle.ckr_points.specs.Rows.{RunRow, StartPoint, TablesModel, run_of, standing_of, step_of_run, table_ways, with_row}
 use Rattle.ckr_queue.specs.declared.entry.QueueEntry.{QueueEntry}
@@ -112,7 +112,9 @@ accepted_as old new same accepted = record {
   cards = accepted.cards;
   accepted = accepted.accepted ∙ sym (ap (λ (k : Kind). Ok k.1) same);
   is_run = ap (λ (k : Kind). is_run k.1) same ∙ accepted.is_run;
-  plain = ap (λ (k : Kind). k.2) same ∙ accepted.plain ∙ sym (ap (λ (k : Kind). plain_job k.0 k.1) same);
+  steps = λ number owned found. accepted.steps number owned (sym (ap (λ (k : Kind). step_at k.2 number) same) ∙ found);
+  plain = λ none.
+      ap (λ (k : Kind). k.2) same ∙ accepted.plain (sym (ap (λ (k : Kind). k.1.restart) same) ∙ none) ∙ sym (ap (λ (k : Kind). plain_job k.0 k.1) same);
 }
 
 abbrev first_or : Kind → List Kind → Kind
@@ -179,6 +181,29 @@ not-within step (Before number) may = refl
 not-within step (Opened number) may = refl
 not-within step (Within number writes) may = absurd (false≢true may)
 
+-- it starts the step that it is before
+pub start-step : (step : ℕ) (place : Place) → may_start step place ≡ true → step_in place ≡ step
+start-step step (Before number) may = equal-true number step may
+start-step step (Opened number) may = equal-true number step may
+start-step step (Within number writes) may = absurd (false≢true may)
+
+-- a run that waits continues no other one, and is at no step
+pub early-queued : (row : RunRow) → is_in_state Queued row ≡ true → IsPlacedRow row → row.earlier_step ≡ 0
+early-queued row waits is = equal-true row.earlier_step 0 (and-first _ (is_none row.place) (if-then (is_in_state Queued row) (row.earlier_step == 0 && is_none row.place) is.early waits))
+
+pub unplaced-queued : (row : RunRow) → is_in_state Queued row ≡ true → IsPlacedRow row → row.place ≡ None
+unplaced-queued row waits is = is_none-true row.place (and-second (row.earlier_step == 0) _ (if-then (is_in_state Queued row) (row.earlier_step == 0 && is_none row.place) is.early waits))
+
+-- so one that is within a step doesn't wait
+within-waits : (row : RunRow) → is_within (place_of row) ≡ true → IsPlacedRow row → is_in_state Queued row ≡ false
+within-waits row within is =
+    bool-cases (is_in_state Queued row)
+    (λ waits. absurd (false≢true (sym (ap (λ (place : Option Place). is_within (option_map_or (λ place. place) place (Before 1))) (unplaced-queued row waits is)) ∙ within)))
+    (λ other. other)
+
+early-by : (row : RunRow) (early : Bool) → is_in_state Queued row ≡ false → (not (is_in_state Queued row) || early) ≡ true
+early-by row early other = ap (λ b. not b || early) other
+
 -- a run that is running, or was released, is within its step, and holds its names
 pub released-within : (row : RunRow) → is_in_state ReleasedRun row ≡ true → IsPlacedRow row → is_within (place_of row) ≡ true
 released-within row released is = sym (ap (λ (state : RunState). not (is_off state) || is_within (place_of row)) (released-is row.state released)) ∙ is.off
@@ -202,16 +227,17 @@ running_within : (row : RunRow) → is_running row ≡ true → is_within (place
 running_within row runs = and-second (is_in_state On row) (is_within (place_of row)) runs
 
 placed_abnormal : (row : RunRow) (place : Place) (tables : TablesModel) → IsPlacedRow row → ArePlaced tables → ArePlaced (after_abnormal row place tables)
-placed_abnormal row (Before step) tables is placed = placed_put tables.runs row.number _ (record { place = is.place; state = refl; begun = is.begun; idle = refl; lodged = refl; seated = refl; code = refl; coded = tt; off = refl }) placed
-placed_abnormal row (Opened step) tables is placed = placed_put tables.runs row.number _ (record { place = is.place; state = refl; begun = is.begun; idle = refl; lodged = refl; seated = refl; code = refl; coded = tt; off = refl }) placed
+placed_abnormal row (Before step) tables is placed = placed_put tables.runs row.number _ (record { place = is.place; from = is.from; early = refl; begun = is.begun; idle = refl; lodged = refl; seated = refl; code = refl; coded = tt; off = refl }) placed
+placed_abnormal row (Opened step) tables is placed = placed_put tables.runs row.number _ (record { place = is.place; from = is.from; early = refl; begun = is.begun; idle = refl; lodged = refl; seated = refl; code = refl; coded = tt; off = refl }) placed
 placed_abnormal row (Within step writes) tables is placed =
-    by-step ArePlaced tables (step_of_run row step) _ placed (λ owned there. placed_put tables.runs row.number _ (record { place = is.place; state = refl; begun = is.begun; idle = refl; lodged = refl; seated = refl; code = refl; coded = tt; off = refl }) placed)
+    by-step ArePlaced tables (step_of_run row step) _ placed (λ owned there. placed_put tables.runs row.number _ (record { place = is.place; from = is.from; early = refl; begun = is.begun; idle = refl; lodged = refl; seated = refl; code = refl; coded = tt; off = refl }) placed)
 
 -- a row that goes on within its step
 placed_within : (row : RunRow) (owned : OwnedStep) (writes : ℕ) → step_of_run row (step_in (place_of row)) ≡ Some owned → is_within (place_of row) ≡ true → IsPlacedRow row → IsPlacedRow (record row { place = Some (Within (step_in (place_of row)) writes) })
 placed_within row owned writes there within is = record {
   place = is_some-from (step_of_run row (step_in (place_of row))) owned there;
-  state = is.state;
+  from = is.from;
+  early = early-by row _ (within-waits row within is);
   begun = begun-within row within is;
   idle = ap (λ b. is_holder row.state && b || is_none row.in_effect) (sym within) ∙ is.idle;
   lodged = is.lodged;
@@ -242,7 +268,8 @@ placed_held : (row : RunRow) (owned : OwnedStep) (code : Code) (writes : ℕ) (l
 placed_held row owned code writes lengths tables spelled there within is placed =
     placed_put tables.runs row.number _ (record {
       place = is_some-from (step_of_run row (step_in (place_of row))) owned there;
-      state = refl;
+      from = is.from;
+      early = refl;
       begun = begun-within row within is;
       idle = refl;
       lodged = refl;
@@ -258,7 +285,8 @@ placed_released row held is =
     let state = held-is row.state held in
     record {
       place = is.place;
-      state = refl;
+      from = is.from;
+      early = refl;
       begun = is.begun;
       idle = sym (ap (λ (state : RunState). is_holder state && is_within (place_of row) || is_none row.in_effect) state) ∙ is.idle;
       lodged = sym (ap (λ (state : RunState). is_none row.initiator || is_on_one state) state) ∙ is.lodged;
@@ -269,12 +297,12 @@ placed_released row held is =
     }
 
 placed_ended : (row : RunRow) (ending : Ending) (tables : TablesModel) → ended_follows tables row ending ≡ true → IsPlacedRow row → ArePlaced tables → ArePlaced (after_ended row ending tables)
-placed_ended row Completed tables follow is placed = placed_put tables.runs row.number _ (record { place = is.place; state = refl; begun = is.begun; idle = refl; lodged = refl; seated = refl; code = refl; coded = tt; off = refl }) placed
+placed_ended row Completed tables follow is placed = placed_put tables.runs row.number _ (record { place = is.place; from = is.from; early = refl; begun = is.begun; idle = refl; lodged = refl; seated = refl; code = refl; coded = tt; off = refl }) placed
 placed_ended row (Coded code rule writes lengths) tables follow is placed = placed_coded row writes lengths.items tables (coded_within row tables lengths.items is follow) is placed
 placed_ended row (Allocation dd cause first second) tables follow is placed = placed_abnormal row (place_of row) tables is placed
 
 -- no checkpoint is in effect of a run that waits, and of one that isn't within a step
-idle_queued : (row : RunRow) → is_in_state Queued row ≡ true → IsPlacedRow row → is_none row.in_effect ≡ true
+pub idle_queued : (row : RunRow) → is_in_state Queued row ≡ true → IsPlacedRow row → is_none row.in_effect ≡ true
 idle_queued row waits is =
     sym (ap (λ (state : RunState). is_holder state && is_within (place_of row) || is_none row.in_effect) (queued-is row.state waits)) ∙ is.idle
 
@@ -298,17 +326,18 @@ placed_selected layout tables job initiator earlier step id deck is follow place
     let its = row-among IsPlacedRow tables job row placed at in
     let asked = tested tables job (selected_follows layout tables initiator earlier step id) follow row at in
     let waits = and-first (is_in_state Queued row) _ (and-first (is_in_state Queued row && is_free layout tables initiator) _ (and-first (is_in_state Queued row && is_free layout tables initiator && may_hold tables row) _ asked)) in
-    placed_put tables.runs row.number _ (record { place = tt; state = refl; begun = refl; idle = idle_queued row waits its; lodged = refl; seated = refl; code = code_queued row waits its; coded = its.coded; off = refl }) placed))
+    placed_put tables.runs row.number _ (record { place = tt; from = ap (λ n. nat_le n 1) (early-queued row waits its); early = refl; begun = refl; idle = idle_queued row waits its; lodged = refl; seated = refl; code = code_queued row waits its; coded = its.coded; off = refl }) placed))
 
 placed_submitted : (tables : TablesModel) (job : ℕ) (cards : List ℕ) (deck : Option Job) → ArePlaced tables → ArePlaced (after_event (Submitted job cards) deck tables)
 placed_submitted tables job cards None placed = placed
-placed_submitted tables job cards (Some deck) placed = each-append IsPlacedRow tables.runs (queued_run job deck ∷ []) placed (record { place = tt; state = refl; begun = refl; idle = refl; lodged = refl; seated = refl; code = refl; coded = tt; off = refl }, tt)
+placed_submitted tables job cards (Some deck) placed = each-append IsPlacedRow tables.runs (queued_run job deck ∷ []) placed (record { place = tt; from = refl; early = refl; begun = refl; idle = refl; lodged = refl; seated = refl; code = refl; coded = tt; off = refl }, tt)
 
 -- a run that waits is on no initiator, also where it is purged
 off_purged : (row : RunRow) → is_in_state Queued row ≡ true → IsPlacedRow row → IsPlacedRow (record row { state = PurgedRun })
 off_purged row waits is = record {
   place = is.place;
-  state = refl;
+  from = is.from;
+  early = refl;
   begun = is.begun;
   idle = idle_queued row waits is;
   lodged = sym (ap (λ (state : RunState). is_none row.initiator || is_on_one state) (queued-is row.state waits)) ∙ is.lodged;
@@ -338,7 +367,8 @@ placed_restarted row initiator true tables inside is placed =
     (λ entry kept.
     placed_put tables.runs row.number _ (record {
       place = is_some-from (step_of_run row (step_in (place_of row))) owned there;
-      state = refl;
+      from = is.from;
+      early = refl;
       begun = begun-within row (in_step-within row inside) is;
       idle = refl;
       lodged = refl;
@@ -351,14 +381,14 @@ placed_restarted row initiator false tables inside is placed =
     by-step ArePlaced tables (step_of_run row (step_in (place_of row))) _ placed
     (λ owned there.
     by-step ArePlaced tables (point_at row.points (step_in (place_of row))) _ placed
-    (λ point began. placed_put tables.runs row.number _ (record { place = tt; state = refl; begun = refl; idle = refl; lodged = refl; seated = refl; code = refl; coded = tt; off = refl }) placed))
+    (λ point began. placed_put tables.runs row.number _ (record { place = tt; from = is.from; early = refl; begun = refl; idle = refl; lodged = refl; seated = refl; code = refl; coded = tt; off = refl }) placed))
 
 step_ended_runs : (tables : TablesModel) (job step : ℕ) (lengths : List ℕ) → of_run tables job (λ row. is_running row && step_in (place_of row) == step && lengths_follow tables row lengths) ≡ true → (row : RunRow) → run_of tables job ≡ Some row → is_running row ≡ true
 step_ended_runs tables job step lengths follow row at =
     and-first (is_running row) _
     (and-first (is_running row && step_in (place_of row) == step) (lengths_follow tables row lengths) (tested tables job (λ row. is_running row && step_in (place_of row) == step && lengths_follow tables row lengths) follow row at))
 
--- A forward event that follows leaves a run within no step that it hasn't or that has no point, and denies none; a run is on an initiator exactly where
+-- A forward event that follows leaves a run within no step that it hasn't, that it doesn't execute itself or that has no point; a run is on an initiator exactly where
 -- it has one, and has a code exactly while it is off its initiator within a step.
 pub placed-behind : (layout : Layout) (tables : TablesModel) (event : Event) (deck : Option Job) → is_forward_event event ≡ true → IsAnyAccepted event deck → follows layout tables event deck ≡ true → AllByRecursion IsPlacedRow tables.runs → AllByRecursion IsPlacedRow (after_event event deck tables).runs
 placed-behind layout tables (Submitted job cards) deck plain accepted follow placed = placed_submitted tables job cards deck placed
@@ -369,10 +399,15 @@ placed-behind layout tables (Started job step items) deck plain accepted follow 
     let is = row-among IsPlacedRow tables job row placed at in
     by-step ArePlaced tables (step_of_run row step) _ placed
     (λ owned there.
+    let may =
+    and-first (may_start step (place_of row)) _
+    (and-first (may_start step (place_of row) && is_empty (flaws_in (placed_in table_ways (standing_of row tables) row.job.root owned))) _
+    (tested-step (step_of_run row step) _ (and-second (is_in_state On row) _ (tested tables job (started_follows layout tables step items.items) follow row at)) owned there)) in
     placed_put tables.runs row.number _ (record {
       place = is_some-from (step_of_run row step) owned there;
-      state = is.state;
-      idle = or_right (is_holder row.state && true) (is_none row.in_effect) (idle-between row (not-within step (place_of row) (and-first (may_start step (place_of row)) _ (and-first (may_start step (place_of row) && is_empty (flaws_in (placed_in table_ways (standing_of row tables) row.job.root owned))) _ (tested-step (step_of_run row step) _ (and-second (is_in_state On row) _ (tested tables job (started_follows layout tables step items.items) follow row at)) owned there)))) is);
+      from = subst (λ n. nat_le row.earlier_step n ≡ true) (start-step step (place_of row) may) is.from;
+      early = early-by row _ (ap (λ state. state_number state == 1) (on-is row.state (and-first (is_in_state On row) _ (tested tables job (started_follows layout tables step items.items) follow row at))));
+      idle = or_right (is_holder row.state && true) (is_none row.in_effect) (idle-between row (not-within step (place_of row) may) is);
       begun = ap is_some (point_at-new (start_point row step (opened_all table_ways (stamp_of owned step) (placed_in table_ways (standing_of row tables) row.job.root owned) tables.sets)) row.points);
       lodged = is.lodged;
       seated = is.seated;
@@ -390,7 +425,8 @@ placed-behind layout tables (Rewritten job taken writes lengths place image) dec
     let within = running_within row runs in
     placed_put tables.runs row.number _ (record {
       place = is_some-from (step_of_run row (step_in (place_of row))) owned there;
-      state = is.state;
+      from = is.from;
+      early = early-by row _ (within-waits row within is);
       idle = ap (λ b. b && true || is_none (option_map effect_rewritten row.in_effect)) (on-holds row.state (and-first (is_in_state On row) _ runs));
       begun = rewritten_point (step_in (place_of row)) (step_in (place_of row)) row.points ∙ begun-within row within is;
       lodged = is.lodged;
@@ -409,7 +445,8 @@ placed-behind layout tables (Checkpointed job id taken writes lengths place byte
     let within = running_within row runs in
     placed_put tables.runs row.number _ (record {
       place = is_some-from (step_of_run row (step_in (place_of row))) owned there;
-      state = is.state;
+      from = is.from;
+      early = early-by row _ (within-waits row within is);
       begun = begun-within row within is;
       idle = ap (λ b. b && true || false) (on-holds row.state (and-first (is_in_state On row) _ runs));
       lodged = is.lodged;
@@ -422,7 +459,7 @@ placed-behind layout tables (Cancelled job) deck plain accepted follow placed =
     by-run ArePlaced tables job _ placed
     (λ row at.
     let is = row-among IsPlacedRow tables job row placed at in
-    placed_put tables.runs row.number _ (record { place = is.place; state = is.state; begun = is.begun; idle = or_right (is_in_step row) true refl; lodged = is.lodged; seated = is.seated; code = is.code; coded = is.coded; off = is.off }) placed)
+    placed_put tables.runs row.number _ (record { place = is.place; from = is.from; early = is.early; begun = is.begun; idle = or_right (is_in_step row) true refl; lodged = is.lodged; seated = is.seated; code = is.code; coded = is.coded; off = is.off }) placed)
 placed-behind layout tables (StepEnded job step rc writes lengths) deck plain accepted follow placed =
     by-run ArePlaced tables job _ placed
     (λ row at.
@@ -432,7 +469,8 @@ placed-behind layout tables (StepEnded job step rc writes lengths) deck plain ac
     let runs = step_ended_runs tables job step lengths.items follow row at in
     placed_put (after_commit row owned (step_in (place_of row)) writes lengths.items tables).runs row.number _ (record {
       place = tt;
-      state = is.state;
+      from = nat_le-from row.earlier_step (suc (step_in (place_of row))) (let past = nat_le-true row.earlier_step (step_in (place_of row)) is.from in omega (arith, past));
+      early = early-by row _ (within-waits row (running_within row runs) is);
       begun = refl;
       idle = or_right (is_holder row.state && false) true refl;
       lodged = is.lodged;

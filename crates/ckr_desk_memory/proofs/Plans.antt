@@ -212,8 +212,8 @@ no-step (Some own) is = absurd (some-not-none own.step.name (sym is))
 pub may-allocate : (tables : TablesModel) → AllByRecursion IsAcceptedRow tables.runs → (job number : ℕ) → MayAllocate job number tables
 may-allocate tables rows job number = λ row owned at step.
     let accepted = row-among IsAcceptedRow tables job row rows at in
-    step-among FitsAllocation row.number row.deck number owned (all_fit accepted.cards row.deck accepted.accepted)
-    (ap (λ (j : Effective). step_at j number) (sym accepted.plain) ∙ step) row.job.root owned.owner
+    let its = accepted.steps number owned step in
+    step-among FitsAllocation owned.owner its.deck number owned (all_fit its.cards its.deck its.accepted) its.owned_so row.job.root owned.owner
 
 items-made : (result : Result Allocation Refusal) (made : ArrayVec Made) → IsAllocation result (Ok made) → items_in result ≡ Ok made.items
 items-made (Ok done) made is = ap (λ (items : List Made). let r : Result (List Made) Refusal = Ok items in r) (sym is)

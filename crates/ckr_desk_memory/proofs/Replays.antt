@@ -24,6 +24,7 @@ use Rattle.ckr_desk_turn.specs.Queue.{AreNumbered}
 use Rattle.ckr_desk_memory.specs.Invariant.{AreJobs, IsAcceptedDeck, IsAcceptedRow, IsAnyAccepted, IsPlacedRow, IsRunnable}
 use Rattle.ckr_desk_memory.specs.Replay.{IsBounded, deck_of, goes_on, is_run_as, is_run_by, replayed}
 use Rattle.ckr_desk_memory.specs.View.{JobsView}
+use Rattle.ckr_desk_turn.proofs.AdmittedSteps.{own-step}
 use Rattle.ckr_desk_memory.proofs.Invariant.{accepted-behind, placed-behind}
 use Rattle.ckr_desk_memory.proofs.Extents.{laid-behind}
 
@@ -80,10 +81,11 @@ deck_accepted job cards (Some deck) is e = record {
   cards = stored_of_kept cards;
   accepted = read_again cards deck is;
   is_run = and-first (is_run deck) (is_submittable job deck) e;
-  plain = refl;
+  steps = own-step (stored_of_kept cards) job deck (read_again cards deck is);
+  plain = λ none. refl;
 }
 
-any_accepted : (event : Event) → IsBounded event → is_run_by event (deck_of event) ≡ true → IsAnyAccepted event (deck_of event)
+pub any_accepted : (event : Event) → IsBounded event → is_run_by event (deck_of event) ≡ true → IsAnyAccepted event (deck_of event)
 any_accepted (Submitted job cards) bounded e = deck_accepted job cards (kept_deck cards) refl e
 any_accepted (Held job code writes lengths) bounded e = bounded
 any_accepted _ bounded e = tt

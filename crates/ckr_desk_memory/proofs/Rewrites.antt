@@ -121,8 +121,7 @@ module _ (layout : Layout) (tables : TablesModel) (numbered : AreNumbered 1 tabl
   formed : is_formed_step row.job.root owned ≡ true
   formed =
       let accepted = row-among IsAcceptedRow tables job row rows at in
-      step-all (is_formed_step row.job.root) row.job step owned
-      (subst (λ (j : Effective). is_formed j ≡ true) (sym accepted.plain) (job_formed accepted.cards row.deck row.number accepted.accepted)) found
+      step-formed row step owned accepted found
 
   is_it : is_update owned.step.program ≡ true
   is_it = and-first (is_update owned.step.program) _ rewrites

@@ -41,7 +41,6 @@ use Rattle.ckr_desk_turn.specs.Jobs.{TurnJobs, TurnStep, is_failed, running_in, 
 use Rattle.ckr_desk_turn.specs.Plans.{allocation_ended, between_plan, chosen_plan, due_plan, fail_plan, free_plan, is_within as is_planned, placed_plan, plan_of, run_plan, running_plan, start_plan, suppressed_plan, system_failure, unmarked_plan}
 use Rattle.ckr_desk_turn.specs.Queue.{AreNumbered}
 use Rattle.ckr_desk_turn.specs.Select.{is_on, may_select, next_run, run_on_initiator}
-use Rattle.ckr_desk_turn.proofs.AdmittedSteps.{own-step}
 use Rattle.ckr_desk_turn.proofs.Codes.{by-verdict}
 use Rattle.ckr_desk_turn.proofs.NextEvents.BetweenSteps.{completed-follows, lodged-on, next_cases, refused-follows, selected-follows}
 use Rattle.ckr_desk_turn.proofs.RunEnd.{refused-inside}
@@ -161,8 +160,7 @@ module _ (layout : Layout) (seen : TurnJobs) (numbered : AreNumbered 1 seen.tabl
         by (Ok items) got =
             subst (λ (given : Result (List Made) Refusal). Follows (plan given)) (sym got)
             (λ not.
-            started-follows layout tables row laid.stand at on out owned there
-            (own-step accepted.cards row.number row.deck accepted.accepted (step_in (place_of row)) owned (ap (λ (job : Effective). step_at job (step_in (place_of row))) (sym accepted.plain) ∙ there)) items got)
+            started-follows layout tables row laid.stand at on out owned there (accepted.steps (step_in (place_of row)) owned there) items got)
         by (Err refusal) failed =
             let numbers = cause_numbers refusal.cause in
             let inside = refused-inside table_ways (standing_of row tables) layout (stamp_of owned (step_in (place_of row))) row.job.root owned (holdings tables.sets) refusal (refused-all _ refusal failed) in

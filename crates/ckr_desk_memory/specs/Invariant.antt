@@ -1,25 +1,24 @@
 -- What holds of the jobs in memory, whatever the disk reads.
-use Rattle.std.specs.Prelude.{◌≡◌, ◌||◌, ◌&&◌, ℕ, Bool, true, false, not, IsSome, List, Ok, Option, None, Some}
+use Rattle.std.specs.Prelude.{◌≡◌, ◌==◌, ◌||◌, ◌&&◌, ℕ, Bool, true, nat_le, not, IsSome, List, Ok, Option, None, Some}
 use Rattle.std.specs.List.{AllByRecursion}
 use Rattle.std.specs.Option.{is_none, is_some}
 use Rattle.ckr_events.specs.declared.event.Event.{Event}
 use Rattle.ckr_events.specs.declared.event.Event.TheVariants.{Submitted, Held}
 use Rattle.ckr_jcl.specs.declared.deck.Job.{Job}
 use Rattle.ckr_jcl_decks.specs.Deck.{stored_deck}
-use Rattle.ckr_meaning.specs.EffectiveJob.{Effective, plain_job, step_at}
+use Rattle.ckr_meaning.specs.EffectiveJob.{Effective, OwnedStep, plain_job, step_at}
 use Rattle.ckr_meaning.specs.declared.place.Place.{Place}
 use Rattle.ckr_meaning.specs.declared.place.Place.TheVariants.{Before, Opened, Within}
-use Rattle.ckr_points.specs.declared.run.RunState.{RunState}
-use Rattle.ckr_points.specs.declared.run.RunState.TheVariants.{Denied}
 use Rattle.ckr_points.specs.Tables.{queued_run}
-use Rattle.ckr_points.specs.Follows.{follows, is_within}
+use Rattle.ckr_points.specs.declared.run.RunState.TheVariants.{Queued}
+use Rattle.ckr_points.specs.Follows.{follows, is_in_state, is_within}
 use Rattle.ckr_points.specs.Marks.{point_at}
 use Rattle.ckr_points.specs.Office.{is_holder}
 use Rattle.ckr_points.specs.Restart.{place_of, step_in}
 use Rattle.ckr_points.specs.Rows.{RunRow}
 use Rattle.ckr_points.specs.Soundness.{AreLaidOut}
 use Rattle.ckr_desk_turn.specs.Spelling.{IsCode}
-use Rattle.ckr_desk_turn.specs.Invariant.{has_code_while_off, is_off, is_on_one}
+use Rattle.ckr_desk_turn.specs.Invariant.{has_code_while_off, IsAdmittedStep, is_off, is_on_one}
 use Rattle.ckr_steps.specs.Inputs.{AreStored, AreThere}
 use Rattle.ckr_steps.specs.StepUnit.{AreCounted}
 use Rattle.ckr_points_decks.specs.Form.{is_run}
@@ -27,12 +26,13 @@ use Rattle.ckr_volumes.specs.declared.layout.Layout.{Layout}
 use Rattle.ckr_desk_memory.specs.Plans.{IsAnyCode}
 use Rattle.ckr_desk_memory.specs.View.{JobsView, RunningStepView}
 
--- a run of a deck that was accepted, of a form that the desk runs
+-- a run of a deck that was accepted, of a form that the desk runs: each step of its job is of an accepted deck, and without RESTART it runs its own deck alone
 pub record IsAcceptedRow (row : RunRow) : Type 0 where
   pub cards : List ℕ
   pub accepted : stored_deck cards ≡ Ok row.deck
   pub is_run : is_run row.deck ≡ true
-  pub plain : row.job ≡ plain_job row.number row.deck
+  pub steps : (number : ℕ) (owned : OwnedStep) → step_at row.job number ≡ Some owned → IsAdmittedStep number owned
+  pub plain : row.deck.restart ≡ None → row.job ≡ plain_job row.number row.deck
 
 abbrev pub IsAcceptedDeck : ℕ → Option Job → Type 0
 IsAcceptedDeck job None = Unit {0}
@@ -66,16 +66,12 @@ is_in_step row = is_holder row.state && is_within (place_of row)
 abbrev pub is_idle : RunRow → Bool
 is_idle row = is_in_step row || is_none row.in_effect
 
--- a run that was never denied
-abbrev pub is_plain_state : RunState → Bool
-is_plain_state Denied = false
-is_plain_state _ = true
-
--- so it is with this run; it was never denied, it has an initiator exactly where it is on one, and a code, which has a spelling, exactly while it is off
+-- so it is with this run, whose step is one that it executes itself, and which is at no step and continues no other one before it is selected; it has an initiator exactly where it is on one, and a code, which has a spelling, exactly while it is off
 -- its initiator within a step
 pub record IsPlacedRow (row : RunRow) : Type 0 where
   pub place : IsAnyPlaceOf row.job row.place
-  pub state : is_plain_state row.state ≡ true
+  pub from : nat_le row.earlier_step (step_in (place_of row)) ≡ true
+  pub early : (not (is_in_state Queued row) || row.earlier_step == 0 && is_none row.place) ≡ true
   pub begun : is_begun row ≡ true
   pub idle : is_idle row ≡ true
   pub lodged : (is_none row.initiator || is_on_one row.state) ≡ true

@@ -22,7 +22,8 @@ ghost use Rattle.ckr_steps.specs.declared.step_run.StepRun.{StepRun as RunningPr
 ghost use Rattle.ckr_steps.specs.declared.step_run.Worked.{Worked as WorkedUnit};
 ghost use Rattle.ckr_steps.specs.declared.step_run.Worked.TheVariants.{Rewrite};
 ghost use Rattle.ckr_desk_memory.specs.EventChanges.{served_step};
-ghost use Rattle.ckr_desk_memory.specs.Invariant.{IsAcceptedRow, IsPlacedRow};
+ghost use Rattle.ckr_desk_memory.specs.Invariant.{IsAcceptedRow, IsAnyAccepted, IsPlacedRow};
+ghost use Rattle.ckr_points_tables.specs.Invariant.{MaySubmit};
 ghost use Rattle.ckr_desk_memory.specs.RunningSteps.{GoesOn};
 ghost use Rattle.ckr_desk_memory.specs.Start.{AllFit};
 ghost use Rattle.ckr_desk_memory.specs.View.{JobsView, PointView, RunningStepView};
@@ -33,12 +34,14 @@ ghost use Rattle.ckr_desk_memory.specs.OwnSets.{CommitsItsOwn, IsCommitted, IsRu
 ghost use Rattle.ckr_desk_memory.specs.OwnSteps.{AreLeft, HavePoints, HoldTheirOwn, IsOfOther};
 
 /// Runs that hold their names stay apart by each event that follows, whether it is sound or not: no two of them hold against each other,
-/// each has passed on as made names of its own job alone, and what its step may change is there. So it is where there are no runs yet.
+/// each executes steps whose names are of its deck, with kin as their owners, has lost all else that was passed on as made, and what its step may
+/// change is there. So it is where there are no runs yet.
 pub fn holders_stay_apart()
     ensures none { AreHolders no_tables }
     ensures kept { (layout : Layout) (tables : TablesModel) (event : Event) (deck : Option Job)
         → AreHolders tables → AllByRecursion IsAcceptedRow tables.runs → AreNumbered 1 tables.runs → AllByRecursion IsPlacedRow tables.runs
-        → is_forward_event event ≡ true → follows layout tables event deck ≡ true → AreHolders (after_event event deck tables) }
+        → IsAnyAccepted event deck → MaySubmit event deck → is_forward_event event ≡ true → follows layout tables event deck ≡ true
+        → AreHolders (after_event event deck tables) }
 {}
 
 /// Where runs that hold stay apart, the running steps stay those of their runs, each with its data sets beside the tables, by each event that
@@ -46,7 +49,8 @@ pub fn holders_stay_apart()
 pub fn running_steps_stay_theirs()
     ensures event { (layout : Layout) (tables : TablesModel) (event : Event) (deck : Option Job) (points : List PointView) (old new : List RunningStepView)
         → AreHolders tables → AllByRecursion IsAcceptedRow tables.runs → AreNumbered 1 tables.runs → AllByRecursion IsPlacedRow tables.runs
-        → is_forward_event event ≡ true → follows layout tables event deck ≡ true → AllByRecursion (IsRunningOf tables) old → HavePoints tables points
+        → IsAnyAccepted event deck → MaySubmit event deck → is_forward_event event ≡ true → follows layout tables event deck ≡ true
+        → AllByRecursion (IsRunningOf tables) old → HavePoints tables points
         → CommitsItsOwn event tables old → GoesOn event (after_event event deck tables) points old new
         → AllByRecursion (IsRunningOf (after_event event deck tables)) new }
     ensures unit { (tables : TablesModel) (old new : RunningStepView) (heads : HeadsOfInputs) (worked : WorkedUnit)

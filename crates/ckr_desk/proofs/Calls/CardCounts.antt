@@ -101,4 +101,4 @@ few-accepted cards job e = few_cards cards job (accepted-deck cards job e).0
 
 -- its row is such as the desk runs
 pub accepted-row : (cards : List ℕ) (number : ℕ) (job : Job) → submission_of cards ≡ Accepted job → IsAcceptedRow (queued_run number job)
-accepted-row cards number job e = let its = accepted-deck cards job e in record { cards = cards; accepted = its.0; is_run = its.1; plain = refl }
+accepted-row cards number job e = let its = accepted-deck cards job e in record { cards = cards; accepted = its.0; is_run = its.1; steps = own-step cards number job its.0; plain = λ none. refl }

@@ -1,12 +1,12 @@
--- By each event that follows the row of its run alone changes, and what the run's job names: so the holders stay apart.
-use Rattle.std.proofs.Common.{arith, ◌≡◌, ◌≢◌, ◌==◌, ◌+◌, ℕ, zero, suc, Bool, true, false, ◌&&◌, ◌||◌, not, if◌then◌else◌, List, [], ◌∷◌, ◌++◌, map, length, refl, ap, sym, ◌∙◌, subst, Option, Some, None}
+-- By each event that follows the row of its run alone changes, and what the run reaches: so the holders stay apart.
+use Rattle.std.proofs.Common.{arith, ◌≡◌, ◌≢◌, ◌==◌, ◌≤◌, ◌<◌, ◌+◌, ℕ, zero, suc, Bool, true, false, ◌&&◌, ◌||◌, not, if◌then◌else◌, List, [], ◌∷◌, ◌++◌, map, length, refl, ap, sym, ◌∙◌, subst, Option, Some, None}
 use Rattle.std.specs.Prelude.{nat_eq, nat_lt, slice_get}
 use Rattle.std.specs.List.{AllByRecursion}
 use Rattle.std.specs.Option.{is_none, is_some, option_eq, option_map, option_map_or}
 use Rattle.std.proofs.lemmas.Bool.{false≢true}
 use Rattle.std.proofs.lemmas.Option.{same_Some}
-use Rattle.ckr_base.proofs.Bools.{and-first, and-second, or-cases}
-use Rattle.ckr_base.proofs.Numbers.{equal-true, number-cases}
+use Rattle.ckr_base.proofs.Bools.{and-first, and-second, bool-cases, or-cases}
+use Rattle.ckr_base.proofs.Numbers.{equal-true, nat_le-true}
 use Rattle.ckr_base.proofs.Options.{is_some-true, some-not-none, some-one}
 use Rattle.ckr_base.specs.declared.code.Code.{Code}
 use Rattle.ckr_entry.specs.declared.point.Passed.{Passed}
@@ -19,13 +19,14 @@ use Rattle.ckr_events.specs.declared.event.Made.{Made}
 use Rattle.ckr_jcl.specs.declared.deck.Job.{Job}
 use Rattle.ckr_library.proofs.Named.{at-with_changed-other}
 use Rattle.ckr_library.specs.Catalog.{records_of}
-use Rattle.ckr_library.specs.NameMaps.{Name, Named, entry_at}
+use Rattle.ckr_library.specs.NameMaps.{Name, Named, entry_at, same_name}
 use Rattle.ckr_library.specs.declared.sets.Kept.{Kept}
+use Rattle.ckr_meaning.specs.Allotments.{opened_all}
 use Rattle.ckr_meaning.specs.Dispositions.{Stock, passed_ended}
-use Rattle.ckr_meaning.specs.EffectiveJob.{Effective, OwnedStep, flaws_in, is_among, names_of, names_of_job, placed_in}
+use Rattle.ckr_meaning.specs.EffectiveJob.{Effective, OwnedStep, flaws_in, is_among, names_of, placed_in, stamp_of}
 use Rattle.ckr_meaning.specs.declared.place.Place.{Place}
 use Rattle.ckr_meaning.specs.declared.place.Place.TheVariants.{Before, Opened, Within}
-use Rattle.ckr_base.proofs.Sequences.{each-append, find-holds, get-inside}
+use Rattle.ckr_base.proofs.Sequences.{each-append, find-holds}
 use Rattle.ckr_points.specs.declared.run.RunState.{RunState}
 use Rattle.ckr_points.specs.declared.run.RunState.TheVariants.{Queued, On, Held as HeldRun, Released as ReleasedRun, Ended as EndedRun, Denied as DeniedRun, Purged as PurgedRun}
 use Rattle.ckr_points.specs.Follows.{follows, is_checkpoint, is_empty, is_free, is_in_state, is_length_of, is_rewrite, is_running, is_update, is_within, lengths_follow, may_hold, may_restart_again, may_start, of_step, own_step, selected_follows, started_follows, state_number, ended_follows}
@@ -33,26 +34,32 @@ use Rattle.ckr_points.specs.Office.{is_holder, passed_made}
 use Rattle.ckr_points.specs.Marks.{has_passed, point_at, put_back, removed_all, with_point, without_passed}
 use Rattle.ckr_points.specs.Restart.{after_abnormal, after_chosen, after_coded, after_ended, after_event, after_passed_ended, after_put_back, after_restarted, back_to_entry, back_to_start, by_step, effect_restarted, kept_at, place_of, point_restarted, row_on, step_in}
 use Rattle.ckr_points.specs.Rows.{EffectPoint, EntryPoint, KeptEntry, RunRow, StartPoint, TableSet, TablesModel, no_tables, run_of, standing_of, step_of_run, table_ways, with_run}
-use Rattle.ckr_points.specs.Tables.{after_submitted, after_cancelled, after_checkpointed, after_commit, after_dispositions, after_held, after_rewritten, after_started, after_step_ended, committed, fresh_effect, is_checkpoints, is_updates, name_with_role, own_made, queued_run, effect_rewritten, point_rewritten, row_rewritten, table_rewritten, with_kept_entry}
-use Rattle.ckr_points_invariant.proofs.Library.PassedList.{ended-stays}
+use Rattle.ckr_points.specs.Tables.{after_submitted, after_cancelled, after_checkpointed, after_commit, after_dispositions, after_held, after_rewritten, after_started, after_step_ended, committed, earlier_made, entry_point, fresh_effect, kept_entry, is_checkpoints, is_updates, name_with_role, own_made, queued_run, effect_rewritten, point_rewritten, row_rewritten, run_disposals, start_point, table_rewritten, with_kept_entry}
+use Rattle.ckr_points.specs.RuleCases.{is_ended}
+use Rattle.ckr_points_invariant.proofs.Holders.Rows.{holder-ended, queued-is}
+use Rattle.ckr_points_invariant.proofs.Library.PassedList.{ended-stays, made-without}
 use Rattle.ckr_points_invariant.proofs.Steps.Events.{on-holds}
+use Rattle.ckr_points_invariant.proofs.Marks.Points.{point_at-new}
 use Rattle.ckr_points_invariant.proofs.WaitingRuns.{tested-run}
+use Rattle.ckr_points_invariant.proofs.WrittenEntries.Sets.{EachHas, GoesOnThrough, committed-has, disposed_all-has, made_all-has, opened_all-has, passed_ended-has, put_back-has, removed_all-has, rewritten-has}
 use Rattle.ckr_points_library.specs.Commit.{output_names}
-use Rattle.ckr_points_tables.specs.Invariant.{is_submission}
+use Rattle.ckr_points_tables.specs.Invariant.{MaySubmit, is_submission}
 use Rattle.ckr_desk_memory.specs.ForwardEvents.{is_forward_event}
 use Rattle.ckr_volumes.specs.declared.layout.Layout.{Layout}
 use Rattle.ckr_desk_memory.proofs.Holders.CheckSets.{length-among, not-among}
 use Rattle.ckr_desk_memory.proofs.Holders.KeptEntries.{kept-changed, kept-committed, kept-of, kept-put_back, none-kept}
-use Rattle.ckr_desk_memory.proofs.Holders.Moves.{RowGoesOn, HasRow, by-own, by-row, holders-go, row-accepted, row-as_is, row-next, row-number}
+use Rattle.ckr_desk_memory.proofs.Holders.Moves.{HasRow, RowGoesOn, RunGoesOn, by-own, by-row, goes-through, holders-go, row-accepted, row-as_is, row-next, row-number, run-goes}
 use Rattle.ckr_desk_memory.proofs.Holders.Names.{changed-named, names-outside, outputs-changed, step-formed}
+use Rattle.ckr_desk_memory.proofs.Holders.OwnEntries.{checks-keep, kept-weaker, own-as, passed-as, passed-restarted, passed-rewritten, starts-own, step-first, steps-within, within-at}
 use Rattle.ckr_desk_memory.proofs.Holders.Sets.{committed-outside, disposed-outside, passed-outside, put_back-outside, restarted-outside, started-outside, there-changed, there-committed, there-put_back, there-started, updated-outside}
+use Rattle.ckr_desk_memory.proofs.Holders.Submissions.{holders-submitted}
 use Rattle.ckr_desk_memory.proofs.Runs.{by-step}
-use Rattle.ckr_desk_memory.specs.Invariant.{IsAcceptedRow, IsPlacedRow, is_in_step}
-use Rattle.ckr_desk_memory.proofs.Invariant.{hand-in_step, in_step-holds, in_step-within, not-within, restarts-in_step}
+use Rattle.ckr_desk_memory.specs.Invariant.{IsAcceptedRow, IsAnyAccepted, IsPlacedRow, is_in_step}
+use Rattle.ckr_desk_memory.proofs.Invariant.{hand-in_step, in_step-holds, in_step-within, not-within, restarts-in_step, start-step, unplaced-queued}
 use Rattle.ckr_desk_memory.proofs.Queue.{held-is}
 use Rattle.ckr_desk_memory.proofs.Starts.Steps.{row-among}
 use Rattle.ckr_desk_turn.specs.Queue.{AreNumbered}
-use Rattle.ckr_desk_memory.specs.Holders.{AreHolders, AreOwn, HasOwnEffect, PassesOnOwn, PassesOwn, changed_names}
+use Rattle.ckr_desk_memory.specs.Holders.{AreHolders, AreOwn, HasOwnEffect, HasStartPassed, IsStartPassed, PassesOnOwn, PassesOwn, changed_names, reached_names, steps_begun}
 
 -- ---- tests
 
@@ -77,6 +84,9 @@ released-holds EndedRun e = absurd (false≢true e)
 released-holds DeniedRun e = absurd (false≢true e)
 released-holds PurgedRun e = absurd (false≢true e)
 
+running-within : (row : RunRow) → is_running row ≡ true → is_within (place_of row) ≡ true
+running-within row runs = and-second (is_in_state On row) (is_within (place_of row)) runs
+
 running-holds : (row : RunRow) → is_running row ≡ true → is_holder row.state ≡ true
 running-holds row runs = on-holds row.state (and-first (is_in_state On row) (is_within (place_of row)) runs)
 
@@ -88,6 +98,20 @@ queued-free ReleasedRun e = absurd (false≢true e)
 queued-free EndedRun e = refl
 queued-free DeniedRun e = refl
 queued-free PurgedRun e = refl
+
+-- ---- what is passed on
+
+-- what a run has lost doesn't count as passed on
+unlost : (lost : List Name) (passed : List Passed) (name : Name) → is_among lost name ≡ false → is_among (passed_made (without_passed lost passed)) name ≡ false → is_among (passed_made passed) name ≡ false
+unlost lost passed name here none = ap (λ b. not b && is_among (passed_made passed) name) (sym here) ∙ sym (made-without lost passed name) ∙ none
+
+still-made : (lost : List Name) (passed later : List Passed) (name : Name) → (is_among (passed_made passed) name ≡ false → is_among (passed_made later) name ≡ false) → is_among (passed_made (without_passed lost passed)) name ≡ false
+    → is_among (passed_made (without_passed lost later)) name ≡ false
+still-made lost passed later name more none =
+    made-without lost later name
+    ∙ bool-cases (is_among lost name)
+    (λ gone. ap (λ b. not b && is_among (passed_made later) name) gone)
+    (λ here. ap (λ b. not b && is_among (passed_made later) name) here ∙ more (unlost lost passed name here none))
 
 -- ---- points
 
@@ -118,15 +142,29 @@ no-effect own free effect is = absurd (false≢true (sym free ∙ (own.effect ef
 
 -- ---- one run
 
-module _ (tables : TablesModel) (rows : AllByRecursion IsAcceptedRow tables.runs) (numbered : AreNumbered 1 tables.runs) (job : ℕ) (row : RunRow) (at : run_of tables job ≡ Some row) where
+module _ (tables : TablesModel) (rows : AllByRecursion IsAcceptedRow tables.runs) (numbered : AreNumbered 1 tables.runs) (placed : AllByRecursion IsPlacedRow tables.runs) (job : ℕ) (row : RunRow) (at : run_of tables job ≡ Some row) where
   abbrev Goes : TablesModel → Type 0
-  Goes after = RowGoesOn tables after job
+  Goes after = RunGoesOn tables after job
 
   mine : row.number ≡ job
   mine = row-number tables job row numbered at
 
   accepted : IsAcceptedRow row
   accepted = row-accepted tables job row rows at
+
+  is_placed : IsPlacedRow row
+  is_placed = row-among IsPlacedRow tables job row placed at
+
+  -- it executes the step that it is before or in
+  from : row.earlier_step ≤ step_in (place_of row)
+  from = nat_le-true row.earlier_step (step_in (place_of row)) is_placed.from
+
+  -- a run that holds, or is queued, hasn't ended
+  holds-on : is_holder row.state ≡ true → is_ended row.state ≡ false
+  holds-on holds = holder-ended row.state holds
+
+  queued-on : is_in_state Queued row ≡ true → is_ended row.state ≡ false
+  queued-on queued = ap is_ended (queued-is row.state queued)
 
   selected : (layout : Layout) (initiator earlier step : ℕ) (id : Option Name) → earlier ≡ 0 → selected_follows layout tables initiator earlier step id row ≡ true → Goes (after_chosen row initiator earlier step id tables)
   selected layout initiator earlier step id none follow =
@@ -139,10 +177,15 @@ module _ (tables : TablesModel) (rows : AllByRecursion IsAcceptedRow tables.runs
         number = refl;
         deck = refl;
         job_is = refl;
+        from_is = refl;
+        on = queued-on (and-first (is_in_state Queued row) _ (and-first (is_in_state Queued row && is_free layout tables initiator) _ (and-first (is_in_state Queued row && is_free layout tables initiator && may_hold tables row) _ follow)));
         begins = λ was now. and-second (is_in_state Queued row && is_free layout tables initiator) (may_hold tables row) (and-first (is_in_state Queued row && is_free layout tables initiator && may_hold tables row) _ follow);
-        passed = λ own. record {
+        start = λ begun own ends at. absurd (false≢true at);
+        own = λ begun set point its. record { first = its.first; begun = subst (λ place. point.step < steps_begun (option_map_or (λ place. place) place (Before 1))) (unplaced-queued row (and-first (is_in_state Queued row) _ (and-first (is_in_state Queued row && is_free layout tables initiator) _ (and-first (is_in_state Queued row && is_free layout tables initiator && may_hold tables row) _ follow))) is_placed) its.begun; passed = passed-as row _ refl its.passed; changes = its.changes };
+        kept = λ begun. goes-through tables.sets tables.sets _ (λ E through each. each);
+        passed = λ begun own. record {
           passed = own.passed;
-          points = own.points;
+          points = λ ends. own.points (queued-on (and-first (is_in_state Queued row) _ (and-first (is_in_state Queued row && is_free layout tables initiator) _ (and-first (is_in_state Queued row && is_free layout tables initiator && may_hold tables row) _ follow))));
           effect = λ effect is. no-effect own (queued-free row.state (and-first (is_in_state Queued row) _ (and-first (is_in_state Queued row && is_free layout tables initiator) _ (and-first (is_in_state Queued row && is_free layout tables initiator && may_hold tables row) _ follow)))) effect is;
         };
         still = λ was name. refl;
@@ -150,8 +193,8 @@ module _ (tables : TablesModel) (rows : AllByRecursion IsAcceptedRow tables.runs
         changed = λ has owned name holding within found among. absurd (false≢true within);
       })
 
-  cancelled : Goes (after_cancelled row tables)
-  cancelled = record {
+  cancelled : is_holder row.state ≡ true → Goes (after_cancelled row tables)
+  cancelled holds = record {
     row = row;
     next = record row { in_effect = None };
     row_at = at;
@@ -159,19 +202,25 @@ module _ (tables : TablesModel) (rows : AllByRecursion IsAcceptedRow tables.runs
     number = refl;
     deck = refl;
     job_is = refl;
+    from_is = refl;
+    on = holds-on holds;
     begins = λ was now. absurd (false≢true (sym was ∙ now));
-    passed = λ own. record { passed = own.passed; points = own.points; effect = λ effect is. absurd (some-not-none effect (sym is)) };
+    start = λ begun own ends at. passed-as row _ refl (begun ends at);
+    own = λ begun set point its. own-as row _ refl refl refl its;
+    kept = λ begun. goes-through tables.sets tables.sets _ (λ E through each. each);
+    passed = λ begun own. record { passed = own.passed; points = own.points; effect = λ effect is. absurd (some-not-none effect (sym is)) };
     still = λ was name. refl;
     outside = λ own name out. refl;
     changed = λ has. has;
   }
 
   -- a run that holds nothing any more
-  over : (r : RunRow) (mid : TablesModel) (was : RunRow) (sets : Named TableSet) → HasRow tables mid job was → r.number ≡ row.number → r.deck ≡ row.deck → r.job ≡ row.job → is_holder r.state ≡ false → (PassesOnOwn tables.sets row → PassesOnOwn sets r)
+  over : (r : RunRow) (mid : TablesModel) (was : RunRow) (sets : Named TableSet) → HasRow tables mid job was → r.number ≡ row.number → r.deck ≡ row.deck → r.job ≡ row.job → r.earlier_step ≡ row.earlier_step → is_ended row.state ≡ false → is_holder r.state ≡ false → (PassesOnOwn tables.sets row → PassesOnOwn sets r)
+      → (HasStartPassed row → HasStartPassed r) → steps_begun (place_of r) ≡ steps_begun (place_of row) → r.points ≡ row.points → ((E : Name → TableSet → Type 0) → GoesOnThrough E → EachHas E tables.sets → EachHas E sets)
       → (is_holder row.state ≡ false → (name : Name) → entry_at sets name ≡ entry_at tables.sets name)
-      → (PassesOwn row → (name : Name) → is_among (names_of_job row.job) name ≡ false → entry_at sets name ≡ entry_at tables.sets name)
+      → (PassesOwn row → (name : Name) → is_among (reached_names row) name ≡ false → entry_at sets name ≡ entry_at tables.sets name)
       → Goes (with_run r (record mid { sets = sets }))
-  over r mid was sets has number deck same gone passes still outside = record {
+  over r mid was sets has number deck same from on gone passes start begun points through still outside = record {
     row = row;
     next = r;
     row_at = at;
@@ -179,8 +228,13 @@ module _ (tables : TablesModel) (rows : AllByRecursion IsAcceptedRow tables.runs
     number = number;
     deck = deck;
     job_is = same;
+    from_is = from;
+    on = on;
     begins = λ before now. absurd (false≢true (sym gone ∙ now));
-    passed = passes;
+    start = λ started own. start started;
+    own = λ started set point its. own-as row r same begun points its;
+    kept = λ started. goes-through tables.sets sets _ through;
+    passed = λ started. passes;
     still = still;
     outside = outside;
     changed = λ has owned name holding within found among. absurd (false≢true (sym gone ∙ holding));
@@ -188,9 +242,13 @@ module _ (tables : TablesModel) (rows : AllByRecursion IsAcceptedRow tables.runs
 
   purged : is_in_state Queued row ≡ true → Goes (with_run (record row { state = PurgedRun }) tables)
   purged queued =
-      over (record row { state = PurgedRun }) tables row tables.sets (row-as_is tables job row at) refl refl refl refl
-      (λ own. record { passed = own.passed; points = own.points; effect = λ effect is. no-effect own (queued-free row.state queued) effect is })
-      (λ was name. refl) (λ own name out. refl)
+      over (record row { state = PurgedRun }) tables row tables.sets (row-as_is tables job row at) refl refl refl refl (queued-on queued) refl
+      (λ own. record { passed = own.passed; points = λ ends. own.points (queued-on queued); effect = λ effect is. no-effect own (queued-free row.state queued) effect is })
+      (λ started ends at. passed-as row (record row { state = PurgedRun }) refl (started (queued-on queued) at)) refl refl (λ E through each. each) (λ was name. refl) (λ own name out. refl)
+
+  -- so it does the one that it starts
+  ahead : {step : ℕ} → may_start step (place_of row) ≡ true → row.earlier_step ≤ step
+  ahead {step} may = subst (λ n. row.earlier_step ≤ n) (start-step step (place_of row) may) from
 
   started : (layout : Layout) (step : ℕ) (items : List Made) → started_follows layout tables step items row ≡ true → Goes (option_map_or (λ owned. after_started row owned step items tables) (step_of_run row step) tables)
   started layout step items follow =
@@ -205,14 +263,26 @@ module _ (tables : TablesModel) (rows : AllByRecursion IsAcceptedRow tables.runs
         number = refl;
         deck = refl;
         job_is = refl;
+        from_is = refl;
+        on = holds-on (on-holds row.state (and-first (is_in_state On row) _ follow));
         begins = λ was now. absurd (false≢true (sym was ∙ now));
-        passed = λ own. record {
+        start = λ begun own ends at. record { start = _; at = point_at-new _ row.points; same = refl };
+        own = λ begun set point its.
+            starts-own row _ (start_point row step (opened_all table_ways (stamp_of owned step) (placed_in table_ways (standing_of row tables) row.job.root owned) tables.sets))
+            refl refl refl (and-first (may_start step (place_of row)) _ (and-first (may_start step (place_of row) && is_empty (flaws_in (placed_in table_ways (standing_of row tables) row.job.root owned))) _ passes)) refl
+            (begun (holds-on (on-holds row.state (and-first (is_in_state On row) _ follow)))) set point its;
+        kept = λ begun.
+            goes-through tables.sets (after_started row owned step items tables).sets _
+            (λ E through each.
+            made_all-has E through (stamp_of owned step) items (placed_in table_ways (standing_of row tables) row.job.root owned) _
+            (opened_all-has E through (stamp_of owned step) (placed_in table_ways (standing_of row tables) row.job.root owned) tables.sets each));
+        passed = λ begun own. record {
           passed = own.passed;
-          points = points-with (λ point. AreOwn row.job point.passed) _ row.points own.passed own.points;
+          points = λ ends. points-with (λ point. AreOwn row point.passed) _ row.points own.passed (own.points ends);
           effect = λ effect is. absurd (false≢true (sym (not-within step (place_of row) (and-first (may_start step (place_of row)) _ (and-first (may_start step (place_of row) && is_empty (flaws_in (placed_in table_ways (standing_of row tables) row.job.root owned))) _ passes))) ∙ (own.effect effect is).within));
         };
         still = λ was name. absurd (false≢true (sym was ∙ on-holds row.state (and-first (is_in_state On row) _ follow)));
-        outside = λ own name out. started-outside row owned step name (names-outside row.job step owned name found out) items tables;
+        outside = λ own name out. started-outside row owned step name (names-outside row step owned name (ahead (and-first (may_start step (place_of row)) _ (and-first (may_start step (place_of row) && is_empty (flaws_in (placed_in table_ways (standing_of row tables) row.job.root owned))) _ passes))) found out) items tables;
         changed = λ has other name holding within its among.
             let flawless = empty-is (flaws_in (placed_in table_ways (standing_of row tables) row.job.root owned)) (and-second (may_start step (place_of row)) _ (and-first (may_start step (place_of row) && is_empty (flaws_in (placed_in table_ways (standing_of row tables) row.job.root owned))) _ passes)) in
             there-started row owned step items tables name flawless
@@ -222,8 +292,8 @@ module _ (tables : TablesModel) (rows : AllByRecursion IsAcceptedRow tables.runs
   -- ---- a run within a step
 
   module _ (owned : OwnedStep) (found : own_step row ≡ Some owned) where
-    not_of_step : (name : Name) → is_among (names_of_job row.job) name ≡ false → is_among (names_of row.job.root owned) name ≡ false
-    not_of_step name out = names-outside row.job (step_in (place_of row)) owned name found out
+    not_of_step : (name : Name) → is_among (reached_names row) name ≡ false → is_among (names_of row.job.root owned) name ≡ false
+    not_of_step name out = names-outside row (step_in (place_of row)) owned name from found out
 
     abbrev behind : ℕ → List ℕ → TablesModel
     behind writes lengths = after_commit row owned (step_in (place_of row)) writes lengths tables
@@ -231,7 +301,7 @@ module _ (tables : TablesModel) (rows : AllByRecursion IsAcceptedRow tables.runs
     behind_rows : (writes : ℕ) (lengths : List ℕ) → HasRow tables (behind writes lengths) job (record row { place = Some (Within (step_in (place_of row)) writes) })
     behind_rows writes lengths = row-next tables tables job row _ (committed (output_names row.job.root owned) lengths tables.sets) (row-as_is tables job row at) mine
 
-    behind_outside : (lengths : List ℕ) (name : Name) → is_among (names_of_job row.job) name ≡ false → entry_at (committed (output_names row.job.root owned) lengths tables.sets) name ≡ entry_at tables.sets name
+    behind_outside : (lengths : List ℕ) (name : Name) → is_among (reached_names row) name ≡ false → entry_at (committed (output_names row.job.root owned) lengths tables.sets) name ≡ entry_at tables.sets name
     behind_outside lengths name out = committed-outside row.job.root owned name (not_of_step name out) lengths tables.sets
 
     rewritten : (place : ℕ) (image : List ℕ) (writes : ℕ) (lengths : List ℕ) → is_running row ≡ true → is_rewrite tables place image row owned ≡ true → Goes (after_rewritten row owned (step_in (place_of row)) writes lengths tables)
@@ -243,10 +313,24 @@ module _ (tables : TablesModel) (rows : AllByRecursion IsAcceptedRow tables.runs
       number = refl;
       deck = refl;
       job_is = refl;
+      from_is = refl;
+      on = holds-on (running-holds row runs);
       begins = λ was now. absurd (false≢true (sym was ∙ now));
-      passed = λ own. record {
+      start = λ begun own ends at. passed-rewritten row (step_in (place_of row)) _ refl (begun (holds-on (running-holds row runs)) (within-at (place_of row) (running-within row runs)));
+      own = λ begun set point its. record {
+        first = its.first;
+        begun = subst (λ n. point.step < n) (steps-within (place_of row) (running-within row runs)) its.begun;
+        passed = passed-rewritten row (step_in (place_of row)) _ refl its.passed;
+        changes = its.changes;
+      };
+      kept = λ begun.
+          goes-through tables.sets (after_rewritten row owned (step_in (place_of row)) writes lengths tables).sets _
+          (λ E through each.
+          rewritten-has E through (name_with_role row.job.root owned is_updates) owned.owner (step_in (place_of row)) _
+          (committed-has E through (output_names row.job.root owned) lengths tables.sets each));
+      passed = λ begun own. record {
         passed = own.passed;
-        points = points-rewritten (λ passed. AreOwn row.job passed) (step_in (place_of row)) row.points own.points;
+        points = λ ends. points-rewritten (λ passed. AreOwn row passed) (step_in (place_of row)) row.points (own.points ends);
         effect = λ effect is.
             rewritten-effect row.in_effect effect is
             (λ was e now.
@@ -259,8 +343,10 @@ module _ (tables : TablesModel) (rows : AllByRecursion IsAcceptedRow tables.runs
               found = its.found;
               changes = its.changes;
               entries =
-                  kept-changed _ (name_with_role row.job.root owned is_updates) was.set (table_rewritten owned.owner (step_in (place_of row))) (committed (output_names row.job.root owned) lengths tables.sets) (λ table each. each)
-                  (kept-committed _ (output_names row.job.root owned) lengths tables.sets was.set its.entries);
+                  kept-weaker (λ entry. same_name entry.kept.id was.kept.id ≡ true → IsStartPassed row (step_in (place_of row)) entry.point.passed) _ _ was.set
+                  (λ entry had same. passed-rewritten row (step_in (place_of row)) _ refl (had same))
+                  (kept-changed _ (name_with_role row.job.root owned is_updates) was.set (table_rewritten owned.owner (step_in (place_of row))) (committed (output_names row.job.root owned) lengths tables.sets) (λ table each. each)
+                  (kept-committed _ (output_names row.job.root owned) lengths tables.sets was.set its.entries));
             }));
       };
       still = λ was name. absurd (false≢true (sym was ∙ running-holds row runs));
@@ -293,8 +379,25 @@ module _ (tables : TablesModel) (rows : AllByRecursion IsAcceptedRow tables.runs
           number = refl;
           deck = refl;
           job_is = refl;
+          from_is = refl;
+          on = holds-on (running-holds row runs);
           begins = λ was now. absurd (false≢true (sym was ∙ now));
-          passed = λ own. record {
+          start = λ begun own ends at. passed-as row _ refl (begun (holds-on (running-holds row runs)) (within-at (place_of row) (running-within row runs)));
+          own = λ begun set point its. own-as row _ refl (sym (steps-within (place_of row) (running-within row runs))) refl its;
+          kept = λ begun.
+              checks-keep tables.sets (output_names row.job.root owned) lengths set
+              (kept_entry kept (entry_point row owned (step_in (place_of row)) taken writes (committed (output_names row.job.root owned) lengths tables.sets))) fresh _
+              (record {
+                run = refl;
+                own = record {
+                  first = step-first row.job (step_in (place_of row)) owned found;
+                  begun = omega arith;
+                  passed = passed-as row _ refl (begun (holds-on (running-holds row runs)) (within-at (place_of row) (running-within row runs)));
+                  changes = λ other there.
+                      subst (λ (own : OwnedStep). is_among (changed_names row.job.root own) set ≡ true) (some-one owned other (own_step row) found there) (outputs-changed row.job.root owned set output);
+                };
+              });
+          passed = λ begun own. record {
             passed = own.passed;
             points = own.points;
             effect = λ effect is.
@@ -306,7 +409,8 @@ module _ (tables : TablesModel) (rows : AllByRecursion IsAcceptedRow tables.runs
                   found = found;
                   changes = outputs-changed row.job.root owned set output;
                   entries =
-                      kept-changed _ set set (with_kept_entry _) (committed (output_names row.job.root owned) lengths tables.sets) (λ table each. each-append _ table.entries _ each ((λ same. own.passed), tt))
+                      kept-changed _ set set (with_kept_entry _) (committed (output_names row.job.root owned) lengths tables.sets)
+                      (λ table each. each-append _ table.entries _ each ((λ same. passed-as row _ refl (begun (holds-on (running-holds row runs)) (within-at (place_of row) (running-within row runs)))), tt))
                       (kept-committed _ (output_names row.job.root owned) lengths tables.sets set (none-kept _ kept.id tables.sets set fresh));
                 });
           };
@@ -332,9 +436,20 @@ module _ (tables : TablesModel) (rows : AllByRecursion IsAcceptedRow tables.runs
           number = refl;
           deck = refl;
           job_is = refl;
+          from_is = refl;
+          on = holds-on (running-holds row runs);
           begins = λ was now. absurd (false≢true (sym was ∙ now));
-          passed = λ own. record {
-            passed = λ name out. passed-outside row owned (step_in (place_of row)) name (not_of_step name out) false done (own.passed name out);
+          start = λ begun own ends at. absurd (false≢true at);
+          own = λ begun set point its. own-as row _ refl (sym (steps-within (place_of row) (running-within row runs))) refl its;
+          kept = λ begun.
+              goes-through tables.sets (after_dispositions row owned (step_in (place_of row)) false done).sets _
+              (λ E through each.
+              disposed_all-has E through (run_disposals row owned (own_made row owned (step_in (place_of row))) (earlier_made done row (step_in (place_of row))) false) (standing_of row done)
+              (committed-has E through (output_names row.job.root owned) lengths tables.sets each));
+          passed = λ begun own. record {
+            passed = λ name out.
+                still-made row.lost row.passed (after_dispositions row owned (step_in (place_of row)) false done).passed name
+                (passed-outside row owned (step_in (place_of row)) name (not_of_step name out) false done) (own.passed name out);
             points = own.points;
             effect = λ effect is. absurd (some-not-none effect (sym is));
           };
@@ -344,9 +459,9 @@ module _ (tables : TablesModel) (rows : AllByRecursion IsAcceptedRow tables.runs
         }
 
     -- a run that goes back to the start of its step isn't within it any more
-    restarted : (initiator : ℕ) (point : StartPoint) → point_at row.points (step_in (place_of row)) ≡ Some point → is_holder row.state ≡ true
+    restarted : (initiator : ℕ) (point : StartPoint) → point_at row.points (step_in (place_of row)) ≡ Some point → is_holder row.state ≡ true → is_within (place_of row) ≡ true
         → Goes (after_put_back (record (row_on initiator row) { points = with_point (point_restarted point) row.points; in_effect = None }) owned (back_to_start row owned (step_in (place_of row)) point) tables)
-    restarted initiator point began holds =
+    restarted initiator point began holds within =
         let step : ℕ = step_in (place_of row) in
         let sets : Named TableSet = put_back point.marks (output_names row.job.root owned) (names_of row.job.root owned) (removed_all (own_made row owned step) tables.sets) in
         record {
@@ -357,18 +472,35 @@ module _ (tables : TablesModel) (rows : AllByRecursion IsAcceptedRow tables.runs
           number = refl;
           deck = refl;
           job_is = refl;
+          from_is = refl;
+          on = holds-on holds;
           begins = λ was now. absurd (false≢true (sym was ∙ holds));
-          passed = λ own.
-              let its : AreOwn row.job point.passed = find-holds (λ (point : StartPoint). AreOwn row.job point.passed) (λ point. point.step == step) row.points point own.points began in
+          start = λ begun own ends at. passed-restarted row _ step point refl began (record { start = point; at = began; same = refl });
+          own = λ begun in_set entry its. record {
+            first = its.first;
+            begun = subst (λ n. entry.step < n) (steps-within (place_of row) within) its.begun;
+            passed = passed-restarted row _ step point refl began its.passed;
+            changes = its.changes;
+          };
+          kept = λ begun.
+              goes-through tables.sets sets _
+              (λ E through each. put_back-has E through point.marks (output_names row.job.root owned) (names_of row.job.root owned) _ (removed_all-has E through (own_made row owned step) tables.sets each));
+          passed = λ begun own.
+              let its : AreOwn row point.passed = find-holds (λ (point : StartPoint). AreOwn row point.passed) (λ point. point.step == step) row.points point (own.points (holds-on holds)) began in
               record {
                 passed = its;
-                points = points-with (λ point. AreOwn row.job point.passed) (point_restarted point) row.points its own.points;
+                points = λ ends. points-with (λ point. AreOwn row point.passed) (point_restarted point) row.points its (own.points (holds-on holds));
                 effect = λ effect is. absurd (some-not-none effect (sym is));
               };
           still = λ was name. absurd (false≢true (sym was ∙ holds));
           outside = λ own name out. restarted-outside row owned step name (not_of_step name out) point.marks tables.sets;
           changed = λ has other name holding within its among. absurd (false≢true within);
         }
+
+    -- what had been passed on at the entry of the checkpoint in effect
+    was-passed : PassesOnOwn tables.sets row → (effect : EffectPoint) (entry : KeptEntry) → row.in_effect ≡ Some effect → kept_at tables.sets effect.set effect.kept.id ≡ Some entry → IsStartPassed row (step_in (place_of row)) entry.point.passed
+    was-passed own effect entry now kept =
+        kept-of (λ entry. IsStartPassed row (step_in (place_of row)) entry.point.passed) effect.kept.id tables.sets effect.set entry (own.effect effect now).entries kept
 
     -- one that goes back to its checkpoint is within the step still, and what this may change is there
     goes_back : (initiator : ℕ) (effect : EffectPoint) (entry : KeptEntry) → row.in_effect ≡ Some effect → kept_at tables.sets effect.set effect.kept.id ≡ Some entry → is_in_step row ≡ true
@@ -385,12 +517,21 @@ module _ (tables : TablesModel) (rows : AllByRecursion IsAcceptedRow tables.runs
           number = refl;
           deck = refl;
           job_is = refl;
+          from_is = refl;
+          on = holds-on (in_step-holds row inside);
           begins = λ was now. absurd (false≢true (sym was ∙ in_step-holds row inside));
-          passed = λ own.
+          start = λ begun own ends at. passed-as row _ refl (was-passed own effect entry now kept);
+          own = λ begun in_set entry its. own-as row _ refl (sym (steps-within (place_of row) (in_step-within row inside))) refl its;
+          kept = λ begun.
+              goes-through tables.sets sets _ (λ E through each. put_back-has E through point.marks outputs (names_of row.job.root owned) tables.sets each);
+          passed = λ begun own.
               let its : HasOwnEffect tables.sets row effect = own.effect effect now in
+              let was = was-passed own effect entry now kept in
               record {
-                passed = kept-of (λ entry. AreOwn row.job entry.point.passed) effect.kept.id tables.sets effect.set entry its.entries kept;
-                points = own.points;
+                passed =
+                    subst (AreOwn row) (sym was.same)
+                    (find-holds (λ (point : StartPoint). AreOwn row point.passed) (λ point. point.step == step_in (place_of row)) row.points was.start (own.points (holds-on (in_step-holds row inside))) was.at);
+                points = λ ends. own.points (holds-on (in_step-holds row inside));
                 effect = λ later is.
                     subst (HasOwnEffect _ _) (same_Some (effect_restarted effect) later is)
                     (record {
@@ -399,7 +540,9 @@ module _ (tables : TablesModel) (rows : AllByRecursion IsAcceptedRow tables.runs
                       owned = its.owned;
                       found = its.found;
                       changes = its.changes;
-                      entries = kept-put_back _ point.marks outputs (names_of row.job.root owned) tables.sets effect.set its.entries;
+                      entries =
+                          kept-weaker (λ entry. same_name entry.kept.id effect.kept.id ≡ true → IsStartPassed row (step_in (place_of row)) entry.point.passed) _ sets effect.set (λ entry had same. passed-as row _ refl (had same))
+                          (kept-put_back _ point.marks outputs (names_of row.job.root owned) tables.sets effect.set its.entries);
                     });
               };
           still = λ was name. absurd (false≢true (sym was ∙ in_step-holds row inside));
@@ -419,10 +562,17 @@ module _ (tables : TablesModel) (rows : AllByRecursion IsAcceptedRow tables.runs
       number = refl;
       deck = refl;
       job_is = refl;
+      from_is = refl;
+      on = holds-on (in_step-holds row inside);
       begins = λ was now. absurd (false≢true (sym was ∙ in_step-holds row inside));
-      passed = λ own. record {
+      start = λ begun own ends at. passed-as row _ refl (begun (holds-on (in_step-holds row inside)) (within-at (place_of row) (in_step-within row inside)));
+      own = λ begun set point its. own-as row _ refl (sym (steps-within (place_of row) (in_step-within row inside))) refl its;
+      kept = λ begun.
+          goes-through tables.sets (committed (output_names row.job.root owned) lengths tables.sets) _
+          (λ E through each. committed-has E through (output_names row.job.root owned) lengths tables.sets each);
+      passed = λ begun own. record {
         passed = own.passed;
-        points = own.points;
+        points = λ ends. own.points (holds-on (in_step-holds row inside));
         effect = λ effect is.
             let its : HasOwnEffect tables.sets row effect = own.effect effect is in
             record {
@@ -431,7 +581,9 @@ module _ (tables : TablesModel) (rows : AllByRecursion IsAcceptedRow tables.runs
               owned = its.owned;
               found = its.found;
               changes = its.changes;
-              entries = kept-committed _ (output_names row.job.root owned) lengths tables.sets effect.set its.entries;
+              entries =
+                  kept-weaker (λ entry. same_name entry.kept.id effect.kept.id ≡ true → IsStartPassed row (step_in (place_of row)) entry.point.passed) _ _ effect.set (λ entry had same. passed-as row _ refl (had same))
+                  (kept-committed _ (output_names row.job.root owned) lengths tables.sets effect.set its.entries);
             };
       };
       still = λ was name. absurd (false≢true (sym was ∙ in_step-holds row inside));
@@ -442,8 +594,8 @@ module _ (tables : TablesModel) (rows : AllByRecursion IsAcceptedRow tables.runs
     }
 
   -- a run that stays as it is
-  unmoved : Goes tables
-  unmoved = record {
+  unmoved : is_ended row.state ≡ false → Goes tables
+  unmoved on = record {
     row = row;
     next = row;
     row_at = at;
@@ -451,8 +603,13 @@ module _ (tables : TablesModel) (rows : AllByRecursion IsAcceptedRow tables.runs
     number = refl;
     deck = refl;
     job_is = refl;
+    from_is = refl;
+    on = on;
     begins = λ was now. absurd (false≢true (sym was ∙ now));
-    passed = λ own. own;
+    start = λ begun own. begun;
+    own = λ begun set point its. its;
+    kept = λ begun. goes-through tables.sets tables.sets _ (λ E through each. each);
+    passed = λ begun own. own;
     still = λ was name. refl;
     outside = λ own name out. refl;
     changed = λ has. has;
@@ -468,13 +625,18 @@ module _ (tables : TablesModel) (rows : AllByRecursion IsAcceptedRow tables.runs
     number = refl;
     deck = refl;
     job_is = refl;
+    from_is = refl;
+    on = holds-on holds;
     begins = λ was now. absurd (false≢true (sym was ∙ holds));
-    passed = λ own. record {
+    start = λ begun own ends at. passed-as row _ refl (begun (holds-on holds) at);
+    own = λ begun set point its. own-as row _ refl refl refl its;
+    kept = λ begun. goes-through tables.sets tables.sets _ (λ E through each. each);
+    passed = λ begun own. record {
       passed = own.passed;
-      points = own.points;
+      points = λ ends. own.points (holds-on holds);
       effect = λ effect is.
           let its : HasOwnEffect tables.sets row effect = own.effect effect is in
-          record { holds = refl; within = its.within; owned = its.owned; found = its.found; changes = its.changes; entries = its.entries };
+          record { holds = refl; within = its.within; owned = its.owned; found = its.found; changes = its.changes; entries = kept-weaker (λ entry. same_name entry.kept.id effect.kept.id ≡ true → IsStartPassed row (step_in (place_of row)) entry.point.passed) _ tables.sets effect.set (λ entry had same. passed-as row _ refl (had same)) its.entries };
     };
     still = λ was name. refl;
     outside = λ own name out. refl;
@@ -483,22 +645,23 @@ module _ (tables : TablesModel) (rows : AllByRecursion IsAcceptedRow tables.runs
 
   restarts : (initiator : ℕ) (checkpoint : Bool) → is_in_step row ≡ true → Goes (by_step (λ owned step. after_restarted row owned step initiator checkpoint tables) row tables)
   restarts initiator true inside =
-      by-step Goes tables (own_step row) _ unmoved
+      by-step Goes tables (own_step row) _ (unmoved (holds-on (in_step-holds row inside)))
       (λ owned found.
-      by-step Goes tables row.in_effect _ unmoved
-      (λ effect now. by-step Goes tables (kept_at tables.sets effect.set effect.kept.id) _ unmoved (λ entry kept. goes_back owned found initiator effect entry now kept inside)))
+      by-step Goes tables row.in_effect _ (unmoved (holds-on (in_step-holds row inside)))
+      (λ effect now. by-step Goes tables (kept_at tables.sets effect.set effect.kept.id) _ (unmoved (holds-on (in_step-holds row inside))) (λ entry kept. goes_back owned found initiator effect entry now kept inside)))
   restarts initiator false inside =
-      by-step Goes tables (own_step row) _ unmoved
-      (λ owned found. by-step Goes tables (point_at row.points (step_in (place_of row))) _ unmoved (λ point began. restarted owned found initiator point began (in_step-holds row inside)))
+      by-step Goes tables (own_step row) _ (unmoved (holds-on (in_step-holds row inside)))
+      (λ owned found. by-step Goes tables (point_at row.points (step_in (place_of row))) _ (unmoved (holds-on (in_step-holds row inside))) (λ point began. restarted owned found initiator point began (in_step-holds row inside) (in_step-within row inside)))
 
   -- ---- the end of a run
 
   completed : is_holder row.state ≡ true → Goes (after_passed_ended row tables)
   completed holds =
-      over (record row { state = EndedRun; initiator = None; code = None; passed = []; lost = []; in_effect = None }) tables row (passed_ended (has_passed row) tables.sets) (row-as_is tables job row at) refl refl refl refl
-      (λ own. record { passed = λ name out. refl; points = own.points; effect = λ effect is. absurd (some-not-none effect (sym is)) })
+      over (record row { state = EndedRun; initiator = None; code = None; passed = []; lost = []; in_effect = None }) tables row (passed_ended (has_passed row) tables.sets) (row-as_is tables job row at) refl refl refl refl (holds-on holds) refl
+      (λ own. record { passed = λ name out. refl; points = λ ends. absurd (false≢true (sym ends)); effect = λ effect is. absurd (some-not-none effect (sym is)) })
+      (λ started ends. absurd (false≢true (sym ends))) refl refl (λ E through each. passed_ended-has E through (has_passed row) tables.sets each)
       (λ was name. absurd (false≢true (sym was ∙ holds)))
-      (λ own name out. ended-stays row.lost row.passed tables.sets name (λ here. own name out))
+      (λ own name out. ended-stays row.lost row.passed tables.sets name (λ here. unlost row.lost row.passed name here (own name out)))
 
   abbrev disposed_end : RunRow → TablesModel → ℕ → OwnedStep → TablesModel
   disposed_end r mid step owned =
@@ -506,22 +669,24 @@ module _ (tables : TablesModel) (rows : AllByRecursion IsAcceptedRow tables.runs
       after_passed_ended (record r { passed = done.passed }) (record mid { sets = done.sets })
 
   -- with the dispositions of a step, by tables behind its lengths or as they are
-  disposed_over : (r was : RunRow) (mid : TablesModel) (owned : OwnedStep) (step : ℕ) → is_holder row.state ≡ true → r.number ≡ row.number → r.deck ≡ row.deck → r.job ≡ row.job → r.passed ≡ row.passed → r.points ≡ row.points → HasRow tables mid job was → step_of_run row step ≡ Some owned
-      → ((name : Name) → is_among (names_of_job row.job) name ≡ false → entry_at mid.sets name ≡ entry_at tables.sets name)
+  disposed_over : (r was : RunRow) (mid : TablesModel) (owned : OwnedStep) (step : ℕ) → is_holder row.state ≡ true → r.number ≡ row.number → r.deck ≡ row.deck → r.job ≡ row.job → r.earlier_step ≡ row.earlier_step → r.passed ≡ row.passed → r.lost ≡ row.lost → r.points ≡ row.points → steps_begun (place_of r) ≡ steps_begun (place_of row)
+      → ((E : Name → TableSet → Type 0) → GoesOnThrough E → EachHas E tables.sets → EachHas E mid.sets) → HasRow tables mid job was → step_of_run row step ≡ Some owned → row.earlier_step ≤ step
+      → ((name : Name) → is_among (reached_names row) name ≡ false → entry_at mid.sets name ≡ entry_at tables.sets name)
       → Goes (disposed_end r mid step owned)
-  disposed_over r was mid owned step holds number deck same passed points has found outside =
-      over (record r { passed = []; lost = []; state = EndedRun; initiator = None; code = None; in_effect = None }) mid was (passed_ended (without_passed r.lost done.passed) done.sets) has number deck same refl
-      (λ own. record {
-        passed = λ name out. refl;
-        points =
-            subst (λ (job : Effective). AllByRecursion (λ (point : StartPoint). AreOwn job point.passed) r.points) (sym same)
-            (subst (AllByRecursion (λ (point : StartPoint). AreOwn row.job point.passed)) (sym points) own.points);
-        effect = λ effect is. absurd (some-not-none effect (sym is));
-      })
+  disposed_over r was mid owned step holds number deck same from_is passed lost points begun through has found ahead outside =
+      over (record r { passed = []; lost = []; state = EndedRun; initiator = None; code = None; in_effect = None }) mid was (passed_ended (without_passed r.lost done.passed) done.sets) has number deck same from_is (holds-on holds) refl
+      (λ own. record { passed = λ name out. refl; points = λ ends. absurd (false≢true (sym ends)); effect = λ effect is. absurd (some-not-none effect (sym is)) })
+      (λ started ends. absurd (false≢true (sym ends))) begun points
+      (λ E goes each.
+      passed_ended-has E goes (without_passed r.lost done.passed) done.sets
+      (disposed_all-has E goes (run_disposals r owned (own_made r owned step) (earlier_made mid r step) true) (standing_of r mid) (through E goes each)))
       (λ was name. absurd (false≢true (sym was ∙ holds)))
       (λ own name out.
-      let of_step : is_among (names_of r.job.root owned) name ≡ false = ap (λ (job : Effective). is_among (names_of job.root owned) name) same ∙ names-outside row.job step owned name found out in
-      ended-stays r.lost done.passed done.sets name (λ here. passed-outside r owned step name of_step true mid (ap (λ passed. is_among (passed_made passed) name) passed ∙ own name out))
+      let of_step : is_among (names_of r.job.root owned) name ≡ false = ap (λ (job : Effective). is_among (names_of job.root owned) name) same ∙ names-outside row step owned name ahead found out in
+      ended-stays r.lost done.passed done.sets name
+      (λ here.
+      passed-outside r owned step name of_step true mid
+      (ap (λ passed. is_among (passed_made passed) name) passed ∙ unlost row.lost row.passed name (ap (λ names. is_among names name) (sym lost) ∙ here) (own name out)))
       ∙ disposed-outside r owned step name of_step true mid
       ∙ outside name out)
     where
@@ -536,15 +701,15 @@ module _ (tables : TablesModel) (rows : AllByRecursion IsAcceptedRow tables.runs
       (λ owned found.
       let there : step_of_run row step ≡ Some owned = ap (λ place. step_of_run row (step_in place)) (sym stands) ∙ found in
       by-some Goes (step_of_run row step) (disposed_end row tables step) tables owned there
-      (disposed_over row row tables owned step holds refl refl refl refl refl (row-as_is tables job row at) there (λ name out. refl)))
+      (disposed_over row row tables owned step holds refl refl refl refl refl refl refl refl (λ E through each. each) (row-as_is tables job row at) there (subst (λ place. row.earlier_step ≤ step_in place) stands from) (λ name out. refl)))
 
-  coded : (writes : ℕ) (lengths : List ℕ) → is_holder row.state ≡ true → is_some (own_step row) ≡ true → Goes (after_coded row writes lengths tables)
-  coded writes lengths holds some =
+  coded : (writes : ℕ) (lengths : List ℕ) → is_holder row.state ≡ true → is_within (place_of row) ≡ true → is_some (own_step row) ≡ true → Goes (after_coded row writes lengths tables)
+  coded writes lengths holds within some =
       is_some-true (own_step row) some
       (λ owned found.
       by-own Goes tables (λ owned step. after_abnormal (record row { place = Some (Within step writes) }) (Within step writes) (after_commit row owned step writes lengths tables)) row owned found
       (by-some Goes (step_of_run row (step_in (place_of row))) (disposed_end (record row { place = Some (Within (step_in (place_of row)) writes) }) (behind owned found writes lengths) (step_in (place_of row))) (behind owned found writes lengths) owned found
-      (disposed_over (record row { place = Some (Within (step_in (place_of row)) writes) }) _ (behind owned found writes lengths) owned (step_in (place_of row)) holds refl refl refl refl refl (behind_rows owned found writes lengths) found (behind_outside owned found lengths))))
+      (disposed_over (record row { place = Some (Within (step_in (place_of row)) writes) }) _ (behind owned found writes lengths) owned (step_in (place_of row)) holds refl refl refl refl refl refl refl (sym (steps-within (place_of row) within)) (λ E through each. committed-has E through (output_names row.job.root owned) lengths tables.sets each) (behind_rows owned found writes lengths) found from (behind_outside owned found lengths))))
 
   lengths_some : (lengths : List ℕ) → lengths_follow tables row lengths ≡ true → is_some (own_step row) ≡ true
   lengths_some lengths follow = tested (own_step row) _ follow (λ owned found passes. ap is_some found)
@@ -555,6 +720,7 @@ module _ (tables : TablesModel) (rows : AllByRecursion IsAcceptedRow tables.runs
   ended (Coded code rule writes lengths) follow =
       coded writes lengths.items
       (or-cases (is_running row) (is_in_state ReleasedRun row) (and-first (is_running row || is_in_state ReleasedRun row) _ follow) (running-holds row) (released-holds row.state))
+      (in_step-within row (hand-in_step row (and-first (is_running row || is_in_state ReleasedRun row) _ follow) is_placed))
       (lengths_some lengths.items (and-second (is_running row || is_in_state ReleasedRun row) _ follow))
   ended (Allocation dd cause first second) follow =
       abnormal (place_of row) refl (on-holds row.state (and-first (is_in_state On row) _ follow))
@@ -562,128 +728,77 @@ module _ (tables : TablesModel) (rows : AllByRecursion IsAcceptedRow tables.runs
 
 -- ---- each event
 
-goes-in : (layout : Layout) (tables : TablesModel) → AllByRecursion IsAcceptedRow tables.runs → AreNumbered 1 tables.runs → AllByRecursion IsPlacedRow tables.runs → (event : Event) (deck : Option Job) → is_forward_event event ≡ true → is_submission event ≡ false → follows layout tables event deck ≡ true → RowGoesOn tables (after_event event deck tables) (job_of event)
+goes-in : (layout : Layout) (tables : TablesModel) → AllByRecursion IsAcceptedRow tables.runs → AreNumbered 1 tables.runs → AllByRecursion IsPlacedRow tables.runs → (event : Event) (deck : Option Job) → is_forward_event event ≡ true → is_submission event ≡ false → follows layout tables event deck ≡ true → RunGoesOn tables (after_event event deck tables) (job_of event)
 goes-in layout tables rows numbered placed (Submitted job cards) deck plain other follow = absurd (false≢true (sym other))
 goes-in layout tables rows numbered placed (Selected job initiator earlier step id) deck plain other follow =
     tested-run tables job (selected_follows layout tables initiator earlier step id) follow
     (λ row at passes.
-    by-row (λ after. RowGoesOn tables after job) tables job (λ row. after_chosen row initiator earlier step id tables) row at
-    (selected tables rows numbered job row at layout initiator earlier step id (equal-true earlier 0 plain) passes))
+    by-row (λ after. RunGoesOn tables after job) tables job (λ row. after_chosen row initiator earlier step id tables) row at
+    (selected tables rows numbered placed job row at layout initiator earlier step id (equal-true earlier 0 plain) passes))
 goes-in layout tables rows numbered placed (Started job step items) deck plain other follow =
     tested-run tables job (started_follows layout tables step items.items) follow
     (λ row at passes.
-    by-row (λ after. RowGoesOn tables after job) tables job (λ row. option_map_or (λ owned. after_started row owned step items.items tables) (step_of_run row step) tables) row at
-    (started tables rows numbered job row at layout step items.items passes))
+    by-row (λ after. RunGoesOn tables after job) tables job (λ row. option_map_or (λ owned. after_started row owned step items.items tables) (step_of_run row step) tables) row at
+    (started tables rows numbered placed job row at layout step items.items passes))
 goes-in layout tables rows numbered placed (Rewritten job taken writes lengths place image) deck plain other follow =
     tested-run tables job (λ row. is_running row && lengths_follow tables row lengths.items && of_step row (is_rewrite tables place image row)) follow
     (λ row at passes.
     tested (own_step row) (is_rewrite tables place image row) (and-second (is_running row && lengths_follow tables row lengths.items) _ passes)
     (λ owned found rewrites.
-    by-row (λ after. RowGoesOn tables after job) tables job (λ row. by_step (λ owned step. after_rewritten row owned step writes lengths.items tables) row tables) row at
-    (by-own (λ after. RowGoesOn tables after job) tables (λ owned step. after_rewritten row owned step writes lengths.items tables) row owned found
-    (rewritten tables rows numbered job row at owned found place image writes lengths.items (and-first (is_running row) _ (and-first (is_running row && lengths_follow tables row lengths.items) _ passes)) rewrites))))
+    by-row (λ after. RunGoesOn tables after job) tables job (λ row. by_step (λ owned step. after_rewritten row owned step writes lengths.items tables) row tables) row at
+    (by-own (λ after. RunGoesOn tables after job) tables (λ owned step. after_rewritten row owned step writes lengths.items tables) row owned found
+    (rewritten tables rows numbered placed job row at owned found place image writes lengths.items (and-first (is_running row) _ (and-first (is_running row && lengths_follow tables row lengths.items) _ passes)) rewrites))))
 goes-in layout tables rows numbered placed (Checkpointed job id taken writes lengths place bytes) deck plain other follow =
     tested-run tables job (λ row. is_running row && lengths_follow tables row lengths.items && of_step row (is_checkpoint tables id lengths.items place bytes row)) follow
     (λ row at passes.
     tested (own_step row) (is_checkpoint tables id lengths.items place bytes row) (and-second (is_running row && lengths_follow tables row lengths.items) _ passes)
     (λ owned found checks.
     let kept : Kept = record { id = id; run = job; place = place; bytes = bytes } in
-    by-row (λ after. RowGoesOn tables after job) tables job (λ row. by_step (λ owned step. after_checkpointed row owned step kept taken writes lengths.items tables) row tables) row at
-    (by-own (λ after. RowGoesOn tables after job) tables (λ owned step. after_checkpointed row owned step kept taken writes lengths.items tables) row owned found
-    (checkpointed tables rows numbered job row at owned found kept place bytes taken writes id lengths.items (and-first (is_running row) _ (and-first (is_running row && lengths_follow tables row lengths.items) _ passes)) checks refl))))
+    by-row (λ after. RunGoesOn tables after job) tables job (λ row. by_step (λ owned step. after_checkpointed row owned step kept taken writes lengths.items tables) row tables) row at
+    (by-own (λ after. RunGoesOn tables after job) tables (λ owned step. after_checkpointed row owned step kept taken writes lengths.items tables) row owned found
+    (checkpointed tables rows numbered placed job row at owned found kept place bytes taken writes id lengths.items (and-first (is_running row) _ (and-first (is_running row && lengths_follow tables row lengths.items) _ passes)) checks refl))))
 goes-in layout tables rows numbered placed (Cancelled job) deck plain other follow =
     tested-run tables job is_running follow
-    (λ row at passes. by-row (λ after. RowGoesOn tables after job) tables job (λ row. after_cancelled row tables) row at (cancelled tables rows numbered job row at))
+    (λ row at passes. by-row (λ after. RunGoesOn tables after job) tables job (λ row. after_cancelled row tables) row at (cancelled tables rows numbered placed job row at (running-holds row passes)))
 goes-in layout tables rows numbered placed (StepEnded job step rc writes lengths) deck plain other follow =
     tested-run tables job (λ row. is_running row && step_in (place_of row) == step && lengths_follow tables row lengths.items) follow
     (λ row at passes.
     tested (own_step row) _ (and-second (is_running row && step_in (place_of row) == step) (lengths_follow tables row lengths.items) passes)
     (λ owned found are.
-    by-row (λ after. RowGoesOn tables after job) tables job (λ row. by_step (λ owned step. after_step_ended row owned step rc writes lengths.items tables) row tables) row at
-    (by-own (λ after. RowGoesOn tables after job) tables (λ owned step. after_step_ended row owned step rc writes lengths.items tables) row owned found
-    (step_ended tables rows numbered job row at owned found rc writes lengths.items (and-first (is_running row) _ (and-first (is_running row && step_in (place_of row) == step) _ passes))))))
+    by-row (λ after. RunGoesOn tables after job) tables job (λ row. by_step (λ owned step. after_step_ended row owned step rc writes lengths.items tables) row tables) row at
+    (by-own (λ after. RunGoesOn tables after job) tables (λ owned step. after_step_ended row owned step rc writes lengths.items tables) row owned found
+    (step_ended tables rows numbered placed job row at owned found rc writes lengths.items (and-first (is_running row) _ (and-first (is_running row && step_in (place_of row) == step) _ passes))))))
 goes-in layout tables rows numbered placed (Restarted job initiator code checkpoint) deck plain other follow =
     tested-run tables job (λ row. (is_running row && option_eq nat_eq row.initiator (Some initiator) || is_in_state ReleasedRun row && is_free layout tables initiator) && may_restart_again checkpoint row) follow
     (λ row at passes.
-    by-row (λ after. RowGoesOn tables after job) tables job (λ row. by_step (λ owned step. after_restarted row owned step initiator checkpoint tables) row tables) row at
-    (restarts tables rows numbered job row at initiator checkpoint (restarts-in_step layout tables initiator checkpoint row (row-among IsPlacedRow tables job row placed at) passes)))
+    by-row (λ after. RunGoesOn tables after job) tables job (λ row. by_step (λ owned step. after_restarted row owned step initiator checkpoint tables) row tables) row at
+    (restarts tables rows numbered placed job row at initiator checkpoint (restarts-in_step layout tables initiator checkpoint row (row-among IsPlacedRow tables job row placed at) passes)))
 goes-in layout tables rows numbered placed (Held job code writes lengths) deck plain other follow =
     tested-run tables job (λ row. (is_running row || is_in_state ReleasedRun row) && lengths_follow tables row lengths.items) follow
     (λ row at passes.
     tested (own_step row) _ (and-second (is_running row || is_in_state ReleasedRun row) (lengths_follow tables row lengths.items) passes)
     (λ owned found are.
-    by-row (λ after. RowGoesOn tables after job) tables job (λ row. by_step (λ owned step. after_held row owned step code writes lengths.items tables) row tables) row at
-    (by-own (λ after. RowGoesOn tables after job) tables (λ owned step. after_held row owned step code writes lengths.items tables) row owned found
-    (held tables rows numbered job row at owned found code writes lengths.items
+    by-row (λ after. RunGoesOn tables after job) tables job (λ row. by_step (λ owned step. after_held row owned step code writes lengths.items tables) row tables) row at
+    (by-own (λ after. RunGoesOn tables after job) tables (λ owned step. after_held row owned step code writes lengths.items tables) row owned found
+    (held tables rows numbered placed job row at owned found code writes lengths.items
     (hand-in_step row (and-first (is_running row || is_in_state ReleasedRun row) _ passes) (row-among IsPlacedRow tables job row placed at))))))
 goes-in layout tables rows numbered placed (Released job) deck plain other follow =
     tested-run tables job (is_in_state HeldRun) follow
     (λ row at passes.
-    by-row (λ after. RowGoesOn tables after job) tables job (λ row. with_run (record row { state = ReleasedRun }) tables) row at
-    (released tables rows numbered job row at (ap is_holder (held-is row.state passes))))
+    by-row (λ after. RunGoesOn tables after job) tables job (λ row. with_run (record row { state = ReleasedRun }) tables) row at
+    (released tables rows numbered placed job row at (ap is_holder (held-is row.state passes))))
 goes-in layout tables rows numbered placed (Ended job ending) deck plain other follow =
     tested-run tables job (λ row. ended_follows tables row ending) follow
-    (λ row at passes. by-row (λ after. RowGoesOn tables after job) tables job (λ row. after_ended row ending tables) row at (ended tables rows numbered job row at ending passes))
+    (λ row at passes. by-row (λ after. RunGoesOn tables after job) tables job (λ row. after_ended row ending tables) row at (ended tables rows numbered placed job row at ending passes))
 goes-in layout tables rows numbered placed (Purged job) deck plain other follow =
     tested-run tables job (is_in_state Queued) follow
-    (λ row at passes. by-row (λ after. RowGoesOn tables after job) tables job (λ row. with_run (record row { state = PurgedRun }) tables) row at (purged tables rows numbered job row at passes))
+    (λ row at passes. by-row (λ after. RunGoesOn tables after job) tables job (λ row. with_run (record row { state = PurgedRun }) tables) row at (purged tables rows numbered placed job row at passes))
 goes-in layout tables rows numbered placed _ deck plain other follow = absurd (false≢true plain)
 
 -- by each event but a submission one run goes on
 pub goes-on : (layout : Layout) (tables : TablesModel) (event : Event) (deck : Option Job) → AllByRecursion IsAcceptedRow tables.runs → AreNumbered 1 tables.runs → AllByRecursion IsPlacedRow tables.runs → is_forward_event event ≡ true → is_submission event ≡ false → follows layout tables event deck ≡ true → RowGoesOn tables (after_event event deck tables) (job_of event)
-goes-on layout tables event deck rows numbered placed plain other follow = goes-in layout tables rows numbered placed event deck plain other follow
-
--- ---- one more run
-
-last_row : (runs : List RunRow) (row : RunRow) → slice_get (runs ++ row ∷ []) (length runs) ≡ Some row
-last_row [] row = refl
-last_row (first ∷ rest) row = last_row rest row
-
-front_row : (runs : List RunRow) (row : RunRow) (place : ℕ) → place ≢ length runs → slice_get (runs ++ row ∷ []) place ≡ slice_get runs place
-front_row [] row zero apart = absurd (apart refl)
-front_row [] row (suc place) apart = refl
-front_row (first ∷ rest) row zero apart = refl
-front_row (first ∷ rest) row (suc place) apart = front_row rest row place (λ e. apart (ap suc e))
-
--- a run that was there stays there
-pub row-more : (tables : TablesModel) (job : ℕ) (deck : Job) (number : ℕ) (row : RunRow) → run_of tables number ≡ Some row → run_of (after_submitted job deck tables) number ≡ Some row
-row-more tables job deck zero row at = at
-row-more tables job deck (suc place) row at =
-    front_row tables.runs (queued_run job deck) place (λ e. absurd (omega (arith, e, get-inside row tables.runs place at))) ∙ at
-
--- a row is that of the new run, or was there
-pub row-before : {A : Type 0} (tables : TablesModel) (job : ℕ) (deck : Job) (number : ℕ) (row : RunRow) → run_of (after_submitted job deck tables) number ≡ Some row → (queued_run job deck ≡ row → A) → (run_of tables number ≡ Some row → A) → A
-row-before tables job deck zero row at new old = absurd (some-not-none row (sym at))
-row-before tables job deck (suc place) row at new old =
-    number-cases place (length tables.runs)
-    (λ here. new (same_Some (queued_run job deck) row (sym (last_row tables.runs (queued_run job deck)) ∙ ap (slice_get (tables.runs ++ queued_run job deck ∷ [])) (sym here) ∙ at)))
-    (λ apart. old (sym (front_row tables.runs (queued_run job deck) place apart) ∙ at))
-
--- a run that was submitted holds nothing
-module _ (tables : TablesModel) (deck : Job) (job : ℕ) (are : AreHolders tables) where
-  abbrev more : TablesModel
-  more = after_submitted job deck tables
-
-  one_of : {A : Type 0} (number : ℕ) (row : RunRow) → run_of more number ≡ Some row → (queued_run job deck ≡ row → A) → (run_of tables number ≡ Some row → A) → A
-  one_of number row = row-before tables job deck number row
-
-  no_holder : {A : Type 0} (row : RunRow) → queued_run job deck ≡ row → is_holder row.state ≡ true → A
-  no_holder row is holding = absurd (false≢true (ap (λ (r : RunRow). is_holder r.state) is ∙ holding))
-
-  pub holders-more : AreHolders more
-  holders-more = record {
-    apart = λ one other row next here there apart mine theirs.
-        one_of one row here
-        (λ new. no_holder row new mine)
-        (λ first. one_of other next there (λ new. no_holder next new theirs) (λ second. are.apart one other row next first second apart mine theirs));
-    passed = λ number row at. one_of number row at (λ new. subst (PassesOnOwn more.sets) new (record { passed = λ name out. refl; points = tt; effect = λ effect is. absurd (some-not-none effect (sym is)) })) (are.passed number row);
-    changed = λ number row at.
-        one_of number row at (λ new owned name holding. no_holder row new holding) (are.changed number row);
-  }
-
-holders-submitted : (tables : TablesModel) (job : ℕ) (deck : Option Job) → AreHolders tables → AreHolders (option_map_or (λ deck. after_submitted job deck tables) deck tables)
-holders-submitted tables job None are = are
-holders-submitted tables job (Some deck) are = holders-more tables deck job are
+goes-on layout tables event deck rows numbered placed plain other follow =
+    run-goes tables (after_event event deck tables) (job_of event) rows numbered (goes-in layout tables rows numbered placed event deck plain other follow)
 
 -- ---- all events
 
@@ -693,17 +808,26 @@ no-row (suc before) = refl
 
 pub holders-none : AreHolders no_tables
 holders-none = record {
+  begun = λ number row at. absurd (some-not-none row (sym at ∙ no-row number));
+  entries = λ number row at. absurd (some-not-none row (sym at ∙ no-row number));
+  written = λ set table at. absurd (some-not-none table (sym at));
+  single = λ set table at. absurd (some-not-none table (sym at));
+  orderly = tt;
+  kin = λ number row at. absurd (some-not-none row (sym at ∙ no-row number));
+  named = λ number row at. absurd (some-not-none row (sym at ∙ no-row number));
   apart = λ one other row next here. absurd (some-not-none row (sym here ∙ no-row one));
   passed = λ number row at. absurd (some-not-none row (sym at ∙ no-row number));
   changed = λ number row at. absurd (some-not-none row (sym at ∙ no-row number));
 }
 
-submission-cases : (event : Event) (deck : Option Job) (tables : TablesModel) → AreHolders tables → (is_submission event ≡ false → AreHolders (after_event event deck tables)) → AreHolders (after_event event deck tables)
-submission-cases (Submitted job cards) deck tables are rest = holders-submitted tables job deck are
-submission-cases _ deck tables are rest = rest refl
+submission-cases : (layout : Layout) (event : Event) (deck : Option Job) (tables : TablesModel) → AreHolders tables → IsAnyAccepted event deck → MaySubmit event deck → follows layout tables event deck ≡ true
+    → (is_submission event ≡ false → AreHolders (after_event event deck tables)) → AreHolders (after_event event deck tables)
+submission-cases layout (Submitted job cards) deck tables are accepted may follow rest = holders-submitted layout tables job cards deck are accepted may follow
+submission-cases layout _ deck tables are accepted may follow rest = rest refl
 
 -- holders stay apart by each event that follows
-pub holders-stay : (layout : Layout) (tables : TablesModel) (event : Event) (deck : Option Job) → AreHolders tables → AllByRecursion IsAcceptedRow tables.runs → AreNumbered 1 tables.runs → AllByRecursion IsPlacedRow tables.runs → is_forward_event event ≡ true → follows layout tables event deck ≡ true → AreHolders (after_event event deck tables)
-holders-stay layout tables event deck are rows numbered placed plain follow =
-    submission-cases event deck tables are
-    (λ other. holders-go tables (after_event event deck tables) (job_of event) (goes-on layout tables event deck rows numbered placed plain other follow) rows are)
+pub holders-stay : (layout : Layout) (tables : TablesModel) (event : Event) (deck : Option Job) → AreHolders tables → AllByRecursion IsAcceptedRow tables.runs → AreNumbered 1 tables.runs → AllByRecursion IsPlacedRow tables.runs → IsAnyAccepted event deck → MaySubmit event deck → is_forward_event event ≡ true
+    → follows layout tables event deck ≡ true → AreHolders (after_event event deck tables)
+holders-stay layout tables event deck are rows numbered placed accepted may plain follow =
+    submission-cases layout event deck tables are accepted may follow
+    (λ other. holders-go tables (after_event event deck tables) (job_of event) (goes-on layout tables event deck rows numbered placed plain other follow) rows numbered placed are)

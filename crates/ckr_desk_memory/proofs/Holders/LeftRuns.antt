@@ -23,7 +23,8 @@ use Rattle.ckr_points_invariant.proofs.WaitingRuns.{tested-run}
 use Rattle.ckr_points_tables.specs.Invariant.{is_submission}
 use Rattle.ckr_desk_memory.specs.ForwardEvents.{is_forward_event}
 use Rattle.ckr_volumes.specs.declared.layout.Layout.{Layout}
-use Rattle.ckr_desk_memory.proofs.Holders.Events.{by-some, goes-on, row-more, tested}
+use Rattle.ckr_desk_memory.proofs.Holders.Events.{by-some, goes-on, tested}
+use Rattle.ckr_desk_memory.proofs.Holders.Submissions.{row-more}
 use Rattle.ckr_desk_memory.proofs.Holders.Moves.{by-own, by-row, row-as_is, row-next, row-number}
 use Rattle.ckr_desk_memory.specs.EventChanges.{failed_in}
 use Rattle.ckr_desk_memory.specs.Invariant.{AreJobs, IsAcceptedRow, IsPlacedRow}

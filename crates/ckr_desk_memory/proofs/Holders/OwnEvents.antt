@@ -45,7 +45,7 @@ use Rattle.ckr_steps.specs.Files.{dd_in, files_of, set_of_source, source_by, sou
 use Rattle.ckr_uses.specs.SetNames.{library_name, origin_name}
 use Rattle.ckr_volumes.specs.declared.layout.Layout.{Layout}
 use Rattle.ckr_desk_memory.proofs.Holders.Moves.{row-accepted, row-number}
-use Rattle.ckr_desk_memory.proofs.Holders.Names.{outputs-changed, step-formed}
+use Rattle.ckr_desk_memory.proofs.Holders.Names.{outputs-changed, plain-job, step-formed}
 use Rattle.ckr_desk_memory.proofs.Holders.OwnSets.{up_to-itself}
 use Rattle.ckr_desk_memory.proofs.Holders.Rewrites.{AsksForRewrite, IsRewriteIn, rewrite-asked}
 use Rattle.ckr_desk_memory.proofs.Holders.Units.{step-owner, update-is}
@@ -172,7 +172,7 @@ module _ (layout : Layout) (tables : TablesModel) (rows : AllByRecursion IsAccep
   number = row-number tables on.run is.row numbered is.row_at
 
   root : is.row.job.root ≡ on.run
-  root = ap (λ (job : Effective). job.root) accepted.plain ∙ number
+  root = ap (λ (job : Effective). job.root) (plain-job is.row accepted) ∙ number
 
   formed-so : is_formed_step is.row.job.root is.owned ≡ true
   formed-so = step-formed is.row (step_in (place_of is.row)) is.owned accepted is.found

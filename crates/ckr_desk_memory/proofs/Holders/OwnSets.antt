@@ -98,7 +98,8 @@ up_to-itself owns (name ∷ names) = (omega arith, up_to-itself owns names)
 on-holder : (state : RunState) → state ≡ On → is_holder state ≡ true
 on-holder state is = ap is_holder is
 
-module _ (tables after : TablesModel) (job : ℕ) (goes : RowGoesOn tables after job) (rows : AllByRecursion IsAcceptedRow tables.runs) (are : AreHolders tables) (on : RunningStepView) (is : IsRunningOf tables on) where
+module _ (tables after : TablesModel) (job : ℕ) (goes : RowGoesOn tables after job) (rows : AllByRecursion IsAcceptedRow tables.runs) (numbered : AreNumbered 1 tables.runs) (placed : AllByRecursion IsPlacedRow tables.runs) (are : AreHolders tables)
+    (on : RunningStepView) (is : IsRunningOf tables on) where
   formed-so : is_formed_step is.row.job.root is.owned ≡ true
   formed-so = step-formed is.row (step_in (place_of is.row)) is.owned (row-accepted tables on.run is.row rows is.row_at) is.found
 
@@ -120,7 +121,7 @@ module _ (tables after : TablesModel) (job : ℕ) (goes : RowGoesOn tables after
   }
     where
       same : (name : Name) → is_among (changed_names is.row.job.root is.owned) name ≡ true → entry_at after.sets name ≡ entry_at tables.sets name
-      same name among = others-keep tables after job goes rows are on.run is.row is.owned name apart is.row_at (on-holder is.row.state is.state) is.found among
+      same name among = others-keep tables after job goes rows numbered placed are on.run is.row is.owned name apart is.row_at (on-holder is.row.state is.state) is.found among
 
 -- ---- events of its own run
 

@@ -30,7 +30,7 @@ use Rattle.ckr_desk_memory.proofs.Holders.RunningSteps.{running-stay}
 use Rattle.ckr_desk_memory.proofs.RunningSteps.Again.{again-cases, is-back}
 use Rattle.ckr_base.specs.declared.code.Code.{Code}
 use Rattle.ckr_base.proofs.Options.{some-not-none}
-use Rattle.ckr_desk_memory.proofs.Replays.{goes-on-with}
+use Rattle.ckr_desk_memory.proofs.Replays.{any_accepted, goes-on-with}
 use Rattle.ckr_desk_memory.proofs.RunningSteps.First.{all-without}
 use Rattle.ckr_desk_memory.specs.declared.jobs.RunningStep.{RunningStep}
 use Rattle.ckr_desk_memory.specs.EventChanges.{FirstEnters, HasEntered, check_name_in, is_of_run, is_point_of, points_behind, served_in, served_step, without_first, without_run}
@@ -185,14 +185,14 @@ own-alike old new tables running points own = record {
 }
 
 -- behind an event
-pub own-behind : (layout : Layout) (old new : JobsView) (event : Event) (deck : Option Job) → AllByRecursion IsAcceptedRow old.tables.desk.runs → AreNumbered 1 old.tables.desk.runs → AllByRecursion IsPlacedRow old.tables.desk.runs → is_forward_event event ≡ true
+pub own-behind : (layout : Layout) (old new : JobsView) (event : Event) (deck : Option Job) → AllByRecursion IsAcceptedRow old.tables.desk.runs → AreNumbered 1 old.tables.desk.runs → AllByRecursion IsPlacedRow old.tables.desk.runs → IsAnyAccepted event deck → MaySubmit event deck → is_forward_event event ≡ true
     → new.tables.desk ≡ after_event event deck old.tables.desk → GoesOn event new.tables.desk old.points old.running new.running → new.points ≡ points_behind event new.running old.points → HoldTheirOwn old → follows layout old.tables.desk event deck ≡ true → CommitsItsOwn event old.tables.desk old.running → HoldTheirOwn new
-own-behind layout old new event deck rows numbered placed plain tables goes points own follow commits =
+own-behind layout old new event deck rows numbered placed accepted may plain tables goes points own follow commits =
     let gone : GoesOn event (after_event event deck old.tables.desk) old.points old.running new.running = subst (λ (t : TablesModel). GoesOn event t old.points old.running new.running) tables goes in
     let running : AllByRecursion (IsRunningOf (after_event event deck old.tables.desk)) new.running =
-    running-stay layout old.tables.desk event deck old.points old.running new.running own.holders rows numbered placed plain follow own.running own.points commits gone in
+    running-stay layout old.tables.desk event deck old.points old.running new.running own.holders rows numbered placed accepted may plain follow own.running own.points commits gone in
     record {
-      holders = subst AreHolders (sym tables) (holders-stay layout old.tables.desk event deck own.holders rows numbered placed plain follow);
+      holders = subst AreHolders (sym tables) (holders-stay layout old.tables.desk event deck own.holders rows numbered placed accepted may plain follow);
       running = subst (λ (t : TablesModel). AllByRecursion (IsRunningOf t) new.running) (sym tables) running;
       single = single_on layout old.tables.desk rows numbered placed event deck old.points old.running new.running plain follow own.single gone;
       points =
@@ -242,8 +242,8 @@ step-own run jobs None own is = tt
 step-own run jobs (Some on) own is = find-holds (IsRunningOf jobs.tables.desk) (is_of_run run) jobs.running (step_seen on) own.running (sym is)
 
 -- the runs stay apart behind an event that is read again
-pub holders-replayed : (layout : Layout) (old new : JobsView) (event : Event) → AreNumbered 1 old.tables.desk.runs → goes_on layout old.tables.desk event (deck_of event) ≡ true → new.tables.desk ≡ after_event event (deck_of event) old.tables.desk
+pub holders-replayed : (layout : Layout) (old new : JobsView) (event : Event) → IsBounded event → AreNumbered 1 old.tables.desk.runs → goes_on layout old.tables.desk event (deck_of event) ≡ true → new.tables.desk ≡ after_event event (deck_of event) old.tables.desk
     → AreJobs layout old → AreHolders old.tables.desk → AreHolders new.tables.desk
-holders-replayed layout old new event numbered goes tables are holders =
+holders-replayed layout old new event bounded numbered goes tables are holders =
     let its = goes-on-with layout old.tables.desk event (deck_of event) goes in
-    subst AreHolders (sym tables) (holders-stay layout old.tables.desk event (deck_of event) holders are.rows numbered are.placed its.plain its.follow)
+    subst AreHolders (sym tables) (holders-stay layout old.tables.desk event (deck_of event) holders are.rows numbered are.placed (any_accepted event bounded its.run) its.submits its.plain its.follow)

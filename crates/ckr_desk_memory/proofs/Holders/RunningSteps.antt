@@ -32,7 +32,8 @@ use Rattle.ckr_desk_memory.specs.ForwardEvents.{is_forward_event}
 use Rattle.ckr_volumes.specs.declared.layout.Layout.{Layout}
 use Rattle.ckr_desk_memory.proofs.Extents.{tested as tested-of, tested-step}
 use Rattle.ckr_desk_memory.proofs.Holders.Checkpoints.{check-behind, running-entered}
-use Rattle.ckr_desk_memory.proofs.Holders.Events.{by-some, goes-on, holders-stay, row-more, tested}
+use Rattle.ckr_desk_memory.proofs.Holders.Events.{by-some, goes-on, holders-stay, tested}
+use Rattle.ckr_desk_memory.proofs.Holders.Submissions.{row-more}
 use Rattle.ckr_desk_memory.proofs.Holders.Moves.{by-own, by-row, row-accepted, row-as_is, row-next, row-number}
 use Rattle.ckr_desk_memory.proofs.Holders.OwnSets.{running-again, running-new, running-other, running-rewritten, running-same, running-served}
 use Rattle.ckr_desk_memory.proofs.Queue.{on-is}
@@ -49,6 +50,7 @@ use Rattle.ckr_desk_memory.specs.OwnSteps.{HavePoints}
 use Rattle.ckr_steps.specs.Units.{program_of}
 use Rattle.ckr_base.specs.declared.code.Code.{Code}
 use Rattle.ckr_desk_memory.specs.OwnSets.{AreUpTo, CommitsItsOwn, IsCommitted, IsCommittedWith, IsOfOther, IsRunningOf}
+use Rattle.ckr_desk_memory.proofs.Holders.Names.{plain-job}
 
 -- ---- lists of running steps
 
@@ -81,7 +83,7 @@ module _ (layout : Layout) (tables : TablesModel) (are : AreHolders tables) (row
   -- those of other runs
   other-steps : (event : Event) (deck : Option Job) → is_forward_event event ≡ true → is_submission event ≡ false → follows layout tables event deck ≡ true → (on : RunningStepView) → on.run ≢ job_of event → IsRunningOf tables on → IsRunningOf (after_event event deck tables) on
   other-steps event deck plain other follow on apart is =
-      running-other tables (after_event event deck tables) (job_of event) (goes-on layout tables event deck rows numbered placed plain other follow) rows are on is apart
+      running-other tables (after_event event deck tables) (job_of event) (goes-on layout tables event deck rows numbered placed plain other follow) rows numbered placed are on is apart
 
   -- those of all runs, where the run's own go on too
   all-steps : (event : Event) (deck : Option Job) → is_forward_event event ≡ true → is_submission event ≡ false → follows layout tables event deck ≡ true → ((on : RunningStepView) → on.run ≡ job_of event → IsRunningOf tables on → IsRunningOf (after_event event deck tables) on)
@@ -142,7 +144,7 @@ module _ (layout : Layout) (tables : TablesModel) (are : AreHolders tables) (row
       let new_one : HasNew job owned (begun job owned.step) after.sets old new = starts _ owned now found in
       subst (AllByRecursion (IsRunningOf after)) (sym new_one.first) (
         running-new after job _ owned old new now (on-is row.state (and-first (is_in_state On row) _ follow)) refl found
-            (ap (λ (job : Effective). job.root) (row-accepted tables job row rows at).plain ∙ row-number tables job row numbered at) holders new_one,
+            (ap (λ (job : Effective). job.root) (plain-job row (row-accepted tables job row rows at)) ∙ row-number tables job row numbered at) holders new_one,
         others,
       )))
 
@@ -236,7 +238,7 @@ module _ (layout : Layout) (tables : TablesModel) (are : AreHolders tables) (row
   again job initiator code deck points old new follow known goes others =
       let after : TablesModel = after_event (Restarted job initiator code true) deck tables in
       let back = is-back layout tables job initiator code deck numbered placed follow in
-      let root = ap (λ (j : Effective). j.root) (back.job_is ∙ (row-accepted tables job back.row rows back.row_at).plain) ∙ row-number tables job back.row numbered back.row_at in
+      let root = ap (λ (j : Effective). j.root) (back.job_is ∙ plain-job back.row (row-accepted tables job back.row rows back.row_at)) ∙ row-number tables job back.row numbered back.row_at in
       again-cases tables after job points old new back goes
       (λ gone. subst (AllByRecursion (IsRunningOf after)) (sym gone) others)
       (λ point is new_one.
@@ -303,7 +305,7 @@ module _ (layout : Layout) (tables : TablesModel) (are : AreHolders tables) (row
   stay _ deck points old new plain follow holders all known commits goes = absurd (false≢true plain)
 
 -- the running steps stay those of their runs
-pub running-stay : (layout : Layout) (tables : TablesModel) (event : Event) (deck : Option Job) (points : List PointView) (old new : List RunningStepView) → AreHolders tables → AllByRecursion IsAcceptedRow tables.runs → AreNumbered 1 tables.runs → AllByRecursion IsPlacedRow tables.runs → is_forward_event event ≡ true → follows layout tables event deck ≡ true
+pub running-stay : (layout : Layout) (tables : TablesModel) (event : Event) (deck : Option Job) (points : List PointView) (old new : List RunningStepView) → AreHolders tables → AllByRecursion IsAcceptedRow tables.runs → AreNumbered 1 tables.runs → AllByRecursion IsPlacedRow tables.runs → IsAnyAccepted event deck → MaySubmit event deck → is_forward_event event ≡ true → follows layout tables event deck ≡ true
     → AllByRecursion (IsRunningOf tables) old → HavePoints tables points → CommitsItsOwn event tables old → GoesOn event (after_event event deck tables) points old new → AllByRecursion (IsRunningOf (after_event event deck tables)) new
-running-stay layout tables event deck points old new are rows numbered placed plain follow all known commits goes =
-    stay layout tables are rows numbered placed event deck points old new plain follow (holders-stay layout tables event deck are rows numbered placed plain follow) all known commits goes
+running-stay layout tables event deck points old new are rows numbered placed accepted may plain follow all known commits goes =
+    stay layout tables are rows numbered placed event deck points old new plain follow (holders-stay layout tables event deck are rows numbered placed accepted may plain follow) all known commits goes

@@ -50,7 +50,7 @@ use Rattle.ckr_steps.specs.declared.files.Files.{Files}
 use Rattle.ckr_steps.specs.declared.step_run.StepRun.{StepRun}
 use Rattle.ckr_steps.specs.declared.step_run.Worked.{Worked}
 use Rattle.ckr_desk_memory.proofs.Holders.Moves.{row-accepted, row-number}
-use Rattle.ckr_desk_memory.proofs.Holders.Names.{step-formed}
+use Rattle.ckr_desk_memory.proofs.Holders.Names.{plain-job, step-formed}
 use Rattle.ckr_desk_memory.proofs.Holders.Masters.{updated-not_output}
 use Rattle.ckr_desk_memory.specs.Invariant.{IsAcceptedRow}
 use Rattle.ckr_desk_memory.specs.View.{RunningStepView}
@@ -147,7 +147,7 @@ step_owner run deck (suc place) owned found = owner_at run deck place owned foun
 
 -- a run that continues none owns each of its steps
 pub step-owner : (row : RunRow) (number : ℕ) (owned : OwnedStep) → IsAcceptedRow row → step_of_run row number ≡ Some owned → owned.owner ≡ row.number
-step-owner row number owned accepted found = step_owner row.number row.deck number owned (ap (λ job. step_at job number) (sym accepted.plain) ∙ found)
+step-owner row number owned accepted found = step_owner row.number row.deck number owned (ap (λ job. step_at job number) (sym (plain-job row accepted)) ∙ found)
 
 module _ (run : ℕ) (owned : OwnedStep) (formed : is_formed_step run owned ≡ true) (updates : is_update owned.step.program ≡ true) (owner : owned.owner ≡ run) where
   abbrev the_start : StepStart
@@ -212,7 +212,7 @@ running-unit tables old new heads worked rows numbered same done is = record {
     number = row-number tables old.run is.row numbered is.row_at
 
     root : is.row.job.root ≡ old.run
-    root = ap (λ (job : Effective). job.root) accepted.plain ∙ number
+    root = ap (λ (job : Effective). job.root) (plain-job is.row accepted) ∙ number
 
     owner : is.owned.owner ≡ old.run
     owner = step-owner is.row (step_in (place_of is.row)) is.owned accepted is.found ∙ number

@@ -50,6 +50,7 @@ use Rattle.ckr_desk_memory.proofs.Extents.{tested-step}
 use Rattle.ckr_desk_memory.proofs.Starts.Names.{names-there}
 use Rattle.ckr_desk_memory.proofs.SetCopies.{are-stored}
 use Rattle.ckr_desk_memory.proofs.Starts.ProgramSets.{are-there}
+use Rattle.ckr_desk_memory.proofs.Holders.Names.{plain-job}
 
 -- ---- the records in the deck are few
 
@@ -91,10 +92,10 @@ is_own : (tables : TablesModel) (job step : ℕ) (row : RunRow) (owned : OwnedSt
 is_own tables job step row owned numbered rows at there =
     let accepted = row-among IsAcceptedRow tables job row rows at in
     let number = run_number tables job row numbered at in
-    let found : step_at (plain_job row.number row.deck) step ≡ Some owned = ap (λ (j : Effective). step_at j step) (sym accepted.plain) ∙ there in
+    let found : step_at (plain_job row.number row.deck) step ≡ Some owned = ap (λ (j : Effective). step_at j step) (sym (plain-job row accepted)) ∙ there in
     let owner = owner_is row.number row.deck step owned found ∙ number in
     record {
-      root = ap (λ (j : Effective). j.root) accepted.plain ∙ number;
+      root = ap (λ (j : Effective). j.root) (plain-job row accepted) ∙ number;
       owner = owner;
       few = step-among (IsStepFew 100000) row.number row.deck step owned (steps-few accepted.cards row.deck accepted.accepted) found;
       distinct =

@@ -67,8 +67,8 @@ module _ (tables : TablesModel) (job : ℕ) (table : RunTable) (known : IsKnown 
   pub begun-parm : (step : ℕ) (own : OwnStep) → AllByRecursion IsAcceptedRow tables.runs → IsStepAt job table step (Some own) → IsInRange own.step.now.parm
   begun-parm step own rows is =
       let accepted = row-among IsAcceptedRow tables job known.row rows known.found in
-      (step-among IsWithinLimits known.row.number known.row.deck step (own_of own) (steps_within accepted.cards known.row.deck accepted.accepted)
-      (ap (λ (j : Effective). step_at j step) (sym accepted.plain ∙ known.job) ∙ sym is)).parm
+      let its = accepted.steps step (own_of own) (ap (λ (j : Effective). step_at j step) known.job ∙ sym is) in
+      (step-among IsWithinLimits own.owner its.deck step (own_of own) (steps_within its.cards its.deck its.accepted) its.owned_so).parm
 
   -- the step of the run is that
   pub step-is : (step : ℕ) (found : Option OwnStep) → IsStepAt job table step found → (row : RunRow) → run_of tables job ≡ Some row → step_of_run row step ≡ option_map own_of found

@@ -64,6 +64,7 @@ pub record MayContinue (layout : Layout) (tables : TablesModel) (job initiator e
   pub owned : OwnedStep
   pub found : step_at other.job step ≡ Some owned
   pub same : same_statements owned.step mine ≡ true
+  pub marks : has_marks other (wanted_by tables row other step id) owned ≡ true
   pub counted : (number_named other mine.name == step) ≡ true
   pub fresh : stale_denial row (wanted_by tables row other step id) tables ≡ None
   pub entry : IsEntryOf other step id (wanted_by tables row other step id).entry
@@ -117,6 +118,7 @@ module _ (layout : Layout) (tables : TablesModel) (job initiator earlier step : 
         owned = owned;
         found = found;
         same = and-first (same_statements owned.step mine) _ statements;
+        marks = and-second (same_statements owned.step mine) _ statements;
         counted = and-first (number_named other mine.name == step) _ same;
         fresh = is_none-true (stale_denial row wanted tables) (and-second four _ e5);
         entry = entry-of other id wanted.entry (and-second five _ continues);

@@ -1,5 +1,5 @@
 -- The names that a run reaches that continues another one: each is a name of its own deck, with the root of its job, and with kin as the owner.
-use Rattle.std.proofs.Common.{◌≡◌, ◌==◌, ℕ, suc, pred, true, false, not, ◌&&◌, List, ◌++◌, map, drop, refl, ap, sym, ◌∙◌, subst, Option}
+use Rattle.std.proofs.Common.{◌≡◌, ◌==◌, ℕ, suc, pred, true, false, not, ◌&&◌, List, ◌++◌, map, drop, refl, ap, sym, ◌∙◌, subst, Option, Some}
 use Rattle.std.specs.Option.{option_map_or}
 use Rattle.std.proofs.lemmas.Bool.{not-true, or_left, or_right}
 use Rattle.std.proofs.lemmas.List.Folds.{list_any-append}
@@ -17,7 +17,6 @@ use Rattle.ckr_points.specs.Office.{Leg, Office, passed_made, continued_leg}
 use Rattle.ckr_points.specs.RuleCases.{is_ended}
 use Rattle.ckr_points.specs.Rows.{RunRow, TableSet, run_of}
 use Rattle.ckr_points.proofs.NeededNames.{spliced-from}
-use Rattle.ckr_points_invariant.specs.Invariant.{IsAgreed}
 use Rattle.ckr_points_invariant.proofs.Holders.JobNames.{has_ended}
 use Rattle.ckr_points_invariant.proofs.Holders.DeckNames.{deck-named, names-owned}
 use Rattle.ckr_points_invariant.proofs.Continuations.Follows.{MayContinue}
@@ -31,7 +30,7 @@ use Rattle.ckr_points_invariant.proofs.Continuations.ReachedNames.OwnSteps.{amon
 -- ---- the run that is continued
 
 module _ (layout : Layout) (now : Office) (job initiator before step : ℕ) (id : Option Name) (its : MayContinue layout now.tables job initiator (suc before) step id) (start : Library) (reach : List Name)
-    (kept : IsAgreed layout now) (coming : Coming) where
+    (numbered : (number : ℕ) (row : RunRow) → run_of now.tables number ≡ Some row → row.number ≡ number) (coming : Coming) where
   abbrev pub next : RunRow
   next = row_then now its.row its.other step its.point initiator coming
 
@@ -45,7 +44,7 @@ module _ (layout : Layout) (now : Office) (job initiator before step : ℕ) (id 
 
   -- it is its own kin
   own-kin : IsKin now.tables next its.row.number
-  own-kin = ((its.row, ap (run_of now.tables) (kept.numbered job its.row its.row_at) ∙ its.row_at, refl), or_left (its.row.number == its.row.number) _ (equal-itself its.row.number))
+  own-kin = ((its.row, ap (run_of now.tables) (numbered job its.row its.row_at) ∙ its.row_at, refl), or_left (its.row.number == its.row.number) _ (equal-itself its.row.number))
 
   -- both runs have one job name
   job-same : its.other.deck.name ≡ its.row.deck.name
@@ -56,7 +55,7 @@ module _ (layout : Layout) (now : Office) (job initiator before step : ℕ) (id 
   kin-ended number its_kin =
       or-cases (number == its.other.number) (has_ended now.tables number) its_kin.1
       (λ itself.
-      ap (has_ended now.tables) (equal-true number its.other.number itself ∙ kept.numbered (suc before) its.other its.other_at)
+      ap (has_ended now.tables) (equal-true number its.other.number itself ∙ numbered (suc before) its.other its.other_at)
       ∙ ap (λ (o : Option RunRow). option_map_or (λ row. is_ended row.state) o false) its.other_at ∙ its.ended)
       (λ ended. ended)
 
@@ -96,7 +95,7 @@ module _ (layout : Layout) (now : Office) (job initiator before step : ℕ) (id 
         (among-rest (λ step. names_of root (owned_by its.row.number its.row.deck step)) step its.row.deck.steps name
         (ap (λ names. is_among names name) (sym (names-owned root its.row.number its.row.deck (drop step its.row.deck.steps))) ∙ among))
 
-    own-so : (name : Name) → is_among (own_names next) name ≡ true → IsNamedByDeck now.tables next name
+    pub own-so : (name : Name) → is_among (own_names next) name ≡ true → IsNamedByDeck now.tables next name
     own-so name among =
         or-cases (is_among (names_of root its.owned) name) _
         (sym (list_any-append (same_name name) (names_of root its.owned) (names_of_steps root (map (owned_by its.row.number its.row.deck) (drop step its.row.deck.steps))))

@@ -52,7 +52,7 @@ module _ (layout : Layout) (now : Office) (job initiator before step : ℕ) (id 
         number-cases number job
         (λ same.
         agreement.holder-same layout now job initiator before step id its start reach kept begun pointed led covers coming marks needed removed (HasUses behind.tables)
-        (uses-stay now.tables behind.tables keeps next next refl refl leg refl (reach-then layout now job initiator before step id its start reach kept.events coming kin marks found lost)) number row its_leg same holder)
+        (uses-stay now.tables behind.tables keeps next next refl refl leg refl (reach-then layout now job initiator before step id its start reach kept.events.numbered coming kin marks found lost)) number row its_leg same holder)
         (λ apart.
         uses-stay now.tables behind.tables keeps row row refl refl its_leg refl
         (named number row its_leg (agreement.holder-before layout now job initiator before step id its start reach kept begun pointed led covers coming marks needed removed number row its_leg apart holder)))

@@ -44,7 +44,7 @@ module _ (layout : Layout) (now : Office) (kept : IsAgreed layout now) (orderly 
   root = its.other.job.root
 
   kin_now : AreKin now.tables next
-  kin_now = kin-then layout now job initiator before step id its start reach kept coming kin
+  kin_now = kin-then layout now job initiator before step id its start reach kept.numbered coming kin
 
   -- none of its kin is another holder: it waits itself, and the others have ended
   not-holder : (number holding : ℕ) (row2 : RunRow) (leg2 : Leg) → IsHolder now holding row2 leg2 → IsKin now.tables next number → number ≢ holding
@@ -93,7 +93,7 @@ module _ (layout : Layout) (now : Office) (kept : IsAgreed layout now) (orderly 
   -- No other holder reaches a name that it reaches.
   pub alone : (number : ℕ) (row2 : RunRow) (leg2 : Leg) (name : Name) → IsHolder now number row2 leg2 → is_among leg.reach name ≡ true → is_among leg2.reach name ≡ false
   alone number row2 leg2 name holder mine =
-      let own = reached-named layout now job initiator before step id its start reach kept coming kin marks sets lost name mine in
+      let own = reached-named layout now job initiator before step id its start reach kept.numbered coming kin marks sets lost name mine in
       bool-cases (is_among leg2.reach name)
       (λ theirs. absurd (false≢true (sym (no-holds number row2 leg2 holder) ∙ hold-both number row2 leg2 name holder theirs own)))
       (λ none. none)

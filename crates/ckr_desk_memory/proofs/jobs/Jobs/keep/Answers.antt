@@ -94,7 +94,7 @@ returns-clause-jobs c = λ layout are follow. jobs-after (goal.at.returns-clause
 
 pub returns-clause-own : goal.returns-clause-own
 returns-clause-own c = λ layout are.
-    own-behind layout c.args.self.now _ c.args.event.now (option_map rc_value c.args.deck) are.rows c.go_on.ensures.numbered are.placed c.requires.plain
+    own-behind layout c.args.self.now _ c.args.event.now (option_map rc_value c.args.deck) are.rows c.go_on.ensures.numbered are.placed c.requires.accepted c.requires.deck c.requires.plain
     (desk_is (goal.at.returns-clause-own c).After-keep_running) (goes-on (goal.at.returns-clause-own c).After-keep_running)
     (c.keep_points.ensures ∙ ap (λ (items : List RunningStep). points_behind c.args.event.now (map step_seen items) c.self.inside.points.items) c.as_slice.ensures.value
     ∙ ap (points_behind c.args.event.now (map step_seen c.keep_running.new.running.items)) (ap (λ (j : JobsView). j.points) c.self.view_is ∙ c.go_on.ensures.points))

@@ -73,7 +73,7 @@ returns-clause-jobs c = λ are.
 
 pub returns-clause-holders : goal.returns-clause-holders
 returns-clause-holders c =
-    holders-replayed c.args.layout.now c.args.self.now c.go_on.new.self c.args.event.now
+    holders-replayed c.args.layout.now c.args.self.now c.go_on.new.self c.args.event.now c.requires
     (subst (λ (j : JobsView). AreNumbered 1 j.tables.desk.runs) c.self.view_is c.self.invariant.queued.numbered)
     (sym (ap (goes_on c.args.layout.now c.args.self.now.tables.desk c.args.event.now) c.in_ok-deck.ensures)
     ∙ sym (ap (λ (j : JobsView). goes_on c.args.layout.now j.tables.desk c.args.event.now c.in_ok-deck.deck) c.self.view_is) ∙ sym c.goes_on.ensures ∙ c.if-not-goes_on.false)
