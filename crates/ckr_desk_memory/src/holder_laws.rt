@@ -35,13 +35,12 @@ ghost use Rattle.ckr_desk_memory.specs.OwnSteps.{AreLeft, HavePoints, HoldTheirO
 
 /// Runs that hold their names stay apart by each event that follows, whether it is sound or not: no two of them hold against each other,
 /// each executes steps whose names are of its deck, with kin as their owners, has lost all else that was passed on as made, and what its step may
-/// change is there. So it is where there are no runs yet.
+/// change is there. Runs that continue other ones are among them. So it is where there are no runs yet.
 pub fn holders_stay_apart()
     ensures none { AreHolders no_tables }
     ensures kept { (layout : Layout) (tables : TablesModel) (event : Event) (deck : Option Job)
         → AreHolders tables → AllByRecursion IsAcceptedRow tables.runs → AreNumbered 1 tables.runs → AllByRecursion IsPlacedRow tables.runs
-        → IsAnyAccepted event deck → MaySubmit event deck → is_forward_event event ≡ true → follows layout tables event deck ≡ true
-        → AreHolders (after_event event deck tables) }
+        → IsAnyAccepted event deck → MaySubmit event deck → follows layout tables event deck ≡ true → AreHolders (after_event event deck tables) }
 {}
 
 /// Where runs that hold stay apart, the running steps stay those of their runs, each with its data sets beside the tables, by each event that

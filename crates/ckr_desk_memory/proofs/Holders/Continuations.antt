@@ -1,6 +1,6 @@
 -- A run that continues another one is selected: it reaches names of its deck, has lost what else was passed on as made, and what its step may change is there.
 -- So the holders stay apart.
-use Rattle.std.proofs.Common.{◌≡◌, ◌≢◌, ◌≤◌, ◌<◌, ◌==◌, ℕ, suc, pred, Bool, true, false, not, ◌&&◌, cond, List, [], ◌∷◌, ◌++◌, drop, filter, refl, ap, sym, ◌∙◌, subst, Option, Some, None, arith}
+use Rattle.std.proofs.Common.{◌≡◌, ◌≢◌, ◌≤◌, ◌<◌, ◌==◌, ℕ, zero, suc, pred, Bool, true, false, not, ◌&&◌, cond, List, [], ◌∷◌, ◌++◌, drop, filter, refl, ap, sym, ◌∙◌, subst, Option, Some, None, arith}
 use mathlib.Core.Logic.{◌⊎◌}
 use Rattle.std.specs.List.{AllByRecursion, find, list_all}
 use Rattle.std.specs.Option.{is_some, option_map_or}
@@ -57,16 +57,17 @@ use Rattle.ckr_desk_memory.specs.Invariant.{IsPlacedRow}
 -- the entry that is found is the only one of its identifier
 single-found : (entries : List KeptEntry) (id : Name) (found : KeptEntry) → AreSingleEntries entries → find (λ (entry : KeptEntry). same_name entry.kept.id id) entries ≡ Some found → AllByRecursion (λ (entry : KeptEntry). same_name entry.kept.id id ≡ true → entry ≡ found) entries
 single-found [] id found single at = absurd (some-not-none found (sym at))
-single-found (first ∷ rest) id found single at = by (same_name first.kept.id id) refl at
+single-found (first ∷ rest) id found single at = by (λ later. single-found rest id found single.1 later) (same_name first.kept.id id) refl at
   where
-    by : (same : Bool) → same_name first.kept.id id ≡ same → cond same (Some first) (find (λ (entry : KeptEntry). same_name entry.kept.id id) rest) ≡ Some found
+    by : (find (λ (entry : KeptEntry). same_name entry.kept.id id) rest ≡ Some found → AllByRecursion (λ (entry : KeptEntry). same_name entry.kept.id id ≡ true → entry ≡ found) rest)
+        → (same : Bool) → same_name first.kept.id id ≡ same → cond same (Some first) (find (λ (entry : KeptEntry). same_name entry.kept.id id) rest) ≡ Some found
         → AllByRecursion (λ (entry : KeptEntry). same_name entry.kept.id id ≡ true → entry ≡ found) (first ∷ rest)
-    by true same is = (λ again. same_Some first found is, others rest single.0)
+    by later true same is = (λ again. same_Some first found is, others rest single.0)
       where
         others : (entries : List KeptEntry) → AllByRecursion (λ (other : KeptEntry). same_name other.kept.id first.kept.id ≡ false) entries → AllByRecursion (λ (entry : KeptEntry). same_name entry.kept.id id ≡ true → entry ≡ found) entries
         others [] apart = tt
         others (other ∷ more) apart = ((λ its. absurd (false≢true (sym apart.0 ∙ ap (same_name other.kept.id) (name-same first.kept.id id same) ∙ its))), others more apart.1)
-    by false other is = ((λ same. absurd (false≢true (sym other ∙ same))), single-found rest id found single.1 is)
+    by later false other is = ((λ same. absurd (false≢true (sym other ∙ same))), later is)
 
 module _ (layout : Layout) (tables : TablesModel) (rows : AreNumbered 1 tables.runs) (placed : AllByRecursion IsPlacedRow tables.runs) (are : AreHolders tables) (job initiator before step : ℕ) (id : Option Name)
     (its : MayContinue layout tables job initiator (suc before) step id) where
@@ -74,10 +75,10 @@ module _ (layout : Layout) (tables : TablesModel) (rows : AreNumbered 1 tables.r
   numbered number row at = row-number tables number row rows at
 
   -- what has no laws of its own on any disk isn't asked here
-  office : Office
+  abbrev pub office : Office
   office = record { tables = tables; library = []; legs = [] }
 
-  root : ℕ
+  abbrev pub root : ℕ
   root = its.other.job.root
 
   kin : AreKin tables its.other
@@ -92,7 +93,7 @@ module _ (layout : Layout) (tables : TablesModel) (rows : AreNumbered 1 tables.r
   -- ---- the run behind its selection
 
   module _ (coming : Coming) where
-    abbrev next : RunRow
+    abbrev pub next : RunRow
     next = row_then office its.row its.other step its.point initiator coming
 
     here : step_of_run next step ≡ Some its.owned
@@ -103,7 +104,7 @@ module _ (layout : Layout) (tables : TablesModel) (rows : AreNumbered 1 tables.r
     step-own name among = by step here
       where
         by : (number : ℕ) → step_at next.job number ≡ Some its.owned → is_among (names_of_steps next.job.root (drop (pred number) next.job.steps)) name ≡ true
-        by 0 e = absurd (some-not-none its.owned (sym e))
+        by zero e = absurd (some-not-none its.owned (sym e))
         by (suc place) e = among-behind next.job.root place place next.job.steps its.owned name (omega arith) e among
 
     kin-next : AreKin tables next
@@ -142,7 +143,7 @@ module _ (layout : Layout) (tables : TablesModel) (rows : AreNumbered 1 tables.r
 
     module _ (marks : List Mark) (needed removed : List Name) (needed_own : (name : Name) → is_among needed name ≡ true → is_among (own_names next) name ≡ true) (removed_own : (name : Name) → is_among removed name ≡ true → is_among (own_names next) name ≡ true)
         (same : coming.passed ≡ its.point.passed) (lost : coming.lost ≡ lost_names marks (reached_names next) (sets_then office its.other its.owned marks needed removed) coming.passed) where
-      sets : Named TableSet
+      abbrev pub sets : Named TableSet
       sets = sets_then office its.other its.owned marks needed removed
 
       neither : (names : List Name) → ((name : Name) → is_among names name ≡ true → is_among (own_names next) name ≡ true) → (name : Name) → is_among (reached_names next) name ≡ false → is_among names name ≡ false

@@ -14,7 +14,7 @@ use Rattle.ckr_events.specs.Jobs.{job_of}
 use Rattle.ckr_events.specs.declared.event.Ending.{Ending}
 use Rattle.ckr_events.specs.declared.event.Ending.TheVariants.{Allocation, Coded, Completed}
 use Rattle.ckr_events.specs.declared.event.Event.{Event}
-use Rattle.ckr_events.specs.declared.event.Event.TheVariants.{Cancelled, Checkpointed, Ended, Held, Purged, Released, Restarted, Rewritten, Selected, Started, StepEnded, Submitted}
+use Rattle.ckr_events.specs.declared.event.Event.TheVariants.{Cancelled, Checkpointed, Denied, Ended, Held, Purged, Released, Restarted, Rewritten, Selected, Started, StepEnded, Submitted}
 use Rattle.ckr_events.specs.declared.event.Made.{Made}
 use Rattle.ckr_jcl.specs.declared.deck.Job.{Job}
 use Rattle.ckr_library.proofs.Named.{at-with_changed-other}
@@ -47,6 +47,7 @@ use Rattle.ckr_points_tables.specs.Invariant.{MaySubmit, is_submission}
 use Rattle.ckr_desk_memory.specs.ForwardEvents.{is_forward_event}
 use Rattle.ckr_volumes.specs.declared.layout.Layout.{Layout}
 use Rattle.ckr_desk_memory.proofs.Holders.CheckSets.{length-among, not-among}
+use Rattle.ckr_desk_memory.proofs.Holders.Continuations.{continued-goes}
 use Rattle.ckr_desk_memory.proofs.Holders.KeptEntries.{kept-changed, kept-committed, kept-of, kept-put_back, none-kept}
 use Rattle.ckr_desk_memory.proofs.Holders.Moves.{HasRow, RowGoesOn, RunGoesOn, by-own, by-row, goes-through, holders-go, row-accepted, row-as_is, row-next, row-number, run-goes}
 use Rattle.ckr_desk_memory.proofs.Holders.Names.{changed-named, names-outside, outputs-changed, step-formed}
@@ -245,6 +246,12 @@ module _ (tables : TablesModel) (rows : AllByRecursion IsAcceptedRow tables.runs
       over (record row { state = PurgedRun }) tables row tables.sets (row-as_is tables job row at) refl refl refl refl (queued-on queued) refl
       (λ own. record { passed = own.passed; points = λ ends. own.points (queued-on queued); effect = λ effect is. no-effect own (queued-free row.state queued) effect is })
       (λ started ends at. passed-as row (record row { state = PurgedRun }) refl (started (queued-on queued) at)) refl refl (λ E through each. each) (λ was name. refl) (λ own name out. refl)
+
+  denied : is_in_state Queued row ≡ true → Goes (with_run (record row { state = DeniedRun }) tables)
+  denied queued =
+      over (record row { state = DeniedRun }) tables row tables.sets (row-as_is tables job row at) refl refl refl refl (queued-on queued) refl
+      (λ own. record { passed = own.passed; points = λ ends. own.points (queued-on queued); effect = λ effect is. no-effect own (queued-free row.state queued) effect is })
+      (λ started ends at. passed-as row (record row { state = DeniedRun }) refl (started (queued-on queued) at)) refl refl (λ E through each. each) (λ was name. refl) (λ own name out. refl)
 
   -- so it does the one that it starts
   ahead : {step : ℕ} → may_start step (place_of row) ≡ true → row.earlier_step ≤ step
@@ -825,9 +832,31 @@ submission-cases : (layout : Layout) (event : Event) (deck : Option Job) (tables
 submission-cases layout (Submitted job cards) deck tables are accepted may follow rest = holders-submitted layout tables job cards deck are accepted may follow
 submission-cases layout _ deck tables are accepted may follow rest = rest refl
 
+-- by each event but a submission one run goes on, also where it continues another one or is denied
+pub any-goes : (layout : Layout) (tables : TablesModel) (event : Event) (deck : Option Job) → AllByRecursion IsAcceptedRow tables.runs → AreNumbered 1 tables.runs → AllByRecursion IsPlacedRow tables.runs → AreHolders tables → is_submission event ≡ false → follows layout tables event deck ≡ true
+    → RowGoesOn tables (after_event event deck tables) (job_of event)
+any-goes layout tables (Submitted job cards) deck rows numbered placed are other follow = absurd (false≢true (sym other))
+any-goes layout tables (Selected job initiator zero step id) deck rows numbered placed are other follow = goes-on layout tables (Selected job initiator zero step id) deck rows numbered placed refl refl follow
+any-goes layout tables (Selected job initiator (suc before) step id) deck rows numbered placed are other follow = continued-goes layout tables numbered placed are job initiator before step id deck follow
+any-goes layout tables (Denied job rule name) deck rows numbered placed are other follow =
+    tested-run tables job (λ row. is_in_state Queued row && is_some row.deck.restart) follow
+    (λ row at passes.
+    by-row (λ after. RowGoesOn tables after job) tables job (λ row. with_run (record row { state = DeniedRun }) tables) row at
+    (run-goes tables (with_run (record row { state = DeniedRun }) tables) job rows numbered (denied tables rows numbered placed job row at (and-first (is_in_state Queued row) _ passes))))
+any-goes layout tables (Started job step items) deck rows numbered placed are other follow = goes-on layout tables (Started job step items) deck rows numbered placed refl refl follow
+any-goes layout tables (Rewritten job taken writes lengths place image) deck rows numbered placed are other follow = goes-on layout tables (Rewritten job taken writes lengths place image) deck rows numbered placed refl refl follow
+any-goes layout tables (Checkpointed job id taken writes lengths place bytes) deck rows numbered placed are other follow = goes-on layout tables (Checkpointed job id taken writes lengths place bytes) deck rows numbered placed refl refl follow
+any-goes layout tables (Cancelled job) deck rows numbered placed are other follow = goes-on layout tables (Cancelled job) deck rows numbered placed refl refl follow
+any-goes layout tables (StepEnded job step rc writes lengths) deck rows numbered placed are other follow = goes-on layout tables (StepEnded job step rc writes lengths) deck rows numbered placed refl refl follow
+any-goes layout tables (Restarted job initiator code checkpoint) deck rows numbered placed are other follow = goes-on layout tables (Restarted job initiator code checkpoint) deck rows numbered placed refl refl follow
+any-goes layout tables (Held job code writes lengths) deck rows numbered placed are other follow = goes-on layout tables (Held job code writes lengths) deck rows numbered placed refl refl follow
+any-goes layout tables (Released job) deck rows numbered placed are other follow = goes-on layout tables (Released job) deck rows numbered placed refl refl follow
+any-goes layout tables (Ended job ending) deck rows numbered placed are other follow = goes-on layout tables (Ended job ending) deck rows numbered placed refl refl follow
+any-goes layout tables (Purged job) deck rows numbered placed are other follow = goes-on layout tables (Purged job) deck rows numbered placed refl refl follow
+
 -- holders stay apart by each event that follows
-pub holders-stay : (layout : Layout) (tables : TablesModel) (event : Event) (deck : Option Job) → AreHolders tables → AllByRecursion IsAcceptedRow tables.runs → AreNumbered 1 tables.runs → AllByRecursion IsPlacedRow tables.runs → IsAnyAccepted event deck → MaySubmit event deck → is_forward_event event ≡ true
+pub holders-stay : (layout : Layout) (tables : TablesModel) (event : Event) (deck : Option Job) → AreHolders tables → AllByRecursion IsAcceptedRow tables.runs → AreNumbered 1 tables.runs → AllByRecursion IsPlacedRow tables.runs → IsAnyAccepted event deck → MaySubmit event deck
     → follows layout tables event deck ≡ true → AreHolders (after_event event deck tables)
-holders-stay layout tables event deck are rows numbered placed accepted may plain follow =
+holders-stay layout tables event deck are rows numbered placed accepted may follow =
     submission-cases layout event deck tables are accepted may follow
-    (λ other. holders-go tables (after_event event deck tables) (job_of event) (goes-on layout tables event deck rows numbered placed plain other follow) rows numbered placed are)
+    (λ other. holders-go tables (after_event event deck tables) (job_of event) (any-goes layout tables event deck rows numbered placed are other follow) rows numbered placed are)

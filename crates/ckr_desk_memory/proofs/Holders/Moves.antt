@@ -101,7 +101,7 @@ named-same tables row next number deck job from named name own =
     )
 
 -- the names that a run reaches are those of its deck
-reached-named : (tables : TablesModel) (row : RunRow) → IsKin tables row row.number → AreOfDeck tables row → (name : Name) → is_among (reached_names row) name ≡ true → IsNamedByDeck tables row name
+pub reached-named : (tables : TablesModel) (row : RunRow) → IsKin tables row row.number → AreOfDeck tables row → (name : Name) → is_among (reached_names row) name ≡ true → IsNamedByDeck tables row name
 reached-named tables row itself named name among =
     or-cases (is_among (own_names row) name) (is_among (deck_names row.job.root row.number row.deck) name)
     (sym (list_any-append (same_name name) (own_names row) (deck_names row.job.root row.number row.deck)) ∙ among)

@@ -192,7 +192,7 @@ own-behind layout old new event deck rows numbered placed accepted may plain tab
     let running : AllByRecursion (IsRunningOf (after_event event deck old.tables.desk)) new.running =
     running-stay layout old.tables.desk event deck old.points old.running new.running own.holders rows numbered placed accepted may plain follow own.running own.points commits gone in
     record {
-      holders = subst AreHolders (sym tables) (holders-stay layout old.tables.desk event deck own.holders rows numbered placed accepted may plain follow);
+      holders = subst AreHolders (sym tables) (holders-stay layout old.tables.desk event deck own.holders rows numbered placed accepted may follow);
       running = subst (λ (t : TablesModel). AllByRecursion (IsRunningOf t) new.running) (sym tables) running;
       single = single_on layout old.tables.desk rows numbered placed event deck old.points old.running new.running plain follow own.single gone;
       points =
@@ -246,4 +246,4 @@ pub holders-replayed : (layout : Layout) (old new : JobsView) (event : Event) �
     → AreJobs layout old → AreHolders old.tables.desk → AreHolders new.tables.desk
 holders-replayed layout old new event bounded numbered goes tables are holders =
     let its = goes-on-with layout old.tables.desk event (deck_of event) goes in
-    subst AreHolders (sym tables) (holders-stay layout old.tables.desk event (deck_of event) holders are.rows numbered are.placed (any_accepted event bounded its.run) its.submits its.plain its.follow)
+    subst AreHolders (sym tables) (holders-stay layout old.tables.desk event (deck_of event) holders are.rows numbered are.placed (any_accepted event bounded its.run) its.submits its.follow)

@@ -308,4 +308,4 @@ module _ (layout : Layout) (tables : TablesModel) (are : AreHolders tables) (row
 pub running-stay : (layout : Layout) (tables : TablesModel) (event : Event) (deck : Option Job) (points : List PointView) (old new : List RunningStepView) → AreHolders tables → AllByRecursion IsAcceptedRow tables.runs → AreNumbered 1 tables.runs → AllByRecursion IsPlacedRow tables.runs → IsAnyAccepted event deck → MaySubmit event deck → is_forward_event event ≡ true → follows layout tables event deck ≡ true
     → AllByRecursion (IsRunningOf tables) old → HavePoints tables points → CommitsItsOwn event tables old → GoesOn event (after_event event deck tables) points old new → AllByRecursion (IsRunningOf (after_event event deck tables)) new
 running-stay layout tables event deck points old new are rows numbered placed accepted may plain follow all known commits goes =
-    stay layout tables are rows numbered placed event deck points old new plain follow (holders-stay layout tables event deck are rows numbered placed accepted may plain follow) all known commits goes
+    stay layout tables are rows numbered placed event deck points old new plain follow (holders-stay layout tables event deck are rows numbered placed accepted may follow) all known commits goes
