@@ -142,43 +142,43 @@ module _ (Q : Holding → Type 0) (by_all : IsKeptBy Q) where
       made-each (stamp_of own step) items (name_of now.facts.job.root own) 1 own.step.dds (opened_in_kit holding_kit step own now) may
       (all-opened-each (stamp_of own step) (placed_in holding_ways (record { sets = now.sets; passed = now.facts.passed }) now.facts.job.root own) now.sets each)
 
-  disposed_of-each : (step : ℕ) (abnormal : Bool) (own : OwnedStep) (now : Going Holding) → All now.sets → All (disposed holding_kit step abnormal own now).sets
-  disposed_of-each step abnormal own now each =
-      all-disposed-each (disposals_at now.facts.job.root (effective now.line.number now.facts.job).steps now.facts.points step abnormal own) (record { sets = now.sets; passed = now.facts.passed }) each
+  disposed_of-each : (earlier : List Bool) (step : ℕ) (abnormal : Bool) (own : OwnedStep) (now : Going Holding) → All now.sets → All (disposed holding_kit earlier step abnormal own now).sets
+  disposed_of-each earlier step abnormal own now each =
+      all-disposed-each (disposals_at now.facts.job.root now.facts.points earlier step abnormal own) (record { sets = now.sets; passed = now.facts.passed }) each
 
-  ended_in-each : (step : ℕ) (now : Going Holding) (own : OwnedStep) → All now.sets → All (ended_in holding_kit step now own).sets
-  ended_in-each step now own each =
-      let done = disposed holding_kit step true own now in
-      passed-each (without_passed done.facts.lost done.facts.passed) done.sets (disposed_of-each step true own now each)
+  ended_in-each : (earlier : List Bool) (step : ℕ) (now : Going Holding) (own : OwnedStep) → All now.sets → All (ended_in holding_kit earlier step now own).sets
+  ended_in-each earlier step now own each =
+      let done = disposed holding_kit earlier step true own now in
+      passed-each (without_passed done.facts.lost done.facts.passed) done.sets (disposed_of-each earlier step true own now each)
 
-  ended_at-each : (place : Place) (now : Going Holding) → All now.sets → All (ended_at holding_kit place now).sets
-  ended_at-each (Before step) now each = passed-each (without_passed now.facts.lost now.facts.passed) now.sets each
-  ended_at-each (Opened step) now each = passed-each (without_passed now.facts.lost now.facts.passed) now.sets each
-  ended_at-each (Within step writes) now each = by_step-each step (ended_in holding_kit step now) now each (λ own is. ended_in-each step now own each)
+  ended_at-each : (earlier : List Bool) (place : Place) (now : Going Holding) → All now.sets → All (ended_at holding_kit earlier place now).sets
+  ended_at-each earlier (Before step) now each = passed-each (without_passed now.facts.lost now.facts.passed) now.sets each
+  ended_at-each earlier (Opened step) now each = passed-each (without_passed now.facts.lost now.facts.passed) now.sets each
+  ended_at-each earlier (Within step writes) now each = by_step-each step (ended_in holding_kit earlier step now) now each (λ own is. ended_in-each earlier step now own each)
 
-  ended_by-each : (ending : Ending) (now : Going Holding) → HasLengths now.facts.job.root ending now.sets (step_of now (step_in (place_now now.facts))) → All now.sets → All (ended_by holding_kit ending now).sets
-  ended_by-each Completed now fits each = passed-each (without_passed now.facts.lost now.facts.passed) now.sets each
-  ended_by-each (Coded code rule writes lengths) now fits each =
+  ended_by-each : (earlier : List Bool) (ending : Ending) (now : Going Holding) → HasLengths now.facts.job.root ending now.sets (step_of now (step_in (place_now now.facts))) → All now.sets → All (ended_by holding_kit earlier ending now).sets
+  ended_by-each earlier Completed now fits each = passed-each (without_passed now.facts.lost now.facts.passed) now.sets each
+  ended_by-each earlier (Coded code rule writes lengths) now fits each =
       let step = step_in (place_now now.facts) in
-      by_step-each step (coded holding_kit step writes lengths.items now) now each
-      (λ own is. ended_in-each step (within holding_kit step writes (committed_by holding_kit lengths.items own now)) own (committed_by-each step lengths.items now own is fits each))
-  ended_by-each (Allocation dd cause first second) now fits each = ended_at-each (place_now now.facts) now each
+      by_step-each step (coded holding_kit earlier step writes lengths.items now) now each
+      (λ own is. ended_in-each earlier step (within holding_kit step writes (committed_by holding_kit lengths.items own now)) own (committed_by-each step lengths.items now own is fits each))
+  ended_by-each earlier (Allocation dd cause first second) now fits each = ended_at-each earlier (place_now now.facts) now each
 
   -- an event that follows keeps it
-  pub changed-each : (event : Event) (now : Going Holding) → MayMakeBy event now → All now.sets → All (changed holding_kit event now).sets
-  changed-each (Started job step items) now may each = starts-each step items.items now each (step_of now step) may
-  changed-each (Rewritten job taken writes lengths place image) now may each =
+  pub changed-each : (earlier : List Bool) (event : Event) (now : Going Holding) → MayMakeBy event now → All now.sets → All (changed holding_kit earlier event now).sets
+  changed-each earlier (Started job step items) now may each = starts-each step items.items now each (step_of now step) may
+  changed-each earlier (Rewritten job taken writes lengths place image) now may each =
       let running = step_in (place_now now.facts) in
       by_step-each running (rewritten holding_kit running writes lengths.items now) now each
       (λ own is. each-with_changed Q (name_with_role now.facts.job.root own is_updates) (restamped holding_kit own.owner running) _ (λ holding kept. by_all.stamps _ holding kept) (committed_by-each running lengths.items now own is may each))
-  changed-each (Checkpointed job id taken writes lengths place bytes) now may each =
+  changed-each earlier (Checkpointed job id taken writes lengths place bytes) now may each =
       let running = step_in (place_now now.facts) in
       let kept = kept_by now id place bytes in
       by_step-each running (checkpointed holding_kit running kept taken writes lengths.items now) now each
       (λ own is. each-with_changed Q (name_with_role now.facts.job.root own is_checkpoints) (with_kept kept) _ (by_all.keeps kept) (committed_by-each running lengths.items now own is may each))
-  changed-each (StepEnded job step rc writes lengths) now may each =
+  changed-each earlier (StepEnded job step rc writes lengths) now may each =
       let running = step_in (place_now now.facts) in
-      by_step-each running (step_ended holding_kit running rc lengths.items now) now each
-      (λ own is. disposed_of-each running false own (committed_by holding_kit lengths.items own now) (committed_by-each running lengths.items now own is may each))
-  changed-each (Ended job ending) now may each = ended_by-each ending now may each
-  changed-each _ now may each = each
+      by_step-each running (step_ended holding_kit earlier running rc lengths.items now) now each
+      (λ own is. disposed_of-each earlier running false own (committed_by holding_kit lengths.items own now) (committed_by-each running lengths.items now own is may each))
+  changed-each earlier (Ended job ending) now may each = ended_by-each earlier ending now may each
+  changed-each earlier _ now may each = each

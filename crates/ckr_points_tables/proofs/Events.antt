@@ -36,7 +36,8 @@ use Rattle.ckr_points.specs.declared.run.Run.{Run}
 use Rattle.ckr_points.specs.declared.run.RunState.TheVariants.{Queued}
 use Rattle.ckr_points_tables.specs.declared.run_table.RunTable.{RunTable}
 use Rattle.ckr_points_tables.specs.declared.tables.Spare.{Spare}
-use Rattle.ckr_points_tables.specs.RunChange.{Going, going, changed, check_writing, committed_by, desk_with, holding_kit, kept_by, place_now, table_kit, written_after}
+use Rattle.ckr_points_tables.specs.RunChange.{Going, going, changed, check_writing, committed_by, desk_with, earlier_for, holding_kit, kept_by, place_now, table_kit, written_after}
+use Rattle.ckr_points_tables.specs.MadeNames.{points_in}
 use Rattle.ckr_points_tables.specs.StepEnd.{HasLengths, MayRewriteIn}
 use Rattle.ckr_points.specs.Follows.{ended_follows, follows, is_checkpoint, is_length_of, is_rewrite, is_update, of_step, may_hold, may_restart, is_free, is_in_state, is_running, lengths_follow, of_run, selected_follows, started_follows}
 use Rattle.ckr_points_tables.specs.Invariant.{AreKept, HasKeptRoom, HasRoom, HasRoomIn, HasRoomUnder, IsFilled, IsRun, IsWide, MayCount, MayFollow, initiator_at, is_run_change, entries_at, put_at, room_at}
@@ -48,13 +49,14 @@ use Rattle.ckr_points_tables.specs.Rewrite.{HasFewRewrites, MayRestamp, has_mast
 use Rattle.ckr_points.specs.Rows.{RunRow, TableSet, TablesModel, run_of, with_row}
 use Rattle.ckr_points.specs.Tables.{is_checkpoints, name_with_role}
 use Rattle.ckr_points_library.specs.Commit.{output_names}
-use Rattle.ckr_points_tables.specs.RunJobs.{IsFitting, effective, plain_view}
+use Rattle.ckr_points_tables.specs.RunJobs.{IsFitting, effective}
 use Rattle.ckr_points_tables.proofs.RunJobs.{step-all}
 use Rattle.ckr_points_tables.specs.View.{RoomyTables, TablesRoom, RunTableView, Writings, facts_of, has_few_dds, room_of, row_of, row_with, rows_of, seen_under, table_in, written_of}
 use Rattle.ckr_points_tables.proofs.RunChanges.{MakesSameBy, event_in}
 use Rattle.ckr_points_tables.proofs.Follows.{lengths_fit, started-makes}
 use Rattle.ckr_points_tables.proofs.Initiators.{index_changed}
-use Rattle.ckr_points_tables.proofs.Runs.{at_false, length-rows, rows-at, rows-set, run-stays, runs-at, runs-set}
+use Rattle.ckr_points_tables.proofs.MadeNames.{earlier-same, points-seen, row_points}
+use Rattle.ckr_points_tables.proofs.Runs.{at_false, facts-rows, length-rows, rows-at, rows-set, run-stays, runs-at, runs-set}
 use Rattle.ckr_points_tables.proofs.RunIdentity.{IsSelecting, Stays, stays}
 use Rattle.ckr_points_tables.proofs.Steps.{few_of}
 use Rattle.ckr_points_tables.proofs.EachSet.{MayMakeBy}
@@ -190,8 +192,9 @@ module _ (library : Catalog) (lines : List Run) (tables : List RunTable) (index 
       step-all (λ (one : OwnedStep). are_distinct (names_of table.job.root one)) (effective line.number table.job) step own (subst (λ n. HasDistinctNames (effective n table.job)) (sym is.numbered) is.distinct) there,
     )
 
-    plain : table.job ≡ plain_view line.number table.job.deck
-    plain = subst (λ n. table.job ≡ plain_view n table.job.deck) (sym is.numbered) is.plain
+    -- which names of its step the steps before it made
+    abbrev earlier : List Bool
+    earlier = earlier_for event (points_in tables) line.number facts
 
     makes_by : (one : Event) → RowFollows may.0 desk one row → MakesSameBy one (going line facts desk.sets)
     makes_by (Started job step items) follows = (started-makes may.0 writings line facts library.sets (rows_of lines tables) step items.items (own_limits step) follows).0
@@ -338,9 +341,13 @@ module _ (library : Catalog) (lines : List Run) (tables : List RunTable) (index 
           behind_in id taken writes at bytes lengths.items (step_at (effective line.number table.job) (step_in (place_now facts))) (and-second _ (of_step row (is_checkpoint desk id lengths.items at bytes row)) follows)
       behind _ follows = (same_before, tt)
 
-    module _ (new : Run) (after : RunTable) (sets : Named Holding) (goes : going new (facts_of after) sets ≡ changed holding_kit event now) where
+    module _ (new : Run) (after : RunTable) (sets : Named Holding) (goes : going new (facts_of after) sets ≡ changed holding_kit earlier event now) where
       left : Stays event now (going new (facts_of after) sets)
-      left = subst (Stays event now) (sym goes) (stays event now)
+      left = subst (Stays event now) (sym goes) (stays earlier event now)
+
+      -- the rows tell the same
+      earlier_told : earlier_for event (row_points desk) line.number facts ≡ earlier
+      earlier_told = earlier-same (row_points desk) (points_in tables) (points-seen tables desk (facts-rows 1 lines tables kept.runs)) event line.number facts
 
       new_number : new.number ≡ suc place
       new_number = left.number ∙ number_is
@@ -355,10 +362,11 @@ module _ (library : Catalog) (lines : List Run) (tables : List RunTable) (index 
           ∙ ap (λ runs. let all_tables : TablesModel = record { sets = seen_under (table_in all) sets; runs = runs } in all_tables) (rows-set lines tables place new after ∙ ap (λ n. with_row (row_of new after) n (rows_of lines tables)) (sym new_number))
           ∙ ap (λ seen. desk_with seen desk)
           (
-          ap (going_viewed (table_in all)) goes ∙ changed_seen (table_in all) holding_kit table_kit (table_view all) event now goes_behind.1
-          ∙ ap (λ seen. changed table_kit event (going line facts seen)) goes_behind.0
+          ap (going_viewed (table_in all)) goes ∙ changed_seen (table_in all) holding_kit table_kit (table_view all) earlier event now goes_behind.1
+          ∙ ap (λ seen. changed table_kit earlier event (going line facts seen)) goes_behind.0
+          ∙ ap (λ flags. changed table_kit flags event (going line facts desk.sets)) (sym earlier_told)
           )
-          ∙ sym (event_in desk line facts found plain event deck change (number_is ∙ sym numbered) (makes_by event row_follows))
+          ∙ sym (event_in desk line facts found event deck change (number_is ∙ sym numbered) (makes_by event row_follows))
 
       free_by : (one : Event) → RowFollows may.0 desk one row → (i : ℕ) → IsSelecting i one → (k : ℕ) → initiator_at lines k ≡ Some i → ⊥
       free_by (Submitted job cards) follows i selecting k on = selecting
@@ -391,14 +399,14 @@ module _ (library : Catalog) (lines : List Run) (tables : List RunTable) (index 
           by (inr selecting) = absurd (free_by event row_follows i selecting k there)
 
       new_is : IsRun (1 + place) new after
-      new_is = run-stays (1 + place) line new table after is left.number left.name left.job (left.whole is.whole) (λ queued. let before = left.free queued in before.1 ∙ is.free before.0)
+      new_is = run-stays (1 + place) line new table after is left.number left.name left.job (λ queued. let before = left.free queued in before.1 ∙ is.free before.0)
 
       -- what is kept
       pub kept_after : (more : Roomy WrittenEntry) (marks : List Mark) → marks ≡ [] → ((i : ℕ) → new.initiator ≡ Some i → i < 256)
           → AreKept sets (slice_set lines place new) (slice_set tables place after) (put_at new.initiator (suc place) (put_at line.initiator 0 index)) marks (slice_set entered place more)
       kept_after more marks spared fits = record {
-        wide = subst (EachEntry IsWide) (ap (λ (all : Going Holding). all.sets) (sym goes)) (changed-wide event now (may_make event row_follows) kept.wide);
-        filled = subst (EachEntry IsFilled) (ap (λ (all : Going Holding). all.sets) (sym goes)) (changed-filled event now (may_make event row_follows) kept.filled);
+        wide = subst (EachEntry IsWide) (ap (λ (all : Going Holding). all.sets) (sym goes)) (changed-wide earlier event now (may_make event row_follows) kept.wide);
+        filled = subst (EachEntry IsFilled) (ap (λ (all : Going Holding). all.sets) (sym goes)) (changed-filled earlier event now (may_make event row_follows) kept.filled);
         runs = runs-set 1 lines tables kept.runs place new after new_is;
         few = subst (λ n. n ≤ 9999999) (sym (length-set tables place after)) kept.few;
         indexed = index_changed lines index kept.indexed place line lined new fits only;

@@ -42,8 +42,8 @@ held-stays : (now : Going Holding) (code : Code) (writes : ℕ) (lengths : List 
 held-stays now code writes lengths step free = by (step_of now step)
   where
     by : (found : Option OwnedStep) → StaysRun now (option_map_or (held holding_kit step code writes lengths now) found now)
-    by None = record { number = refl; name = refl; job = refl; whole = λ none. none; free = free }
-    by (Some own) = record { number = refl; name = refl; job = refl; whole = λ none. none; free = λ e. refl }
+    by None = record { number = refl; name = refl; job = refl; free = free }
+    by (Some own) = record { number = refl; name = refl; job = refl; free = λ e. refl }
 
 -- it is on no other initiator
 held-on : (now : Going Holding) (code : Code) (writes : ℕ) (lengths : List ℕ) (step i : ℕ) → (by_step_of step (held holding_kit step code writes lengths now) now).line.initiator ≡ Some i → now.line.initiator ≡ Some i

@@ -6,6 +6,7 @@ pub mod RunJobs
 pub mod Initiators
 pub mod Steps
 pub mod StepEnd
+pub mod MadeNames
 pub mod SetViews
 pub mod Follows
 pub mod Events

@@ -1,5 +1,5 @@
 -- Each data set has records of at least one byte, and no more of them than have room; an event that follows keeps it so.
-use Rattle.std.proofs.Common.{◌≤◌, arith, [], ◌∷◌}
+use Rattle.std.proofs.Common.{◌≤◌, arith, [], ◌∷◌, Bool, List}
 use Rattle.ckr_events.specs.declared.event.Event.{Event}
 use Rattle.ckr_library.specs.Catalog.{Holding}
 use Rattle.ckr_library.specs.NameMaps.{EachEntry, Named}
@@ -34,11 +34,11 @@ filled-kept = record {
 }
 
 -- an event that follows keeps the data sets wide, and within their space
-pub changed-wide : (event : Event) (now : Going Holding) → MayMakeBy event now → AreWide now.sets → AreWide (changed holding_kit event now).sets
-changed-wide event now may wide = changed-each IsWide wide-kept event now may wide
+pub changed-wide : (earlier : List Bool) (event : Event) (now : Going Holding) → MayMakeBy event now → AreWide now.sets → AreWide (changed holding_kit earlier event now).sets
+changed-wide earlier event now may wide = changed-each IsWide wide-kept earlier event now may wide
 
-pub changed-filled : (event : Event) (now : Going Holding) → MayMakeBy event now → AreFilled now.sets → AreFilled (changed holding_kit event now).sets
-changed-filled event now may filled = changed-each IsFilled filled-kept event now may filled
+pub changed-filled : (earlier : List Bool) (event : Event) (now : Going Holding) → MayMakeBy event now → AreFilled now.sets → AreFilled (changed holding_kit earlier event now).sets
+changed-filled earlier event now may filled = changed-each IsFilled filled-kept earlier event now may filled
 
 -- as the tables see them
 pub seen-wide : (writings : Writings) (sets : Named Holding) → AreWide sets → EachEntry (λ (table : TableSet). 1 ≤ table.set.lrecl) (seen_under (table_in writings) sets)

@@ -31,7 +31,7 @@ module _ (a : Inside) (self : RoomyTables) (view : tables_seen a ≡ self) (kept
     there = item_there a.tables.items (job - 1) placed.tabled
 
     stays : StaysRun (going line (facts_of there.0) a.library.sets) (going (released_line line) (facts_of there.0) a.library.sets)
-    stays = record { number = refl; name = refl; job = refl; whole = λ none. none; free = λ e. absurd (false≢true e) }
+    stays = record { number = refl; name = refl; job = refl; free = λ e. absurd (false≢true e) }
 
     tables_same : slice_set a.tables.items (job - 1) there.0 ≡ a.tables.items
     tables_same = set-same a.tables.items (job - 1) there.0 there.1

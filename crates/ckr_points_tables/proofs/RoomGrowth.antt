@@ -72,9 +72,8 @@ module _ (lines : List Run) (tables : List RunTable) (are : AreRuns 1 lines tabl
     pub runs_there : AreRuns 1 lines (slice_set tables place new)
     runs_there =
         let job : new.job ≡ old.job = ap (λ (facts : RunTableView). facts.job) same in
-        let lost : new.lost.items ≡ old.lost.items = ap (λ (facts : RunTableView). facts.lost) same in
         subst (λ all. AreRuns 1 all (slice_set tables place new)) (set-same lines place line_there.0 line_there.1)
-        (runs-set 1 lines tables are place line_there.0 new (run-stays (1 + place) line_there.0 line_there.0 old new is refl refl job (lost ∙ is.whole) is.free))
+        (runs-set 1 lines tables are place line_there.0 new (run-stays (1 + place) line_there.0 line_there.0 old new is refl refl job is.free))
 
     -- what is kept
     pub kept_there : (sets : Named Holding) (index : List ℕ) (marks : List Mark) (writings : List (Roomy WrittenEntry)) → AreKept sets lines tables index marks writings → AreKept sets lines (slice_set tables place new) index marks writings

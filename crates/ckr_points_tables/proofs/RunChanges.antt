@@ -1,7 +1,7 @@
 -- What an event makes of the tables is what it makes of its run, in its place.
 use Rattle.std.proofs.Common.{◌≡◌, ℕ, zero, suc, pred, ◌&&◌, ◌||◌, Bool, true, false, cond, nat_eq, List, [], ◌∷◌, ◌++◌, map, filter, take, refl, ap, sym, ◌∙◌, subst, arith, Some, None, Option}
 use Rattle.std.specs.Option.{option_map, option_map_or}
-use Rattle.std.specs.List.{AllByRecursion, filter_map, cons_option}
+use Rattle.std.specs.List.{filter_map, cons_option}
 use Rattle.std.proofs.lemmas.Bool.{false≢true, or_right}
 use Rattle.std.proofs.lemmas.Bool.Decides.{nat_tests}
 use Rattle.std.specs.Cmp.Lexicographic.{nat_list_cmp_total}
@@ -9,7 +9,7 @@ use Rattle.std.specs.Cmp.{tied_itself}
 use Rattle.std.specs.Ordering.{is_eq}
 use Rattle.ckr_base.proofs.Bools.{and-false}
 use Rattle.ckr_base.proofs.Options.{some-not-none}
-use Rattle.ckr_base.proofs.Sequences.{get-set-same, set-again, set-same}
+use Rattle.ckr_base.proofs.Sequences.{set-again, set-same}
 use Rattle.ckr_points_library.specs.Disposals.{disposals_by, with_names}
 use Rattle.ckr_uses.specs.Disposal.{dispose, is_temporary}
 use Rattle.ckr_events.specs.Jobs.{job_of}
@@ -30,15 +30,16 @@ use Rattle.ckr_meaning.specs.declared.place.Place.{Place}
 use Rattle.ckr_meaning.specs.declared.place.Place.TheVariants.{Before, Opened, Within}
 use Rattle.ckr_points.specs.declared.run.Run.{Run}
 use Rattle.ckr_points.specs.declared.run.RunState.TheVariants.{Purged as PurgedRun}
-use Rattle.ckr_points_tables.specs.RunChange.{Going, going, fresh_point, opened_by, changed, checkpointed, coded, desk_with, disposed, disposed_of, ended, ended_at, ended_by, ended_in, gone_on, place_now, rewritten, started, step_ended, step_of, table_kit}
-use Rattle.ckr_points_tables.specs.StepEnd.{made_at, made_in}
-use Rattle.ckr_points.specs.Tables.{made_tables, after_cancelled, after_checkpointed, after_commit, after_rewritten, after_dispositions, after_started, after_step_ended, earlier_made, own_made, run_disposal, step_made, steps_made}
+use Rattle.ckr_points_tables.specs.RunChange.{Going, going, fresh_point, opened_by, changed, checkpointed, coded, desk_with, disposed, disposed_of, earlier_for, earlier_now, ended, ended_at, ended_by, ended_in, gone_on, place_now, rewritten, started, step_ended, step_of, table_kit}
+use Rattle.ckr_points_tables.specs.MadeNames.{RunPoints, earlier_flags, made_at, made_in}
+use Rattle.ckr_points_tables.proofs.MadeNames.{flags-same, point_names, points-kept, row_points, steps-among}
+use Rattle.ckr_points.specs.Tables.{made_tables, after_cancelled, after_checkpointed, after_commit, after_rewritten, after_dispositions, after_started, after_step_ended, earlier_made, own_made, run_disposal}
 use Rattle.ckr_points_tables.specs.NewSets.{made_from}
 use Rattle.ckr_points_tables.specs.Invariant.{is_run_change}
 use Rattle.ckr_points.specs.Marks.{is_marked_absent, made_names, point_at, with_point, without_passed}
 use Rattle.ckr_points.specs.Restart.{after_event, after_abnormal, after_chosen, after_ended, after_passed_ended, by_run, by_step, step_in}
 use Rattle.ckr_points.specs.Rows.{RunRow, StartPoint, TableSet, TablesModel, run_of, step_of_run, table_ways, with_row, with_run, with_standing}
-use Rattle.ckr_points_tables.specs.RunJobs.{effective, plain_view}
+use Rattle.ckr_points_tables.specs.RunJobs.{effective}
 use Rattle.ckr_points_tables.specs.View.{RunTableView, row_with}
 
 -- a run put twice
@@ -46,77 +47,22 @@ with_row-again : (number : ℕ) (one other : RunRow) (runs : List RunRow) → wi
 with_row-again zero one other runs = refl
 with_row-again (suc place) one other runs = set-again runs place one other
 
-run_of-with : (number : ℕ) (one old : RunRow) (sets : Named TableSet) (desk : TablesModel) → run_of desk number ≡ Some old → run_of (record { sets = sets; runs = with_row one number desk.runs }) number ≡ Some one
-run_of-with zero one old sets desk found = absurd (some-not-none _ (sym found))
-run_of-with (suc place) one old sets desk found = get-set-same desk.runs place one old found
-
 -- a run put where it is
 with-same : (number : ℕ) (row : RunRow) (desk : TablesModel) → run_of desk number ≡ Some row → record { sets = desk.sets; runs = with_row row number desk.runs } ≡ desk
 with-same zero row desk found = absurd (some-not-none _ (sym found))
 with-same (suc place) row desk found = ap (λ runs. let both : TablesModel = record { sets = desk.sets; runs = runs } in both) (set-same desk.runs place row found)
-
--- ---- names that were made
-
--- a name among some of the names
-among-filtered : (p : Name → Bool) (names : List Name) (name : Name) → is_among (filter p names) name ≡ (is_among names name && p name)
-among-filtered p [] name = refl
-among-filtered p (other ∷ names) name = by (p other) (same_name name other) refl refl (among-filtered p names name)
-  where
-    by : (passes same : Bool) → p other ≡ passes → same_name name other ≡ same → is_among (filter p names) name ≡ (is_among names name && p name)
-        → is_among (cond passes (other ∷ filter p names) (filter p names)) name ≡ ((same || is_among names name) && p name)
-    by true true passes same more = ap (λ b. b || is_among (filter p names) name) same ∙ sym (ap p (name-same name other same) ∙ passes)
-    by true false passes same more = ap (λ b. b || is_among (filter p names) name) same ∙ more
-    by false true passes same more = more ∙ ap (λ b. is_among names name && b) (ap p (name-same name other same) ∙ passes) ∙ and-false (is_among names name) ∙ sym (ap p (name-same name other same) ∙ passes)
-    by false false passes same more = more
-
-among-both : (first second : List Name) (name : Name) → is_among (first ++ second) name ≡ (is_among first name || is_among second name)
-among-both [] second name = refl
-among-both (other ∷ first) second name = ap (λ b. same_name name other || b) (among-both first second name) ∙ sym (join (same_name name other) (is_among first name) (is_among second name))
-  where
-    join : (a b c : Bool) → (a || b) || c ≡ (a || (b || c))
-    join true b c = refl
-    join false b c = refl
-
--- among the names that a step point marks absent
-point_names : (found : Option StartPoint) (names : List Name) (name : Name) → is_among (option_map_or (λ (point : StartPoint). made_names point.marks names) found []) name ≡ (is_among names name && option_map_or (λ (point : StartPoint). is_marked_absent point.marks name) found false)
-point_names None names name = sym (and-false (is_among names name))
-point_names (Some point) names name = among-filtered (is_marked_absent point.marks) names name
 
 abbrev at_place : Option Place → RunTableView → RunTableView
 at_place place facts = record facts { place = place }
 
 -- ---- the dispositions of a run's step
 
-module _ (tables : TablesModel) (line : Run) (facts : RunTableView) (place : Option Place) (found : run_of tables line.number ≡ Some (row_with line (at_place place facts))) (plain : facts.job ≡ plain_view line.number facts.job.deck) where
+module _ (tables : TablesModel) (line : Run) (facts : RunTableView) where
   abbrev row : RunRow
   row = row_with line facts
 
-  abbrev AreOwn : List OwnedStep → Type 0
-  AreOwn steps = AllByRecursion (λ (own : OwnedStep). own.owner ≡ line.number) steps
-
-  steps_among : (number : ℕ) (steps : List OwnedStep) → AreOwn steps → (name : Name) → is_among (steps_made tables row number steps) name ≡ made_in facts.job.root facts.points number steps name
-  steps_among number [] are name = refl
-  steps_among number (own ∷ steps) are name =
-      among-both (step_made tables row own number) (steps_made tables row (suc number) steps) name
-      ∙ ap (λ b. b || is_among (steps_made tables row (suc number) steps) name)
-      (ap (λ owner. is_among (option_map_or (λ (one : RunRow). option_map_or (λ (point : StartPoint). made_names point.marks (names_of facts.job.root own)) (point_at one.points number) []) owner []) name) (ap (run_of tables) are.0 ∙ found)
-      ∙ point_names (point_at facts.points number) (names_of facts.job.root own) name)
-      ∙ ap (λ b. (is_among (names_of facts.job.root own) name && made_at facts.points number name) || b) (steps_among (suc number) steps are.1 name)
-
-  own-front : (k : ℕ) (steps : List OwnedStep) → AreOwn steps → AreOwn (take k steps)
-  own-front zero steps are = tt
-  own-front (suc k) [] are = tt
-  own-front (suc k) (own ∷ steps) are = (are.0, own-front k steps are.1)
-
-  deck-own : (deck : Job) (steps : List Step) → AreOwn (map (owned_by line.number deck) steps)
-  deck-own deck [] = tt
-  deck-own deck (step ∷ steps) = (refl, deck-own deck steps)
-
-  all-own : AreOwn (effective line.number facts.job).steps
-  all-own = subst (λ job. AreOwn (effective line.number job).steps) (sym plain) (deck-own facts.job.deck facts.job.deck.steps)
-
-  before_among : (step : ℕ) (name : Name) → is_among (earlier_made tables row step) name ≡ made_in facts.job.root facts.points 1 (take (pred step) (effective line.number facts.job).steps) name
-  before_among step name = steps_among 1 (take (pred step) (effective line.number facts.job).steps) (own-front (pred step) (effective line.number facts.job).steps all-own) name
+  before_among : (step : ℕ) (name : Name) → is_among (earlier_made tables row step) name ≡ made_in (row_points tables) facts.job.root 1 (take (pred step) (effective line.number facts.job).steps) name
+  before_among step name = steps-among tables row 1 (take (pred step) (effective line.number facts.job).steps) name
 
   own_among : (own : OwnedStep) (step : ℕ) (name : Name) → is_among (names_of facts.job.root own) name ≡ true → is_among (own_made row own step) name ≡ made_at facts.points step name
   own_among own step name among =
@@ -155,10 +101,21 @@ module _ (tables : TablesModel) (line : Run) (facts : RunTableView) (place : Opt
           run_by : Bool → Bool → Name → Disposal
           run_by made earlier name = record { name = name; after = dispose (is_temporary dd.origin) dd.disp made abnormal; made = made || earlier }
 
-  pub dispositions_own : (own : OwnedStep) (step : ℕ) (abnormal : Bool) → after_dispositions row own step abnormal tables ≡ disposed_of table_kit step abnormal own (going line facts tables.sets)
+  -- by which of the names of the step the steps before it made
+  abbrev flags_at : ℕ → OwnedStep → List Bool
+  flags_at step own = earlier_flags (row_points tables) facts.job.root (effective line.number facts.job).steps step own
+
+  dispositions_own : (own : OwnedStep) (step : ℕ) (abnormal : Bool) → after_dispositions row own step abnormal tables ≡ disposed_of table_kit (flags_at step own) step abnormal own (going line facts tables.sets)
   dispositions_own own step abnormal =
       ap (λ all. disposed_all table_ways all (record { sets = tables.sets; passed = facts.passed }))
-      (by_names (own_made row own step) (earlier_made tables row step) (made_at facts.points step) (made_in facts.job.root facts.points 1 (take (pred step) (effective line.number facts.job).steps)) own abnormal own.step.dds (own_among own step) (before_among step))
+      (by_names (own_made row own step) (earlier_made tables row step) (made_at facts.points step) (made_in (row_points tables) facts.job.root 1 (take (pred step) (effective line.number facts.job).steps)) own abnormal own.step.dds (own_among own step) (before_among step))
+
+  -- by the points of other tables, which are the same
+  pub dispositions_by : (points : RunPoints) → ((run : ℕ) → row_points tables run ≡ points run) → (own : OwnedStep) (step : ℕ) (abnormal : Bool)
+      → after_dispositions row own step abnormal tables ≡ disposed_of table_kit (earlier_flags points facts.job.root (effective line.number facts.job).steps step own) step abnormal own (going line facts tables.sets)
+  dispositions_by points same own step abnormal =
+      dispositions_own own step abnormal
+      ∙ ap (λ flags. disposed_of table_kit flags step abnormal own (going line facts tables.sets)) (flags-same (row_points tables) points same facts.job.root (effective line.number facts.job).steps step own)
 
 -- ---- the kinds of events
 
@@ -183,7 +140,7 @@ unchanged-in desk line facts found = sym (with-same line.number (row_with line f
 pub run-in : (desk : TablesModel) (line : Run) (facts : RunTableView) → run_of desk line.number ≡ Some (row_with line facts) → (job : ℕ) (change : RunRow → TablesModel) → line.number ≡ job → by_run job desk change ≡ change (row_with line facts)
 run-in desk line facts found job change same = ap (λ (one : Option RunRow). option_map_or change one desk) (ap (run_of desk) (sym same) ∙ found)
 
-module _ (desk : TablesModel) (line : Run) (facts : RunTableView) (found : run_of desk line.number ≡ Some (row_with line facts)) (plain : facts.job ≡ plain_view line.number facts.job.deck) where
+module _ (desk : TablesModel) (line : Run) (facts : RunTableView) (found : run_of desk line.number ≡ Some (row_with line facts)) where
   abbrev run : RunRow
   run = row_with line facts
 
@@ -193,58 +150,69 @@ module _ (desk : TablesModel) (line : Run) (facts : RunTableView) (found : run_o
   unchanged : desk ≡ desk_with now desk
   unchanged = unchanged-in desk line facts found
 
-  step_ended-in : (own : OwnedStep) (step rc writes : ℕ) (lengths : List ℕ) → after_step_ended run own step rc writes lengths desk ≡ desk_with (step_ended table_kit step rc lengths now own) desk
+  -- which of the names of a step the steps before it made
+  abbrev flags_of : ℕ → OwnedStep → List Bool
+  flags_of step own = earlier_flags (row_points desk) facts.job.root (effective line.number facts.job).steps step own
+
+  abbrev flags_in : ℕ → Option OwnedStep → List Bool
+  flags_in step there = option_map_or (flags_of step) there []
+
+  -- the points stay where the run is put elsewhere
+  same_points : (place : Option Place) (sets : Named TableSet) (run : ℕ) → row_points (record { sets = sets; runs = with_row (row_with line (at_place place facts)) line.number desk.runs }) run ≡ row_points desk run
+  same_points place sets = points-kept line.number (row_with line (at_place place facts)) (row_with line facts) sets desk found refl
+
+  step_ended-in : (own : OwnedStep) (step rc writes : ℕ) (lengths : List ℕ) → after_step_ended run own step rc writes lengths desk ≡ desk_with (step_ended table_kit (flags_of step own) step rc lengths now own) desk
   step_ended-in own step rc writes lengths =
       let done = after_commit run own step writes lengths desk in
       let place = Some (Within step writes) in
       let one = row_with line (at_place place facts) in
       let ending = λ (standing : Stock TableSet). with_standing (record run { place = Some (Before (suc step)); rcs = facts.rcs ++ (step, rc) ∷ []; in_effect = None }) standing done in
-      ap ending (dispositions_own done line facts place (run_of-with line.number one run done.sets desk found) plain own step false)
-      ∙ ap (λ runs. let all : TablesModel = record { sets = (disposed_of table_kit step false own (going line facts done.sets)).sets; runs = runs } in all)
-      (with_row-again line.number one (row_with line (gone_on table_kit step rc (disposed table_kit step false own (going line facts done.sets))).facts) desk.runs)
+      let flags = flags_of step own in
+      ap ending (dispositions_by done line facts (row_points desk) (same_points place done.sets) own step false)
+      ∙ ap (λ runs. let all : TablesModel = record { sets = (disposed_of table_kit flags step false own (going line facts done.sets)).sets; runs = runs } in all)
+      (with_row-again line.number one (row_with line (gone_on table_kit step rc (disposed table_kit flags step false own (going line facts done.sets))).facts) desk.runs)
 
   abbrev passed_over : TablesModel → RunTableView → Stock TableSet → TablesModel
   passed_over tables one standing = after_passed_ended (row_with line (record one { passed = standing.passed })) (record tables { sets = standing.sets })
 
-  coded-in : (own : OwnedStep) (step writes : ℕ) (lengths : List ℕ) → step_of now step ≡ Some own → after_abnormal (row_with line (at_place (Some (Within step writes)) facts)) (Within step writes) (after_commit run own step writes lengths desk) ≡ desk_with (coded table_kit step writes lengths now own) desk
+  coded-in : (own : OwnedStep) (step writes : ℕ) (lengths : List ℕ) → step_of now step ≡ Some own → after_abnormal (row_with line (at_place (Some (Within step writes)) facts)) (Within step writes) (after_commit run own step writes lengths desk) ≡ desk_with (coded table_kit (flags_of step own) step writes lengths now own) desk
   coded-in own step writes lengths there =
       let place = Some (Within step writes) in
       let within = at_place place facts in
       let one = row_with line within in
       let done = after_commit run own step writes lengths desk in
-      let after = disposed_of table_kit step true own (going line within done.sets) in
+      let flags = flags_of step own in
+      let after = disposed_of table_kit flags step true own (going line within done.sets) in
       ap (λ (step_there : Option OwnedStep). option_map_or (λ other. passed_over done within (after_dispositions one other step true done)) step_there done) there
-      ∙ ap (passed_over done within) (dispositions_own done line within place (run_of-with line.number one run done.sets desk found) plain own step true)
+      ∙ ap (passed_over done within) (dispositions_by done line within (row_points desk) (same_points place done.sets) own step true)
       ∙ ap (λ runs. let all : TablesModel = record { sets = passed_ended (without_passed facts.lost after.passed) after.sets; runs = runs } in all)
-      (with_row-again line.number one (row_with (ended (disposed table_kit step true own (going line within done.sets))).line (ended (disposed table_kit step true own (going line within done.sets))).facts) desk.runs)
+      (with_row-again line.number one (row_with (ended (disposed table_kit flags step true own (going line within done.sets))).line (ended (disposed table_kit flags step true own (going line within done.sets))).facts) desk.runs)
 
   coded-by : (writes : ℕ) (lengths : List ℕ) (there : Option OwnedStep) → step_of now (step_in (place_now facts)) ≡ there
       → option_map_or (λ own. after_abnormal (row_with line (at_place (Some (Within (step_in (place_now facts)) writes)) facts)) (Within (step_in (place_now facts)) writes) (after_commit run own (step_in (place_now facts)) writes lengths desk)) there desk
-      ≡ desk_with (option_map_or (coded table_kit (step_in (place_now facts)) writes lengths now) there now) desk
+      ≡ desk_with (option_map_or (coded table_kit (flags_in (step_in (place_now facts)) there) (step_in (place_now facts)) writes lengths now) there now) desk
   coded-by writes lengths None is = unchanged
   coded-by writes lengths (Some own) is = coded-in own (step_in (place_now facts)) writes lengths is
 
   within-by : (step : ℕ) (there : Option OwnedStep)
       → option_map_or (λ own. passed_over desk facts (after_dispositions run own step true desk)) there desk
-      ≡ desk_with (option_map_or (ended_in table_kit step now) there now) desk
+      ≡ desk_with (option_map_or (ended_in table_kit (flags_in step there) step now) there now) desk
   within-by step None = unchanged
-  within-by step (Some own) =
-      let after = disposed_of table_kit step true own now in
-      ap (passed_over desk facts) (dispositions_own desk line facts facts.place found plain own step true)
+  within-by step (Some own) = ap (passed_over desk facts) (dispositions_own desk line facts own step true)
 
-  abnormal-in : (place : Place) → after_abnormal run place desk ≡ desk_with (ended_at table_kit place now) desk
+  abnormal-in : (place : Place) → after_abnormal run place desk ≡ desk_with (ended_at table_kit (flags_in (step_in place) (step_of now (step_in place))) place now) desk
   abnormal-in (Before step) = refl
   abnormal-in (Opened step) = refl
   abnormal-in (Within step writes) = within-by step (step_of now step)
 
-  ended-in : (ending : Ending) → after_ended run ending desk ≡ desk_with (ended_by table_kit ending now) desk
+  ended-in : (ending : Ending) → after_ended run ending desk ≡ desk_with (ended_by table_kit (earlier_now (row_points desk) line.number facts) ending now) desk
   ended-in Completed = refl
   ended-in (Coded code rule writes lengths) = coded-by writes lengths.items (step_of now (step_in (place_now facts))) refl
   ended-in (Allocation dd cause one other) = abnormal-in (place_now facts)
 
   step_ended-by : (rc writes : ℕ) (lengths : List ℕ) (there : Option OwnedStep)
       → option_map_or (λ own. after_step_ended run own (step_in (place_now facts)) rc writes lengths desk) there desk
-      ≡ desk_with (option_map_or (step_ended table_kit (step_in (place_now facts)) rc lengths now) there now) desk
+      ≡ desk_with (option_map_or (step_ended table_kit (flags_in (step_in (place_now facts)) there) (step_in (place_now facts)) rc lengths now) there now) desk
   step_ended-by rc writes lengths None = unchanged
   step_ended-by rc writes lengths (Some own) = step_ended-in own (step_in (place_now facts)) rc writes lengths
 
@@ -269,7 +237,7 @@ module _ (desk : TablesModel) (line : Run) (facts : RunTableView) (found : run_o
       ap (λ (sets : Named TableSet). desk_with (going line (record facts { place = Some (Within step 0); points = with_point (fresh_point table_kit step opened now) facts.points }) sets) desk) same
 
   -- an event of the run
-  pub event_in : (event : Event) (deck : Option Job) → is_run_change event ≡ true → line.number ≡ job_of event → MakesSameBy event now → after_event event deck desk ≡ desk_with (changed table_kit event now) desk
+  pub event_in : (event : Event) (deck : Option Job) → is_run_change event ≡ true → line.number ≡ job_of event → MakesSameBy event now → after_event event deck desk ≡ desk_with (changed table_kit (earlier_for event (row_points desk) line.number facts) event now) desk
   event_in (Selected job initiator earlier step id) deck change same makes =
       run-in desk line facts found job (λ row. after_chosen row initiator earlier step id desk) same ∙ ap (λ e. after_chosen run initiator e step id desk) (zero_of earlier change)
     where

@@ -1,5 +1,5 @@
--- What an event leaves of its run: its number, its name and its job, and whether it has lost names; and who is on an initiator.
-use Rattle.std.proofs.Common.{◌≡◌, ℕ, ◌⊎◌, inl, inr, true, [], refl, sym, Some, None, Option}
+-- What an event leaves of its run: its number, its name and its job; and who is on an initiator.
+use Rattle.std.proofs.Common.{◌≡◌, ℕ, ◌⊎◌, inl, inr, Bool, true, List, refl, sym, Some, None, Option}
 use Rattle.std.specs.Option.{option_map_or}
 use Rattle.std.proofs.lemmas.Bool.{false≢true}
 use Rattle.std.proofs.lemmas.Option.{same_Some}
@@ -26,12 +26,11 @@ pub record Stays (event : Event) (now after : Going Holding) : Type 0 where
   pub number : after.line.number ≡ now.line.number
   pub name : after.line.name ≡ now.line.name
   pub job : after.facts.job ≡ now.facts.job
-  pub whole : now.facts.lost ≡ [] → after.facts.lost ≡ []
   pub free : is_queued after.line.state ≡ true → (is_queued now.line.state ≡ true) × (after.line.initiator ≡ now.line.initiator)
   pub on : (i : ℕ) → after.line.initiator ≡ Some i → (now.line.initiator ≡ Some i) ⊎ IsSelecting i event
 
 same : (event : Event) (now : Going Holding) → Stays event now now
-same event now = record { number = refl; name = refl; job = refl; whole = λ none. none; free = λ e. (e, refl); on = λ i e. inl e }
+same event now = record { number = refl; name = refl; job = refl; free = λ e. (e, refl); on = λ i e. inl e }
 
 module _ (event : Event) (now : Going Holding) where
   by_step-stays : (step : ℕ) (change : OwnedStep → Going Holding) → ((own : OwnedStep) → Stays event now (change own)) → Stays event now (by_step_of step change now)
@@ -42,35 +41,35 @@ module _ (event : Event) (now : Going Holding) where
       by (Some own) = stays own
 
   ended-stays : Stays event now (ended now)
-  ended-stays = record { number = refl; name = refl; job = refl; whole = λ none. refl; free = λ e. absurd (false≢true e); on = λ i e. absurd (some-not-none _ (sym e)) }
+  ended-stays = record { number = refl; name = refl; job = refl; free = λ e. absurd (false≢true e); on = λ i e. absurd (some-not-none _ (sym e)) }
 
-  ended_in-stays : (step : ℕ) (own : OwnedStep) → Stays event now (ended_in holding_kit step now own)
-  ended_in-stays step own = record { number = refl; name = refl; job = refl; whole = λ none. refl; free = λ e. absurd (false≢true e); on = λ i e. absurd (some-not-none _ (sym e)) }
+  ended_in-stays : (earlier : List Bool) (step : ℕ) (own : OwnedStep) → Stays event now (ended_in holding_kit earlier step now own)
+  ended_in-stays earlier step own = record { number = refl; name = refl; job = refl; free = λ e. absurd (false≢true e); on = λ i e. absurd (some-not-none _ (sym e)) }
 
-  ended_at-stays : (place : Place) → Stays event now (ended_at holding_kit place now)
-  ended_at-stays (Before step) = ended-stays
-  ended_at-stays (Opened step) = ended-stays
-  ended_at-stays (Within step writes) = by_step-stays step (ended_in holding_kit step now) (ended_in-stays step)
+  ended_at-stays : (earlier : List Bool) (place : Place) → Stays event now (ended_at holding_kit earlier place now)
+  ended_at-stays earlier (Before step) = ended-stays
+  ended_at-stays earlier (Opened step) = ended-stays
+  ended_at-stays earlier (Within step writes) = by_step-stays step (ended_in holding_kit earlier step now) (ended_in-stays earlier step)
 
-  ended_by-stays : (ending : Ending) → Stays event now (ended_by holding_kit ending now)
-  ended_by-stays Completed = ended-stays
-  ended_by-stays (Coded code rule writes lengths) =
-      by_step-stays (step_in (place_now now.facts)) (coded holding_kit (step_in (place_now now.facts)) writes lengths.items now)
-      (λ own. record { number = refl; name = refl; job = refl; whole = λ none. refl; free = λ e. absurd (false≢true e); on = λ i e. absurd (some-not-none _ (sym e)) })
-  ended_by-stays (Allocation dd cause one other) = ended_at-stays (place_now now.facts)
+  ended_by-stays : (earlier : List Bool) (ending : Ending) → Stays event now (ended_by holding_kit earlier ending now)
+  ended_by-stays earlier Completed = ended-stays
+  ended_by-stays earlier (Coded code rule writes lengths) =
+      by_step-stays (step_in (place_now now.facts)) (coded holding_kit earlier (step_in (place_now now.facts)) writes lengths.items now)
+      (λ own. record { number = refl; name = refl; job = refl; free = λ e. absurd (false≢true e); on = λ i e. absurd (some-not-none _ (sym e)) })
+  ended_by-stays earlier (Allocation dd cause one other) = ended_at-stays earlier (place_now now.facts)
 
 -- an event leaves its run so
-pub stays : (event : Event) (now : Going Holding) → Stays event now (changed holding_kit event now)
-stays (Selected job initiator earlier step id) now = record { number = refl; name = refl; job = refl; whole = λ none. none; free = λ e. absurd (false≢true e); on = λ i e. inr (same_Some initiator i e) }
-stays (Started job step items) now =
-    by_step-stays (Started job step items) now step (started holding_kit step items.items now) (λ own. record { number = refl; name = refl; job = refl; whole = λ none. none; free = λ e. (e, refl); on = λ i e. inl e })
-stays (Rewritten job taken writes lengths place image) now =
-    by_step-stays (Rewritten job taken writes lengths place image) now (step_in (place_now now.facts)) (rewritten holding_kit (step_in (place_now now.facts)) writes lengths.items now) (λ own. record { number = refl; name = refl; job = refl; whole = λ none. none; free = λ e. (e, refl); on = λ i e. inl e })
-stays (Checkpointed job id taken writes lengths place bytes) now =
-    by_step-stays (Checkpointed job id taken writes lengths place bytes) now (step_in (place_now now.facts)) (checkpointed holding_kit (step_in (place_now now.facts)) (kept_by now id place bytes) taken writes lengths.items now) (λ own. record { number = refl; name = refl; job = refl; whole = λ none. none; free = λ e. (e, refl); on = λ i e. inl e })
-stays (Cancelled job) now = record { number = refl; name = refl; job = refl; whole = λ none. none; free = λ e. (e, refl); on = λ i e. inl e }
-stays (StepEnded job step rc writes lengths) now =
-    by_step-stays (StepEnded job step rc writes lengths) now (step_in (place_now now.facts)) (step_ended holding_kit (step_in (place_now now.facts)) rc lengths.items now) (λ own. record { number = refl; name = refl; job = refl; whole = λ none. none; free = λ e. (e, refl); on = λ i e. inl e })
-stays (Ended job ending) now = ended_by-stays (Ended job ending) now ending
-stays (Purged job) now = record { number = refl; name = refl; job = refl; whole = λ none. none; free = λ e. absurd (false≢true e); on = λ i e. inl e }
-stays _ now = same _ now
+pub stays : (earlier : List Bool) (event : Event) (now : Going Holding) → Stays event now (changed holding_kit earlier event now)
+stays flags (Selected job initiator earlier step id) now = record { number = refl; name = refl; job = refl; free = λ e. absurd (false≢true e); on = λ i e. inr (same_Some initiator i e) }
+stays earlier (Started job step items) now =
+    by_step-stays (Started job step items) now step (started holding_kit step items.items now) (λ own. record { number = refl; name = refl; job = refl; free = λ e. (e, refl); on = λ i e. inl e })
+stays earlier (Rewritten job taken writes lengths place image) now =
+    by_step-stays (Rewritten job taken writes lengths place image) now (step_in (place_now now.facts)) (rewritten holding_kit (step_in (place_now now.facts)) writes lengths.items now) (λ own. record { number = refl; name = refl; job = refl; free = λ e. (e, refl); on = λ i e. inl e })
+stays earlier (Checkpointed job id taken writes lengths place bytes) now =
+    by_step-stays (Checkpointed job id taken writes lengths place bytes) now (step_in (place_now now.facts)) (checkpointed holding_kit (step_in (place_now now.facts)) (kept_by now id place bytes) taken writes lengths.items now) (λ own. record { number = refl; name = refl; job = refl; free = λ e. (e, refl); on = λ i e. inl e })
+stays earlier (Cancelled job) now = record { number = refl; name = refl; job = refl; free = λ e. (e, refl); on = λ i e. inl e }
+stays earlier (StepEnded job step rc writes lengths) now =
+    by_step-stays (StepEnded job step rc writes lengths) now (step_in (place_now now.facts)) (step_ended holding_kit earlier (step_in (place_now now.facts)) rc lengths.items now) (λ own. record { number = refl; name = refl; job = refl; free = λ e. (e, refl); on = λ i e. inl e })
+stays earlier (Ended job ending) now = ended_by-stays (Ended job ending) now earlier ending
+stays earlier (Purged job) now = record { number = refl; name = refl; job = refl; free = λ e. absurd (false≢true e); on = λ i e. inl e }
+stays earlier _ now = same _ now

@@ -9,12 +9,11 @@ use Rattle.std.proofs.lemmas.List.{drop_all, length-drop, length-map}
 use Rattle.ckr_base.proofs.Bools.{and-first, and-second}
 use Rattle.ckr_base.proofs.Numbers.{nat_le-true}
 use Rattle.ckr_base.proofs.Options.{some-not-none}
-use Rattle.ckr_meaning.specs.EffectiveJob.{Effective, OwnedStep, is_among, names_of, names_of_steps, owned_by, step_at}
+use Rattle.ckr_meaning.specs.EffectiveJob.{Effective, OwnedStep, names_of, names_of_steps, owned_by, step_at}
 use Rattle.std.proofs.lemmas.List.Sums.{sum_by-cons}
 use Rattle.ckr_library.specs.NameMaps.{Name}
-use Rattle.ckr_points.specs.Rows.{StartPoint}
 use Rattle.ckr_points_tables.specs.Rooms.{dds_of}
-use Rattle.ckr_points_tables.specs.StepEnd.{made_at, made_in}
+use Rattle.ckr_points_tables.specs.MadeNames.{RunPoints, made_by, made_in}
 use Rattle.ckr_points_tables.specs.RunJobs.{AreTaken, IsFitting, IsFittingStep, JobView, effective, has_few_dds, is_fitting_step, names_in, own_of, taken_at, taken_from}
 use Rattle.ckr_points_tables.specs.declared.own_step.OwnStep.{OwnStep}
 use Rattle.ckr_points_tables.specs.declared.taken_step.TakenStep.{TakenStep}
@@ -190,14 +189,13 @@ dds-next steps place next inside is =
     ∙ ap (λ found. option_map_or (λ (own : OwnedStep). length own.step.dds) found 0 + dds_of (drop next steps)) (sym there.1)
 
 -- whether one of the first steps made a name, from a place on
-pub made-next : (root : ℕ) (points : List StartPoint) (name : Name) (steps : List OwnedStep) (count place next number : ℕ) → place < count → place < length steps → next ≡ place + 1
-    → made_in root points number (drop place (take count steps)) name
-    ≡ (option_map_or (λ own. is_among (names_of root own) name && made_at points number name) (slice_get steps place) false || made_in root points (suc number) (drop next (take count steps)) name)
-made-next root points name steps count place next number first inside is =
+pub made-next : (points : RunPoints) (root : ℕ) (name : Name) (steps : List OwnedStep) (count place next number : ℕ) → place < count → place < length steps → next ≡ place + 1
+    → made_in points root number (drop place (take count steps)) name ≡ (option_map_or (made_by points root number name) (slice_get steps place) false || made_in points root (suc number) (drop next (take count steps)) name)
+made-next points root name steps count place next number first inside is =
     let there = inside-get steps place inside in
-    ap (λ some. made_in root points number some name) (drop-next (take count steps) place next there.0 (take-get steps count place first ∙ there.1) is)
-    ∙ ap (λ found. option_map_or (λ own. is_among (names_of root own) name && made_at points number name) found false || made_in root points (suc number) (drop next (take count steps)) name) (sym there.1)
+    ap (λ some. made_in points root number some name) (drop-next (take count steps) place next there.0 (take-get steps count place first ∙ there.1) is)
+    ∙ ap (λ found. option_map_or (made_by points root number name) found false || made_in points root (suc number) (drop next (take count steps)) name) (sym there.1)
 
 -- none is behind the last one
-pub made-end : (root : ℕ) (points : List StartPoint) (name : Name) (steps : List OwnedStep) (count place number : ℕ) → length (take count steps) ≤ place → made_in root points number (drop place (take count steps)) name ≡ false
-made-end root points name steps count place number beyond = ap (λ some. made_in root points number some name) (drop_all place (take count steps) beyond)
+pub made-end : (points : RunPoints) (root : ℕ) (name : Name) (steps : List OwnedStep) (count place number : ℕ) → length (take count steps) ≤ place → made_in points root number (drop place (take count steps)) name ≡ false
+made-end points root name steps count place number beyond = ap (λ some. made_in points root number some name) (drop_all place (take count steps) beyond)

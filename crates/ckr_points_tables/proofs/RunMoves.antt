@@ -29,7 +29,6 @@ pub record StaysRun (now after : Going Holding) : Type 0 where
   pub number : after.line.number ≡ now.line.number
   pub name : after.line.name ≡ now.line.name
   pub job : after.facts.job ≡ now.facts.job
-  pub whole : now.facts.lost ≡ [] → after.facts.lost ≡ []
   pub free : is_queued after.line.state ≡ true → after.line.initiator ≡ None
 
 -- a test of a run's row is true of the run that is there
@@ -101,7 +100,7 @@ module _ (sets : Named Holding) (lines : List Run) (tables : List RunTable) (ind
         (rows-set lines tables place new after ∙ ap (λ n. with_row (row_of new after) n (rows_of lines tables)) (sym (stays.number ∙ number_is)))
 
     new_is : IsRun (1 + place) new after
-    new_is = run-stays (1 + place) line new table after is_run stays.number stays.name stays.job (stays.whole is_run.whole) stays.free
+    new_is = run-stays (1 + place) line new table after is_run stays.number stays.name stays.job stays.free
 
     -- what is kept, with an index of the lines as they are then
     pub kept_moved : (other : List ℕ) (spared : List Mark) → EachEntry IsWide now_sets → EachEntry IsFilled now_sets → IsIndexOf other (slice_set lines place new) → spared ≡ [] → AreKept now_sets (slice_set lines place new) (slice_set tables place after) other spared entered

@@ -1,7 +1,8 @@
 -- The runs with their lines, seen as rows.
-use Rattle.std.proofs.Common.{◌≡◌, ℕ, zero, suc, ◌+◌, Bool, true, false, cond, nat_eq, List, [], ◌∷◌, ◌++◌, length, map, slice_get, slice_set, slice_index, find, refl, ap, sym, ◌∙◌, subst, arith, Some, None, Option}
+use Rattle.std.proofs.Common.{◌≡◌, ℕ, zero, suc, ◌+◌, Bool, true, false, cond, nat_eq, List, [], ◌∷◌, ◌++◌, drop, length, map, slice_get, slice_set, slice_index, find, refl, ap, sym, ◌∙◌, subst, arith, Some, None, Option}
 use Rattle.std.specs.Option.{option_map, option_eq}
 use Rattle.std.proofs.lemmas.Bool.{false≢true}
+use Rattle.std.proofs.lemmas.List.{take_at}
 use Rattle.std.proofs.lemmas.Option.{same_Some}
 use Rattle.ckr_base.proofs.Numbers.{nat_eq-false, nat_eq-true, zero-not-suc}
 use Rattle.ckr_base.proofs.Options.{some-not-none}
@@ -9,10 +10,10 @@ use Rattle.ckr_points.specs.declared.run.Run.{Run}
 use Rattle.ckr_points_tables.specs.declared.run_table.RunTable.{RunTable}
 use Rattle.ckr_points.specs.Rows.{RunRow, TablesModel, run_of}
 use Rattle.std.specs.List.{list_all}
-use Rattle.ckr_meaning.specs.EffectiveJob.{HasDistinctNames, OwnedStep}
+use Rattle.ckr_meaning.specs.EffectiveJob.{HasDistinctNames, OwnedStep, owned_by}
 use Rattle.ckr_points.specs.Syschk.{names_its_set}
 use Rattle.ckr_points_tables.specs.Rewrite.{has_master}
-use Rattle.ckr_points_tables.specs.RunJobs.{IsFitting, JobView, effective, is_within_limits, plain_view}
+use Rattle.ckr_points_tables.specs.RunJobs.{IsFitting, JobView, effective, is_within_limits}
 use Rattle.ckr_points_tables.specs.View.{facts_of, facts_in, line_of, place_of, row_of, row_with, rows_of}
 use Rattle.ckr_points_tables.specs.Invariant.{IsRun, AreRuns, IsIndexOf, initiator_at, is_queued}
 
@@ -25,11 +26,11 @@ lines-rows number (line ∷ lines) (table ∷ tables) are =
     ap (λ rest. line ∷ rest) (lines-rows (suc number) lines tables are.1)
     ∙ ap (λ name. record line { name = name } ∷ map line_of (rows_of lines tables)) are.0.named
 
--- what is kept of a run that continues none is what its row has
+-- what is kept of a run is what its row has
 pub facts-row : (number : ℕ) (line : Run) (table : RunTable) → IsRun number line table → facts_of table ≡ facts_in (row_of line table)
 facts-row number line table is =
-    ap (λ job. record (facts_of table) { job = job }) is.plain
-    ∙ sym (ap (λ job. facts_in (row_with line (record (facts_of table) { job = job }))) is.plain)
+    let job = table.job in
+    sym (ap (λ taken. record (facts_of table) { job = record job { taken = taken } }) (take_at job.taken (map (owned_by line.number job.deck) (drop (length job.taken) job.deck.steps)) job.earlier_step is.taken))
 
 -- what is kept at a place is what the row there has
 pub facts-rows : (number : ℕ) (lines : List Run) (tables : List RunTable) → AreRuns number lines tables → (place : ℕ) → option_map facts_of (slice_get tables place) ≡ option_map facts_in (slice_get (rows_of lines tables) place)
@@ -47,8 +48,8 @@ length-rows number (line ∷ lines) (table ∷ tables) are =
     let rest = length-rows (suc number) lines tables are.1 in (ap suc rest.0, ap suc rest.1)
 
 -- a run stays one that keeps its number, its name and its job
-pub run-stays : (number : ℕ) (line new : Run) (table after : RunTable) → IsRun number line table → new.number ≡ line.number → new.name ≡ line.name → after.job ≡ table.job → after.lost.items ≡ [] → (is_queued new.state ≡ true → new.initiator ≡ None) → IsRun number new after
-run-stays number line new table after is numbered named job whole free = record {
+pub run-stays : (number : ℕ) (line new : Run) (table after : RunTable) → IsRun number line table → new.number ≡ line.number → new.name ≡ line.name → after.job ≡ table.job → (is_queued new.state ≡ true → new.initiator ≡ None) → IsRun number new after
+run-stays number line new table after is numbered named job free = record {
   numbered = numbered ∙ is.numbered;
   named = named ∙ is.named ∙ ap (λ (one : JobView). one.deck.name) (sym job);
   limits = ap (λ (one : JobView). is_within_limits one.deck) job ∙ is.limits;
@@ -57,8 +58,7 @@ run-stays number line new table after is numbered named job whole free = record 
   masters = subst (λ one. list_all (λ (own : OwnedStep). has_master own.step) (effective number one).steps ≡ true) (sym job) is.masters;
   syschk = ap (λ (one : JobView). names_its_set one.deck.syschk) job ∙ is.syschk;
   free = free;
-  plain = subst (λ (one : JobView). one ≡ plain_view number one.deck) (sym job) is.plain;
-  whole = whole;
+  taken = subst (λ (one : JobView). length one.taken ≡ one.earlier_step) (sym job) is.taken;
 }
 
 -- a row at a place, by its line and its facts

@@ -121,10 +121,10 @@ module _ {X Y : Type 0} (view : Name → X → Y) (first : Kit X) (second : Kit 
       ∙ ap (λ point. after point (made_from second.fresh (stamp_of own step) items (name_of now.facts.job.root own) 1 own.step.dds (viewed view opened))) (point-seen step opened now)
       ∙ ap (λ sets. after (fresh_point second step sets (going_viewed view now)) (made_from second.fresh (stamp_of own step) items (name_of now.facts.job.root own) 1 own.step.dds sets)) (opened-seen step own now)
 
-  disposed-seen : (step : ℕ) (abnormal : Bool) (own : OwnedStep) (now : Going X) → going_viewed view (disposed first step abnormal own now) ≡ disposed second step abnormal own (going_viewed view now)
-  disposed-seen step abnormal own now =
+  disposed-seen : (earlier : List Bool) (step : ℕ) (abnormal : Bool) (own : OwnedStep) (now : Going X) → going_viewed view (disposed first earlier step abnormal own now) ≡ disposed second earlier step abnormal own (going_viewed view now)
+  disposed-seen earlier step abnormal own now =
       ap (λ (both : Stock Y). going now.line (record now.facts { passed = both.passed }) both.sets)
-      (viewed-disposed_all view first.ways second.ways is.through (disposals_at now.facts.job.root (effective now.line.number now.facts.job).steps now.facts.points step abnormal own) (record { sets = now.sets; passed = now.facts.passed }))
+      (viewed-disposed_all view first.ways second.ways is.through (disposals_at now.facts.job.root now.facts.points earlier step abnormal own) (record { sets = now.sets; passed = now.facts.passed }))
 
   committed_by-seen : (lengths : List ℕ) (own : OwnedStep) (now : Going X) → going_viewed view (committed_by first lengths own now) ≡ committed_by second lengths own (going_viewed view now)
   committed_by-seen lengths own now = ap (going now.line now.facts) (committed-seen (output_names now.facts.job.root own) lengths now.sets)
@@ -144,17 +144,17 @@ module _ {X Y : Type 0} (view : Name → X → Y) (first : Kit X) (second : Kit 
   ended-seen : (now : Going X) → going_viewed view (ended now) ≡ ended (going_viewed view now)
   ended-seen now = ap (going (ended now).line (ended now).facts) (passed-seen (without_passed now.facts.lost now.facts.passed) now.sets)
 
-  step_ended-seen : (step rc : ℕ) (lengths : List ℕ) (now : Going X) (own : OwnedStep) → going_viewed view (step_ended first step rc lengths now own) ≡ step_ended second step rc lengths (going_viewed view now) own
-  step_ended-seen step rc lengths now own =
-      ap (gone_on second step rc) (disposed-seen step false own (committed_by first lengths own now) ∙ ap (disposed second step false own) (committed_by-seen lengths own now))
+  step_ended-seen : (earlier : List Bool) (step rc : ℕ) (lengths : List ℕ) (now : Going X) (own : OwnedStep) → going_viewed view (step_ended first earlier step rc lengths now own) ≡ step_ended second earlier step rc lengths (going_viewed view now) own
+  step_ended-seen earlier step rc lengths now own =
+      ap (gone_on second step rc) (disposed-seen earlier step false own (committed_by first lengths own now) ∙ ap (disposed second earlier step false own) (committed_by-seen lengths own now))
 
-  ended_in-seen : (step : ℕ) (now : Going X) (own : OwnedStep) → going_viewed view (ended_in first step now own) ≡ ended_in second step (going_viewed view now) own
-  ended_in-seen step now own = ended-seen (disposed first step true own now) ∙ ap ended (disposed-seen step true own now)
+  ended_in-seen : (earlier : List Bool) (step : ℕ) (now : Going X) (own : OwnedStep) → going_viewed view (ended_in first earlier step now own) ≡ ended_in second earlier step (going_viewed view now) own
+  ended_in-seen earlier step now own = ended-seen (disposed first earlier step true own now) ∙ ap ended (disposed-seen earlier step true own now)
 
-  coded-seen : (step writes : ℕ) (lengths : List ℕ) (now : Going X) (own : OwnedStep) → going_viewed view (coded first step writes lengths now own) ≡ coded second step writes lengths (going_viewed view now) own
-  coded-seen step writes lengths now own =
-      ended_in-seen step (within first step writes (committed_by first lengths own now)) own
-      ∙ ap (λ after. ended_in second step (within second step writes after) own) (committed_by-seen lengths own now)
+  coded-seen : (earlier : List Bool) (step writes : ℕ) (lengths : List ℕ) (now : Going X) (own : OwnedStep) → going_viewed view (coded first earlier step writes lengths now own) ≡ coded second earlier step writes lengths (going_viewed view now) own
+  coded-seen earlier step writes lengths now own =
+      ended_in-seen earlier step (within first step writes (committed_by first lengths own now)) own
+      ∙ ap (λ after. ended_in second earlier step (within second step writes after) own) (committed_by-seen lengths own now)
 
   pub by_step-seen : (step : ℕ) (one : OwnedStep → Going X) (other : OwnedStep → Going Y) → ((own : OwnedStep) → going_viewed view (one own) ≡ other own) → (now : Going X) → going_viewed view (by_step_of step one now) ≡ by_step_of step other (going_viewed view now)
   by_step-seen step one other same now = by (step_of now step)
@@ -163,17 +163,17 @@ module _ {X Y : Type 0} (view : Name → X → Y) (first : Kit X) (second : Kit 
       by None = refl
       by (Some own) = same own
 
-  ended_at-seen : (place : Place) (now : Going X) → going_viewed view (ended_at first place now) ≡ ended_at second place (going_viewed view now)
-  ended_at-seen (Before step) now = ended-seen now
-  ended_at-seen (Opened step) now = ended-seen now
-  ended_at-seen (Within step writes) now = by_step-seen step (ended_in first step now) (ended_in second step (going_viewed view now)) (ended_in-seen step now) now
+  ended_at-seen : (earlier : List Bool) (place : Place) (now : Going X) → going_viewed view (ended_at first earlier place now) ≡ ended_at second earlier place (going_viewed view now)
+  ended_at-seen earlier (Before step) now = ended-seen now
+  ended_at-seen earlier (Opened step) now = ended-seen now
+  ended_at-seen earlier (Within step writes) now = by_step-seen step (ended_in first earlier step now) (ended_in second earlier step (going_viewed view now)) (ended_in-seen earlier step now) now
 
-  ended_by-seen : (ending : Ending) (now : Going X) → going_viewed view (ended_by first ending now) ≡ ended_by second ending (going_viewed view now)
-  ended_by-seen Completed now = ended-seen now
-  ended_by-seen (Coded code rule writes lengths) now =
+  ended_by-seen : (earlier : List Bool) (ending : Ending) (now : Going X) → going_viewed view (ended_by first earlier ending now) ≡ ended_by second earlier ending (going_viewed view now)
+  ended_by-seen earlier Completed now = ended-seen now
+  ended_by-seen earlier (Coded code rule writes lengths) now =
       let step = step_in (place_now now.facts) in
-      by_step-seen step (coded first step writes lengths.items now) (coded second step writes lengths.items (going_viewed view now)) (coded-seen step writes lengths.items now) now
-  ended_by-seen (Allocation dd cause one other) now = ended_at-seen (place_now now.facts) now
+      by_step-seen step (coded first earlier step writes lengths.items now) (coded second earlier step writes lengths.items (going_viewed view now)) (coded-seen earlier step writes lengths.items now) now
+  ended_by-seen earlier (Allocation dd cause one other) now = ended_at-seen earlier (place_now now.facts) now
 
   -- the point of a checkpoint
   check_point-seen : (step taken writes : ℕ) (sets : Named X) (now : Going X) (own : OwnedStep) → check_point first step taken writes sets now own ≡ check_point second step taken writes (viewed view sets) (going_viewed view now) own
@@ -214,19 +214,19 @@ module _ {X Y : Type 0} (view : Name → X → Y) (first : Kit X) (second : Kit 
   checkpointed_by-seen step kept taken writes lengths now None keeps = refl
   checkpointed_by-seen step kept taken writes lengths now (Some own) keeps = checkpointed-seen step kept taken writes lengths now own keeps
 
-  pub changed_seen : (event : Event) (now : Going X) → Keeps event now → going_viewed view (changed first event now) ≡ changed second event (going_viewed view now)
-  changed_seen (Started job step items) now keeps = by_step-seen step (started first step items.items now) (started second step items.items (going_viewed view now)) (started-seen step items.items now) now
-  changed_seen (Rewritten job taken writes lengths place image) now keeps =
+  pub changed_seen : (earlier : List Bool) (event : Event) (now : Going X) → Keeps event now → going_viewed view (changed first earlier event now) ≡ changed second earlier event (going_viewed view now)
+  changed_seen earlier (Started job step items) now keeps = by_step-seen step (started first step items.items now) (started second step items.items (going_viewed view now)) (started-seen step items.items now) now
+  changed_seen earlier (Rewritten job taken writes lengths place image) now keeps =
       let running = step_in (place_now now.facts) in
       by_step-seen running (rewritten first running writes lengths.items now) (rewritten second running writes lengths.items (going_viewed view now)) (rewritten-seen running writes lengths.items now) now
-  changed_seen (Checkpointed job id taken writes lengths place bytes) now keeps =
+  changed_seen earlier (Checkpointed job id taken writes lengths place bytes) now keeps =
       let running = step_in (place_now now.facts) in
       checkpointed_by-seen running (kept_by now id place bytes) taken writes lengths.items now (step_of now running) keeps
-  changed_seen (StepEnded job step rc writes lengths) now keeps =
+  changed_seen earlier (StepEnded job step rc writes lengths) now keeps =
       let running = step_in (place_now now.facts) in
-      by_step-seen running (step_ended first running rc lengths.items now) (step_ended second running rc lengths.items (going_viewed view now)) (step_ended-seen running rc lengths.items now) now
-  changed_seen (Ended job ending) now keeps = ended_by-seen ending now
-  changed_seen _ now keeps = refl
+      by_step-seen running (step_ended first earlier running rc lengths.items now) (step_ended second earlier running rc lengths.items (going_viewed view now)) (step_ended-seen earlier running rc lengths.items now) now
+  changed_seen earlier (Ended job ending) now keeps = ended_by-seen earlier ending now
+  changed_seen earlier _ now keeps = refl
 
 -- ---- the views
 

@@ -21,52 +21,52 @@ abbrev pub with_passed : RunTableView → List Passed → RunTableView
 with_passed facts passed = record facts { passed = passed }
 
 -- after the dispositions of a step, if there is one
-abbrev disposed_by : Run → RunTableView → ℕ → Bool → Named Holding → Option OwnedStep → Stock Holding
-disposed_by line facts step abnormal sets found =
-    option_map_or (λ own. disposed_all holding_ways (disposals_at facts.job.root (effective line.number facts.job).steps facts.points step abnormal own) (standing sets facts.passed)) found (standing sets facts.passed)
+abbrev disposed_by : RunTableView → List Bool → ℕ → Bool → Named Holding → Option OwnedStep → Stock Holding
+disposed_by facts earlier step abnormal sets found =
+    option_map_or (λ own. disposed_all holding_ways (disposals_at facts.job.root facts.points earlier step abnormal own) (standing sets facts.passed)) found (standing sets facts.passed)
 
 abbrev committed_by : ℕ → List ℕ → Named Holding → Option OwnedStep → Named Holding
 committed_by root lengths sets found =
     option_map_or (λ own. committed with_length (output_names root own) lengths sets) found sets
 
-module _ (line : Run) (facts : RunTableView) (sets : Named Holding) (step : ℕ) where
+module _ (line : Run) (facts : RunTableView) (sets : Named Holding) (earlier : List Bool) (step : ℕ) where
   ended-by : (found : Option OwnedStep) → is_some found ≡ true → (after : Named Holding) (passed : List Passed)
-      → standing after passed ≡ disposed_by line facts step true sets found
-      → ended (going line (with_passed facts passed) after) ≡ option_map_or (ended_in holding_kit step (going line facts sets)) found (going line facts sets)
+      → standing after passed ≡ disposed_by facts earlier step true sets found
+      → ended (going line (with_passed facts passed) after) ≡ option_map_or (ended_in holding_kit earlier step (going line facts sets)) found (going line facts sets)
   ended-by None there after passed done = absurd (false≢true there)
   ended-by (Some own) there after passed done = ap (λ (both : Stock Holding). ended (going line (with_passed facts both.passed) both.sets)) done
 
   -- a run that ends in a step
   pub ended_so : is_some (step_at (effective line.number facts.job) step) ≡ true → (after : Named Holding) (passed : List Passed)
-      → standing after passed ≡ disposed_by line facts step true sets (step_at (effective line.number facts.job) step)
-      → ended (going line (with_passed facts passed) after) ≡ by_step_of step (ended_in holding_kit step (going line facts sets)) (going line facts sets)
+      → standing after passed ≡ disposed_by facts earlier step true sets (step_at (effective line.number facts.job) step)
+      → ended (going line (with_passed facts passed) after) ≡ by_step_of step (ended_in holding_kit earlier step (going line facts sets)) (going line facts sets)
   ended_so = ended-by (step_at (effective line.number facts.job) step)
 
   step_ended-by : (rc : ℕ) (lengths : List ℕ) (found : Option OwnedStep) → is_some found ≡ true → (commit after : Named Holding) (passed : List Passed)
       → commit ≡ committed_by facts.job.root lengths sets found
-      → standing after passed ≡ disposed_by line facts step false commit found
-      → gone_on holding_kit step rc (going line (with_passed facts passed) after) ≡ option_map_or (step_ended holding_kit step rc lengths (going line facts sets)) found (going line facts sets)
+      → standing after passed ≡ disposed_by facts earlier step false commit found
+      → gone_on holding_kit step rc (going line (with_passed facts passed) after) ≡ option_map_or (step_ended holding_kit earlier step rc lengths (going line facts sets)) found (going line facts sets)
   step_ended-by rc lengths None there commit after passed first done = absurd (false≢true there)
   step_ended-by rc lengths (Some own) there commit after passed first done =
       ap (λ (both : Stock Holding). gone_on holding_kit step rc (going line (with_passed facts both.passed) both.sets))
-      (done ∙ ap (λ now. disposed_by line facts step false now (Some own)) first)
+      (done ∙ ap (λ now. disposed_by facts earlier step false now (Some own)) first)
 
   -- a step that ends
   pub step_ended_so : (rc : ℕ) (lengths : List ℕ) → is_some (step_at (effective line.number facts.job) step) ≡ true → (commit after : Named Holding) (passed : List Passed)
       → commit ≡ committed_by facts.job.root lengths sets (step_at (effective line.number facts.job) step)
-      → standing after passed ≡ disposed_by line facts step false commit (step_at (effective line.number facts.job) step)
-      → gone_on holding_kit step rc (going line (with_passed facts passed) after) ≡ by_step_of step (step_ended holding_kit step rc lengths (going line facts sets)) (going line facts sets)
+      → standing after passed ≡ disposed_by facts earlier step false commit (step_at (effective line.number facts.job) step)
+      → gone_on holding_kit step rc (going line (with_passed facts passed) after) ≡ by_step_of step (step_ended holding_kit earlier step rc lengths (going line facts sets)) (going line facts sets)
   step_ended_so rc lengths = step_ended-by rc lengths (step_at (effective line.number facts.job) step)
 
   coded-by : (writes : ℕ) (lengths : List ℕ) (found : Option OwnedStep) → is_some found ≡ true → (commit : Named Holding) → commit ≡ committed_by facts.job.root lengths sets found
-      → option_map_or (ended_in holding_kit step (going line (record facts { place = Some (Within step writes) }) commit)) found (going line (record facts { place = Some (Within step writes) }) commit)
-      ≡ option_map_or (coded holding_kit step writes lengths (going line facts sets)) found (going line facts sets)
+      → option_map_or (ended_in holding_kit earlier step (going line (record facts { place = Some (Within step writes) }) commit)) found (going line (record facts { place = Some (Within step writes) }) commit)
+      ≡ option_map_or (coded holding_kit earlier step writes lengths (going line facts sets)) found (going line facts sets)
   coded-by writes lengths None there commit first = absurd (false≢true there)
-  coded-by writes lengths (Some own) there commit first = ap (λ now. ended_in holding_kit step (going line (record facts { place = Some (Within step writes) }) now) own) first
+  coded-by writes lengths (Some own) there commit first = ap (λ now. ended_in holding_kit earlier step (going line (record facts { place = Some (Within step writes) }) now) own) first
 
   -- a run that ends with a code
   pub coded_so : (writes : ℕ) (lengths : List ℕ) → is_some (step_at (effective line.number facts.job) step) ≡ true → (commit : Named Holding)
       → commit ≡ committed_by facts.job.root lengths sets (step_at (effective line.number facts.job) step)
-      → by_step_of step (ended_in holding_kit step (going line (record facts { place = Some (Within step writes) }) commit)) (going line (record facts { place = Some (Within step writes) }) commit)
-      ≡ by_step_of step (coded holding_kit step writes lengths (going line facts sets)) (going line facts sets)
+      → by_step_of step (ended_in holding_kit earlier step (going line (record facts { place = Some (Within step writes) }) commit)) (going line (record facts { place = Some (Within step writes) }) commit)
+      ≡ by_step_of step (coded holding_kit earlier step writes lengths (going line facts sets)) (going line facts sets)
   coded_so writes lengths = coded-by writes lengths (step_at (effective line.number facts.job) step)

@@ -20,7 +20,7 @@ use Rattle.ckr_points.specs.declared.run.Run.{Run}
 use Rattle.ckr_points.specs.declared.run.RunState.{RunState}
 use Rattle.ckr_points.specs.declared.run.RunState.TheVariants.{Queued}
 use Rattle.ckr_points.specs.Syschk.{names_its_set}
-use Rattle.ckr_points_tables.specs.RunJobs.{IsFitting, effective, plain_view}
+use Rattle.ckr_points_tables.specs.RunJobs.{IsFitting, effective}
 use Rattle.ckr_points_tables.specs.declared.run_table.RunTable.{RunTable}
 use Rattle.ckr_points_tables.specs.declared.run_table.WrittenEntry.{WrittenEntry}
 use Rattle.ckr_points_tables.specs.Checkpoint.{checkpoint_name}
@@ -38,7 +38,7 @@ abbrev pub is_queued : RunState → Bool
 is_queued Queued = true
 is_queued _ = false
 
--- a run of this number with its line: a queued one is on no initiator. It continues none, and so it has lost no passed name
+-- a run of this number with its line: a queued one is on no initiator. It has taken over the steps up to the one at which it continues another run
 pub record IsRun (number : ℕ) (line : Run) (table : RunTable) : Type 0 where
   pub numbered : line.number ≡ number
   pub named : line.name ≡ table.job.deck.name
@@ -48,8 +48,7 @@ pub record IsRun (number : ℕ) (line : Run) (table : RunTable) : Type 0 where
   pub masters : list_all (λ (own : OwnedStep). has_master own.step) (effective number table.job).steps ≡ true
   pub syschk : names_its_set table.job.deck.syschk ≡ true
   pub free : is_queued line.state ≡ true → line.initiator ≡ None
-  pub plain : table.job ≡ plain_view number table.job.deck
-  pub whole : table.lost.items ≡ []
+  pub taken : length table.job.taken ≡ table.job.earlier_step
 
 -- the runs from this number on, each with its line
 abbrev pub AreRuns : ℕ → List Run → List RunTable → Type 0

@@ -5,12 +5,13 @@ pub mod RunChange
 pub mod RunJobs
 pub mod RunMarks
 pub mod StepEnd
+pub mod MadeNames
 pub mod Parts
 pub mod Invariant
 pub mod NewSets
 pub mod MarkOrder
 pub mod Needs
-pub mod PlainRows
+pub mod RunRows
 pub mod Rewrite
 pub mod Rooms
 pub mod View

@@ -23,6 +23,7 @@ use Rattle.ckr_meaning.specs.declared.place.Place.{Place}
 use Rattle.ckr_meaning.specs.declared.place.Place.TheVariants.{Before, Opened, Within}
 use Rattle.ckr_points.specs.declared.run.Run.{Run}
 use Rattle.ckr_points.specs.declared.run.RunState.TheVariants.{On, Ended as EndedRun, Purged as PurgedRun}
+use Rattle.ckr_points_tables.specs.MadeNames.{HasFlags, RunPoints, earlier_flags}
 use Rattle.ckr_points_tables.specs.StepEnd.{disposals_at}
 use Rattle.ckr_points.specs.Tables.{effect_rewritten, fresh_effect, is_checkpoints, is_updates, kept_entry, name_with_role, point_rewritten, with_kept_entry}
 use Rattle.ckr_points_tables.specs.NewSets.{made_from}
@@ -199,65 +200,86 @@ module _ {X : Type 0} (kit : Kit X) where
       option_map_or (λ own. before ++ check_writing running (kept_by now id place bytes) taken writes (committed_by lengths.items own now).sets now own ∷ []) (step_of now running) before
   written_after _ now before = before
 
-  -- the dispositions of a step
-  abbrev pub disposed_of : ℕ → Bool → OwnedStep → Going X → Stock X
-  disposed_of step abnormal own now =
-      disposed_all kit.ways (disposals_at now.facts.job.root (effective now.line.number now.facts.job).steps now.facts.points step abnormal own)
-      (record { sets = now.sets; passed = now.facts.passed })
-
-  abbrev pub disposed : ℕ → Bool → OwnedStep → Going X → Going X
-  disposed step abnormal own now =
-      let done = disposed_of step abnormal own now in
-      record now { facts = record now.facts { passed = done.passed }; sets = done.sets }
-
+  -- a run behind a step that has ended
   abbrev pub gone_on : ℕ → ℕ → Going X → Going X
   gone_on step rc now =
       record now {
         facts = record now.facts { place = Some (Before (suc step)); rcs = now.facts.rcs ++ (step, rc) ∷ []; in_effect = None };
       }
 
-  abbrev pub step_ended : ℕ → ℕ → List ℕ → Going X → OwnedStep → Going X
-  step_ended step rc lengths now own = gone_on step rc (disposed step false own (committed_by lengths own now))
-
-  -- the end of a run in a step, with its dispositions
-  abbrev pub ended_in : ℕ → Going X → OwnedStep → Going X
-  ended_in step now own = ended (disposed step true own now)
-
-  abbrev pub ended_at : Place → Going X → Going X
-  ended_at (Before step) now = ended now
-  ended_at (Opened step) now = ended now
-  ended_at (Within step writes) now = by_step_of step (ended_in step now) now
-
   abbrev pub within : ℕ → ℕ → Going X → Going X
   within step writes now = record now { facts = record now.facts { place = Some (Within step writes) } }
 
-  abbrev pub coded : ℕ → ℕ → List ℕ → Going X → OwnedStep → Going X
-  coded step writes lengths now own = ended_in step (within step writes (committed_by lengths own now)) own
+  -- by which of the names of its step the steps before it made
+  module _ (earlier : List Bool) where
+    -- the dispositions of a step
+    abbrev pub disposed_of : ℕ → Bool → OwnedStep → Going X → Stock X
+    disposed_of step abnormal own now =
+        disposed_all kit.ways (disposals_at now.facts.job.root now.facts.points earlier step abnormal own) (record { sets = now.sets; passed = now.facts.passed })
 
-  abbrev pub ended_by : Ending → Going X → Going X
-  ended_by Completed now = ended now
-  ended_by (Coded code rule writes lengths) now =
-      let step = step_in (place_now now.facts) in
-      by_step_of step (coded step writes lengths.items now) now
-  ended_by (Allocation dd cause first second) now = ended_at (place_now now.facts) now
+    abbrev pub disposed : ℕ → Bool → OwnedStep → Going X → Going X
+    disposed step abnormal own now =
+        let done = disposed_of step abnormal own now in
+        record now { facts = record now.facts { passed = done.passed }; sets = done.sets }
 
-  -- what an event of the run makes of it
-  abbrev pub changed : Event → Going X → Going X
-  changed (Selected job initiator earlier step id) now = selected initiator now
-  changed (Started job step items) now = by_step_of step (started step items.items now) now
-  changed (Rewritten job taken writes lengths place image) now =
-      let running = step_in (place_now now.facts) in
-      by_step_of running (rewritten running writes lengths.items now) now
-  changed (Checkpointed job id taken writes lengths place bytes) now =
-      let running = step_in (place_now now.facts) in
-      by_step_of running (checkpointed running (kept_by now id place bytes) taken writes lengths.items now) now
-  changed (Cancelled job) now = cancelled now
-  changed (StepEnded job step rc writes lengths) now =
-      let running = step_in (place_now now.facts) in
-      by_step_of running (step_ended running rc lengths.items now) now
-  changed (Ended job ending) now = ended_by ending now
-  changed (Purged job) now = purged now
-  changed _ now = now
+    abbrev pub step_ended : ℕ → ℕ → List ℕ → Going X → OwnedStep → Going X
+    step_ended step rc lengths now own = gone_on step rc (disposed step false own (committed_by lengths own now))
+
+    -- the end of a run in a step, with its dispositions
+    abbrev pub ended_in : ℕ → Going X → OwnedStep → Going X
+    ended_in step now own = ended (disposed step true own now)
+
+    abbrev pub ended_at : Place → Going X → Going X
+    ended_at (Before step) now = ended now
+    ended_at (Opened step) now = ended now
+    ended_at (Within step writes) now = by_step_of step (ended_in step now) now
+
+    abbrev pub coded : ℕ → ℕ → List ℕ → Going X → OwnedStep → Going X
+    coded step writes lengths now own = ended_in step (within step writes (committed_by lengths own now)) own
+
+    abbrev pub ended_by : Ending → Going X → Going X
+    ended_by Completed now = ended now
+    ended_by (Coded code rule writes lengths) now =
+        let step = step_in (place_now now.facts) in
+        by_step_of step (coded step writes lengths.items now) now
+    ended_by (Allocation dd cause first second) now = ended_at (place_now now.facts) now
+
+    -- what an event of the run makes of it
+    abbrev pub changed : Event → Going X → Going X
+    changed (Selected job initiator earlier step id) now = selected initiator now
+    changed (Started job step items) now = by_step_of step (started step items.items now) now
+    changed (Rewritten job taken writes lengths place image) now =
+        let running = step_in (place_now now.facts) in
+        by_step_of running (rewritten running writes lengths.items now) now
+    changed (Checkpointed job id taken writes lengths place bytes) now =
+        let running = step_in (place_now now.facts) in
+        by_step_of running (checkpointed running (kept_by now id place bytes) taken writes lengths.items now) now
+    changed (Cancelled job) now = cancelled now
+    changed (StepEnded job step rc writes lengths) now =
+        let running = step_in (place_now now.facts) in
+        by_step_of running (step_ended running rc lengths.items now) now
+    changed (Ended job ending) now = ended_by ending now
+    changed (Purged job) now = purged now
+    changed _ now = now
+
+-- which names of the step that a run is before or in the steps before it made
+abbrev pub earlier_now : RunPoints → ℕ → RunTableView → List Bool
+earlier_now points number facts =
+    let step = step_in (place_now facts) in
+    let job = effective number facts.job in
+    option_map_or (earlier_flags points job.root job.steps step) (step_at job step) []
+
+-- the same for the events that end a step; the others ask for none
+abbrev pub earlier_for : Event → RunPoints → ℕ → RunTableView → List Bool
+earlier_for (StepEnded job step rc writes lengths) points number facts = earlier_now points number facts
+earlier_for (Ended job ending) points number facts = earlier_now points number facts
+earlier_for _ points number facts = []
+
+-- one of these for each name of the step, where the event ends it
+abbrev pub HasFlagsFor : Event → List Bool → ℕ → RunTableView → Type 0
+HasFlagsFor (StepEnded job step rc writes lengths) flags number facts = HasFlags facts.job.root flags (step_at (effective number facts.job) (step_in (place_now facts)))
+HasFlagsFor (Ended job ending) flags number facts = HasFlags facts.job.root flags (step_at (effective number facts.job) (step_in (place_now facts)))
+HasFlagsFor _ flags number facts = Unit {0}
 
 -- the tables with a run as it was changed, and with the data sets
 abbrev pub desk_with : Going TableSet → TablesModel → TablesModel

@@ -1,7 +1,6 @@
--- Which names the steps of a run made, and the dispositions that follow from it.
-use Rattle.std.specs.Prelude.{◌≡◌, ◌≤◌, ◌<◌, ℕ, suc, pred, Bool, true, false, ◌&&◌, ◌||◌, List, [], ◌∷◌, length, map, take, Option, None, Some}
+-- The dispositions of a step, and what its end needs.
+use Rattle.std.specs.Prelude.{◌≡◌, ◌≤◌, ◌<◌, ℕ, Bool, true, List, length, Option, None, Some}
 use Rattle.std.specs.List.{list_all}
-use Rattle.std.specs.Option.{option_map_or}
 use Rattle.ckr_points_library.specs.Commit.{is_named, output_names, AreWithinSpace}
 use Rattle.ckr_points_library.specs.Disposals.{disposals_in}
 use Rattle.ckr_events.specs.declared.event.Ending.{Ending}
@@ -9,35 +8,16 @@ use Rattle.ckr_events.specs.declared.event.Ending.TheVariants.{Completed, Coded,
 use Rattle.ckr_library.specs.Catalog.{Catalog, Holding}
 use Rattle.ckr_library.specs.NameMaps.{Name, Named, entry_at}
 use Rattle.ckr_meaning.specs.Dispositions.{Disposal}
-use Rattle.ckr_meaning.specs.EffectiveJob.{OwnedStep, is_among, names_of, step_at}
+use Rattle.ckr_meaning.specs.EffectiveJob.{OwnedStep, step_at}
 use Rattle.ckr_points_tables.specs.RunJobs.{effective}
 use Rattle.ckr_points_tables.specs.declared.run_table.RunTable.{RunTable}
-use Rattle.ckr_points.specs.Marks.{is_marked_absent, point_at}
+use Rattle.ckr_points_tables.specs.MadeNames.{made_flags}
 use Rattle.ckr_points_tables.specs.Rewrite.{master_name, MayRestamp}
 use Rattle.ckr_points.specs.Rows.{StartPoint}
 
--- whether the step of this number made a name: its step point marks it absent
-abbrev pub made_at : List StartPoint → ℕ → Name → Bool
-made_at points step name = option_map_or (λ (point : StartPoint). is_marked_absent point.marks name) (point_at points step) false
-
--- whether one of these steps made a name, the first of this number
-abbrev pub made_in : ℕ → List StartPoint → ℕ → List OwnedStep → Name → Bool
-made_in root points number [] name = false
-made_in root points number (own ∷ steps) name =
-    is_among (names_of root own) name && made_at points number name || made_in root points (suc number) steps name
-
--- whether a step made it, for each name of a step
-abbrev pub made_flags : ℕ → List StartPoint → ℕ → OwnedStep → List Bool
-made_flags root points step own = map (made_at points step) (names_of root own)
-
--- whether an earlier step made it, for each name of a step
-abbrev pub earlier_flags : ℕ → List OwnedStep → List StartPoint → ℕ → OwnedStep → List Bool
-earlier_flags root steps points step own = map (made_in root points 1 (take (pred step) steps)) (names_of root own)
-
--- the dispositions of a step, in the order of its DDs
-abbrev pub disposals_at : ℕ → List OwnedStep → List StartPoint → ℕ → Bool → OwnedStep → List Disposal
-disposals_at root steps points step abnormal own =
-    disposals_in root own (made_flags root points step own) (earlier_flags root steps points step own) abnormal
+-- the dispositions of a step, in the order of its DDs, by which of its names the steps before it made
+abbrev pub disposals_at : ℕ → List StartPoint → List Bool → ℕ → Bool → OwnedStep → List Disposal
+disposals_at root points earlier step abnormal own = disposals_in root own (made_flags root points step own) earlier abnormal
 
 -- one length for each output of a step, at most its space
 pub record AreLengths (root : ℕ) (lengths : List ℕ) (sets : Named Holding) (own : OwnedStep) : Type 0 where

@@ -9,6 +9,7 @@ ghost use Rattle.ckr_points_tables.specs.Invariant.{is_plain_event, is_run_chang
 ghost use Rattle.ckr_points.specs.Restart.{after_event};
 ghost use Rattle.ckr_points_tables.specs.View.{facts_of, fresh_facts};
 
+use crate::made_names::earlier_for;
 use crate::run_change::change_run;
 use crate::{EffectiveJob, RunTable, StepPoints, Tables};
 use ckr_base::RoomyList;
@@ -74,9 +75,13 @@ impl Tables {
         let number = event.job();
         let place = number as usize - 1;
         let before = self.lines[place].initiator;
+        // By the tables of the runs that own the earlier steps, so before the table of this one is changed.
+        let tables = self.tables.as_slice();
+        let earlier = earlier_for(event, number, &self.tables[place], tables);
         in_order(&self.library);
         change_run(
             event,
+            earlier.as_slice(),
             &mut self.lines[place],
             &mut self.tables[place],
             &mut self.library,

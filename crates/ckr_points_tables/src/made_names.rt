@@ -1,19 +1,23 @@
 //! Which names the steps of a run made.
 ghost use Rattle.std.specs.Prelude.{◌≡◌, ◌+◌, ◌<◌, ◌≤◌, ◌&&◌, [], false, length, map, pred, slice_get, take};
-ghost use Rattle.std.specs.Option.{option_map_or};
+ghost use Rattle.std.specs.Option.{option_copied, option_map_or};
 ghost use Rattle.std.specs.List.{list_any};
 ghost use Rattle.ckr_points_library.specs.Holdings.{owned};
 ghost use Rattle.ckr_library.specs.NameMaps.{same_name};
 ghost use Rattle.ckr_meaning.specs.EffectiveJob.{is_among, name_of, names_of};
-ghost use Rattle.ckr_points_tables.specs.StepEnd.{made_at, made_in};
+ghost use Rattle.ckr_points_tables.specs.MadeNames.{earlier_flags, made_at, made_by, made_in, points_in, table_of_run};
+ghost use Rattle.ckr_points_tables.specs.RunChange.{earlier_for, earlier_now};
 ghost use Rattle.ckr_points_tables.specs.RunJobs.{effective, own_of, IsFitting};
-ghost use Rattle.ckr_points_tables.specs.View.{point_of};
+ghost use Rattle.ckr_points_tables.specs.View.{facts_of, point_of};
 ghost use Rattle.ckr_uses.specs.SetNames.{library_name};
 
 use crate::start::point_at;
-use crate::{EffectiveJob, OwnStep, StepPoint};
+use crate::step_end::step_now;
+use crate::tables::{place_of, table_at};
+use crate::{EffectiveJob, OwnStep, RunTable, StepPoint, step_at};
 use arrayvec::ArrayVec;
 use ckr_base::{DsName, Name8};
+use ckr_events::Event;
 use ckr_jcl::{Dd, Step};
 use ckr_points::is_marked_absent;
 use ckr_uses::library_name;
@@ -59,32 +63,55 @@ pub(crate) fn has_name(root: u32, own: &OwnStep<'_>, name: &DsName) -> bool
     is_any_named(root, own.owner, own.step, own.step.dds.as_slice(), name)
 }
 
+/// The table of the run of this number. None exactly where there is no such run.
+fn table_of(tables: &[RunTable], run: u32) -> Option<&RunTable>
+    ensures { option_copied result ≡ table_of_run tables.now run }
+{
+    match place_of(run) {
+        Some(place) => table_at(tables, place),
+        None => None,
+    }
+}
+
+/// Whether the step of this number made a name, by the points of the run that owns the step.
+fn made_by_owner(tables: &[RunTable], owner: u32, step: u8, name: &DsName) -> bool
+    ensures { result ≡ made_at (points_in tables.now owner) step name.now }
+{
+    match table_of(tables, owner) {
+        Some(table) => made_at(table.points.as_slice(), step, name),
+        None => false,
+    }
+}
+
 /// Whether the step at a place made a name.
 fn made_in_step(
     run: u32,
     job: &EffectiveJob,
     place: usize,
-    points: &[StepPoint],
+    tables: &[RunTable],
     name: &DsName,
 ) -> bool
     requires fits { IsFitting (effective run job.now) }
     requires place { place < 64 }
-    ensures { result ≡ option_map_or (λ own. is_among (names_of job.now.root own) name.now && made_at (map point_of points.now) (place + 1) name.now) (slice_get (effective run job.now).steps place) false }
+    ensures { result ≡ option_map_or (made_by (points_in tables.now) job.now.root (place + 1) name.now) (slice_get (effective run job.now).steps place) false }
 {
     match job.step_in(run, place) {
-        Some(own) => { has_name(job.root(), &own, name) && made_at(points, place as u8 + 1, name) }
+        Some(own) => {
+            has_name(job.root(), &own, name)
+                && made_by_owner(tables, own.owner, place as u8 + 1, name)
+        }
         None => false,
     }
 }
 
 /// Whether one of the first steps made a name: those before the step of this number.
-fn made_in(run: u32, job: &EffectiveJob, step: u8, points: &[StepPoint], name: &DsName) -> bool
+fn made_in(run: u32, job: &EffectiveJob, step: u8, tables: &[RunTable], name: &DsName) -> bool
     requires fits { IsFitting (effective run job.now) }
-    ensures { result ≡ made_in job.now.root (map point_of points.now) 1 (take (pred step) (effective run job.now).steps) name.now }
+    ensures { result ≡ made_in (points_in tables.now) job.now.root 1 (take (pred step) (effective run job.now).steps) name.now }
 {
     let count = usize::from(step).saturating_sub(1).min(job.count_steps());
     for place in 0..count {
-        if made_in_step(run, job, place, points, name) {
+        if made_in_step(run, job, place, tables, name) {
             return true;
         }
     }
@@ -113,23 +140,51 @@ pub(crate) fn made_flags(
 }
 
 /// Whether one of the steps before it made it, for each name of a step.
-pub(crate) fn earlier_flags(
+fn earlier_flags(
     run: u32,
     job: &EffectiveJob,
     step: u8,
     own: &OwnStep<'_>,
-    points: &[StepPoint],
+    tables: &[RunTable],
 ) -> ArrayVec<bool, 16>
     requires fits { IsFitting (effective run job.now) }
     requires owner { own.now.owner ≤ 9999999 }
     requires few { length own.now.step.now.dds ≤ 16 }
-    ensures { result.items ≡ map (made_in job.now.root (map point_of points.now) 1 (take (pred step) (effective run job.now).steps)) (names_of job.now.root (own_of own.now)) }
+    ensures { result.items ≡ earlier_flags (points_in tables.now) job.now.root (effective run job.now).steps step (own_of own.now) }
 {
     let mut made = ArrayVec::new();
     for dd in own.step.dds.as_slice() {
         if let Some(name) = library_name(dd, job.root(), own.owner, &own.step.name) {
-            made.push(made_in(run, job, step, points, &name));
+            made.push(made_in(run, job, step, tables, &name));
         }
     }
     made
+}
+
+/// Whether one of the steps before it made it, for each name of the step that a run is before or in. None without such a step.
+fn earlier_now(run: u32, table: &RunTable, tables: &[RunTable]) -> ArrayVec<bool, 16>
+    requires fits { IsFitting (effective run table.now.job) }
+    ensures { result.items ≡ earlier_now (points_in tables.now) run (facts_of table.now) }
+{
+    let step = step_now(table);
+    match step_at(&table.job, run, step) {
+        Some(own) => earlier_flags(run, &table.job, step, &own, tables),
+        None => ArrayVec::new(),
+    }
+}
+
+/// The same for an event that ends the step, by the tables before it. The other events look at none, and get none.
+pub(crate) fn earlier_for(
+    event: &Event,
+    run: u32,
+    table: &RunTable,
+    tables: &[RunTable],
+) -> ArrayVec<bool, 16>
+    requires fits { IsFitting (effective run table.now.job) }
+    ensures { result.items ≡ earlier_for event.now (points_in tables.now) run (facts_of table.now) }
+{
+    match event {
+        Event::StepEnded { .. } | Event::Ended { .. } => earlier_now(run, table, tables),
+        _ => ArrayVec::new(),
+    }
 }

@@ -1,6 +1,6 @@
 //! What an event makes of its run, and of the library.
 ghost use Rattle.std.specs.Prelude.{◌≡◌, []};
-ghost use Rattle.ckr_points_tables.specs.RunChange.{by_step_of, changed, going, holding_kit, started, written_after};
+ghost use Rattle.ckr_points_tables.specs.RunChange.{HasFlagsFor, by_step_of, changed, going, holding_kit, started, written_after};
 ghost use Rattle.ckr_points_tables.specs.Needs.{MayChange};
 ghost use Rattle.ckr_points_tables.specs.RunJobs.{effective, IsFitting};
 ghost use Rattle.ckr_points_tables.specs.View.{facts_of, written_of};
@@ -35,9 +35,10 @@ fn start(
     start_run(line.number, step, items, table, library, spare);
 }
 
-/// A run goes on by an event.
+/// A run goes on by an event. Where this ends a step, it is told which of the names of the step the steps before it made.
 pub(crate) fn change_run(
     event: &Event,
+    earlier: &[bool],
     line: &mut Run,
     table: &mut RunTable,
     library: &mut Library,
@@ -46,8 +47,9 @@ pub(crate) fn change_run(
 )
     requires fits { IsFitting (effective line.old.number table.old.job) }
     requires empty { spare.old.marks.items ≡ [] }
+    requires flags { HasFlagsFor event.now earlier.now line.old.number (facts_of table.old) }
     requires may { MayChange event.now line.old.number table.old entries.old library.old spare.old }
-    ensures going { going line.new (facts_of table.new) library.new.sets ≡ changed holding_kit event.now (going line.old (facts_of table.old) library.old.sets) }
+    ensures going { going line.new (facts_of table.new) library.new.sets ≡ changed holding_kit earlier.now event.now (going line.old (facts_of table.old) library.old.sets) }
     ensures empty { spare.new.marks.items ≡ [] }
     ensures entries { written_of entries.new ≡ written_after holding_kit event.now (going line.old (facts_of table.old) library.old.sets) (written_of entries.old) }
 {
@@ -99,9 +101,9 @@ pub(crate) fn change_run(
         Event::Cancelled { .. } => table.in_effect = None,
         Event::StepEnded { rc, lengths, .. } => {
             let step = step_now(table);
-            end_step_of(line, step, *rc, lengths.as_slice(), table, library);
+            end_step_of(line, step, *rc, lengths.as_slice(), earlier, table, library);
         }
-        Event::Ended { ending, .. } => end_run(line, ending, table, library),
+        Event::Ended { ending, .. } => end_run(line, ending, earlier, table, library),
         Event::Purged { .. } => line.state = RunState::Purged,
         _ => {}
     }

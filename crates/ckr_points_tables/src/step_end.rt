@@ -8,13 +8,14 @@ ghost use Rattle.ckr_meaning.specs.Dispositions.{disposed_all, passed_ended};
 ghost use Rattle.ckr_meaning.specs.EffectiveJob.{is_among, step_at};
 ghost use Rattle.ckr_points.specs.Marks.{without_passed};
 ghost use Rattle.ckr_points_tables.specs.RunChange.{by_step_of, ended, ended_at, ended_by, ended_in, coded, going, gone_on, holding_kit, place_now, step_ended};
+ghost use Rattle.ckr_points_tables.specs.MadeNames.{HasFlags};
 ghost use Rattle.ckr_points_tables.specs.StepEnd.{disposals_at, AreLengthsOf, HasLengths, HasNamedOutputs, HasPassedRoom};
 ghost use Rattle.ckr_points.specs.Restart.{step_in};
 ghost use Rattle.ckr_points_tables.specs.RunJobs.{effective, IsFitting};
 ghost use Rattle.ckr_points_tables.specs.View.{facts_of, point_of};
 
 use crate::effective_job::has_step;
-use crate::made_names::{earlier_flags, made_flags};
+use crate::made_names::made_flags;
 use crate::put_back::delete;
 use crate::{EffectiveJob, ReturnCode, RunTable, StepPoint, step_at};
 use ckr_base::DsName;
@@ -38,30 +39,31 @@ pub(crate) fn commit(run: u32, step: u8, job: &EffectiveJob, lengths: &[u32], li
     }
 }
 
-/// The dispositions of a step. A job without such a step changes nothing.
+/// The dispositions of a step, by which of its names the steps before it made. A job without such a step changes nothing.
 fn dispose(
     run: u32,
     step: u8,
     abnormal: bool,
     job: &EffectiveJob,
     points: &[StepPoint],
+    earlier: &[bool],
     library: &mut Library,
     passed: &mut PassedList,
 )
     requires fits { IsFitting (effective run job.now) }
+    requires flags { HasFlags job.now.root earlier.now (step_at (effective run job.now) step) }
     requires room { HasPassedRoom passed.old.room (step_at (effective run job.now) step) }
-    ensures { standing library.new.sets passed.new.items ≡ option_map_or (λ own. disposed_all holding_ways (disposals_at job.now.root (effective run job.now).steps (map point_of points.now) step abnormal own) (standing library.old.sets passed.old.items)) (step_at (effective run job.now) step) (standing library.old.sets passed.old.items) }
+    ensures { standing library.new.sets passed.new.items ≡ option_map_or (λ own. disposed_all holding_ways (disposals_at job.now.root (map point_of points.now) earlier.now step abnormal own) (standing library.old.sets passed.old.items)) (step_at (effective run job.now) step) (standing library.old.sets passed.old.items) }
 {
     let root = job.root();
     if let Some(own) = step_at(job, run, step) {
         let made = made_flags(root, step, &own, points);
-        let earlier = earlier_flags(run, job, step, &own, points);
         end_step(
             own.step,
             root,
             own.owner,
             made.as_slice(),
-            earlier.as_slice(),
+            earlier,
             abnormal,
             library,
             passed,
@@ -114,20 +116,22 @@ fn finish(line: &mut Run, table: &mut RunTable, library: &mut Library)
     line.initiator = None;
 }
 
-/// A step ends normally. A job without such a step stays as it is.
+/// A step ends normally, by which of its names the steps before it made. A job without such a step stays as it is.
 pub(crate) fn end_step_of(
     line: &Run,
     step: u8,
     rc: u16,
     lengths: &[u32],
+    earlier: &[bool],
     table: &mut RunTable,
     library: &mut Library,
 )
     requires fits { IsFitting (effective line.now.number table.old.job) }
     requires lengths { AreLengthsOf table.old.job.root lengths.now library.old.sets (step_at (effective line.now.number table.old.job) step) }
+    requires flags { HasFlags table.old.job.root earlier.now (step_at (effective line.now.number table.old.job) step) }
     requires passed { HasPassedRoom table.old.passed.room (step_at (effective line.now.number table.old.job) step) }
     requires codes { 0 < table.old.codes.room }
-    ensures { going line.now (facts_of table.new) library.new.sets ≡ by_step_of step (step_ended holding_kit step rc lengths.now (going line.now (facts_of table.old) library.old.sets)) (going line.now (facts_of table.old) library.old.sets) }
+    ensures { going line.now (facts_of table.new) library.new.sets ≡ by_step_of step (step_ended holding_kit earlier.now step rc lengths.now (going line.now (facts_of table.old) library.old.sets)) (going line.now (facts_of table.old) library.old.sets) }
 {
     if !has_step(&table.job, step) {
         return;
@@ -140,6 +144,7 @@ pub(crate) fn end_step_of(
         false,
         &table.job,
         table.points.as_slice(),
+        earlier,
         library,
         &mut table.passed,
     );
@@ -147,10 +152,11 @@ pub(crate) fn end_step_of(
 }
 
 /// A run ends in a step, with its abnormal dispositions. A job without such a step stays as it is.
-fn end_in(line: &mut Run, step: u8, table: &mut RunTable, library: &mut Library)
+fn end_in(line: &mut Run, step: u8, earlier: &[bool], table: &mut RunTable, library: &mut Library)
     requires fits { IsFitting (effective line.old.number table.old.job) }
+    requires flags { HasFlags table.old.job.root earlier.now (step_at (effective line.old.number table.old.job) step) }
     requires passed { HasPassedRoom table.old.passed.room (step_at (effective line.old.number table.old.job) step) }
-    ensures { going line.new (facts_of table.new) library.new.sets ≡ by_step_of step (ended_in holding_kit step (going line.old (facts_of table.old) library.old.sets)) (going line.old (facts_of table.old) library.old.sets) }
+    ensures { going line.new (facts_of table.new) library.new.sets ≡ by_step_of step (ended_in holding_kit earlier.now step (going line.old (facts_of table.old) library.old.sets)) (going line.old (facts_of table.old) library.old.sets) }
 {
     if !has_step(&table.job, step) {
         return;
@@ -161,6 +167,7 @@ fn end_in(line: &mut Run, step: u8, table: &mut RunTable, library: &mut Library)
         true,
         &table.job,
         table.points.as_slice(),
+        earlier,
         library,
         &mut table.passed,
     );
@@ -185,14 +192,15 @@ pub(crate) fn step_now(table: &RunTable) -> u8
 }
 
 /// A run ends where it is: in a step with its abnormal dispositions.
-fn end_here(line: &mut Run, table: &mut RunTable, library: &mut Library)
+fn end_here(line: &mut Run, earlier: &[bool], table: &mut RunTable, library: &mut Library)
     requires fits { IsFitting (effective line.old.number table.old.job) }
+    requires flags { HasFlags table.old.job.root earlier.now (step_at (effective line.old.number table.old.job) (step_in (place_now (facts_of table.old)))) }
     requires passed { HasPassedRoom table.old.passed.room (step_at (effective line.old.number table.old.job) (step_in (place_now (facts_of table.old)))) }
-    ensures { going line.new (facts_of table.new) library.new.sets ≡ ended_at holding_kit (place_now (facts_of table.old)) (going line.old (facts_of table.old) library.old.sets) }
+    ensures { going line.new (facts_of table.new) library.new.sets ≡ ended_at holding_kit earlier.now (place_now (facts_of table.old)) (going line.old (facts_of table.old) library.old.sets) }
 {
     match place_now(table) {
         Place::Before(_) | Place::Opened(_) => finish(line, table, library),
-        Place::Within(step, _) => end_in(line, step, table, library),
+        Place::Within(step, _) => end_in(line, step, earlier, table, library),
     }
 }
 
@@ -201,13 +209,15 @@ fn end_coded(
     line: &mut Run,
     writes: u32,
     lengths: &[u32],
+    earlier: &[bool],
     table: &mut RunTable,
     library: &mut Library,
 )
     requires fits { IsFitting (effective line.old.number table.old.job) }
+    requires flags { HasFlags table.old.job.root earlier.now (step_at (effective line.old.number table.old.job) (step_in (place_now (facts_of table.old)))) }
     requires lengths { AreLengthsOf table.old.job.root lengths.now library.old.sets (step_at (effective line.old.number table.old.job) (step_in (place_now (facts_of table.old)))) }
     requires passed { HasPassedRoom table.old.passed.room (step_at (effective line.old.number table.old.job) (step_in (place_now (facts_of table.old)))) }
-    ensures { let step = step_in (place_now (facts_of table.old)) in going line.new (facts_of table.new) library.new.sets ≡ by_step_of step (coded holding_kit step writes lengths.now (going line.old (facts_of table.old) library.old.sets)) (going line.old (facts_of table.old) library.old.sets) }
+    ensures { let step = step_in (place_now (facts_of table.old)) in going line.new (facts_of table.new) library.new.sets ≡ by_step_of step (coded holding_kit earlier.now step writes lengths.now (going line.old (facts_of table.old) library.old.sets)) (going line.old (facts_of table.old) library.old.sets) }
 {
     let step = step_now(table);
     if !has_step(&table.job, step) {
@@ -215,15 +225,22 @@ fn end_coded(
     }
     commit(line.number, step, &table.job, lengths, library);
     table.place = Some(Place::Within(step, writes));
-    end_in(line, step, table, library);
+    end_in(line, step, earlier, table, library);
 }
 
-/// A run ends so.
-pub(crate) fn end_run(line: &mut Run, ending: &Ending, table: &mut RunTable, library: &mut Library)
+/// A run ends so, by which of the names of its step the steps before it made.
+pub(crate) fn end_run(
+    line: &mut Run,
+    ending: &Ending,
+    earlier: &[bool],
+    table: &mut RunTable,
+    library: &mut Library,
+)
     requires fits { IsFitting (effective line.old.number table.old.job) }
+    requires flags { HasFlags table.old.job.root earlier.now (step_at (effective line.old.number table.old.job) (step_in (place_now (facts_of table.old)))) }
     requires lengths { HasLengths table.old.job.root ending.now library.old.sets (step_at (effective line.old.number table.old.job) (step_in (place_now (facts_of table.old)))) }
     requires passed { HasPassedRoom table.old.passed.room (step_at (effective line.old.number table.old.job) (step_in (place_now (facts_of table.old)))) }
-    ensures { going line.new (facts_of table.new) library.new.sets ≡ ended_by holding_kit ending.now (going line.old (facts_of table.old) library.old.sets) }
+    ensures { going line.new (facts_of table.new) library.new.sets ≡ ended_by holding_kit earlier.now ending.now (going line.old (facts_of table.old) library.old.sets) }
 {
     match ending {
         Ending::Completed => finish(line, table, library),
@@ -231,7 +248,7 @@ pub(crate) fn end_run(line: &mut Run, ending: &Ending, table: &mut RunTable, lib
             writes,
             lengths,
             ..
-        } => end_coded(line, *writes, lengths.as_slice(), table, library),
-        Ending::Allocation { .. } => end_here(line, table, library),
+        } => end_coded(line, *writes, lengths.as_slice(), earlier, table, library),
+        Ending::Allocation { .. } => end_here(line, earlier, table, library),
     }
 }

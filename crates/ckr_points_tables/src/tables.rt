@@ -3,7 +3,7 @@ ghost use Rattle.std.specs.Prelude.{◌≡◌, ℕ, ◌≤◌, ◌<◌, [], Some
 ghost use Rattle.std.specs.Option.{option_copied, option_map};
 ghost use Rattle.ckr_library.specs.NameMaps.{EachEntry};
 ghost use Rattle.ckr_points.specs.Rows.{no_tables, run_of, holding_of, RunRow, TableSet};
-ghost use Rattle.ckr_points_tables.specs.PlainRows.{IsPlainRow};
+ghost use Rattle.ckr_points_tables.specs.RunRows.{IsRunRow};
 ghost use Rattle.ckr_points_tables.specs.View.{facts_in, facts_of, line_of, place_of, run_on, seen_by};
 
 use crate::marks_in_order::MarksInOrder;
@@ -78,11 +78,11 @@ impl Tables {
         &self.library
     }
 
-    /// The lines of the runs, in the order of their numbers. Each run continues none, has a number of at most seven digits, and a job
-    /// within the limits.
+    /// The lines of the runs, in the order of their numbers. Each run has a number of at most seven digits, and a job within the
+    /// limits; no name stands twice in one of its steps, and each of its UPDATE steps has a data set MASTER.
     pub fn runs(&self) -> &[Run]
         ensures lines { result.now ≡ map line_of self.now.desk.runs }
-        ensures plain { (job : ℕ) (row : RunRow) → run_of self.now.desk job ≡ Some row → IsPlainRow job row }
+        ensures rows { (job : ℕ) (row : RunRow) → run_of self.now.desk job ≡ Some row → IsRunRow job row }
     {
         self.lines.as_slice()
     }
@@ -107,7 +107,7 @@ impl Tables {
 }
 
 /// The run table at a place.
-fn table_at(tables: &[RunTable], place: usize) -> Option<&RunTable>
+pub(crate) fn table_at(tables: &[RunTable], place: usize) -> Option<&RunTable>
     ensures { option_copied result ≡ slice_get tables.now place }
 {
     tables.get(place)
@@ -121,7 +121,7 @@ fn no_runs_on() -> [u32; 256]
 }
 
 /// The place of a run by its number.
-fn place_of(job: u32) -> Option<usize>
+pub(crate) fn place_of(job: u32) -> Option<usize>
     ensures { result ≡ place_of job }
 {
     if job == 0 {

@@ -67,14 +67,14 @@ IsLeft initiator now after = StaysRun now after × ((i : ℕ) → after.line.ini
 
 module _ (now : Going Holding) (initiator : ℕ) (free : is_queued now.line.state ≡ true → now.line.initiator ≡ None) where
   left-same : IsLeft initiator now now
-  left-same = (record { number = refl; name = refl; job = refl; whole = λ none. none; free = free }, λ i on. inl on)
+  left-same = (record { number = refl; name = refl; job = refl; free = free }, λ i on. inl on)
 
   left-start : (step : ℕ) → IsLeft initiator now (by_step_of step (step_restarted initiator step now) now)
   left-start step = by (step_of now step)
     where
       back : (own : OwnedStep) (found : Option StartPoint) → IsLeft initiator now (option_map_or (back_at_start initiator step now own) found now)
       back own None = left-same
-      back own (Some point) = (record { number = refl; name = refl; job = refl; whole = λ none. none; free = λ e. absurd (false≢true e) }, λ i on. inr (same_Some initiator i on))
+      back own (Some point) = (record { number = refl; name = refl; job = refl; free = λ e. absurd (false≢true e) }, λ i on. inr (same_Some initiator i on))
 
       by : (found : Option OwnedStep) → IsLeft initiator now (option_map_or (step_restarted initiator step now) found now)
       by None = left-same
@@ -85,7 +85,7 @@ module _ (now : Going Holding) (initiator : ℕ) (free : is_queued now.line.stat
     where
       back : (own : OwnedStep) (effect : EffectPoint) (point : Option EntryPoint) → IsLeft initiator now (option_map_or (back_at_entry initiator step effect now own) point now)
       back own effect None = left-same
-      back own effect (Some point) = (record { number = refl; name = refl; job = refl; whole = λ none. none; free = λ e. absurd (false≢true e) }, λ i on. inr (same_Some initiator i on))
+      back own effect (Some point) = (record { number = refl; name = refl; job = refl; free = λ e. absurd (false≢true e) }, λ i on. inr (same_Some initiator i on))
 
       at : (own : OwnedStep) (in_effect : Option EffectPoint) → IsLeft initiator now (option_map_or (effect_restart writings initiator step now own) in_effect now)
       at own None = left-same

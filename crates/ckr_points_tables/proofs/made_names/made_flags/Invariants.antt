@@ -2,7 +2,7 @@ use Rattle.std.proofs.Common.{◌≡◌, ◌+◌, ◌≤◌, ◌++◌, length, m
 use Rattle.std.specs.List.{filter_map}
 use Rattle.ckr_meaning.specs.EffectiveJob.{name_of}
 use Rattle.ckr_points_tables.specs.RunJobs.{own_of}
-use Rattle.ckr_points_tables.specs.StepEnd.{made_at}
+use Rattle.ckr_points_tables.specs.MadeNames.{made_at}
 use Rattle.ckr_points_tables.specs.View.{point_of}
 use Rattle.ckr_points_tables.proofs.made_names.made_flags.Given as goal
 

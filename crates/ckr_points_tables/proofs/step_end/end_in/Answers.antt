@@ -16,10 +16,10 @@ returns c =
     let sets = c.args.library.now.sets in
     let passed = c.args.table.now.passed.items in
     c.finish.ensures
-    ∙ ended_so c.args.line.now (facts_of c.args.table.now) sets c.args.step
+    ∙ ended_so c.args.line.now (facts_of c.args.table.now) sets c.args.earlier.now c.args.step
     (sym (c.if-not-has_step.ensures run))
     c.dispose.new.library.sets c.dispose.new.passed.items
     (
     c.dispose.ensures
-    ∙ ap (λ points. option_map_or (λ own. disposed_all holding_ways (disposals_at job.root (effective run job).steps (map point_of points) c.args.step true own) (standing sets passed)) (step_at (effective run job) c.args.step) (standing sets passed)) c.as_slice.ensures
+    ∙ ap (λ points. option_map_or (λ own. disposed_all holding_ways (disposals_at job.root (map point_of points) c.args.earlier.now c.args.step true own) (standing sets passed)) (step_at (effective run job) c.args.step) (standing sets passed)) c.as_slice.ensures
     )

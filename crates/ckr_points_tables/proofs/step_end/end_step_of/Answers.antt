@@ -21,11 +21,11 @@ returns c =
     let sets = c.commit.new.library.sets in
     let passed = c.args.table.now.passed.items in
     c.go_on.ensures
-    ∙ step_ended_so c.args.line.now (facts_of c.args.table.now) c.args.library.now.sets c.args.step c.args.rc c.args.lengths.now
+    ∙ step_ended_so c.args.line.now (facts_of c.args.table.now) c.args.library.now.sets c.args.earlier.now c.args.step c.args.rc c.args.lengths.now
     (sym (c.if-not-has_step.ensures run))
     c.commit.new.library.sets c.dispose.new.library.sets c.dispose.new.passed.items
     c.commit.ensures.sets
     (
     c.dispose.ensures
-    ∙ ap (λ points. option_map_or (λ own. disposed_all holding_ways (disposals_at job.root (effective run job).steps (map point_of points) c.args.step false own) (standing sets passed)) (step_at (effective run job) c.args.step) (standing sets passed)) c.as_slice.ensures
+    ∙ ap (λ points. option_map_or (λ own. disposed_all holding_ways (disposals_at job.root (map point_of points) c.args.earlier.now c.args.step false own) (standing sets passed)) (step_at (effective run job) c.args.step) (standing sets passed)) c.as_slice.ensures
     )

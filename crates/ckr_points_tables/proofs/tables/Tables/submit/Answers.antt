@@ -82,8 +82,7 @@ invariant_of-self c =
           (subst (λ j. list_all (λ (own : OwnedStep). has_master own.step) (effective c.args.number j).steps ≡ true) (sym job) of_deck.masters);
       syschk = ap (λ (j : JobView). names_its_set j.deck.syschk) job ∙ of_deck.syschk;
       free = λ queued. refl;
-      plain = subst (λ n. table.job ≡ plain_view n table.job.deck) (sym next) (subst (λ (j : JobView). j ≡ plain_view c.args.number j.deck) (sym job) refl);
-      whole = ap (λ (facts : RunTableView). facts.lost) c.fresh_table.ensures;
+      taken = subst (λ (j : JobView). length j.taken ≡ j.earlier_step) (sym job) refl;
     } in
     record {
       wide = c.self.invariant.wide;
