@@ -17,7 +17,7 @@ use Rattle.ckr_library.specs.NameMaps.{Name}
 use Rattle.ckr_points.specs.RuleCases.{selected_runs}
 use Rattle.ckr_points.specs.declared.run.Run.{Run}
 use Rattle.ckr_points.specs.Rows.{RunRow, TablesModel, run_of}
-use Rattle.ckr_points_tables.specs.PlainRows.{IsPlainRow}
+use Rattle.ckr_points_tables.specs.RunRows.{IsRunRow}
 use Rattle.ckr_points_tables.specs.View.{line_of}
 use Rattle.ckr_points_deferred.specs.Latest.{is_selected_as, latest_before, selected_among}
 
@@ -49,7 +49,7 @@ selected-none name runs count row at is =
 
 -- ---- by the line of the run
 
-module _ (desk : TablesModel) (plain : (job : ℕ) (row : RunRow) → run_of desk job ≡ Some row → IsPlainRow job row) (lines : List Run) (are : lines ≡ map line_of desk.runs) where
+module _ (desk : TablesModel) (rows : (job : ℕ) (row : RunRow) → run_of desk job ≡ Some row → IsRunRow job row) (lines : List Run) (are : lines ≡ map line_of desk.runs) where
   -- the run of the line at a place
   record AtPlace (place : ℕ) (line : Run) : Type 0 where
     row : RunRow
@@ -64,7 +64,7 @@ module _ (desk : TablesModel) (plain : (job : ℕ) (row : RunRow) → run_of des
       by (Some row) there lined = record {
         row = row;
         there = there;
-        numbered = ap (λ one. run_of desk one.number) (sym (same_Some (line_of row) line lined)) ∙ ap (run_of desk) (plain (suc place) row there).numbered ∙ there;
+        numbered = ap (λ one. run_of desk one.number) (sym (same_Some (line_of row) line lined)) ∙ ap (run_of desk) (rows (suc place) row there).numbered ∙ there;
       }
 
   pub latest-found : (name : Name) (place : ℕ) (line : Run) (found : RunRow) → slice_get lines place ≡ Some line → Some found ≡ selected_among name (run_of desk line.number) → Some found ≡ latest_before name (suc place) desk.runs

@@ -2,7 +2,7 @@
 ghost use Rattle.std.specs.Prelude.{◌≡◌, Some, IfSome, slice_get};
 ghost use Rattle.std.specs.Option.{option_copied, option_map};
 ghost use Rattle.ckr_points.specs.Rows.{run_of, RunRow};
-ghost use Rattle.ckr_points_tables.specs.PlainRows.{IsPlainRow};
+ghost use Rattle.ckr_points_tables.specs.RunRows.{IsRunRow};
 ghost use Rattle.ckr_points_tables.specs.View.{line_of, row_of};
 ghost use Rattle.ckr_points_deferred.specs.Runs.{row_now, IsRunNow};
 
@@ -28,7 +28,7 @@ fn line_in(lines: &[Run], place: usize) -> Option<&Run>
 /// The line of a run, with what holds of each run.
 fn line_at(tables: &Tables, job: u32) -> Option<&Run>
     ensures line { option_copied result ≡ option_map line_of (run_of tables.now.desk job) }
-    ensures plain { (row : RunRow) → run_of tables.now.desk job ≡ Some row → IsPlainRow job row }
+    ensures rows { (row : RunRow) → run_of tables.now.desk job ≡ Some row → IsRunRow job row }
 {
     if job == 0 {
         return None;

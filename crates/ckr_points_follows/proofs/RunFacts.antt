@@ -1,5 +1,5 @@
 -- A run of the tables by its line and by what they keep of it besides.
-use Rattle.std.proofs.Common.{List, [], ◌∷◌, true, ◌≡◌, ℕ, zero, suc, ◌-◌, ◌≤◌, map, slice_get, refl, ap, sym, ◌∙◌, subst, IfSome, Some, None, Option}
+use Rattle.std.proofs.Common.{◌∷◌, ◌≡◌, ℕ, zero, suc, ◌-◌, ◌≤◌, map, slice_get, refl, ap, sym, ◌∙◌, subst, IfSome, Some, None, Option}
 use Rattle.std.specs.Option.{option_map}
 use Rattle.std.proofs.lemmas.Option.{same_Some, slice_get-map}
 use Rattle.ckr_base.proofs.Numbers.{suc-minus}
@@ -7,17 +7,10 @@ use Rattle.ckr_base.proofs.Options.{some-not-none}
 use Rattle.ckr_library.specs.Catalog.{Holding}
 use Rattle.ckr_library.specs.NameMaps.{Name, Named, entry_at}
 use Rattle.ckr_library.proofs.Named.{at-viewed}
-use Rattle.std.specs.List.{list_all}
-use Rattle.std.proofs.lemmas.Bool.{and_from}
-use Rattle.ckr_base.proofs.Bools.{and-first, and-second}
-use Rattle.ckr_jcl.specs.declared.deck.Job.{Job}
-use Rattle.ckr_jcl.specs.declared.deck.Step.{Step}
-use Rattle.ckr_points_tables.specs.Rewrite.{has_master}
-use Rattle.ckr_meaning.specs.EffectiveJob.{Effective, HasDistinctNames, OwnedStep, owned_by}
 use Rattle.ckr_points.specs.declared.run.Run.{Run}
 use Rattle.ckr_points.specs.Rows.{RunRow, TableSet, TablesModel, holding_of, run_of}
 use Rattle.ckr_points_tables.specs.declared.run_table.RunTable.{RunTable}
-use Rattle.ckr_points_tables.specs.PlainRows.{IsPlainRow}
+use Rattle.ckr_points_tables.specs.RunRows.{IsRunRow}
 use Rattle.ckr_points_tables.specs.View.{facts_in, facts_of, line_of, row_of, row_with, seen_by}
 use Rattle.ckr_points_follows.specs.Runs.{IsWholeRun, row_now}
 use Rattle.ckr_points_follows.specs.declared.runs.WholeRun.{WholeRun}
@@ -28,7 +21,7 @@ line-got desk zero some = absurd (some refl)
 line-got desk (suc before) some = ap (slice_get (map line_of desk.runs)) (suc-minus before) ∙ slice_get-map line_of desk.runs before
 
 -- no run has the number 0
-pub none-numbered : (desk : TablesModel) (job : ℕ) → job ≡ 0 → (row : RunRow) → run_of desk job ≡ Some row → IsPlainRow job row
+pub none-numbered : (desk : TablesModel) (job : ℕ) → job ≡ 0 → (row : RunRow) → run_of desk job ≡ Some row → IsRunRow job row
 none-numbered desk job zeroth row found = absurd (some-not-none row (sym (subst (λ n. run_of desk n ≡ Some row) zeroth found)))
 
 -- no line, no run
@@ -36,11 +29,7 @@ pub none-seen : (found : Option RunRow) → None ≡ option_map line_of found �
 none-seen None e = refl
 none-seen (Some row) e = absurd (some-not-none _ (sym e))
 
-mapped : (number : ℕ) (deck : Job) (steps : List Step) → list_all has_master steps ≡ true → list_all (λ (own : OwnedStep). has_master own.step) (map (owned_by number deck) steps) ≡ true
-mapped number deck [] all = refl
-mapped number deck (step ∷ steps) all = and_from (has_master step) _ (and-first (has_master step) _ all) (mapped number deck steps (and-second (has_master step) _ all))
-
-module _ (desk : TablesModel) (job : ℕ) (plain : (row : RunRow) → run_of desk job ≡ Some row → IsPlainRow job row) where
+module _ (desk : TablesModel) (job : ℕ) (rows : (row : RunRow) → run_of desk job ≡ Some row → IsRunRow job row) where
   pub row-seen : (line : Run) (table : Option RunTable) → Some line ≡ option_map line_of (run_of desk job) → option_map facts_of table ≡ option_map facts_in (run_of desk job) → option_map (row_of line) table ≡ run_of desk job
   row-seen line table lined kept = by (run_of desk job) refl table lined kept
     where
@@ -51,17 +40,17 @@ module _ (desk : TablesModel) (job : ℕ) (plain : (row : RunRow) → run_of des
           ap Some
           (ap (λ l. row_of l table) (same_Some line (line_of row) lined)
           ∙ ap (row_with (line_of row)) (same_Some (facts_of table) (facts_in row) kept)
-          ∙ sym (plain row is).told)
+          ∙ sym (rows row is).told)
 
   pub is-now : (found : Option WholeRun) → option_map row_now found ≡ run_of desk job → IfSome found IsWholeRun
   is-now None seen = tt
   is-now (Some run) seen =
-      let is : IsPlainRow job (row_now run) = plain (row_now run) (sym seen) in
+      let is : IsRunRow job (row_now run) = rows (row_now run) (sym seen) in
       record {
         few = subst (λ n. n ≤ 9999999) (sym is.numbered) is.few;
         fits = is.fits;
-        distinct = subst HasDistinctNames (sym is.job) is.distinct;
-        masters = subst (λ (job : Effective). list_all (λ (own : OwnedStep). has_master own.step) job.steps ≡ true) (sym is.job) (mapped job run.table.now.job.deck run.table.now.job.deck.steps is.masters);
+        distinct = is.distinct;
+        masters = is.masters;
       }
 
 -- the data set of a name, as the tables see it

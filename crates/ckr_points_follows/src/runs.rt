@@ -5,7 +5,7 @@ ghost use Rattle.ckr_points.specs.Follows.{is_in_state, is_running, is_within, s
 ghost use Rattle.ckr_points.specs.declared.run.RunState.TheVariants.{Held as HeldRun, On as OnInitiator, Queued as QueuedRun, Released as ReleasedRun};
 ghost use Rattle.ckr_points.specs.Restart.{place_of};
 ghost use Rattle.ckr_points.specs.Rows.{run_of, RunRow};
-ghost use Rattle.ckr_points_tables.specs.PlainRows.{IsPlainRow};
+ghost use Rattle.ckr_points_tables.specs.RunRows.{IsRunRow};
 ghost use Rattle.ckr_points_tables.specs.View.{line_of, row_of};
 ghost use Rattle.ckr_points_follows.specs.Runs.{row_now, IsWholeRun};
 
@@ -29,10 +29,10 @@ fn line_in(lines: &[Run], place: usize) -> Option<&Run>
     lines.get(place)
 }
 
-/// The line of a run, which is plain.
+/// The line of a run, with what holds of each run.
 fn line_at(tables: &Tables, job: u32) -> Option<&Run>
     ensures line { option_copied result ≡ option_map line_of (run_of tables.now.desk job) }
-    ensures plain { (row : RunRow) → run_of tables.now.desk job ≡ Some row → IsPlainRow job row }
+    ensures rows { (row : RunRow) → run_of tables.now.desk job ≡ Some row → IsRunRow job row }
 {
     if job == 0 {
         return None;

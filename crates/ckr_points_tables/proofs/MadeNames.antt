@@ -1,5 +1,5 @@
 -- Which names the steps of a run made, as the tables tell it.
-use Rattle.std.proofs.Common.{◌≡◌, ℕ, zero, suc, pred, ◌&&◌, ◌||◌, Bool, true, false, cond, List, [], ◌∷◌, ◌++◌, length, map, filter, slice_get, slice_set, take, refl, ap, sym, ◌∙◌, Some, None, Option}
+use Rattle.std.proofs.Common.{◌≡◌, ℕ, zero, suc, pred, ◌&&◌, ◌||◌, Bool, true, false, cond, List, [], ◌∷◌, ◌++◌, map, filter, slice_get, slice_set, take, refl, ap, sym, ◌∙◌, Some, None, Option}
 use Rattle.std.specs.Option.{option_map, option_map_or}
 use Rattle.std.proofs.lemmas.List.{length-map}
 use Rattle.std.proofs.lemmas.Option.{same_Some}

@@ -1,5 +1,5 @@
 -- What an event makes of the tables is what it makes of its run, in its place.
-use Rattle.std.proofs.Common.{◌≡◌, ℕ, zero, suc, pred, ◌&&◌, ◌||◌, Bool, true, false, cond, nat_eq, List, [], ◌∷◌, ◌++◌, map, filter, take, refl, ap, sym, ◌∙◌, subst, arith, Some, None, Option}
+use Rattle.std.proofs.Common.{◌≡◌, ℕ, zero, suc, pred, ◌&&◌, ◌||◌, Bool, true, false, nat_eq, List, [], ◌∷◌, ◌++◌, map, take, refl, ap, sym, ◌∙◌, arith, Some, None, Option}
 use Rattle.std.specs.Option.{option_map, option_map_or}
 use Rattle.std.specs.List.{filter_map, cons_option}
 use Rattle.std.proofs.lemmas.Bool.{false≢true, or_right}
@@ -7,7 +7,6 @@ use Rattle.std.proofs.lemmas.Bool.Decides.{nat_tests}
 use Rattle.std.specs.Cmp.Lexicographic.{nat_list_cmp_total}
 use Rattle.std.specs.Cmp.{tied_itself}
 use Rattle.std.specs.Ordering.{is_eq}
-use Rattle.ckr_base.proofs.Bools.{and-false}
 use Rattle.ckr_base.proofs.Options.{some-not-none}
 use Rattle.ckr_base.proofs.Sequences.{set-again, set-same}
 use Rattle.ckr_points_library.specs.Disposals.{disposals_by, with_names}
@@ -20,12 +19,10 @@ use Rattle.ckr_events.specs.declared.event.Ending.TheVariants.{Completed, Coded,
 use Rattle.ckr_events.specs.declared.event.Made.{Made}
 use Rattle.ckr_jcl.specs.declared.deck.Dd.{Dd}
 use Rattle.ckr_jcl.specs.declared.deck.Job.{Job}
-use Rattle.ckr_jcl.specs.declared.deck.Step.{Step}
 use Rattle.ckr_library.specs.declared.sets.Kept.{Kept}
 use Rattle.ckr_library.specs.NameMaps.{Name, Named, same_name}
-use Rattle.ckr_library.proofs.Named.{name-same}
 use Rattle.ckr_meaning.specs.Dispositions.{Disposal, Stock, disposed_all, passed_ended}
-use Rattle.ckr_meaning.specs.EffectiveJob.{OwnedStep, placed_in, stamp_of, is_among, name_of, names_of, owned_by}
+use Rattle.ckr_meaning.specs.EffectiveJob.{OwnedStep, placed_in, stamp_of, is_among, name_of, names_of}
 use Rattle.ckr_meaning.specs.declared.place.Place.{Place}
 use Rattle.ckr_meaning.specs.declared.place.Place.TheVariants.{Before, Opened, Within}
 use Rattle.ckr_points.specs.declared.run.Run.{Run}
@@ -36,9 +33,9 @@ use Rattle.ckr_points_tables.proofs.MadeNames.{flags-same, point_names, points-k
 use Rattle.ckr_points.specs.Tables.{made_tables, after_cancelled, after_checkpointed, after_commit, after_rewritten, after_dispositions, after_started, after_step_ended, earlier_made, own_made, run_disposal}
 use Rattle.ckr_points_tables.specs.NewSets.{made_from}
 use Rattle.ckr_points_tables.specs.Invariant.{is_run_change}
-use Rattle.ckr_points.specs.Marks.{is_marked_absent, made_names, point_at, with_point, without_passed}
+use Rattle.ckr_points.specs.Marks.{point_at, with_point, without_passed}
 use Rattle.ckr_points.specs.Restart.{after_event, after_abnormal, after_chosen, after_ended, after_passed_ended, by_run, by_step, step_in}
-use Rattle.ckr_points.specs.Rows.{RunRow, StartPoint, TableSet, TablesModel, run_of, step_of_run, table_ways, with_row, with_run, with_standing}
+use Rattle.ckr_points.specs.Rows.{RunRow, TableSet, TablesModel, run_of, step_of_run, table_ways, with_row, with_run, with_standing}
 use Rattle.ckr_points_tables.specs.RunJobs.{effective}
 use Rattle.ckr_points_tables.specs.View.{RunTableView, row_with}
 

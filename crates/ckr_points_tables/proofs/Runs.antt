@@ -14,7 +14,7 @@ use Rattle.ckr_meaning.specs.EffectiveJob.{HasDistinctNames, OwnedStep, owned_by
 use Rattle.ckr_points.specs.Syschk.{names_its_set}
 use Rattle.ckr_points_tables.specs.Rewrite.{has_master}
 use Rattle.ckr_points_tables.specs.RunJobs.{IsFitting, JobView, effective, is_within_limits}
-use Rattle.ckr_points_tables.specs.View.{facts_of, facts_in, line_of, place_of, row_of, row_with, rows_of}
+use Rattle.ckr_points_tables.specs.View.{facts_of, facts_in, line_of, place_of, row_of, rows_of}
 use Rattle.ckr_points_tables.specs.Invariant.{IsRun, AreRuns, IsIndexOf, initiator_at, is_queued}
 
 -- each line is that of its row

@@ -1,4 +1,4 @@
--- The steps of a run that continues none.
+-- The steps of a run.
 use Rattle.std.proofs.Common.{◌≡◌, ℕ, suc, ◌*◌, ◌≤◌, ◌||◌, Bool, true, false, IsTrue, nat_le, List, [], ◌∷◌, length, map, find, cond, ◌==◌, refl, ap, ◌∙◌, arith, length-append, Some, None, Option}
 use Rattle.std.specs.Option.{option_map, option_map_or}
 use Rattle.std.specs.List.{list_all, list_any, filter_map, cons_option}

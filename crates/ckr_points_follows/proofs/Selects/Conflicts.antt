@@ -10,7 +10,7 @@ use Rattle.ckr_uses.proofs.Conflicts.{holds-merged}
 use Rattle.ckr_points.specs.Follows.{may_hold}
 use Rattle.ckr_points.specs.Office.{is_holder}
 use Rattle.ckr_points.specs.Rows.{RunRow, TablesModel, run_of}
-use Rattle.ckr_points_tables.specs.PlainRows.{IsPlainRow}
+use Rattle.ckr_points_tables.specs.RunRows.{IsRunRow}
 use Rattle.ckr_points_tables.specs.View.{line_of}
 use Rattle.ckr_points_follows.specs.DeckConflicts.{may_be_beside}
 use Rattle.ckr_points_follows.proofs.Lists.{all-same, any-flat_mapped, any-option}
@@ -30,11 +30,11 @@ holds-dds run other job other_job = holds-merged (uses_of_dds run job) (uses_of_
 
 -- ---- beside each run
 
-module _ (tables : TablesModel) (plain : (job : ℕ) (row : RunRow) → run_of tables job ≡ Some row → IsPlainRow job row) (row : RunRow) where
+module _ (tables : TablesModel) (rows : (job : ℕ) (row : RunRow) → run_of tables job ≡ Some row → IsRunRow job row) (row : RunRow) where
   beside : (place : ℕ) (other : RunRow) → slice_get tables.runs place ≡ Some other → may_be_beside tables row (line_of other) ≡ not (is_holder other.state && holds (uses_of row.number row.deck) (uses_of other.number other.deck))
   beside place other there =
       ap (λ found. not (is_holder other.state && option_map_or (λ (one : RunRow). holds (uses_of row.number row.deck) (uses_of one.number one.deck)) found false))
-      (ap (run_of tables) (plain (suc place) other there).numbered ∙ there)
+      (ap (run_of tables) (rows (suc place) other there).numbered ∙ there)
 
   pub beside-each : list_all (may_be_beside tables row) (map line_of tables.runs) ≡ may_hold tables row
   beside-each =

@@ -4,8 +4,8 @@ use Rattle.ckr_points_follows.proofs.runs.run_now.Goals as goal
 
 pub returns-in-Some : goal.returns-in-Some
 returns-in-Some c =
-    let row = c.with_table.ensures ∙ row-seen c.args.tables.now.desk c.args.job c.in-Some.ensures.plain c.in-Some.line.now _ c.in-Some.ensures.line c.run.ensures in
-    record { row = row; is = is-now c.args.tables.now.desk c.args.job c.in-Some.ensures.plain c.with_table.result row }
+    let row = c.with_table.ensures ∙ row-seen c.args.tables.now.desk c.args.job c.in-Some.ensures.rows c.in-Some.line.now _ c.in-Some.ensures.line c.run.ensures in
+    record { row = row; is = is-now c.args.tables.now.desk c.args.job c.in-Some.ensures.rows c.with_table.result row }
 
 pub returns-in-None : goal.returns-in-None
 returns-in-None c =

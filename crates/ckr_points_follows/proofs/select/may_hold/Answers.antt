@@ -9,4 +9,4 @@ pub returns : goal.returns
 returns c =
     c.may_be_beside_all.ensures
     ∙ ap (list_all (may_be_beside c.args.tables.now.desk (row_now c.args.run.now))) c.runs.ensures.lines
-    ∙ beside-each c.args.tables.now.desk c.runs.ensures.plain (row_now c.args.run.now)
+    ∙ beside-each c.args.tables.now.desk c.runs.ensures.rows (row_now c.args.run.now)
