@@ -7,6 +7,7 @@ use Rattle.ckr_points.specs.declared.run.Run.{Run}
 use Rattle.ckr_points_tables.proofs.Events.{placed_at}
 use Rattle.ckr_points_tables.proofs.Calls.{flags_ok, flags_told, job_ok, read-back, read-twice, inside_lines, inside_tables, inside_writings, fits_ok, may_ok, desk_ok, kept_ok}
 use Rattle.ckr_points_tables.proofs.tables.Tables.change.Goals as goal
+use Rattle.ckr_points_tables.proofs.tables.Tables.change.Goals.{After-put_at-2}
 
 pub overflow_sub-place : goal.overflow_sub-place
 overflow_sub-place c =
@@ -65,6 +66,19 @@ index-requires-3 c =
     let inside = inside_lines c.self.inside c.args.self.now c.self.view_is c.self.invariant c.args.event.now c.requires.change c.requires.follows c.job-number.result c.job-number.ensures in
     omega (arith, inside, c.self.inside.lines.ok.0)
 
+-- the run goes on by the event as the tables do
+run-goes : (c : After-put_at-2) → (
+    going c.change_run.new.line (facts_of c.change_run.new.table) c.change_run.new.library.sets
+    ≡ changed holding_kit (earlier_for c.args.event.now (points_in c.self.inside.tables.items) c.index_mut.result.now.number (facts_of c.index_mut-2.result.now)) c.args.event.now
+    (going c.index_mut.result.now (facts_of c.index_mut-2.result.now) c.self.inside.library.sets))
+run-goes c =
+    c.change_run.ensures.going
+    ∙ ap (λ flags. changed holding_kit flags c.args.event.now (going c.index_mut.result.now (facts_of c.index_mut-2.result.now) c.self.inside.library.sets))
+    (flags_told c.self.inside c.args.self.now c.self.view_is c.self.invariant c.args.event.now c.requires.change c.requires.follows c.job-number.result c.job-number.ensures
+    c.index_mut.result.now c.index_mut-2.result.now c.index_mut-3.result.now c.index_mut.ensures.value c.index_mut-2.ensures.value c.index_mut-3.ensures.value
+    c.as_slice.result.now c.index-2.result.now c.index-2.ensures
+    (c.as_slice.ensures.value ∙ c.earlier_for-earlier.ensures ∙ ap (λ tables. earlier_for c.args.event.now (points_in tables) c.job-number.result (facts_of c.index-2.result.now)) c.as_slice-tables.ensures.value))
+
 pub invariant_of-self : goal.invariant_of-self
 invariant_of-self c =
     let inside : c.job-number.result - 1 < length c.self.inside.lines.items = inside_lines c.self.inside c.args.self.now c.self.view_is c.self.invariant c.args.event.now c.requires.change c.requires.follows c.job-number.result c.job-number.ensures in
@@ -72,10 +86,7 @@ invariant_of-self c =
     let after : c.index-3.result.now ≡ c.change_run.new.line = read-back c.self.inside.lines.items (c.job-number.result - 1) c.change_run.new.line c.index-3.result.now inside c.index-3.ensures in
     kept_ok c.self.inside c.args.self.now c.self.view_is c.self.invariant c.args.event.now c.requires.change c.requires.follows c.job-number.result c.job-number.ensures
     c.index_mut.result.now c.index_mut-2.result.now c.index_mut-3.result.now c.index_mut.ensures.value c.index_mut-2.ensures.value c.index_mut-3.ensures.value
-    c.change_run.new.line c.change_run.new.table c.change_run.new.library.sets (c.change_run.ensures.going ∙ ap (λ flags. changed holding_kit flags c.args.event.now (going c.index_mut.result.now (facts_of c.index_mut-2.result.now) c.self.inside.library.sets)) (flags_told c.self.inside c.args.self.now c.self.view_is c.self.invariant c.args.event.now c.requires.change c.requires.follows c.job-number.result c.job-number.ensures
-    c.index_mut.result.now c.index_mut-2.result.now c.index_mut-3.result.now c.index_mut.ensures.value c.index_mut-2.ensures.value c.index_mut-3.ensures.value
-    c.as_slice.result.now c.index-2.result.now c.index-2.ensures
-    (c.as_slice.ensures.value ∙ c.earlier_for-earlier.ensures ∙ ap (λ tables. earlier_for c.args.event.now (points_in tables) c.job-number.result (facts_of c.index-2.result.now)) c.as_slice-tables.ensures.value)))
+    c.change_run.new.line c.change_run.new.table c.change_run.new.library.sets (run-goes c)
     c.change_run.new.entries c.change_run.new.spare.marks.items c.change_run.ensures.empty
     (λ i on. c.put_at-2.ensures.fits i (ap (λ (line : Run). line.initiator) after ∙ on))
     c.put_at-2.new.index
@@ -89,7 +100,4 @@ pub returns : goal.returns
 returns c =
     desk_ok c.self.inside c.args.self.now c.self.view_is c.self.invariant c.args.event.now c.requires.change c.requires.follows c.job-number.result c.job-number.ensures
     c.index_mut.result.now c.index_mut-2.result.now c.index_mut-3.result.now c.index_mut.ensures.value c.index_mut-2.ensures.value c.index_mut-3.ensures.value
-    c.change_run.new.line c.change_run.new.table c.change_run.new.library.sets (c.change_run.ensures.going ∙ ap (λ flags. changed holding_kit flags c.args.event.now (going c.index_mut.result.now (facts_of c.index_mut-2.result.now) c.self.inside.library.sets)) (flags_told c.self.inside c.args.self.now c.self.view_is c.self.invariant c.args.event.now c.requires.change c.requires.follows c.job-number.result c.job-number.ensures
-    c.index_mut.result.now c.index_mut-2.result.now c.index_mut-3.result.now c.index_mut.ensures.value c.index_mut-2.ensures.value c.index_mut-3.ensures.value
-    c.as_slice.result.now c.index-2.result.now c.index-2.ensures
-    (c.as_slice.ensures.value ∙ c.earlier_for-earlier.ensures ∙ ap (λ tables. earlier_for c.args.event.now (points_in tables) c.job-number.result (facts_of c.index-2.result.now)) c.as_slice-tables.ensures.value))) c.in_order.ensures c.change_run.new.entries c.change_run.ensures.entries
+    c.change_run.new.line c.change_run.new.table c.change_run.new.library.sets (run-goes c) c.in_order.ensures c.change_run.new.entries c.change_run.ensures.entries
