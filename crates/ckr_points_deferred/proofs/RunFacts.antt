@@ -4,7 +4,7 @@
 -- none-seen              no line, no run
 -- row-seen               a run by its line and its table
 -- is-now                 what holds of it
-use Rattle.std.proofs.Common.{List, ◌≡◌, ℕ, zero, suc, ◌-◌, ◌≤◌, map, slice_get, refl, ap, sym, ◌∙◌, subst, IfSome, Some, None, Option}
+use Rattle.std.proofs.Common.{◌≡◌, ℕ, zero, suc, ◌-◌, ◌≤◌, map, slice_get, refl, ap, sym, ◌∙◌, subst, IfSome, Some, None, Option}
 use Rattle.std.specs.Option.{option_map}
 use Rattle.std.proofs.lemmas.Option.{same_Some, slice_get-map}
 use Rattle.ckr_base.proofs.Numbers.{suc-minus}
@@ -45,4 +45,4 @@ module _ (desk : TablesModel) (job : ℕ) (rows : (row : RunRow) → run_of desk
   is-now None seen = tt
   is-now (Some run) seen =
       let is : IsRunRow job (row_now run) = rows (row_now run) (sym seen) in
-      record { few = subst (λ n. n ≤ 9999999) (sym is.numbered) is.few; fits = is.fits; syschk = is.syschk }
+      record { few = subst (λ n. n ≤ 9999999) (sym is.numbered) is.few; fits = is.fits; distinct = is.distinct; masters = is.masters; syschk = is.syschk }
