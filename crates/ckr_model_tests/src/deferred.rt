@@ -25,7 +25,7 @@ const OUTPUT: &[u8] = b"//SYSUT2 DD DSN=OUT.K,DISP=(NEW,CATLG),SPACE=(80,10)";
 const ENTRIES: &[u8] = b"//CHKDD DD DSN=CHK.K,DISP=(NEW,CATLG),SPACE=(256,4)";
 
 /// The run that is to be continued. Its step makes OUT.K, and CHK.K with two entries.
-const BEFORE: [Row; 7] = [
+pub(crate) const BEFORE: [Row; 7] = [
     (1, Told::Submitted(&WRITES), true, NONE),
     (1, Told::Selected, true, NONE),
     (1, Told::Started(0, Some(1024)), true, NONE),
@@ -46,9 +46,9 @@ const BEFORE: [Row; 7] = [
 ];
 
 /// At the start of the step CHK.K wasn't there.
-const AT_START: [&[u8]; 6] = [b"//A JOB RESTART=S1", EXEC, INPUT, CARD, OUTPUT, ENTRIES];
+pub(crate) const AT_START: [&[u8]; 6] = [b"//A JOB RESTART=S1", EXEC, INPUT, CARD, OUTPUT, ENTRIES];
 
-const AT_CHECKPOINT: [&[u8]; 7] = [
+pub(crate) const AT_CHECKPOINT: [&[u8]; 7] = [
     b"//A JOB RESTART=(S1,C0000002)",
     b"//SYSCHK DD DSN=CHK.K,DISP=OLD",
     EXEC,

@@ -6,5 +6,4 @@ pub mod DeckConflicts
 pub mod Lengths
 pub mod Placements
 pub mod Rewrite
-pub mod Runs
 pub mod Start

@@ -10,14 +10,15 @@ ghost use Rattle.ckr_points.specs.Follows.{is_checkpoint, is_length_of, is_runni
 ghost use Rattle.ckr_points_follows.specs.Checkpoint.{is_checkpoint_of, is_free_at};
 ghost use Rattle.ckr_points_follows.specs.Lengths.{outputs_from};
 ghost use Rattle.ckr_points_tables.specs.RunJobs.{own_of};
-ghost use Rattle.ckr_points_follows.specs.Runs.{row_now, IsWholeRun};
+ghost use Rattle.ckr_points_deferred.specs.Runs.{row_now, IsRunNow};
 
 use crate::lengths::lengths_follow;
-use crate::runs::{WholeRun, is_running, run_now};
+use crate::runs::is_running;
 use crate::steps::{own_step, set_of};
 use ckr_base::{CheckId, DsName};
 use ckr_jcl::{Dd, Step};
 use ckr_library::Kept;
+use ckr_points_deferred::{RunNow, run_now};
 use ckr_points_library::{has_text, output_name};
 use ckr_points_tables::{OwnStep, Tables, checkpoint_name};
 
@@ -131,13 +132,13 @@ fn is_checkpoint(
 /// Whether the step that a run is in takes a checkpoint so.
 fn step_checkpoints(
     tables: &Tables,
-    run: &WholeRun<'_>,
+    run: &RunNow<'_>,
     id: &CheckId,
     lengths: &[u32],
     place: u32,
     bytes: u32,
 ) -> bool
-    requires { IsWholeRun run.now }
+    requires { IsRunNow run.now }
     ensures { result ≡ of_step (row_now run.now) (is_checkpoint tables.now.desk id.now lengths.now place bytes (row_now run.now)) }
 {
     match own_step(run) {
@@ -153,13 +154,13 @@ fn step_checkpoints(
 /// Whether a checkpoint of a run follows, by its row.
 fn run_checkpoints(
     tables: &Tables,
-    run: &WholeRun<'_>,
+    run: &RunNow<'_>,
     id: &CheckId,
     lengths: &[u32],
     place: u32,
     bytes: u32,
 ) -> bool
-    requires { IsWholeRun run.now }
+    requires { IsRunNow run.now }
     ensures { result ≡ (is_running (row_now run.now) && lengths_follow tables.now.desk (row_now run.now) lengths.now && of_step (row_now run.now) (is_checkpoint tables.now.desk id.now lengths.now place bytes (row_now run.now))) }
 {
     is_running(run)

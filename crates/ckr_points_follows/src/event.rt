@@ -1,15 +1,14 @@
 //! Whether an event follows.
-ghost use Rattle.std.specs.Prelude.{◌≡◌, ◌≤◌, IsTrue, length};
+ghost use Rattle.std.specs.Prelude.{◌≡◌, ◌≤◌, length};
 ghost use Rattle.std.specs.Option.{option_copied};
 ghost use Rattle.ckr_points.specs.Follows.{follows};
-ghost use Rattle.ckr_points_tables.specs.Invariant.{is_plain_event};
 
 use crate::checkpoint::{cancelled_follows, checkpointed_follows};
 use crate::hold::held_follows;
 use crate::release::released_follows;
 use crate::restart::restarted_follows;
 use crate::rewrite::rewritten_follows;
-use crate::select::{purged_follows, selected_follows};
+use crate::select::{denied_follows, purged_follows, selected_follows};
 use crate::start::started_follows;
 use crate::step_end::{ended_follows, step_ended_follows};
 use crate::submit::submitted_follows;
@@ -18,10 +17,9 @@ use ckr_jcl::Job;
 use ckr_points_tables::Tables;
 use ckr_volumes::Layout;
 
-/// Whether an event follows on the tables: one of a run that continues none, and isn't denied. The deck is given for Submitted, where
-/// its cards are one. It takes no memory (this project's profile).
+/// Whether an event follows on the tables. The deck is given for Submitted, where its cards are one. It takes no memory (this project's
+/// profile).
 pub fn follows(tables: &Tables, layout: &Layout, event: &Event, deck: Option<&Job>) -> bool
-    requires kept { IsTrue (is_plain_event event.now) }
     ensures { result ≡ follows layout.now tables.now.desk event.now (option_copied deck.entry) }
 {
     match event {
@@ -29,10 +27,11 @@ pub fn follows(tables: &Tables, layout: &Layout, event: &Event, deck: Option<&Jo
         Event::Selected {
             job,
             initiator,
+            earlier,
             step,
             id,
-            ..
-        } => selected_follows(layout, tables, *job, *initiator, *step, id),
+        } => selected_follows(layout, tables, *job, *initiator, *earlier, *step, id),
+        Event::Denied { job, .. } => denied_follows(tables, *job),
         Event::Started { job, step, made } => {
             started_follows(tables, layout, *job, *step, made.as_slice())
         }
@@ -68,6 +67,5 @@ pub fn follows(tables: &Tables, layout: &Layout, event: &Event, deck: Option<&Jo
         Event::Released { job } => released_follows(tables, *job),
         Event::Ended { job, ending } => ended_follows(tables, *job, ending),
         Event::Purged { job } => purged_follows(tables, *job),
-        _ => false,
     }
 }

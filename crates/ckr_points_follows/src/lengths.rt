@@ -3,12 +3,12 @@ ghost use Rattle.std.specs.Prelude.{◌≡◌, ◌≤◌, []};
 ghost use Rattle.ckr_points_library.specs.Holdings.{owned};
 ghost use Rattle.ckr_points.specs.Follows.{are_lengths, lengths_follow};
 ghost use Rattle.ckr_points_follows.specs.Lengths.{fits, outputs_from};
-ghost use Rattle.ckr_points_follows.specs.Runs.{row_now, IsWholeRun};
+ghost use Rattle.ckr_points_deferred.specs.Runs.{row_now, IsRunNow};
 
-use crate::runs::WholeRun;
 use crate::steps::{own_step, set_of};
 use ckr_base::DsName;
 use ckr_jcl::{Dd, Step};
+use ckr_points_deferred::RunNow;
 use ckr_points_library::output_name;
 use ckr_points_tables::Tables;
 
@@ -52,8 +52,8 @@ fn are_lengths(
 
 /// Whether the lengths are those of the step that a run is before or in: one for each of its outputs in the order of the DDs, within
 /// its space, and not less than what is committed.
-pub(crate) fn lengths_follow(tables: &Tables, run: &WholeRun<'_>, lengths: &[u32]) -> bool
-    requires { IsWholeRun run.now }
+pub(crate) fn lengths_follow(tables: &Tables, run: &RunNow<'_>, lengths: &[u32]) -> bool
+    requires { IsRunNow run.now }
     ensures { result ≡ lengths_follow tables.now.desk (row_now run.now) lengths.now }
 {
     match own_step(run) {

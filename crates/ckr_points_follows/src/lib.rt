@@ -28,7 +28,7 @@ pub use release::released_follows;
 pub use restart::restarted_follows;
 pub use rewrite::rewritten_follows;
 pub use rewrite_counts::{may_count, what_can_be_counted_may_be};
-pub use select::{purged_follows, selected_follows};
+pub use select::{denied_follows, purged_follows, selected_follows};
 pub use start::started_follows;
 pub use step_end::{ended_follows, step_ended_follows};
 pub use submit::submitted_follows;

@@ -10,13 +10,13 @@ ghost use Rattle.ckr_points.specs.Follows.{is_empty};
 ghost use Rattle.ckr_points.specs.Rows.{standing_of, table_ways};
 ghost use Rattle.ckr_points_tables.specs.RunJobs.{own_of};
 ghost use Rattle.ckr_points_follows.specs.Placements.{placed_list, placed_now};
-ghost use Rattle.ckr_points_follows.specs.Runs.{row_now, IsWholeRun};
+ghost use Rattle.ckr_points_deferred.specs.Runs.{row_now, IsRunNow};
 
-use crate::runs::WholeRun;
 use crate::steps::set_of;
 use arrayvec::ArrayVec;
 use ckr_base::DsName;
 use ckr_jcl::Dd;
+use ckr_points_deferred::RunNow;
 use ckr_points_library::{Allotment, allotment_of, is_passed};
 use ckr_points_tables::{OwnStep, Tables};
 use ckr_uses::library_name;
@@ -36,12 +36,12 @@ pub(crate) struct PlacedNow<'a> {
 /// A DD of a step, if it has a data set.
 fn place_dd<'a>(
     tables: &Tables,
-    run: &WholeRun<'_>,
+    run: &RunNow<'_>,
     own: &OwnStep<'_>,
     dd: &'a Dd,
     number: u8,
 ) -> Option<PlacedNow<'a>>
-    requires is { IsWholeRun run.now }
+    requires is { IsRunNow run.now }
     requires owner { own.now.owner ≤ 9999999 }
     ensures { let root = run.now.table.now.job.root in option_map placed_now result ≡ option_map (placed_one table_ways (standing_of (row_now run.now) tables.now.desk) number dd.now) (name_of root (own_of own.now) dd.now) }
 {
@@ -63,10 +63,10 @@ fn place_dd<'a>(
 /// The DDs of a step in their order, `None` for those without a data set.
 pub(crate) fn place_step<'a>(
     tables: &Tables,
-    run: &WholeRun<'_>,
+    run: &RunNow<'_>,
     own: &OwnStep<'a>,
 ) -> ArrayVec<Option<PlacedNow<'a>>, 16>
-    requires is { IsWholeRun run.now }
+    requires is { IsRunNow run.now }
     requires owner { own.now.owner ≤ 9999999 }
     requires few { length own.now.step.now.dds ≤ 16 }
     ensures { let root = run.now.table.now.job.root in placed_list result.items ≡ placed_in table_ways (standing_of (row_now run.now) tables.now.desk) root (own_of own.now) }

@@ -2,9 +2,10 @@
 ghost use Rattle.std.specs.Prelude.{◌≡◌, false};
 ghost use Rattle.ckr_points.specs.declared.run.RunState.TheVariants.{Held as HeldRun};
 ghost use Rattle.ckr_points.specs.Follows.{is_in_state, of_run};
-ghost use Rattle.ckr_points_follows.specs.Runs.{row_now};
+ghost use Rattle.ckr_points_deferred.specs.Runs.{row_now};
 
-use crate::runs::{is_held, run_now};
+use crate::runs::is_held;
+use ckr_points_deferred::run_now;
 use ckr_points_tables::Tables;
 
 /// Whether the end of a run's hold follows: it is held.

@@ -3,23 +3,24 @@ ghost use Rattle.std.specs.Prelude.{◌≡◌, ◌&&◌, ◌||◌, false, nat_eq
 ghost use Rattle.std.specs.Option.{option_eq};
 ghost use Rattle.ckr_points.specs.declared.run.RunState.TheVariants.{Released as ReleasedRun};
 ghost use Rattle.ckr_points.specs.Follows.{is_free, is_in_state, is_running, may_restart_again, of_run};
-ghost use Rattle.ckr_points_follows.specs.Runs.{row_now};
+ghost use Rattle.ckr_points_deferred.specs.Runs.{row_now};
 
-use crate::runs::{WholeRun, is_released, is_running, place_of, run_now};
+use crate::runs::{is_released, is_running, place_of};
 use crate::select::is_free;
 use ckr_points::step_in;
+use ckr_points_deferred::{RunNow, run_now};
 use ckr_points_tables::{Tables, point_at};
 use ckr_volumes::Layout;
 
 /// Whether a run is within a step, on this initiator.
-fn is_running_on(initiator: u8, run: &WholeRun<'_>) -> bool
+fn is_running_on(initiator: u8, run: &RunNow<'_>) -> bool
     ensures { result ≡ (is_running (row_now run.now) && option_eq nat_eq (row_now run.now).initiator (Some initiator)) }
 {
     is_running(run) && run.line.initiator == Some(initiator)
 }
 
 /// Whether a run was restarted fewer than three times at the checkpoint in effect.
-fn may_restart_at_checkpoint(run: &WholeRun<'_>) -> bool
+fn may_restart_at_checkpoint(run: &RunNow<'_>) -> bool
     ensures { result ≡ may_restart_again true (row_now run.now) }
 {
     match &run.table.in_effect {
@@ -29,7 +30,7 @@ fn may_restart_at_checkpoint(run: &WholeRun<'_>) -> bool
 }
 
 /// Whether a run was restarted fewer than three times at the start of the step that it is in.
-fn may_restart_at_start(run: &WholeRun<'_>) -> bool
+fn may_restart_at_start(run: &RunNow<'_>) -> bool
     ensures { result ≡ may_restart_again false (row_now run.now) }
 {
     match point_at(run.table.points.as_slice(), step_in(place_of(run))) {
@@ -39,7 +40,7 @@ fn may_restart_at_start(run: &WholeRun<'_>) -> bool
 }
 
 /// Whether a run was restarted fewer than three times at the checkpoint in effect, or at the start of its step.
-fn may_restart_again(checkpoint: bool, run: &WholeRun<'_>) -> bool
+fn may_restart_again(checkpoint: bool, run: &RunNow<'_>) -> bool
     ensures { result ≡ may_restart_again checkpoint (row_now run.now) }
 {
     if checkpoint {
@@ -55,7 +56,7 @@ fn run_restarts(
     tables: &Tables,
     initiator: u8,
     checkpoint: bool,
-    run: &WholeRun<'_>,
+    run: &RunNow<'_>,
 ) -> bool
     ensures { result ≡ ((is_running (row_now run.now) && option_eq nat_eq (row_now run.now).initiator (Some initiator) || is_in_state ReleasedRun (row_now run.now) && is_free layout.now tables.now.desk initiator) && may_restart_again checkpoint (row_now run.now)) }
 {

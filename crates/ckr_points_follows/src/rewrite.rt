@@ -5,13 +5,14 @@ ghost use Rattle.ckr_points_library.specs.Holdings.{owned};
 ghost use Rattle.ckr_points.specs.Follows.{is_rewrite, is_running, lengths_follow, of_run, of_step};
 ghost use Rattle.ckr_points_follows.specs.Rewrite.{is_place_of, is_rewrite_of};
 ghost use Rattle.ckr_points_tables.specs.RunJobs.{own_of};
-ghost use Rattle.ckr_points_follows.specs.Runs.{row_now, IsWholeRun};
+ghost use Rattle.ckr_points_deferred.specs.Runs.{row_now, IsRunNow};
 
 use crate::lengths::lengths_follow;
-use crate::runs::{WholeRun, is_running, run_now};
+use crate::runs::is_running;
 use crate::steps::{own_step, set_of};
 use ckr_base::DsName;
 use ckr_jcl::{Kind, Step};
+use ckr_points_deferred::{RunNow, run_now};
 use ckr_points_tables::{OwnStep, Tables, master_name};
 
 /// Whether a data set has a record at this place, and records of this length.
@@ -40,8 +41,8 @@ fn is_rewrite(tables: &Tables, root: u32, own: &OwnStep<'_>, place: u32, image: 
 }
 
 /// Whether the step that a run is in rewrites a record at this place.
-fn step_rewrites(tables: &Tables, run: &WholeRun<'_>, place: u32, image: &[u8]) -> bool
-    requires { IsWholeRun run.now }
+fn step_rewrites(tables: &Tables, run: &RunNow<'_>, place: u32, image: &[u8]) -> bool
+    requires { IsRunNow run.now }
     ensures { result ≡ of_step (row_now run.now) (is_rewrite tables.now.desk place image.now (row_now run.now)) }
 {
     match own_step(run) {
@@ -53,12 +54,12 @@ fn step_rewrites(tables: &Tables, run: &WholeRun<'_>, place: u32, image: &[u8]) 
 /// Whether the selection of a run follows, by its row.
 fn run_rewrites(
     tables: &Tables,
-    run: &WholeRun<'_>,
+    run: &RunNow<'_>,
     lengths: &[u32],
     place: u32,
     image: &[u8],
 ) -> bool
-    requires { IsWholeRun run.now }
+    requires { IsRunNow run.now }
     ensures { result ≡ (is_running (row_now run.now) && lengths_follow tables.now.desk (row_now run.now) lengths.now && of_step (row_now run.now) (is_rewrite tables.now.desk place image.now (row_now run.now))) }
 {
     is_running(run)

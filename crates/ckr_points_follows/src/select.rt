@@ -1,18 +1,20 @@
-//! Whether the selection of a run follows, or its being taken from the queue.
-ghost use Rattle.std.specs.Prelude.{◌≡◌, ◌≤◌, ◌&&◌, Some, nat_eq, nat_le, not};
+//! Whether the selection of a run follows, its denial, or its being taken from the queue.
+ghost use Rattle.std.specs.Prelude.{◌≡◌, ◌≤◌, ◌==◌, ◌&&◌, Some, nat_eq, nat_le, not};
 ghost use Rattle.std.specs.List.{list_all};
-ghost use Rattle.std.specs.Option.{option_eq};
+ghost use Rattle.std.specs.Option.{is_none, is_some, option_eq, option_map_or};
+ghost use Rattle.ckr_jcl.specs.declared.deck.Restart.{Restart as RestartOfDeck};
 ghost use Rattle.ckr_points.specs.Rows.{RunRow};
 ghost use Rattle.ckr_points.specs.Office.{is_holder};
 ghost use Rattle.ckr_points.specs.declared.run.RunState.TheVariants.{Queued as QueuedRun};
-ghost use Rattle.ckr_points.specs.Follows.{is_free, is_in_state, may_hold, of_run, selected_follows};
+ghost use Rattle.ckr_points.specs.Follows.{is_free, is_in_state, may_hold, may_restart, of_run, selected_follows};
 ghost use Rattle.ckr_points_follows.specs.DeckConflicts.{may_be_beside, holds_beside};
-ghost use Rattle.ckr_points_follows.specs.Runs.{row_now, IsWholeRun};
+ghost use Rattle.ckr_points_deferred.specs.Runs.{row_now, IsRunNow};
 
 use crate::deck_conflicts::hold_against;
-use crate::runs::{WholeRun, is_queued, run_now};
+use crate::runs::is_queued;
 use ckr_base::CheckId;
 use ckr_points::{Run, RunState};
+use ckr_points_deferred::{RunNow, may_restart, run_now};
 use ckr_points_tables::Tables;
 use ckr_volumes::Layout;
 
@@ -55,8 +57,8 @@ fn is_holder(state: RunState) -> bool
 }
 
 /// Whether the uses of two runs hold against each other, the other by its number.
-fn holds_beside(tables: &Tables, run: &WholeRun<'_>, other: u32) -> bool
-    requires { IsWholeRun run.now }
+fn holds_beside(tables: &Tables, run: &RunNow<'_>, other: u32) -> bool
+    requires { IsRunNow run.now }
     ensures { result ≡ holds_beside tables.now.desk (row_now run.now) other }
 {
     match run_now(tables, other) {
@@ -71,16 +73,16 @@ fn holds_beside(tables: &Tables, run: &WholeRun<'_>, other: u32) -> bool
 }
 
 /// Whether a run may be selected beside another one, by the line of that one.
-fn may_be_beside(tables: &Tables, run: &WholeRun<'_>, line: &Run) -> bool
-    requires { IsWholeRun run.now }
+fn may_be_beside(tables: &Tables, run: &RunNow<'_>, line: &Run) -> bool
+    requires { IsRunNow run.now }
     ensures { result ≡ may_be_beside tables.now.desk (row_now run.now) line.now }
 {
     !(is_holder(line.state) && holds_beside(tables, run, line.number))
 }
 
 /// Whether a run may be selected beside each of these.
-fn may_be_beside_all(tables: &Tables, run: &WholeRun<'_>, lines: &[Run]) -> bool
-    requires { IsWholeRun run.now }
+fn may_be_beside_all(tables: &Tables, run: &RunNow<'_>, lines: &[Run]) -> bool
+    requires { IsRunNow run.now }
     ensures { result ≡ list_all (may_be_beside tables.now.desk (row_now run.now)) lines.now }
 {
     lines.iter().all(|line| may_be_beside(tables, run, line))
@@ -88,48 +90,92 @@ fn may_be_beside_all(tables: &Tables, run: &WholeRun<'_>, lines: &[Run]) -> bool
 
 /// Whether no uses of a selected run that isn't ended hold against those of this run. It looks at the decks of the selected runs
 /// alone.
-fn may_hold(tables: &Tables, run: &WholeRun<'_>) -> bool
-    requires { IsWholeRun run.now }
+fn may_hold(tables: &Tables, run: &RunNow<'_>) -> bool
+    requires { IsRunNow run.now }
     ensures { result ≡ may_hold tables.now.desk (row_now run.now) }
 {
     may_be_beside_all(tables, run, tables.runs())
 }
 
-/// Whether the selection of a run follows, by its row.
-fn run_follows(
-    layout: &Layout,
-    tables: &Tables,
-    initiator: u8,
-    step: u8,
-    id: &Option<CheckId>,
-    run: &WholeRun<'_>,
-) -> bool
-    requires { IsWholeRun run.now }
-    ensures { result ≡ selected_follows layout.now tables.now.desk initiator 0 step id.now (row_now run.now) }
+/// Whether the selection of a run without RESTART names nothing that it goes on from.
+fn names_none(earlier: u32, step: u8, id: &Option<CheckId>) -> bool
+    ensures { result ≡ (earlier == 0 && step == 0 && is_none id.now) }
 {
-    is_queued(run)
-        && run.table.job.deck().restart.is_none()
-        && step == 0
-        && id.is_none()
-        && is_free(layout, tables, initiator)
-        && may_hold(tables, run)
+    earlier == 0 && step == 0 && id.is_none()
 }
 
-/// Whether the selection of a run that continues none follows: it waits for an initiator, the initiator is one of the layout's with
-/// no run on it, the uses of no selected run hold against its own, and it has no RESTART and names no step and no checkpoint
-/// (IBM GC28-6708 and this project's profile).
+/// Whether a run may go on from what its selection names: with RESTART from this earlier run, at this step and at this checkpoint, if
+/// one is named; without it from none.
+fn goes_on_from<'a>(
+    tables: &'a Tables,
+    run: &RunNow<'a>,
+    earlier: u32,
+    step: u8,
+    id: &Option<CheckId>,
+) -> bool
+    requires { IsRunNow run.now }
+    ensures { result ≡ option_map_or (λ (restart : RestartOfDeck). may_restart tables.now.desk (row_now run.now) restart earlier step id.now) (row_now run.now).deck.restart (earlier == 0 && step == 0 && is_none id.now) }
+{
+    match &run.table.job.deck().restart {
+        Some(restart) => may_restart(tables, run, restart, earlier, step, id),
+        None => names_none(earlier, step, id),
+    }
+}
+
+/// Whether the selection of a run follows, by its row.
+fn run_follows<'a>(
+    layout: &Layout,
+    tables: &'a Tables,
+    run: &RunNow<'a>,
+    initiator: u8,
+    earlier: u32,
+    step: u8,
+    id: &Option<CheckId>,
+) -> bool
+    requires { IsRunNow run.now }
+    ensures { result ≡ selected_follows layout.now tables.now.desk initiator earlier step id.now (row_now run.now) }
+{
+    is_queued(run)
+        && is_free(layout, tables, initiator)
+        && may_hold(tables, run)
+        && goes_on_from(tables, run, earlier, step, id)
+}
+
+/// Whether the selection of a run follows: it waits for an initiator, the initiator is one of the layout's with no run on it, and the
+/// uses of no selected run hold against its own. With RESTART it goes on from the earlier run, at the step and at the checkpoint that
+/// the event names, where the rules of deferred restarts permit it; without RESTART the event names none of these (IBM GC28-6708 and
+/// this project's profile).
 pub fn selected_follows(
     layout: &Layout,
     tables: &Tables,
     job: u32,
     initiator: u8,
+    earlier: u32,
     step: u8,
     id: &Option<CheckId>,
 ) -> bool
-    ensures { result ≡ of_run tables.now.desk job (selected_follows layout.now tables.now.desk initiator 0 step id.now) }
+    ensures { result ≡ of_run tables.now.desk job (selected_follows layout.now tables.now.desk initiator earlier step id.now) }
 {
     match run_now(tables, job) {
-        Some(run) => run_follows(layout, tables, initiator, step, id, &run),
+        Some(run) => run_follows(layout, tables, &run, initiator, earlier, step, id),
+        None => false,
+    }
+}
+
+/// Whether a run waits for an initiator, and has RESTART.
+fn is_queued_restart(run: &RunNow<'_>) -> bool
+    ensures { result ≡ (is_in_state QueuedRun (row_now run.now) && is_some (row_now run.now).deck.restart) }
+{
+    is_queued(run) && run.table.job.deck().restart.is_some()
+}
+
+/// Whether the denial of a run follows: it waits for an initiator, and has RESTART. Which rule denies it isn't looked at (this
+/// project's profile).
+pub fn denied_follows(tables: &Tables, job: u32) -> bool
+    ensures { result ≡ of_run tables.now.desk job (λ row. is_in_state QueuedRun row && is_some row.deck.restart) }
+{
+    match run_now(tables, job) {
+        Some(run) => is_queued_restart(&run),
         None => false,
     }
 }

@@ -7,15 +7,16 @@ ghost use Rattle.ckr_meaning.specs.EffectiveJob.{flaws_in};
 ghost use Rattle.ckr_points.specs.Follows.{is_empty, is_part_whole, made_dds, may_start, of_run, started_follows};
 ghost use Rattle.ckr_points_follows.specs.Placements.{are_clear_beside, placed_list};
 ghost use Rattle.ckr_points_follows.specs.Start.{starts};
-ghost use Rattle.ckr_points_follows.specs.Runs.{row_now, IsWholeRun};
+ghost use Rattle.ckr_points_deferred.specs.Runs.{row_now, IsRunNow};
 
 use crate::clearance::are_clear_beside;
 use crate::items::{are_named, are_whole};
 use crate::placements::{PlacedNow, has_no_flaws, place_step};
-use crate::runs::{WholeRun, is_on, place_of, run_now};
+use crate::runs::{is_on, place_of};
 use crate::steps::step_of;
 use ckr_events::Made;
 use ckr_meaning::Place;
+use ckr_points_deferred::{RunNow, run_now};
 use ckr_points_tables::Tables;
 use ckr_volumes::Layout;
 
@@ -49,14 +50,8 @@ fn starts_with(
 }
 
 /// Whether a step of a run starts with these items.
-fn step_starts(
-    tables: &Tables,
-    layout: &Layout,
-    run: &WholeRun<'_>,
-    step: u8,
-    items: &[Made],
-) -> bool
-    requires is { IsWholeRun run.now }
+fn step_starts(tables: &Tables, layout: &Layout, run: &RunNow<'_>, step: u8, items: &[Made]) -> bool
+    requires is { IsRunNow run.now }
     requires items { length items.now ≤ 80 }
     ensures { result ≡ starts layout.now tables.now.desk step items.now (row_now run.now) }
 {
@@ -77,14 +72,8 @@ fn step_starts(
 }
 
 /// Whether a run starts a step with these items.
-fn run_starts(
-    tables: &Tables,
-    layout: &Layout,
-    run: &WholeRun<'_>,
-    step: u8,
-    items: &[Made],
-) -> bool
-    requires is { IsWholeRun run.now }
+fn run_starts(tables: &Tables, layout: &Layout, run: &RunNow<'_>, step: u8, items: &[Made]) -> bool
+    requires is { IsRunNow run.now }
     requires items { length items.now ≤ 80 }
     ensures { result ≡ started_follows layout.now tables.now.desk step items.now (row_now run.now) }
 {

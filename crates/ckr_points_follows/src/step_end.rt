@@ -6,18 +6,19 @@ ghost use Rattle.ckr_points.specs.Follows.{ended_follows, is_in_state, is_runnin
 ghost use Rattle.ckr_points.specs.Restart.{place_of, step_in};
 ghost use Rattle.ckr_points.specs.Rows.{RunRow};
 ghost use Rattle.ckr_meaning.specs.EffectiveJob.{OwnedStep};
-ghost use Rattle.ckr_points_follows.specs.Runs.{row_now, IsWholeRun};
+ghost use Rattle.ckr_points_deferred.specs.Runs.{row_now, IsRunNow};
 
 use crate::lengths::lengths_follow;
-use crate::runs::{WholeRun, is_on, is_released, is_running, is_within, place_of, run_now};
+use crate::runs::{is_on, is_released, is_running, is_within, place_of};
 use crate::steps::own_step;
 use ckr_events::Ending;
 use ckr_points::step_in;
+use ckr_points_deferred::{RunNow, run_now};
 use ckr_points_tables::Tables;
 
 /// Whether the end of a step follows, for a run.
-fn step_ends(tables: &Tables, run: &WholeRun<'_>, step: u8, lengths: &[u32]) -> bool
-    requires { IsWholeRun run.now }
+fn step_ends(tables: &Tables, run: &RunNow<'_>, step: u8, lengths: &[u32]) -> bool
+    requires { IsRunNow run.now }
     ensures { result ≡ (is_running (row_now run.now) && step_in (place_of (row_now run.now)) == step && lengths_follow tables.now.desk (row_now run.now) lengths.now) }
 {
     is_running(run) && step_in(place_of(run)) == step && lengths_follow(tables, run, lengths)
@@ -34,7 +35,7 @@ pub fn step_ended_follows(tables: &Tables, job: u32, step: u8, lengths: &[u32]) 
 }
 
 /// Whether a run that has no step left is on an initiator and within none.
-fn is_done(run: &WholeRun<'_>) -> bool
+fn is_done(run: &RunNow<'_>) -> bool
     ensures { result ≡ (is_in_state OnInitiator (row_now run.now) && not (is_within (place_of (row_now run.now))) && is_none (own_step (row_now run.now))) }
 {
     is_on(run) && !is_within(place_of(run)) && own_step(run).is_none()
@@ -42,15 +43,15 @@ fn is_done(run: &WholeRun<'_>) -> bool
 
 /// Whether the failure of a run's step follows, with which the run ends or is held: it is within the step or waits to go on, and the
 /// lengths are those of the step's outputs.
-pub(crate) fn step_fails(tables: &Tables, run: &WholeRun<'_>, lengths: &[u32]) -> bool
-    requires { IsWholeRun run.now }
+pub(crate) fn step_fails(tables: &Tables, run: &RunNow<'_>, lengths: &[u32]) -> bool
+    requires { IsRunNow run.now }
     ensures { result ≡ ((is_running (row_now run.now) || is_in_state ReleasedRun (row_now run.now)) && lengths_follow tables.now.desk (row_now run.now) lengths.now) }
 {
     (is_running(run) || is_released(run)) && lengths_follow(tables, run, lengths)
 }
 
 /// Whether the step that a run is before or in has a DD of this number, counted from 1.
-fn has_dd(run: &WholeRun<'_>, dd: u8) -> bool
+fn has_dd(run: &RunNow<'_>, dd: u8) -> bool
     ensures { result ≡ option_map_or (λ (owned : OwnedStep). nat_le 1 dd && nat_le dd (length owned.step.dds)) (own_step (row_now run.now)) false }
 {
     match own_step(run) {
@@ -60,8 +61,8 @@ fn has_dd(run: &WholeRun<'_>, dd: u8) -> bool
 }
 
 /// Whether an end of a run follows.
-fn run_ends(tables: &Tables, run: &WholeRun<'_>, ending: &Ending) -> bool
-    requires { IsWholeRun run.now }
+fn run_ends(tables: &Tables, run: &RunNow<'_>, ending: &Ending) -> bool
+    requires { IsRunNow run.now }
     ensures { result ≡ ended_follows tables.now.desk (row_now run.now) ending.now }
 {
     match ending {

@@ -13,13 +13,13 @@ use Rattle.ckr_points.specs.Restart.{place_of}
 use Rattle.ckr_points.specs.Rows.{TablesModel, standing_of, step_of_run, table_ways}
 use Rattle.ckr_volumes.specs.declared.layout.Layout.{Layout}
 use Rattle.ckr_points_follows.specs.Placements.{are_clear_beside}
-use Rattle.ckr_points_follows.specs.Runs.{row_now}
+use Rattle.ckr_points_deferred.specs.Runs.{row_now}
 use Rattle.ckr_points_follows.specs.Start.{starts, starts_as}
-use Rattle.ckr_points_follows.specs.declared.runs.WholeRun.{WholeRun}
+use Rattle.ckr_points_deferred.specs.declared.runs.RunNow.{RunNow}
 use Rattle.ckr_points_tables.proofs.RunJobs.{step-all}
 use Rattle.ckr_points_follows.proofs.Starts.Clearance.{step-clear}
 
-module _ (layout : Layout) (tables : TablesModel) (step : ℕ) (items : List Made) (run : WholeRun) where
+module _ (layout : Layout) (tables : TablesModel) (step : ℕ) (items : List Made) (run : RunNow) where
   -- what the code tests
   abbrev pub start_form : Place → List DdAllotment → Bool
   start_form place placed =

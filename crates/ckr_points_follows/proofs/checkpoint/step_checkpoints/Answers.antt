@@ -6,7 +6,7 @@ use Rattle.ckr_points_follows.specs.Checkpoint.{is_checkpoint_of}
 use Rattle.ckr_points.specs.Follows.{is_checkpoint}
 use Rattle.ckr_points_library.specs.Commit.{is_named}
 use Rattle.ckr_points_follows.specs.Lengths.{outputs_from}
-use Rattle.ckr_points_follows.specs.Runs.{row_now}
+use Rattle.ckr_points_deferred.specs.Runs.{row_now}
 use Rattle.ckr_points_follows.proofs.Checkpoints.{checkpoint-by}
 use Rattle.ckr_points_follows.proofs.checkpoint.step_checkpoints.Goals as goal
 

@@ -2,7 +2,7 @@ use Rattle.std.proofs.Common.{◌∷◌, [], length, arith, ap, length-append}
 use Rattle.ckr_base.proofs.Sequences.{drop-at}
 use Rattle.ckr_points.specs.Rows.{standing_of}
 use Rattle.ckr_points_tables.specs.RunJobs.{own_of}
-use Rattle.ckr_points_follows.specs.Runs.{row_now}
+use Rattle.ckr_points_deferred.specs.Runs.{row_now}
 use Rattle.ckr_points_follows.proofs.Starts.Placements.{placed-next}
 use Rattle.ckr_points_follows.proofs.placements.place_step.Goals as goal
 

@@ -3,7 +3,7 @@ use Rattle.ckr_meaning.specs.EffectiveJob.{placed_from}
 use Rattle.ckr_points.specs.Rows.{standing_of, table_ways}
 use Rattle.ckr_points_tables.specs.RunJobs.{own_of}
 use Rattle.ckr_points_follows.specs.Placements.{placed_list}
-use Rattle.ckr_points_follows.specs.Runs.{row_now}
+use Rattle.ckr_points_deferred.specs.Runs.{row_now}
 use Rattle.ckr_points_follows.proofs.placements.place_step.Given as goal
 
 abbrev pub invariant-loop-dd : goal.invariant-loop-dd

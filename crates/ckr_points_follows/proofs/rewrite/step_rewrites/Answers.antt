@@ -7,7 +7,7 @@ use Rattle.ckr_points_tables.specs.RunJobs.{own_of}
 use Rattle.ckr_points_follows.specs.Rewrite.{is_rewrite_of}
 use Rattle.ckr_points.specs.Follows.{is_rewrite}
 use Rattle.ckr_points.specs.Restart.{place_of, step_in}
-use Rattle.ckr_points_follows.specs.Runs.{row_now}
+use Rattle.ckr_points_deferred.specs.Runs.{row_now}
 use Rattle.ckr_points_follows.proofs.Rewrites.{rewrite-by}
 use Rattle.ckr_points_follows.proofs.rewrite.step_rewrites.Goals as goal
 

@@ -1,7 +1,7 @@
 use Rattle.std.proofs.Common.{ap, ◌∙◌}
 use Rattle.std.specs.List.{list_all}
 use Rattle.ckr_points_follows.specs.DeckConflicts.{may_be_beside}
-use Rattle.ckr_points_follows.specs.Runs.{row_now}
+use Rattle.ckr_points_deferred.specs.Runs.{row_now}
 use Rattle.ckr_points_follows.proofs.Selects.Conflicts.{beside-each}
 use Rattle.ckr_points_follows.proofs.select.may_hold.Goals as goal
 

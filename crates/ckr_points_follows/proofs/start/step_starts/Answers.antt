@@ -2,7 +2,7 @@ use Rattle.std.proofs.Common.{ap, ◌∙◌}
 use Rattle.ckr_points.specs.Restart.{place_of}
 use Rattle.ckr_points_tables.specs.RunJobs.{own_of}
 use Rattle.ckr_points_follows.specs.Placements.{placed_list}
-use Rattle.ckr_points_follows.specs.Runs.{row_now}
+use Rattle.ckr_points_deferred.specs.Runs.{row_now}
 use Rattle.ckr_points_follows.proofs.Starts.Tests.{start-by, start_form}
 use Rattle.ckr_points_follows.proofs.start.step_starts.Goals as goal
 

@@ -1,5 +1,5 @@
 use Rattle.std.proofs.Common.{◌∙◌}
-use Rattle.ckr_points_follows.proofs.RunFacts.{set-seen}
+use Rattle.ckr_points_follows.proofs.SetViews.{set-seen}
 use Rattle.ckr_points_follows.proofs.steps.set_of.Goals as goal
 
 pub returns : goal.returns
