@@ -1,5 +1,5 @@
 -- The outputs of a step, DD by DD.
-use Rattle.std.proofs.Common.{◌≡◌, ℕ, ◌&&◌, Bool, true, false, cond, if◌then◌else◌, nat_le, filter, List, [], ◌∷◌, refl, ap, sym, ◌∙◌, Some, None, Option}
+use Rattle.std.proofs.Common.{◌≡◌, ℕ, ◌&&◌, true, false, cond, if◌then◌else◌, nat_le, filter, List, ◌∷◌, refl, ap, sym, ◌∙◌, Some, None, Option}
 use Rattle.std.specs.Option.{option_map, option_map_or}
 use Rattle.std.specs.List.{cons_option, filter_map}
 use Rattle.ckr_points_library.specs.Commit.{output_name}

@@ -1,5 +1,5 @@
 -- Whether one more rewrite of each data set can be counted.
-use Rattle.std.specs.Prelude.{ℕ, ◌&&◌, Bool, true, nat_lt, List, length}
+use Rattle.std.specs.Prelude.{◌&&◌, Bool, true, nat_lt, length}
 use Rattle.std.specs.List.{list_all}
 use Rattle.ckr_events.specs.declared.event.Event.{Event}
 use Rattle.ckr_events.specs.declared.event.Event.TheVariants.{Rewritten}
