@@ -4,7 +4,7 @@
 -- selected-none          a run that wasn't leaves the latest as it is
 -- latest-found           the run of the line at a place, where it was selected
 -- latest-lost            and where it wasn't
-use Rattle.std.proofs.Common.{◌≡◌, ℕ, suc, Bool, true, false, cond, List, [], ◌∷◌, ◌++◌, filter, map, take, slice_get, refl, ap, sym, ◌∙◌, Option, Some, None}
+use Rattle.std.proofs.Common.{◌≡◌, ℕ, suc, Bool, true, false, cond, List, [], ◌∷◌, ◌++◌, map, take, slice_get, refl, ap, sym, ◌∙◌, Option, Some, None}
 use Rattle.std.specs.List.{last_or}
 use Rattle.std.specs.Option.{option_map}
 use Rattle.std.proofs.lemmas.List.{append-nil}

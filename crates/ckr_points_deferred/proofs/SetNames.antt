@@ -2,8 +2,8 @@
 -- none-unnamed           nothing stands under it, by the first name
 -- none-first             nor where there is no name
 -- none-seen-unnamed      nor in the tables
-use Rattle.std.proofs.Common.{◌≡◌, ℕ, Bool, true, false, ◌&&◌, List, [], ◌∷◌, slice_get, refl, ap, sym, ◌∙◌, Option, Some, None}
-use Rattle.std.specs.FinMap.Entries.{below_all, is_sorted}
+use Rattle.std.proofs.Common.{◌≡◌, ℕ, true, [], ◌∷◌, slice_get, refl, ap, sym, ◌∙◌, Option, Some, None}
+use Rattle.std.specs.FinMap.Entries.{below_all}
 use Rattle.std.specs.Option.{option_map}
 use Rattle.std.proofs.lemmas.Bool.{false≢true}
 use Rattle.std.proofs.lemmas.Option.{same_Some}

@@ -1,9 +1,8 @@
-use Rattle.std.proofs.Common.{◌≡◌, ◌-◌, ◌<◌, suc, map, length, slice_get, ap, sym, ◌∙◌, arith, Some}
+use Rattle.std.proofs.Common.{◌≡◌, ◌-◌, ◌<◌, suc, length, ap, sym, ◌∙◌, arith}
 use Rattle.std.specs.Option.{option_map}
 use Rattle.std.proofs.lemmas.List.{length-map}
 use Rattle.ckr_base.proofs.Sequences.{get-from}
 use Rattle.ckr_points.specs.Rows.{run_of}
-use Rattle.ckr_points_tables.specs.View.{line_of}
 use Rattle.ckr_points_deferred.specs.Latest.{latest_before, selected_among}
 use Rattle.ckr_points_deferred.specs.Runs.{row_now}
 use Rattle.ckr_points_deferred.proofs.LatestRuns.{latest-found, latest-lost}

@@ -1,8 +1,7 @@
-use Rattle.std.proofs.Common.{◌≡◌, ◌≤◌, ap, sym, ◌∙◌, arith, length, Some, None, true, false}
+use Rattle.std.proofs.Common.{ap, sym, ◌∙◌, arith}
 use Rattle.std.specs.Option.{option_map}
-use Rattle.ckr_meaning.specs.EffectiveJob.{step_at}
 use Rattle.ckr_points_tables.specs.RunJobs.{own_of}
-use Rattle.ckr_points_deferred.specs.Numbers.{has_step_name, number_from}
+use Rattle.ckr_points_deferred.specs.Numbers.{number_from}
 use Rattle.ckr_points_deferred.specs.Runs.{row_now}
 use Rattle.ckr_points_deferred.proofs.StepNumbers.{number-inside, numbered-here, numbered-later, numbered-nowhere}
 use Rattle.ckr_points_deferred.proofs.numbers.number_named.Goals as goal

@@ -1,4 +1,4 @@
-use Rattle.std.proofs.Common.{ap, sym, ◌∙◌, true, false}
+use Rattle.std.proofs.Common.{ap, ◌∙◌, false}
 use Rattle.ckr_points.specs.Freshness.{fresh}
 use Rattle.ckr_points.specs.Needed.{needed_at}
 use Rattle.ckr_points.specs.Restart.{spliced}
