@@ -34,6 +34,11 @@ const SELECTIONS: [Selection; 13] = [
 /// A run, and whether its denial follows: it waits and has RESTART, whichever rule holds. Run 5 isn't there.
 const DENIALS: [(u32, bool); 5] = [(1, false), (2, true), (3, true), (4, false), (5, false)];
 
+/// The identifier of a text, if one is given.
+fn identifier(text: Option<&[u8]>) -> Option<CheckId> {
+    CheckId::read(text?)
+}
+
 /// A selection follows as its row has it.
 fn is_selected_so(layout: &Layout, tables: &Tables, row: &Selection) -> bool {
     let (job, initiator, earlier, step, id, expected) = *row;
@@ -42,7 +47,7 @@ fn is_selected_so(layout: &Layout, tables: &Tables, row: &Selection) -> bool {
         initiator,
         earlier,
         step,
-        id: id.and_then(CheckId::read),
+        id: identifier(id),
     };
     follows(tables, layout, &event, None) == expected
 }
