@@ -15,7 +15,7 @@ use Rattle.ckr_points.specs.Payload.{lengths_kept, writes_in}
 use Rattle.ckr_points.specs.Restart.{place_of, step_in}
 use Rattle.ckr_points.specs.Rows.{RunRow, TableSet, TablesModel, run_of, step_of_run, holding_of}
 use Rattle.ckr_points_tables.specs.declared.run_table.RunTable.{RunTable}
-use Rattle.ckr_points_tables.specs.PlainRows.{IsPlainRow}
+use Rattle.ckr_points_tables.specs.RunRows.{IsRunRow}
 use Rattle.ckr_points_tables.specs.RunJobs.{IsFitting, JobView, effective}
 use Rattle.ckr_points_tables.specs.View.{RunTableView, facts_in, facts_of, job_in, row_with, seen_by}
 use Rattle.ckr_desk_turn.specs.Codes.{CodePlaceModel, kept_reached, reached_by, running_reached}
@@ -116,12 +116,12 @@ module _ (tables : TablesModel) (number : ℕ) (table : RunTable) (known : IsKno
   pub check-known : check_name_in tables number ≡ option_and_then (checkpoint_name table.job.root) (step_at (effective number table.job) (step_in (place_of (row_for number table))))
   check-known = ap (option_and_then check_name) known.found ∙ known-is check_name refl
 
--- each run of the tables continues none and is within the limits
-abbrev pub ArePlain : TablesModel → Type 0
-ArePlain tables = (job : ℕ) (row : RunRow) → run_of tables job ≡ Some row → IsPlainRow job row
+-- each run of the tables is within the limits
+abbrev pub AreRunRows : TablesModel → Type 0
+AreRunRows tables = (job : ℕ) (row : RunRow) → run_of tables job ≡ Some row → IsRunRow job row
 
 -- a run that the tables keep is known
-pub known-of : (tables : TablesModel) → ArePlain tables → (job : ℕ) (table : RunTable) → option_map facts_of (Some table) ≡ option_map facts_in (run_of tables job) → IsKnown tables job table
+pub known-of : (tables : TablesModel) → AreRunRows tables → (job : ℕ) (table : RunTable) → option_map facts_of (Some table) ≡ option_map facts_in (run_of tables job) → IsKnown tables job table
 known-of tables plain job table seen = by (run_of tables job) refl seen
   where
     by : (found : Option RunRow) → run_of tables job ≡ found → option_map facts_of (Some table) ≡ option_map facts_in found → IsKnown tables job table
@@ -137,7 +137,6 @@ known-of tables plain job table seen = by (run_of tables job) refl seen
           numbered = its.numbered;
           facts = sym facts;
           job = same;
-          first = ap (λ (one : JobView). one.earlier_step) (kept ∙ its.plain);
           few = its.few;
           fits = subst IsFitting same its.fits;
         }
@@ -150,7 +149,7 @@ unknown-of tables job seen = by (run_of tables job) seen
     by None seen = refl
     by (Some row) seen = absurd (some-not-none _ (sym seen))
 
-pub known-some : (tables : TablesModel) → ArePlain tables → (job : ℕ) (found : Option RunTable) → option_map facts_of found ≡ option_map facts_in (run_of tables job) → IfSome found (IsKnown tables job)
+pub known-some : (tables : TablesModel) → AreRunRows tables → (job : ℕ) (found : Option RunTable) → option_map facts_of found ≡ option_map facts_in (run_of tables job) → IfSome found (IsKnown tables job)
 known-some tables plain job None seen = tt
 known-some tables plain job (Some table) seen = known-of tables plain job table seen
 

@@ -112,9 +112,10 @@ accepted_as old new same accepted = record {
   cards = accepted.cards;
   accepted = accepted.accepted ∙ sym (ap (λ (k : Kind). Ok k.1) same);
   is_run = ap (λ (k : Kind). is_run k.1) same ∙ accepted.is_run;
-  steps = λ number owned found. accepted.steps number owned (sym (ap (λ (k : Kind). step_at k.2 number) same) ∙ found);
+  steps = λ number owned found. accepted.steps number owned (sym (ap (λ (k : Kind). step_at k.2.0 number) same) ∙ found);
   plain = λ none.
-      ap (λ (k : Kind). k.2) same ∙ accepted.plain (sym (ap (λ (k : Kind). k.1.restart) same) ∙ none) ∙ sym (ap (λ (k : Kind). plain_job k.0 k.1) same);
+      ap (λ (k : Kind). k.2.0) same ∙ accepted.plain (sym (ap (λ (k : Kind). k.1.restart) same) ∙ none) ∙ sym (ap (λ (k : Kind). plain_job k.0 k.1) same);
+  first = λ none. ap (λ (k : Kind). k.2.1) same ∙ accepted.first (sym (ap (λ (k : Kind). k.1.restart) same) ∙ none);
 }
 
 abbrev first_or : Kind → List Kind → Kind

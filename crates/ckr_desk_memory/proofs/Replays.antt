@@ -83,6 +83,7 @@ deck_accepted job cards (Some deck) is e = record {
   is_run = and-first (is_run deck) (is_submittable job deck) e;
   steps = own-step (stored_of_kept cards) job deck (read_again cards deck is);
   plain = λ none. refl;
+  first = λ none. refl;
 }
 
 pub any_accepted : (event : Event) → IsBounded event → is_run_by event (deck_of event) ≡ true → IsAnyAccepted event (deck_of event)

@@ -1,4 +1,4 @@
--- The runs of the tables behind an event: each keeps its number, its deck and its job.
+-- The runs of the tables behind an event: each keeps its number, its deck and its job, and the step at which it continues another one.
 use Rattle.std.proofs.Common.{◌≡◌, ◌+◌, ℕ, zero, suc, Bool, true, false, List, [], ◌∷◌, ◌++◌, map, length, refl, ap, sym, ◌∙◌, subst, Option, None, Some, arith, slice_get, slice_set}
 use Rattle.std.proofs.lemmas.Option.{same_Some}
 use Rattle.std.proofs.lemmas.Bool.{false≢true}
@@ -37,10 +37,10 @@ by-step Q tables (Some x) change none each = each x refl
 -- ---- what stays of a run
 
 abbrev pub Kind : Type 0
-Kind = ℕ × Job × Effective
+Kind = ℕ × Job × Effective × ℕ
 
 abbrev pub kind_of : RunRow → Kind
-kind_of row = (row.number, row.deck, row.job)
+kind_of row = (row.number, row.deck, row.job, row.earlier_step)
 
 same_at : (rows : List RunRow) (place : ℕ) (row new : RunRow) → slice_get rows place ≡ Some row → kind_of new ≡ kind_of row → map kind_of (slice_set rows place new) ≡ map kind_of rows
 same_at [] place row new at same = refl

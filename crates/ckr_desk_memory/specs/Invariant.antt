@@ -33,6 +33,7 @@ pub record IsAcceptedRow (row : RunRow) : Type 0 where
   pub is_run : is_run row.deck ≡ true
   pub steps : (number : ℕ) (owned : OwnedStep) → step_at row.job number ≡ Some owned → IsAdmittedStep number owned
   pub plain : row.deck.restart ≡ None → row.job ≡ plain_job row.number row.deck
+  pub first : row.deck.restart ≡ None → row.earlier_step ≡ 0
 
 abbrev pub IsAcceptedDeck : ℕ → Option Job → Type 0
 IsAcceptedDeck job None = Unit {0}

@@ -43,14 +43,13 @@ use Rattle.ckr_desk_memory.specs.View.{JobsView, RunningStepView}
 abbrev pub row_for : ℕ → RunTable → RunRow
 row_for number table = row_with (record { number = number; name = []; state = On; initiator = None }) (facts_of table)
 
--- the tables have this run, which continues none and is within the limits
+-- the tables have this run, which is within the limits
 pub record IsKnown (tables : TablesModel) (number : ℕ) (table : RunTable) : Type 0 where
   pub row : RunRow
   pub found : run_of tables number ≡ Some row
   pub numbered : row.number ≡ number
   pub facts : facts_in row ≡ facts_of table
   pub job : row.job ≡ effective number table.job
-  pub first : table.job.earlier_step ≡ 0
   pub few : number ≤ 9999999
   pub fits : IsFitting (effective number table.job)
 

@@ -2,10 +2,12 @@
 ghost use Rattle.std.specs.Prelude.{◌≡◌, ◌≤◌, ℕ, IfSome, length, map, slice_get};
 ghost use Rattle.std.specs.Rc.{rc_value};
 ghost use Rattle.std.specs.Option.{is_some, option_copied, option_map};
-ghost use Rattle.ckr_meaning.specs.EffectiveJob.{owned_by, step_at};
+ghost use Rattle.ckr_meaning.specs.EffectiveJob.{is_among, names_of_job, owned_by, step_at};
 ghost use Rattle.ckr_points_tables.specs.RunJobs.{effective, own_of, plain_view, IsFitting, IsFittingStep};
 
+use crate::made_names::has_name_from;
 use crate::{OwnStep, TakenStep};
+use ckr_base::DsName;
 use ckr_jcl::{Job, Step};
 use std::alloc::Global;
 use std::marker::Model;
@@ -72,6 +74,14 @@ impl EffectiveJob {
         ensures { result ≡ self.now.earlier_step }
     {
         self.earlier_step
+    }
+
+    /// Whether one of its steps has the data set of a name, for the run of this number.
+    pub fn has_name(&self, run: u32, name: &DsName) -> bool
+        requires { IsFitting (effective run self.now) }
+        ensures { result ≡ is_among (names_of_job (effective run self.now)) name.now }
+    {
+        has_name_from(self, run, 0, name)
     }
 
     /// How many steps it has taken over.

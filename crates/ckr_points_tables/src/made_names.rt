@@ -1,13 +1,13 @@
 //! Which names the steps of a run made.
-ghost use Rattle.std.specs.Prelude.{◌≡◌, ◌+◌, ◌<◌, ◌≤◌, ◌&&◌, [], false, length, map, pred, slice_get, take};
+ghost use Rattle.std.specs.Prelude.{◌≡◌, ◌+◌, ◌<◌, ◌≤◌, ◌&&◌, [], drop, false, length, map, pred, slice_get, take};
 ghost use Rattle.std.specs.Option.{option_copied, option_map_or};
 ghost use Rattle.std.specs.List.{list_any};
 ghost use Rattle.ckr_points_library.specs.Holdings.{owned};
 ghost use Rattle.ckr_library.specs.NameMaps.{same_name};
-ghost use Rattle.ckr_meaning.specs.EffectiveJob.{is_among, name_of, names_of};
+ghost use Rattle.ckr_meaning.specs.EffectiveJob.{is_among, name_of, names_of, names_of_steps};
 ghost use Rattle.ckr_points_tables.specs.MadeNames.{earlier_flags, made_at, made_by, made_in, points_in, table_of_run};
 ghost use Rattle.ckr_points_tables.specs.RunChange.{earlier_for, earlier_now};
-ghost use Rattle.ckr_points_tables.specs.RunJobs.{effective, own_of, IsFitting};
+ghost use Rattle.ckr_points_tables.specs.RunJobs.{effective, names_in, own_of, IsFitting};
 ghost use Rattle.ckr_points_tables.specs.View.{facts_of, point_of};
 ghost use Rattle.ckr_uses.specs.SetNames.{library_name};
 
@@ -61,6 +61,30 @@ pub(crate) fn has_name(root: u32, own: &OwnStep<'_>, name: &DsName) -> bool
     ensures { result ≡ is_among (names_of root (own_of own.now)) name.now }
 {
     is_any_named(root, own.owner, own.step, own.step.dds.as_slice(), name)
+}
+
+/// Whether the step at a place of a run's job has a name.
+fn has_name_at(job: &EffectiveJob, run: u32, place: usize, name: &DsName) -> bool
+    requires fits { IsFitting (effective run job.now) }
+    ensures { result ≡ is_among (names_in job.now.root (slice_get (effective run job.now).steps place)) name.now }
+{
+    match job.step_in(run, place) {
+        Some(own) => has_name(job.root(), &own, name),
+        None => false,
+    }
+}
+
+/// Whether one of the steps of a run's job has a name, from the one at a place on.
+pub(crate) fn has_name_from(job: &EffectiveJob, run: u32, first: usize, name: &DsName) -> bool
+    requires fits { IsFitting (effective run job.now) }
+    ensures { result ≡ is_among (names_of_steps job.now.root (drop first (effective run job.now).steps)) name.now }
+{
+    for place in first..job.count_steps() {
+        if has_name_at(job, run, place, name) {
+            return true;
+        }
+    }
+    false
 }
 
 /// The table of the run of this number. None exactly where there is no such run.

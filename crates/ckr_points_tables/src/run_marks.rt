@@ -11,7 +11,7 @@ ghost use Rattle.ckr_points_tables.specs.RunJobs.{effective, names_in, own_of, I
 ghost use Rattle.ckr_points_tables.specs.View.{seen_by, table_of};
 
 use crate::OwnStep;
-use crate::made_names::has_name;
+use crate::made_names::has_name_from;
 use crate::marking::Marking;
 use crate::marks_in_order::MarksInOrder;
 use crate::start::copy_of_mark;
@@ -64,29 +64,13 @@ fn mark_now(name: DsName, library: &Library) -> Mark
     Mark { name, present }
 }
 
-/// Whether the step at a place has a name.
-fn has_name_in(marking: &Marking<'_>, place: usize, name: &DsName) -> bool
-    requires fits { IsFitting (effective marking.now.run marking.now.job.now) }
-    ensures { result ≡ is_among (names_in marking.now.job.now.root (slice_get (effective marking.now.run marking.now.job.now).steps place)) name.now }
-{
-    match marking.job.step_in(marking.run, place) {
-        Some(own) => has_name(marking.job.root(), &own, name),
-        None => false,
-    }
-}
-
 /// Whether a name is one of the steps that a run executes itself.
 fn is_own_name(marking: &Marking<'_>, name: &DsName) -> bool
     requires fits { IsFitting (effective marking.now.run marking.now.job.now) }
     ensures { result ≡ is_among (own_names_of marking.now.run marking.now.job.now) name.now }
 {
     let first = usize::from(marking.job.earlier_step()).saturating_sub(1);
-    for place in first..marking.job.count_steps() {
-        if has_name_in(marking, place, name) {
-            return true;
-        }
-    }
-    false
+    has_name_from(marking.job, marking.run, first, name)
 }
 
 /// The mark that was carried over for a name, or else the name as the data sets are.

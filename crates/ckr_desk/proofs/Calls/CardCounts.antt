@@ -16,6 +16,7 @@ use Rattle.ckr_jcl_decks.specs.Deck.{stored_deck}
 use Rattle.ckr_jcl_decks.specs.Parts.Fault.{Fault}
 use Rattle.ckr_desk_memory.specs.Invariant.{IsAcceptedRow}
 use Rattle.ckr_points.specs.Tables.{queued_run}
+use Rattle.ckr_desk_turn.proofs.AdmittedSteps.{own-step}
 use Rattle.ckr_points_decks.specs.Form.{is_run, submission_by, submission_of}
 use Rattle.ckr_points_decks.specs.declared.submit.Submission.{Submission}
 use Rattle.ckr_points_decks.specs.declared.submit.Submission.TheVariants.{Accepted, Refused}
@@ -101,4 +102,4 @@ few-accepted cards job e = few_cards cards job (accepted-deck cards job e).0
 
 -- its row is such as the desk runs
 pub accepted-row : (cards : List ℕ) (number : ℕ) (job : Job) → submission_of cards ≡ Accepted job → IsAcceptedRow (queued_run number job)
-accepted-row cards number job e = let its = accepted-deck cards job e in record { cards = cards; accepted = its.0; is_run = its.1; steps = own-step cards number job its.0; plain = λ none. refl }
+accepted-row cards number job e = let its = accepted-deck cards job e in record { cards = cards; accepted = its.0; is_run = its.1; steps = own-step cards number job its.0; plain = λ none. refl; first = λ none. refl }

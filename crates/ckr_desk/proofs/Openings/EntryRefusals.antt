@@ -15,7 +15,7 @@ use Rattle.ckr_desk_memory.specs.View.{PointView}
 use Rattle.ckr_points.specs.Office.{is_holder}
 use Rattle.ckr_points.specs.Rows.{EffectPoint, RunRow, TableSet, TablesModel, holding_of, run_of}
 use Rattle.ckr_points.specs.declared.run.Run.{Run}
-use Rattle.ckr_points_tables.specs.PlainRows.{IsPlainRow}
+use Rattle.ckr_points_tables.specs.RunRows.{IsRunRow}
 use Rattle.ckr_points_tables.specs.RunJobs.{IsFitting, effective}
 use Rattle.ckr_points_tables.specs.View.{RunTableView, effect_of, facts_in, facts_of, job_in, line_of, row_with, seen_by}
 use Rattle.ckr_points_tables.specs.declared.run_table.InEffect.{InEffect}
@@ -54,7 +54,7 @@ facts-known found rows row table same is some = same_Some (facts_of table) (fact
 
 -- and its job is within the limits
 pub job-fits : (tables : TablesModel) (number : ℕ) (found : Option RunTable) (table : RunTable) → option_map facts_of found ≡ option_map facts_in (run_of tables number) → found ≡ Some table
-    → ((job : ℕ) (row : RunRow) → run_of tables job ≡ Some row → IsPlainRow job row) → IsFitting (effective number table.job)
+    → ((job : ℕ) (row : RunRow) → run_of tables job ≡ Some row → IsRunRow job row) → IsFitting (effective number table.job)
 job-fits tables number found table same is plain = by (run_of tables number) refl
   where
     by : (rows : Option RunRow) → run_of tables number ≡ rows → IsFitting (effective number table.job)
@@ -71,7 +71,7 @@ module _ (layout : Layout) (tables : TablesModel) (image : List ℕ) (row : RunR
   pub not-held : is_holder row.state ≡ false → None ≡ run_refusal layout tables image row
   not-held held = sym (ap (λ (b : Bool). cond b (option_and_then (effect_refusal layout tables image row) row.in_effect) None) held)
 
-  module _ (table : RunTable) (plain : IsPlainRow row.number row) (facts : facts_of table ≡ facts_in row) (holds : is_holder row.state ≡ true) where
+  module _ (table : RunTable) (plain : IsRunRow row.number row) (facts : facts_of table ≡ facts_in row) (holds : is_holder row.state ≡ true) where
     same-run : (entry : Entry) → is_of_run (row_for row.number table) entry ≡ is_of_run row entry
     same-run entry = ap (λ (f : RunTableView). is_of_run (row_with (line_of row) f) entry) facts ∙ ap (λ (r : RunRow). is_of_run r entry) (sym plain.told)
 
@@ -131,7 +131,7 @@ module _ (layout : Layout) (tables : TablesModel) (image : List ℕ) (row : RunR
 -- what the tables in code have of a run of this line, whose checkpoint in effect this is
 pub record IsJudged (tables : TablesModel) (line : Run) (table : RunTable) (effect : InEffect) (catalog : Catalog) : Type 0 where
   pub facts : option_map facts_of (Some table) ≡ option_map facts_in (run_of tables line.number)
-  pub plain : (job : ℕ) (row : RunRow) → run_of tables job ≡ Some row → IsPlainRow job row
+  pub plain : (job : ℕ) (row : RunRow) → run_of tables job ≡ Some row → IsRunRow job row
   pub holds : is_holder line.state ≡ true
   pub effect_is : table.in_effect ≡ Some effect
   pub seen : catalog.sets ≡ seen_by holding_of tables.sets

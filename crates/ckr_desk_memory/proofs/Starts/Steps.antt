@@ -33,6 +33,7 @@ use Rattle.ckr_desk_memory.specs.Preparation.{HasAgain, HasPointRoom, HasQueueRo
 use Rattle.ckr_desk_memory.specs.Plans.{IsKnown, row_for}
 use Rattle.ckr_desk_memory.specs.View.{JobsView, PointView, begun, resumed}
 use Rattle.ckr_desk_memory.proofs.FoundRuns.{known-by, known-row}
+use Rattle.ckr_desk_memory.proofs.Holders.Names.{accepted-plain}
 
 -- a row among rows
 pub row-among : (P : RunRow → Type 0) (tables : TablesModel) (job : ℕ) (row : RunRow) → AllByRecursion P tables.runs → run_of tables job ≡ Some row → P row
@@ -61,6 +62,12 @@ IsStepAt run table step own = option_map own_of own ≡ step_at (effective run t
 -- the number of the step that the run is in
 abbrev pub IsNumberOf : RunTable → ℕ → Type 0
 IsNumberOf table step = (run : ℕ) → step ≡ step_in (place_of (row_for run table))
+
+-- a run that was accepted has no RESTART, and continues none
+pub known-first : (tables : TablesModel) (number : ℕ) (table : RunTable) → IsKnown tables number table → AllByRecursion IsAcceptedRow tables.runs → table.job.earlier_step ≡ 0
+known-first tables number table known rows =
+    let accepted = row-among IsAcceptedRow tables number known.row rows known.found in
+    ap (λ (facts : RunTableView). facts.job.earlier_step) (sym known.facts) ∙ accepted.first (accepted-plain known.row accepted)
 
 module _ (tables : TablesModel) (job : ℕ) (table : RunTable) (known : IsKnown tables job table) where
   -- its PARM is one that the deck reader gives

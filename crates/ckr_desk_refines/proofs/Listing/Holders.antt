@@ -1,53 +1,35 @@
 -- Whether a run holds a name, by the lines of the runs.
-use Rattle.std.proofs.Common.{◌≡◌, ◌≤◌, ◌||◌, ◌&&◌, ℕ, zero, suc, Bool, false, List, [], ◌∷◌, map, slice_get, refl, ap, sym, ◌∙◌, Option, Some, None}
+use Rattle.std.proofs.Common.{◌≡◌, ◌||◌, ◌&&◌, ℕ, zero, suc, Bool, false, List, [], ◌∷◌, map, slice_get, refl, ap, sym, ◌∙◌, subst, Option, Some, None}
 use Rattle.std.specs.List.{list_any}
 use Rattle.std.specs.Option.{option_map, option_map_or}
-use Rattle.std.proofs.lemmas.List.Folds.{list_any-append}
 use Rattle.std.proofs.lemmas.Option.{same_Some}
 use Rattle.ckr_base.proofs.Options.{some-not-none}
-use Rattle.ckr_base.proofs.Sequences.{any-filter_map}
-use Rattle.ckr_points_library.specs.Holdings.{owned}
-use Rattle.ckr_jcl.specs.declared.deck.Job.{Job}
-use Rattle.ckr_jcl.specs.declared.deck.Step.{Step}
-use Rattle.ckr_library.specs.NameMaps.{Name, same_name}
-use Rattle.ckr_meaning.specs.EffectiveJob.{Effective, is_among, name_of, names_of, names_of_job, names_of_steps, owned_by, plain_job}
+use Rattle.ckr_library.specs.NameMaps.{Name}
+use Rattle.ckr_meaning.specs.EffectiveJob.{is_among, names_of_job}
 use Rattle.ckr_points.specs.Office.{is_holder}
 use Rattle.ckr_points.specs.Rows.{RunRow, TablesModel, run_of}
 use Rattle.ckr_desk_memory.specs.Model.RunTable.{RunTable}
-use Rattle.ckr_desk_memory.specs.Model.PlainRows.{IsPlainRow}
-use Rattle.ckr_desk_memory.specs.Model.View.{RunTableView, facts_in, facts_of, line_of}
-use Rattle.ckr_desk_refines.specs.Holders.{has_name_in_job, has_name_in_step, is_held_in}
+use Rattle.ckr_desk_memory.specs.Model.RunRows.{IsRunRow}
+use Rattle.ckr_desk_memory.specs.Model.View.{RunTableView, facts_in, facts_of, job_in, line_of}
+use Rattle.ckr_desk_memory.specs.Model.RunJobs.{IsFitting, effective}
+use Rattle.ckr_desk_refines.specs.Holders.{is_held_in}
 use Rattle.ckr_desk_refines.specs.Listing.{is_held, is_held_by}
 
 -- ---- the run of a line
 
--- the row of a run whose table is there
-pub row-there : (tables : TablesModel) (number : ℕ) (table : RunTable) → Some (facts_of table) ≡ option_map facts_in (run_of tables number)
-    → (row : RunRow) × (run_of tables number ≡ Some row) × (row.deck ≡ table.job.deck)
-row-there tables number table seen = by (run_of tables number) refl
+-- the job of the run is that of its table, and is within the limits
+pub job-there : (tables : TablesModel) → ((number : ℕ) (row : RunRow) → run_of tables number ≡ Some row → IsRunRow number row)
+    → (number : ℕ) (table : RunTable) → Some (facts_of table) ≡ option_map facts_in (run_of tables number) → (row : RunRow) × (run_of tables number ≡ Some row) × (row.job ≡ effective number table.job) × IsFitting (effective number table.job)
+job-there tables rows number table seen = by (run_of tables number) refl
   where
-    by : (found : Option RunRow) → run_of tables number ≡ found → (row : RunRow) × (run_of tables number ≡ Some row) × (row.deck ≡ table.job.deck)
-    by None e = absurd (some-not-none (facts_of table) (seen ∙ ap (option_map facts_in) e))
-    by (Some row) e = (row, e, ap (λ (facts : RunTableView). facts.job.deck) (sym (same_Some (facts_of table) (facts_in row) (seen ∙ ap (option_map facts_in) e))))
-
-pub few-there : (tables : TablesModel) → ((number : ℕ) (row : RunRow) → run_of tables number ≡ Some row → IsPlainRow number row)
-    → (number : ℕ) (table : RunTable) → Some (facts_of table) ≡ option_map facts_in (run_of tables number) → number ≤ 9999999
-few-there tables plain number table seen = let there = row-there tables number table seen in (plain number there.0 there.1).few
-
--- ---- the names of a job
-
-in-step : (name : Name) (run : ℕ) (job : Job) (step : Step) → has_name_in_step name run step ≡ is_among (names_of run (owned_by run job step)) name
-in-step name run job step = sym (any-filter_map (name_of run (owned step run [])) (same_name name) step.dds)
-
-in-job : (name : Name) (run : ℕ) (job : Job) → has_name_in_job name run job ≡ is_among (names_of_job (plain_job run job)) name
-in-job name run job = by job.steps
-  where
-    by : (steps : List Step) → list_any (has_name_in_step name run) steps ≡ is_among (names_of_steps run (map (owned_by run job) steps)) name
-    by [] = refl
-    by (step ∷ steps) =
-        ap (λ b. b || list_any (has_name_in_step name run) steps) (in-step name run job step)
-        ∙ ap (λ b. is_among (names_of run (owned_by run job step)) name || b) (by steps)
-        ∙ sym (list_any-append (same_name name) (names_of run (owned_by run job step)) (names_of_steps run (map (owned_by run job) steps)))
+    by : (found : Option RunRow) → run_of tables number ≡ found → (row : RunRow) × (run_of tables number ≡ Some row) × (row.job ≡ effective number table.job) × IsFitting (effective number table.job)
+    by None at = absurd (some-not-none (facts_of table) (seen ∙ ap (option_map facts_in) at))
+    by (Some row) at =
+        let its : IsRunRow number row = rows number row at in
+        let facts : facts_of table ≡ facts_in row = same_Some (facts_of table) (facts_in row) (seen ∙ ap (option_map facts_in) at) in
+        let same : row.job ≡ effective number table.job =
+        ap (λ (r : RunRow). r.job) its.told ∙ ap (λ n. effective n (job_in row)) its.numbered ∙ ap (λ (f : RunTableView). effective number f.job) (sym facts) in
+        (row, at, same, subst IsFitting same its.fits)
 
 -- ---- all lines
 
@@ -59,13 +41,11 @@ any-mapped view test other (item ∷ items) same =
     ∙ ap (λ b. other item || b) (any-mapped view test other items (λ place next there. same (suc place) next there))
 
 -- by the lines of the runs
-pub held-so : (tables : TablesModel) → ((number : ℕ) (row : RunRow) → run_of tables number ≡ Some row → IsPlainRow number row)
+pub held-so : (tables : TablesModel) → ((number : ℕ) (row : RunRow) → run_of tables number ≡ Some row → IsRunRow number row)
     → (name : Name) → list_any (is_held_in tables name) (map line_of tables.runs) ≡ is_held tables name
-held-so tables plain name = any-mapped line_of (is_held_in tables name) (is_held_by name) tables.runs each
+held-so tables known name = any-mapped line_of (is_held_in tables name) (is_held_by name) tables.runs each
   where
     each : (place : ℕ) (row : RunRow) → slice_get tables.runs place ≡ Some row → is_held_in tables name (line_of row) ≡ is_held_by name row
     each place row there =
-        let is : IsPlainRow (suc place) row = plain (suc place) row there in
-        ap (λ (o : Option RunRow). option_map_or (λ (found : RunRow). is_holder row.state && has_name_in_job name row.number found.deck) o false) (ap (run_of tables) is.numbered ∙ there)
-        ∙ ap (λ b. is_holder row.state && b) (in-job name row.number row.deck)
-        ∙ ap (λ (job : Effective). is_holder row.state && is_among (names_of_job job) name) (sym (is.job ∙ ap (λ n. plain_job n row.deck) (sym is.numbered)))
+        let is : IsRunRow (suc place) row = known (suc place) row there in
+        ap (λ (o : Option RunRow). option_map_or (λ (found : RunRow). is_holder row.state && is_among (names_of_job found.job) name) o false) (ap (run_of tables) is.numbered ∙ there)

@@ -11,7 +11,7 @@ returns-in_default-get-clause-refused g c told row at line =
     refused-without c.args.layout.now c.args.jobs.now.tables.desk (g.D.Disk.content c.args.disk.now) c.args.run.now c.in-Some.table.now c.in-Some-in_effect.effect c.library.result.now
     (record {
       facts = ap (option_map facts_of) (sym (ap option_copied c.in-Some.is)) ∙ c.run.ensures ∙ ap (λ (t : RoomyTables). option_map facts_in (run_of t.desk c.args.run.now.number)) c.tables-tables.ensures;
-      plain = λ job one at. c.runs-lines.ensures.plain job one (ap (λ (t : RoomyTables). run_of t.desk job) c.tables-tables.ensures ∙ at);
+      plain = λ job one at. c.runs-lines.ensures.rows job one (ap (λ (t : RoomyTables). run_of t.desk job) c.tables-tables.ensures ∙ at);
       holds = sym c.is_holder.ensures ∙ c.if-not-is_holder.false;
       effect_is = c.in-Some-in_effect.is;
       seen = c.library.ensures.sets;
@@ -25,14 +25,14 @@ point_in-requires-clause-stands g c κs within =
 
 pub point_in-requires-clause-job : goal.point_in-requires-clause-job
 point_in-requires-clause-job g c κs within =
-    job-fits c.tables-tables.result.now.desk c.args.run.now.number (option_copied c.run.result) c.in-Some.table.now c.run.ensures (ap option_copied c.in-Some.is) c.runs-lines.ensures.plain
+    job-fits c.tables-tables.result.now.desk c.args.run.now.number (option_copied c.run.result) c.in-Some.table.now c.run.ensures (ap option_copied c.in-Some.is) c.runs-lines.ensures.rows
 
 pub returns-clause-refused : goal.returns-clause-refused
 returns-clause-refused g c = λ told.
     refused-so g.D.Disk.told c.args.layout.now c.args.jobs.now.tables.desk (g.D.Disk.content c.args.disk.now) c.args.run.now c.in-Some.table.now c.in-Some-in_effect.effect c.library.result.now
     (record {
       facts = ap (option_map facts_of) (sym (ap option_copied c.in-Some.is)) ∙ c.run.ensures ∙ ap (λ (t : RoomyTables). option_map facts_in (run_of t.desk c.args.run.now.number)) c.tables-tables.ensures;
-      plain = λ job one at. c.runs-lines.ensures.plain job one (ap (λ (t : RoomyTables). run_of t.desk job) c.tables-tables.ensures ∙ at);
+      plain = λ job one at. c.runs-lines.ensures.rows job one (ap (λ (t : RoomyTables). run_of t.desk job) c.tables-tables.ensures ∙ at);
       holds = sym c.is_holder.ensures ∙ c.if-not-is_holder.false;
       effect_is = c.in-Some-in_effect.is;
       seen = c.library.ensures.sets;
@@ -44,7 +44,7 @@ returns-clause-found g c =
     found-so g.D.Disk.told c.args.layout.now c.args.jobs.now.tables.desk (g.D.Disk.content c.args.disk.now) c.args.run.now c.in-Some.table.now c.in-Some-in_effect.effect c.library.result.now
     (record {
       facts = ap (option_map facts_of) (sym (ap option_copied c.in-Some.is)) ∙ c.run.ensures ∙ ap (λ (t : RoomyTables). option_map facts_in (run_of t.desk c.args.run.now.number)) c.tables-tables.ensures;
-      plain = λ job one at. c.runs-lines.ensures.plain job one (ap (λ (t : RoomyTables). run_of t.desk job) c.tables-tables.ensures ∙ at);
+      plain = λ job one at. c.runs-lines.ensures.rows job one (ap (λ (t : RoomyTables). run_of t.desk job) c.tables-tables.ensures ∙ at);
       holds = sym c.is_holder.ensures ∙ c.if-not-is_holder.false;
       effect_is = c.in-Some-in_effect.is;
       seen = c.library.ensures.sets;

@@ -15,24 +15,24 @@ pub returns-in-None : goal.returns-in-None
 returns-in-None c =
     let run = c.args.run in
     let table = c.in-Some.table.now in
-    let known = known-of c.args.tables.now.desk c.runs-lines.ensures.plain run table c.in-Some.ensures in
+    let known = known-of c.args.tables.now.desk c.runs-lines.ensures.rows run table c.in-Some.ensures in
     sym (check-known c.args.tables.now.desk run table known
     ∙ ap (option_and_then (checkpoint_name table.job.root)) (sym (c.in-None.ensures.step ∙ ap (step_at (effective run table.job)) (c.step_in.ensures ∙ ap step_in (c.place_of.ensures run)))))
 
 pub checkpoint_name-requires-clause-root : goal.checkpoint_name-requires-clause-root
 checkpoint_name-requires-clause-root c =
-    omega (arith, c.root.ensures, (known-of c.args.tables.now.desk c.runs-lines.ensures.plain c.args.run c.in-Some.table.now c.in-Some.ensures).fits.root)
+    omega (arith, c.root.ensures, (known-of c.args.tables.now.desk c.runs-lines.ensures.rows c.args.run c.in-Some.table.now c.in-Some.ensures).fits.root)
 
 pub checkpoint_name-requires-clause-owner : goal.checkpoint_name-requires-clause-owner
 checkpoint_name-requires-clause-owner c =
-    let known = known-of c.args.tables.now.desk c.runs-lines.ensures.plain c.args.run c.in-Some.table.now c.in-Some.ensures in
+    let known = known-of c.args.tables.now.desk c.runs-lines.ensures.rows c.args.run c.in-Some.table.now c.in-Some.ensures in
     (fits-at (effective c.args.run c.in-Some.table.now.job) known.fits c.step_in.result (own_of c.in-Some-step_at.own) (sym c.in-Some-step_at.ensures.step)).owner
 
 pub returns-in-Some-step_at : goal.returns-in-Some-step_at
 returns-in-Some-step_at c =
     let run = c.args.run in
     let table = c.in-Some.table.now in
-    let known = known-of c.args.tables.now.desk c.runs-lines.ensures.plain run table c.in-Some.ensures in
+    let known = known-of c.args.tables.now.desk c.runs-lines.ensures.rows run table c.in-Some.ensures in
     c.checkpoint_name.ensures
     ∙ ap (λ r. checkpoint_name r (own_of c.in-Some-step_at.own)) c.root.ensures
     ∙ sym (check-known c.args.tables.now.desk run table known

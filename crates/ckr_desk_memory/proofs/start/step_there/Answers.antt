@@ -14,22 +14,22 @@ returns-then-not-is_on c = λ row owned at found. off-there c.args.tables.now.de
 pub returns-then-has_sets : goal.returns-then-has_sets
 returns-then-has_sets c = λ row owned at found.
     ap (λ b. if b then Some c.step_in-step.result else None) (sym c.if-has_sets.true)
-    ∙ found-there c.args.tables.now.desk c.args.job c.step_in-step.result c.in-Some.table.now (known-of c.args.tables.now.desk c.runs-lines.ensures.plain c.args.job c.in-Some.table.now c.in-Some.ensures) c.in-Some-step_at.own c.library.result.now.sets c.has_sets.result (sym c.is_on.ensures ∙ c.if-not-is_on.false)
+    ∙ found-there c.args.tables.now.desk c.args.job c.step_in-step.result c.in-Some.table.now (known-of c.args.tables.now.desk c.runs-lines.ensures.rows c.args.job c.in-Some.table.now c.in-Some.ensures) c.in-Some-step_at.own c.library.result.now.sets c.has_sets.result (sym c.is_on.ensures ∙ c.if-not-is_on.false)
     c.in-Some-step_at.ensures.step (λ run. c.step_in-step.ensures ∙ ap step_in (c.place_of.ensures run)) c.library.ensures.sets c.has_sets.ensures row owned at found
 
 pub returns-else-has_sets : goal.returns-else-has_sets
 returns-else-has_sets c = λ row owned at found.
     ap (λ b. if b then Some c.step_in-step.result else None) (sym c.if-has_sets.false)
-    ∙ found-there c.args.tables.now.desk c.args.job c.step_in-step.result c.in-Some.table.now (known-of c.args.tables.now.desk c.runs-lines.ensures.plain c.args.job c.in-Some.table.now c.in-Some.ensures) c.in-Some-step_at.own c.library.result.now.sets c.has_sets.result (sym c.is_on.ensures ∙ c.if-not-is_on.false)
+    ∙ found-there c.args.tables.now.desk c.args.job c.step_in-step.result c.in-Some.table.now (known-of c.args.tables.now.desk c.runs-lines.ensures.rows c.args.job c.in-Some.table.now c.in-Some.ensures) c.in-Some-step_at.own c.library.result.now.sets c.has_sets.result (sym c.is_on.ensures ∙ c.if-not-is_on.false)
     c.in-Some-step_at.ensures.step (λ run. c.step_in-step.ensures ∙ ap step_in (c.place_of.ensures run)) c.library.ensures.sets c.has_sets.ensures row owned at found
 
 pub returns-in_default-step_at : goal.returns-in_default-step_at
 returns-in_default-step_at c = λ row owned at found.
-    let known = known-of c.args.tables.now.desk c.runs-lines.ensures.plain c.args.job c.in-Some.table.now c.in-Some.ensures in
+    let known = known-of c.args.tables.now.desk c.runs-lines.ensures.rows c.args.job c.in-Some.table.now c.in-Some.ensures in
     none-starts c.args.tables.now.desk c.args.job c.in-Some.table.now known c.step_in-step.result c.in_default-step_at.ensures.step row owned at
     (own-found c.args.tables.now.desk c.args.job c.in-Some.table.now known c.step_in-step.result (λ run. c.step_in-step.ensures ∙ ap step_in (c.place_of.ensures run)) row owned at found)
 
 pub has_sets-requires-clause-owner : goal.has_sets-requires-clause-owner
 has_sets-requires-clause-owner c =
-    let known = known-of c.args.tables.now.desk c.runs-lines.ensures.plain c.args.job c.in-Some.table.now c.in-Some.ensures in
+    let known = known-of c.args.tables.now.desk c.runs-lines.ensures.rows c.args.job c.in-Some.table.now c.in-Some.ensures in
     (fits-at (effective c.args.job c.in-Some.table.now.job) known.fits c.step_in-step.result (own_of c.in-Some-step_at.own) (sym c.in-Some-step_at.ensures.step)).owner

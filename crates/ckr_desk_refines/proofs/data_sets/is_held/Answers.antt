@@ -10,5 +10,5 @@ returns c =
     let tables = c.tables-tables.result.now.desk in
     c.is_held_in_any.ensures
     ∙ ap (list_any (is_held_in tables c.args.name.now)) c.runs.ensures.lines
-    ∙ held-so tables c.runs.ensures.plain c.args.name.now
+    ∙ held-so tables c.runs.ensures.rows c.args.name.now
     ∙ ap (λ t. is_held t.desk c.args.name.now) c.tables-tables.ensures

@@ -12,6 +12,7 @@ use Rattle.ckr_desk_memory.specs.Parts.{step_seen}
 use Rattle.ckr_desk_memory.specs.View.{JobsView}
 use Rattle.ckr_desk_memory.proofs.EntryPoints.{names-few, told-row}
 use Rattle.ckr_desk_memory.proofs.FoundRuns.{known-by}
+use Rattle.ckr_desk_memory.proofs.Starts.Steps.{known-first}
 use Rattle.ckr_desk_memory.proofs.jobs.Jobs.next_entry.Goals as goal
 
 pub returns-in_default-step_at-clause-entry : goal.returns-in_default-step_at-clause-entry
@@ -23,6 +24,9 @@ returns-in_default-step_at-clause-entry c row own at there =
 
 pub next_of-requires-clause-names : goal.next_of-requires-clause-names
 next_of-requires-clause-names c = names-few (effective c.args.on.now.run c.in-Some.table.now.job) c.in-Some.ensures.some.fits
+
+pub next_of-requires-clause-first : goal.next_of-requires-clause-first
+next_of-requires-clause-first c = known-first c.args.self.now.tables.desk c.args.on.now.run c.in-Some.table.now c.in-Some.ensures.some c.requires.rows
 
 pub next_of-requires-clause-owner : goal.next_of-requires-clause-owner
 next_of-requires-clause-owner c =
@@ -37,6 +41,6 @@ returns-clause-entry c row own at there =
     let is : own_of c.in-Some-step_at.own ≡ own =
     same_Some _ _ (c.in-Some-step_at.ensures.step ∙ ap (step_at (effective run table.job)) (c.step_in.ensures ∙ ap step_in (c.place_of.ensures run))
     ∙ sym (known-by desk run table known (λ r. step_of_run r (step_now r)) refl row at) ∙ there) in
-    let plain = c.runs-lines.ensures.plain run row (ap (λ (v : JobsView). run_of v.tables.desk run) c.self.view_is ∙ at) in
+    let plain = c.runs-lines.ensures.rows run row (ap (λ (v : JobsView). run_of v.tables.desk run) c.self.view_is ∙ at) in
     subst (λ (r : RunRow). IfOk c.next_of.result (λ found. entry_made found ≡ next_entry desk r own (step_seen c.args.on.now))) (sym (told-row desk run table known row at plain.told))
     (c.next_of.ensures.entry (line_of row) desk own (c.library.ensures.sets ∙ ap (λ (v : JobsView). seen_by holding_of v.tables.desk.sets) c.self.view_is) (ap (λ (o : OwnedStep). o.step) (sym is)) (ap (λ (o : OwnedStep). o.owner) (sym is)))
