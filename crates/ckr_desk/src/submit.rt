@@ -4,11 +4,11 @@ ghost use Rattle.ckr_events.specs.declared.event.Event.TheVariants as Events;
 ghost use Rattle.ckr_events.specs.Event.{spelling};
 ghost use Rattle.ckr_outside.specs.Disk.{EachSince, Only};
 ghost use Rattle.ckr_desk_refines.specs.Moves.{HasSameRecords};
-ghost use Rattle.ckr_points_decks.specs.Cards.{kept_of_stored};
+ghost use Rattle.ckr_desk_turn.specs.Model.Cards.{kept_of_stored};
 ghost use Rattle.ckr_points_tables.specs.Invariant.{IsAnySubmittable};
 ghost use Rattle.ckr_desk_store.specs.OpenImages.{event_records};
-ghost use Rattle.ckr_points_decks.specs.Form.{submission_of};
-ghost use Rattle.ckr_points_decks.specs.declared.submit.Submission.TheVariants as Decks;
+ghost use Rattle.ckr_desk_turn.specs.Model.Form.{submission_of};
+ghost use Rattle.ckr_desk_turn.specs.Model.Submission.TheVariants as Decks;
 ghost use Rattle.ckr_desk.specs.CallOutcomes.{HasComeTo, KeepsDesk};
 ghost use Rattle.ckr_desk.specs.Requests.{TellsFull, behind_call, came_by, event_in, spelled};
 ghost use Rattle.ckr_desk.specs.Soundness.{IsTrusted, KeepsWithin, state_of};
@@ -18,10 +18,9 @@ ghost use Rattle.ckr_desk.specs.Submit.{answer_to, call_by, next_number, number_
 
 use crate::{Desk, DeskError};
 use ckr_console::Operator;
-use ckr_desk_turn::Submitted;
 use ckr_jcl::Job;
 use ckr_outside::Disk;
-use ckr_points_decks::{Submission, submission_of, submitted_event};
+use ckr_desk_turn::{Submission, Submitted, submission_of, submitted_event};
 use ckr_points_tables::is_submittable;
 
 impl<D: Disk, O: Operator> Desk<D, O> {

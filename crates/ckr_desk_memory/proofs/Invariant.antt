@@ -28,7 +28,7 @@ use Rattle.ckr_points.specs.Follows.{ended_follows, follows, is_checkpoint, is_e
 use Rattle.ckr_points.specs.Restart.{after_abnormal, after_coded, after_ended, after_event, after_restarted, by_step, kept_at, place_of, step_in}
 use Rattle.ckr_points.specs.Rows.{RunRow, StartPoint, TablesModel, run_of, standing_of, step_of_run, table_ways, with_row}
 use Rattle.ckr_queue.specs.declared.entry.QueueEntry.{QueueEntry}
-use Rattle.ckr_points_decks.specs.Form.{is_run}
+use Rattle.ckr_desk_turn.specs.Model.Form.{is_run}
 use Rattle.ckr_points_invariant.proofs.Holders.Rows.{queued-is}
 use Rattle.ckr_points_invariant.proofs.Steps.Events.{on-holds}
 use Rattle.ckr_points_invariant.proofs.Marks.Points.{point_at-new}
@@ -112,10 +112,10 @@ accepted_as old new same accepted = record {
   cards = accepted.cards;
   accepted = accepted.accepted ∙ sym (ap (λ (k : Kind). Ok k.1) same);
   is_run = ap (λ (k : Kind). is_run k.1) same ∙ accepted.is_run;
-  steps = λ number owned found. accepted.steps number owned (sym (ap (λ (k : Kind). step_at k.2.0 number) same) ∙ found);
+  steps = λ number owned found. accepted.steps number owned (sym (ap (λ (k : Kind). step_at k.2 number) same) ∙ found);
   plain = λ none.
-      ap (λ (k : Kind). k.2.0) same ∙ accepted.plain (sym (ap (λ (k : Kind). k.1.restart) same) ∙ none) ∙ sym (ap (λ (k : Kind). plain_job k.0 k.1) same);
-  first = λ none. ap (λ (k : Kind). k.2.1) same ∙ accepted.first (sym (ap (λ (k : Kind). k.1.restart) same) ∙ none);
+      ap (λ (k : Kind). k.2) same ∙ accepted.plain (sym (ap (λ (k : Kind). k.1.restart) same) ∙ none) ∙ sym (ap (λ (k : Kind). plain_job k.0 k.1) same);
+  first = λ none. ap (λ (k : Kind). k.3) same ∙ accepted.first (sym (ap (λ (k : Kind). k.1.restart) same) ∙ none);
 }
 
 abbrev first_or : Kind → List Kind → Kind

@@ -28,8 +28,8 @@ use Rattle.ckr_jcl_decks.specs.DeckFaults.{card_beyond, dd_beyond, deck_faults, 
 use Rattle.ckr_jcl_decks.specs.Parts.DeckText.{closed, current_step, dd_in, dd_text, deck_text, job_text, role_in, step_text, with_dd, with_statement, with_step}
 use Rattle.ckr_jcl_decks.specs.Deck.{bytes_of, dd_of, job_of, named_origin, origin_of, step_with, stored_deck}
 use Rattle.ckr_jcl_decks.proofs.Refusals.{job_law}
-use Rattle.ckr_points_decks.proofs.DeckTests.{OfStep, steps_hold}
-use Rattle.ckr_points_decks.proofs.Texts.{own_none, rows_none}
+use Rattle.ckr_desk_turn.proofs.DeckTests.{OfStep, steps_hold}
+use Rattle.ckr_desk_turn.proofs.Texts.{own_none, rows_none}
 
 -- ---- statements
 

@@ -16,8 +16,8 @@ use Rattle.ckr_points.specs.Follows.{follows}
 use Rattle.ckr_points.specs.Restart.{after_event}
 use Rattle.ckr_points.specs.Rows.{TablesModel}
 use Rattle.ckr_points.specs.Soundness.{AreLaidOut}
-use Rattle.ckr_points_decks.specs.Cards.{job_in, kept_deck, stored_of_kept}
-use Rattle.ckr_points_decks.specs.Form.{is_run}
+use Rattle.ckr_desk_turn.specs.Model.Cards.{job_in, kept_deck, stored_of_kept}
+use Rattle.ckr_desk_turn.specs.Model.Form.{is_run}
 use Rattle.ckr_points_tables.specs.Invariant.{MayCount, MaySubmit, is_submittable}
 use Rattle.ckr_desk_memory.specs.ForwardEvents.{is_forward_event}
 use Rattle.ckr_desk_turn.specs.Queue.{AreNumbered}

@@ -25,12 +25,13 @@ use Rattle.ckr_points.specs.Restart.{after_event, by_step, place_of, step_in}
 use Rattle.ckr_points.specs.Rows.{RunRow, TableSet, TablesModel, cut_set, run_of}
 use Rattle.ckr_points.specs.Soundness.{AreLaidOut}
 use Rattle.ckr_points.specs.Tables.{after_rewritten, committed, is_updates, name_with_role, row_rewritten, table_rewritten}
-use Rattle.ckr_points_decks.proofs.JobForm.{job_formed}
+use Rattle.ckr_desk_turn.proofs.JobForm.{job_formed}
 use Rattle.ckr_points_invariant.proofs.Holders.Rows.{run-same, step-all}
 use Rattle.ckr_points_invariant.proofs.Rewrite.Invariant.{updated-name}
 use Rattle.ckr_desk_turn.specs.Queue.{AreNumbered}
 use Rattle.ckr_desk_turn.proofs.Queue.Events.{run_number}
 use Rattle.ckr_desk_turn.proofs.Rewrite.UnitWrites.{by_update}
+use Rattle.ckr_desk_memory.proofs.Holders.Names.{step-formed}
 use Rattle.ckr_desk_memory.specs.Invariant.{IsAcceptedRow}
 use Rattle.ckr_desk_memory.specs.Rewrite.{HasPlaceFor, HasRecordPlace, updated_by, updated_in}
 use Rattle.ckr_desk_memory.proofs.Masters.{by-role}

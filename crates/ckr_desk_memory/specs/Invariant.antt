@@ -21,7 +21,7 @@ use Rattle.ckr_desk_turn.specs.Spelling.{IsCode}
 use Rattle.ckr_desk_turn.specs.Invariant.{has_code_while_off, IsAdmittedStep, is_off, is_on_one}
 use Rattle.ckr_steps.specs.Inputs.{AreStored, AreThere}
 use Rattle.ckr_steps.specs.StepUnit.{AreCounted}
-use Rattle.ckr_points_decks.specs.Form.{is_run}
+use Rattle.ckr_desk_turn.specs.Model.Form.{is_run}
 use Rattle.ckr_volumes.specs.declared.layout.Layout.{Layout}
 use Rattle.ckr_desk_memory.specs.Plans.{IsAnyCode}
 use Rattle.ckr_desk_memory.specs.View.{JobsView, RunningStepView}

@@ -7,8 +7,8 @@ use Rattle.ckr_jcl.specs.declared.deck.Job.{Job}
 use Rattle.ckr_points.specs.Follows.{follows}
 use Rattle.ckr_points.specs.Restart.{after_event}
 use Rattle.ckr_points.specs.Rows.{TablesModel}
-use Rattle.ckr_points_decks.specs.Cards.{kept_deck}
-use Rattle.ckr_points_decks.specs.Form.{is_run}
+use Rattle.ckr_desk_turn.specs.Model.Cards.{kept_deck}
+use Rattle.ckr_desk_turn.specs.Model.Form.{is_run}
 use Rattle.ckr_points_tables.specs.Invariant.{is_submittable}
 use Rattle.ckr_desk_memory.specs.ForwardEvents.{is_forward_event}
 use Rattle.ckr_desk_turn.specs.Spelling.{IsCode}

@@ -11,7 +11,7 @@ use crate::{Jobs, shared_deck};
 use ckr_base::NoMemory;
 use ckr_events::Event;
 use ckr_jcl::Job;
-use ckr_points_decks::{is_run, job_of_kept};
+use ckr_desk_turn::{is_run, job_of_kept};
 use ckr_points_follows::{follows, may_count};
 use ckr_points_tables::{Tables, is_submittable};
 use ckr_volumes::Layout;

@@ -16,8 +16,8 @@ ghost use Rattle.ckr_points.specs.declared.run.RunState.TheVariants.{Held, Queue
 ghost use Rattle.ckr_points.specs.Rows.{RunRow, run_of};
 ghost use Rattle.ckr_desk_refines.specs.Moves.{HasSameRecords, HasWaited, HaveMoved};
 ghost use Rattle.ckr_desk_refines.specs.Standing.{StandsForDesk, StandsBut};
-ghost use Rattle.ckr_points_decks.specs.Cards.{kept_of_stored};
-ghost use Rattle.ckr_points_decks.specs.Form.{is_run};
+ghost use Rattle.ckr_desk_turn.specs.Model.Cards.{kept_of_stored};
+ghost use Rattle.ckr_desk_turn.specs.Model.Form.{is_run};
 ghost use Rattle.ckr_desk_turn.specs.declared.plan.Plan.TheVariants.{Tell, Wait};
 ghost use Rattle.ckr_desk_turn.specs.declared.reply.Reply.{Reply};
 ghost use Rattle.ckr_desk_turn.specs.declared.reply.Turn.{Turn};

@@ -21,3 +21,4 @@ pub mod Turns
 pub mod Restarts
 pub mod Deferred
 pub mod Permissions
+pub mod Model

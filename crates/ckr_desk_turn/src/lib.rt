@@ -56,3 +56,6 @@ pub use unit_laws::{
     codes_of_units_are_those_of_the_work, last_units_keep_the_desk, rewrites_keep_the_desk,
     work_keeps_the_desk,
 };
+
+/// Decks, as the crates above this one take them.
+pub use ckr_points_decks::{Submission, is_run, job_of_kept, submission_of, submitted_event};

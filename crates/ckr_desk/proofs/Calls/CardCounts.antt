@@ -17,9 +17,9 @@ use Rattle.ckr_jcl_decks.specs.Parts.Fault.{Fault}
 use Rattle.ckr_desk_memory.specs.Invariant.{IsAcceptedRow}
 use Rattle.ckr_points.specs.Tables.{queued_run}
 use Rattle.ckr_desk_turn.proofs.AdmittedSteps.{own-step}
-use Rattle.ckr_points_decks.specs.Form.{is_run, submission_by, submission_of}
-use Rattle.ckr_points_decks.specs.declared.submit.Submission.{Submission}
-use Rattle.ckr_points_decks.specs.declared.submit.Submission.TheVariants.{Accepted, Refused}
+use Rattle.ckr_desk_turn.specs.Model.Form.{is_run, submission_by, submission_of}
+use Rattle.ckr_desk_turn.specs.Model.Submission.{Submission}
+use Rattle.ckr_desk_turn.specs.Model.Submission.TheVariants.{Accepted, Refused}
 use Rattle.ckr_jcl_decks.proofs.Refusals.{job_law}
 
 lesser_none : (a b : Option ℕ) → lesser a b ≡ None → (a ≡ None) × (b ≡ None)

@@ -26,9 +26,9 @@ use Rattle.ckr_desk_refines.specs.RewriteRecord.{RewriteRecord, rewrite_of}
 use Rattle.ckr_desk_refines.specs.Moves.{HasSameRecords, HaveMoved}
 use Rattle.ckr_desk_refines.specs.Standing.{StandsForDesk}
 use Rattle.ckr_desk_store.specs.OpenImages.{Opens, event_records}
-use Rattle.ckr_points_decks.proofs.KeptCards.{kept_accepted}
-use Rattle.ckr_points_decks.specs.Cards.{kept_of_stored}
-use Rattle.ckr_points_decks.specs.Form.{is_run}
+use Rattle.ckr_desk_turn.proofs.KeptCards.{kept_accepted}
+use Rattle.ckr_desk_turn.specs.Model.Cards.{kept_of_stored}
+use Rattle.ckr_desk_turn.specs.Model.Form.{is_run}
 use Rattle.ckr_points_tables.specs.Invariant.{is_submittable}
 use Rattle.ckr_desk_memory.specs.ForwardEvents.{is_forward_event}
 use Rattle.ckr_desk_refines.proofs.Events.Turns.{purged-committed, purged-stands, release-stands, released-committed, submitted-committed, submitted-stands}

@@ -34,11 +34,12 @@ use Rattle.ckr_match.specs.State as matched
 use Rattle.ckr_programs.specs.State as plain
 use Rattle.ckr_meaning.specs.declared.place.Place.{Place}
 use Rattle.ckr_meaning.specs.declared.place.Place.TheVariants.{Before, Within}
+use Rattle.ckr_desk_turn.specs.Queue.{AreNumbered}
 use Rattle.ckr_desk_memory.proofs.Holders.Moves.{RowGoesOn, others-keep, row-accepted, row-as_is, row-next}
 use Rattle.ckr_desk_memory.proofs.Holders.Names.{changed-named, step-formed}
 use Rattle.ckr_desk_memory.proofs.Holders.Masters.{updated-changed, updated-not_output}
 use Rattle.ckr_desk_memory.specs.EventChanges.{served_step}
-use Rattle.ckr_desk_memory.specs.Invariant.{IsAcceptedRow}
+use Rattle.ckr_desk_memory.specs.Invariant.{IsAcceptedRow, IsPlacedRow}
 use Rattle.ckr_desk_memory.specs.Start.{HasNew, has_sets, set_in_tables}
 use Rattle.ckr_desk_memory.specs.View.{PointView, RunningStepView, begun, length_in, resumed}
 use Rattle.ckr_desk_memory.proofs.Starts.Names.{has-among}

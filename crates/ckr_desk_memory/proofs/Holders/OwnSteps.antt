@@ -19,6 +19,7 @@ use Rattle.ckr_points.specs.Restart.{after_event}
 use Rattle.ckr_points.specs.Rows.{RunRow, TablesModel, no_tables, run_of, step_of_run}
 use Rattle.ckr_points.specs.Tables.{after_started}
 use Rattle.ckr_points_invariant.proofs.WaitingRuns.{tested-run}
+use Rattle.ckr_points_tables.specs.Invariant.{MaySubmit}
 use Rattle.ckr_desk_memory.specs.ForwardEvents.{is_forward_event}
 use Rattle.ckr_points_tables.specs.View.{RoomyTables}
 use Rattle.ckr_volumes.specs.declared.layout.Layout.{Layout}
@@ -35,11 +36,11 @@ use Rattle.ckr_desk_memory.proofs.RunningSteps.First.{all-without}
 use Rattle.ckr_desk_memory.specs.declared.jobs.RunningStep.{RunningStep}
 use Rattle.ckr_desk_memory.specs.EventChanges.{FirstEnters, HasEntered, check_name_in, is_of_run, is_point_of, points_behind, served_in, served_step, without_first, without_run}
 use Rattle.ckr_desk_memory.specs.Holders.{AreHolders}
-use Rattle.ckr_desk_memory.specs.Invariant.{AreJobs, IsAcceptedRow, IsPlacedRow}
+use Rattle.ckr_desk_memory.specs.Invariant.{AreJobs, IsAcceptedRow, IsAnyAccepted, IsPlacedRow}
 use Rattle.ckr_desk_memory.specs.OwnSets.{CommitsItsOwn, IsRunningOf}
 use Rattle.ckr_desk_memory.specs.OwnSteps.{AreSingle, HavePoints, HoldTheirOwn, IsOfOther}
 use Rattle.ckr_desk_memory.specs.Parts.{step_seen}
-use Rattle.ckr_desk_memory.specs.Replay.{deck_of, goes_on}
+use Rattle.ckr_desk_memory.specs.Replay.{IsBounded, deck_of, goes_on}
 use Rattle.ckr_desk_memory.specs.RunningSteps.{GoesOn, StepGoesBack, StepStarts}
 use Rattle.ckr_desk_memory.specs.Start.{HasNew}
 use Rattle.ckr_desk_memory.specs.View.{JobsView, PointView, RunningStepView, begun}

@@ -27,7 +27,7 @@ use Rattle.ckr_points.specs.Tables.{after_cancelled, after_checkpointed, after_r
 use Rattle.ckr_points_invariant.proofs.WaitingRuns.{tested-run}
 use Rattle.ckr_points_library.specs.Commit.{output_names}
 use Rattle.ckr_points_tables.specs.Checkpoint.{checkpoint_name}
-use Rattle.ckr_points_tables.specs.Invariant.{is_submission}
+use Rattle.ckr_points_tables.specs.Invariant.{MaySubmit, is_submission}
 use Rattle.ckr_desk_memory.specs.ForwardEvents.{is_forward_event}
 use Rattle.ckr_volumes.specs.declared.layout.Layout.{Layout}
 use Rattle.ckr_desk_memory.proofs.Extents.{tested as tested-of, tested-step}
@@ -40,7 +40,7 @@ use Rattle.ckr_desk_memory.proofs.Queue.{on-is}
 use Rattle.ckr_desk_memory.proofs.RunningSteps.Again.{again-cases, is-back}
 use Rattle.ckr_desk_memory.proofs.RunningSteps.Served.{without-none}
 use Rattle.ckr_desk_memory.specs.EventChanges.{FirstEnters, HasEntered, IsEntered, check_name_in, is_of_run, is_point_of, served_in, served_step, with_entry_end, without_first, without_run}
-use Rattle.ckr_desk_memory.specs.Invariant.{IsAcceptedRow, IsPlacedRow}
+use Rattle.ckr_desk_memory.specs.Invariant.{IsAcceptedRow, IsAnyAccepted, IsPlacedRow}
 use Rattle.ckr_desk_memory.specs.RunningSteps.{GoesOn, StepGoesBack, StepStarts}
 use Rattle.ckr_desk_memory.specs.Start.{HasNew}
 use Rattle.ckr_desk_memory.specs.View.{PointView, RunningStepView, begun}

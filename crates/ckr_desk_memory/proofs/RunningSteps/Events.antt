@@ -61,7 +61,7 @@ same_row_in one other same (suc place) row at =
     by (Some next) at is = record { next = next; at = at; same = same_Some (kind_of next) (kind_of row) is }
 
 same_step : (one other : RunRow) (step : ℕ) (owned : OwnedStep) → kind_of one ≡ kind_of other → step_of_run other step ≡ Some owned → step_of_run one step ≡ Some owned
-same_step one other step owned same at = ap (λ (k : Kind). step_at k.2.0 step) same ∙ at
+same_step one other step owned same at = ap (λ (k : Kind). step_at k.2 step) same ∙ at
 
 -- the step that was prepared is that of the tables behind the event too
 step_behind : (one other : TablesModel) → map kind_of one.runs ≡ map kind_of other.runs → (job step : ℕ) (begun : Option RunningStep) → HasStep other job step begun → HasStep one job step begun

@@ -19,13 +19,14 @@ use Rattle.ckr_programs.specs.Ranges.{IsInRange}
 use Rattle.ckr_points.specs.Follows.{own_step as own_step_of}
 use Rattle.ckr_points.specs.Restart.{place_of, step_in}
 use Rattle.ckr_points.specs.Rows.{RunRow, TablesModel, run_of, step_of_run}
-use Rattle.ckr_points_decks.specs.DeckLimits.{IsWithinLimits}
-use Rattle.ckr_points_decks.proofs.DeckLimits.{steps_within}
+use Rattle.ckr_desk_turn.specs.Model.DeckLimits.{IsWithinLimits}
+use Rattle.ckr_desk_turn.proofs.DeckLimits.{steps_within}
 use Rattle.ckr_points_tables.specs.declared.own_step.OwnStep.{OwnStep}
 use Rattle.ckr_points_tables.specs.declared.run_table.RunTable.{RunTable}
 use Rattle.ckr_points_tables.specs.RunJobs.{effective, own_of}
 use Rattle.ckr_points_tables.proofs.RunJobs.{fits-at}
 use Rattle.ckr_points_tables.specs.Invariant.{HasRoom}
+use Rattle.ckr_points_tables.specs.View.{RunTableView}
 use Rattle.ckr_desk_memory.specs.declared.jobs.RunningStep.{RunningStep}
 use Rattle.ckr_desk_memory.specs.Invariant.{IsAcceptedRow}
 use Rattle.ckr_desk_memory.specs.EventChanges.{HasUses, is_point_of}

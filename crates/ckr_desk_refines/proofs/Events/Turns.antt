@@ -24,8 +24,8 @@ use Rattle.ckr_points.specs.Office.{office_after}
 use Rattle.ckr_points.specs.Rows.{RunRow, run_of}
 use Rattle.ckr_desk_refines.specs.Moves.{HasSameRecords, HasWaited, HaveMoved, event_in}
 use Rattle.ckr_desk_refines.specs.Standing.{StandsForDesk, StandsBut}
-use Rattle.ckr_points_decks.specs.Cards.{kept_of_stored}
-use Rattle.ckr_points_decks.specs.Form.{is_run}
+use Rattle.ckr_desk_turn.specs.Model.Cards.{kept_of_stored}
+use Rattle.ckr_desk_turn.specs.Model.Form.{is_run}
 use Rattle.ckr_desk_turn.specs.declared.plan.Plan.{Plan}
 use Rattle.ckr_desk_turn.specs.declared.plan.Plan.TheVariants.{Rest, Tell, Work, Pass, Take, Ask, Wait}
 use Rattle.ckr_desk_turn.specs.declared.reply.Reply.{Reply}

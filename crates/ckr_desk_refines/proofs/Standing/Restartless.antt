@@ -19,7 +19,7 @@ use Rattle.ckr_points.specs.Office.{Office, no_office, office, office_after, off
 use Rattle.ckr_points.specs.Restart.{Decked, after_abnormal, after_continued_at, after_ended, after_event, after_restarted, by_step, continued_row, kept_at, place_of, step_in, syschk_name}
 use Rattle.ckr_points.specs.Rows.{RunRow, StartPoint, TablesModel, run_of, step_of_run, with_row}
 use Rattle.ckr_points.specs.Tables.{after_commit, queued_run}
-use Rattle.ckr_points_decks.specs.Form.{is_run}
+use Rattle.ckr_desk_turn.specs.Model.Form.{is_run}
 use Rattle.ckr_desk_memory.proofs.Runs.{by-run, by-step as by-found}
 use Rattle.ckr_desk_memory.proofs.Starts.Steps.{row-among}
 use Rattle.ckr_desk_turn.specs.RunEvents.{AreRunEvents, IsRunEvent}

@@ -11,5 +11,5 @@ pub returns : goal.returns
 returns c =
     let root = c.args.marking.now.job.now.root in
     let steps = (effective c.args.marking.now.run c.args.marking.now.job.now).steps in
-    let first : c.saturating_sub.result ≡ pred c.args.marking.now.job.now.earlier_step = omega (arith, c.saturating_sub.ensures, c.from.ensures, c.earlier_step.ensures, one-less c.args.marking.now.job.now.earlier_step) in
+    let first : c.saturating_sub-first.result ≡ pred c.args.marking.now.job.now.earlier_step = omega (arith, c.saturating_sub-first.ensures, c.from.ensures, c.earlier_step.ensures, one-less c.args.marking.now.job.now.earlier_step) in
     c.has_name_from.ensures ∙ ap (λ k. is_among (names_of_steps root (drop k steps)) c.args.name.now) first
