@@ -9,9 +9,9 @@ ghost use Rattle.ckr_desk_memory.specs.ForwardEvents.{is_forward_event};
 
 use crate::{Jobs, shared_deck};
 use ckr_base::NoMemory;
+use ckr_desk_turn::{is_run, job_of_kept};
 use ckr_events::Event;
 use ckr_jcl::Job;
-use ckr_desk_turn::{is_run, job_of_kept};
 use ckr_points_follows::{follows, may_count};
 use ckr_points_tables::{Tables, is_submittable};
 use ckr_volumes::Layout;

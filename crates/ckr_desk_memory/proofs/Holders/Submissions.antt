@@ -146,4 +146,3 @@ pub holders-submitted : (layout : Layout) (tables : TablesModel) (job : ℕ) (ca
     → AreHolders (option_map_or (λ deck. after_submitted job deck tables) deck tables)
 holders-submitted layout tables job cards None are accepted may follow = are
 holders-submitted layout tables job cards (Some deck) are accepted may follow = holders-more tables deck job (submitted-next layout tables job cards deck follow) (submitted-orderly job deck accepted may) are
-

@@ -32,7 +32,7 @@ use Rattle.ckr_points_invariant.specs.Invariant.{IsAgreed}
 use Rattle.ckr_points_invariant.proofs.Select.Invariant.{led_there}
 use Rattle.ckr_points_invariant.proofs.WaitingRuns.{by-selected}
 use Rattle.ckr_points_invariant.proofs.Holders.Rows.{run-other, run-same}
-use Rattle.ckr_desk_memory.proofs.Holders.Events.{row-before}
+use Rattle.ckr_desk_memory.proofs.Holders.Submissions.{row-before}
 use Rattle.ckr_volumes.specs.declared.layout.Layout.{Layout}
 use Rattle.ckr_desk_memory.specs.Invariant.{is_in_step}
 
