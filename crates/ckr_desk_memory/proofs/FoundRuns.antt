@@ -1,5 +1,5 @@
 -- A run as the jobs in memory have it, by its number, its line and what the tables keep of it.
-use Rattle.std.proofs.Common.{◌≡◌, ◌==◌, ◌≤◌, ◌+◌, option_and_then, ℕ, zero, suc, Bool, true, false, cond, refl, ap, sym, ◌∙◌, subst, List, [], ◌∷◌, map, find, length, slice_get, Option, None, Some, IfSome, IsSome, arith}
+use Rattle.std.proofs.Common.{◌≡◌, ◌==◌, ◌≤◌, ◌+◌, option_and_then, ℕ, zero, suc, Bool, true, false, cond, refl, ap, sym, ◌∙◌, subst, List, [], ◌∷◌, map, find, length, slice_get, Option, None, Some, IfSome, arith}
 use Rattle.std.specs.List.{AllByRecursion}
 use Rattle.std.specs.Option.{option_map, option_map_or}
 use Rattle.std.proofs.lemmas.Option.{same_Some, slice_get_within}
@@ -16,7 +16,7 @@ use Rattle.ckr_points.specs.Restart.{place_of, step_in}
 use Rattle.ckr_points.specs.Rows.{RunRow, TableSet, TablesModel, run_of, step_of_run, holding_of}
 use Rattle.ckr_points_tables.specs.declared.run_table.RunTable.{RunTable}
 use Rattle.ckr_points_tables.specs.RunRows.{IsRunRow}
-use Rattle.ckr_points_tables.specs.RunJobs.{IsFitting, JobView, effective}
+use Rattle.ckr_points_tables.specs.RunJobs.{IsFitting, effective}
 use Rattle.ckr_points_tables.specs.View.{RunTableView, facts_in, facts_of, job_in, row_with, seen_by}
 use Rattle.ckr_desk_turn.specs.Codes.{CodePlaceModel, kept_reached, reached_by, running_reached}
 use Rattle.ckr_desk_turn.specs.Jobs.{TurnStep, as_stopped, running_in}

@@ -23,7 +23,7 @@ use Rattle.ckr_events.specs.declared.event.Ending.TheVariants.{Completed as Comp
 use Rattle.ckr_events.specs.declared.event.Made.{Made}
 use Rattle.ckr_jcl.specs.declared.deck.Dd.{Dd}
 use Rattle.ckr_library.specs.NameMaps.{Name}
-use Rattle.ckr_meaning.specs.EffectiveJob.{Effective, OwnedStep, stamp_of, step_at}
+use Rattle.ckr_meaning.specs.EffectiveJob.{OwnedStep, stamp_of}
 use Rattle.ckr_meaning.specs.declared.place.Place.{Place}
 use Rattle.ckr_meaning.specs.declared.place.Place.TheVariants.{Before, Opened, Within}
 use Rattle.ckr_points.specs.Follows.{is_within as is_within_step, own_step}

@@ -1,17 +1,15 @@
 -- A run that continues another one is selected: it reaches names of its deck, has lost what else was passed on as made, and what its step may change is there.
 -- So the holders stay apart.
-use Rattle.std.proofs.Common.{◌≡◌, ◌≢◌, ◌≤◌, ◌<◌, ◌==◌, ℕ, zero, suc, pred, Bool, true, false, not, ◌&&◌, cond, List, [], ◌∷◌, ◌++◌, drop, filter, refl, ap, sym, ◌∙◌, subst, Option, Some, None, arith}
+use Rattle.std.proofs.Common.{◌≡◌, ◌<◌, ◌==◌, ℕ, zero, suc, pred, Bool, true, false, not, ◌&&◌, cond, List, [], ◌∷◌, drop, refl, ap, sym, ◌∙◌, subst, Option, Some, None, arith}
 use mathlib.Core.Logic.{◌⊎◌}
-use Rattle.std.specs.List.{AllByRecursion, find, list_all}
+use Rattle.std.specs.List.{AllByRecursion, find}
 use Rattle.std.specs.Option.{is_some, option_map_or}
 use Rattle.std.proofs.lemmas.Bool.{and_from, false≢true, not-true}
 use Rattle.std.proofs.lemmas.Option.{same_Some}
 use Rattle.ckr_base.proofs.Bools.{and-first, and-second, bool-cases}
-use Rattle.ckr_base.proofs.Numbers.{equal-true}
 use Rattle.ckr_base.proofs.Options.{is_none-true, is_some-true, some-not-none, some-one}
 use Rattle.ckr_base.proofs.Sequences.{all-at, find-holds, find-passes}
 use Rattle.ckr_entry.specs.declared.point.Mark.{Mark}
-use Rattle.ckr_entry.specs.declared.point.Passed.{Passed}
 use Rattle.ckr_entry.specs.declared.point.Present.{Present}
 use Rattle.ckr_library.proofs.Named.{name-same}
 use Rattle.ckr_library.specs.NameMaps.{Name, Named, entry_at, same_name}
@@ -23,9 +21,9 @@ use Rattle.ckr_jcl.specs.declared.deck.Job.{Job}
 use Rattle.ckr_points.specs.Follows.{follows}
 use Rattle.ckr_points.specs.Marks.{is_as_marked, is_marked_absent, lost_names, made_names, mark_at, own_names, point_at, present_at, put_back, removed_all, still_exists, sysout_names, without_passed}
 use Rattle.ckr_points.specs.Office.{Office, passed_made}
-use Rattle.ckr_points.specs.Restart.{after_continued_at, after_entry_continued, after_event, carried_point, continued_row, kept_at, needed_names, place_of, spliced, step_in, syschk_name, without_names}
+use Rattle.ckr_points.specs.Restart.{after_continued_at, after_entry_continued, after_event, carried_point, continued_row, kept_at, needed_names, step_in, syschk_name, without_names}
 use Rattle.ckr_points.specs.RuleCases.{has_present_marks, is_ended}
-use Rattle.ckr_points.specs.Rows.{EffectPoint, EntryPoint, KeptEntry, RunRow, StartPoint, TableSet, TablesModel, run_of, step_of_run, with_run}
+use Rattle.ckr_points.specs.Rows.{EffectPoint, KeptEntry, RunRow, StartPoint, TableSet, TablesModel, run_of, step_of_run, with_run}
 use Rattle.ckr_points.specs.Tables.{fresh_effect}
 use Rattle.ckr_points_library.specs.Commit.{output_names}
 use Rattle.ckr_points_invariant.specs.JobNames.{AreKin}
@@ -51,7 +49,7 @@ use Rattle.ckr_desk_memory.proofs.Holders.Moves.{IsOwnOf, RowGoesOn, each-entry,
 use Rattle.ckr_desk_memory.proofs.Holders.Names.{IsActing, changed-named, own-reached}
 use Rattle.ckr_desk_memory.proofs.Invariant.{idle_queued, unplaced-queued}
 use Rattle.ckr_desk_memory.proofs.Starts.Steps.{row-among}
-use Rattle.ckr_desk_memory.specs.Holders.{AreHolders, AreOfDeck, AreOwn, AreSingleEntries, EachEntryKept, EachKept, HasChanged, HasOwnEffect, IsOwnEntry, IsStartPassed, KeepsOwnEntries, PassesOnOwn, PassesOwn, changed_names, reached_names, steps_begun}
+use Rattle.ckr_desk_memory.specs.Holders.{AreHolders, AreOfDeck, AreOwn, AreSingleEntries, EachEntryKept, EachKept, HasChanged, HasOwnEffect, IsOwnEntry, IsStartPassed, KeepsOwnEntries, changed_names, reached_names, steps_begun}
 use Rattle.ckr_desk_memory.specs.Invariant.{IsPlacedRow}
 
 -- the entry that is found is the only one of its identifier

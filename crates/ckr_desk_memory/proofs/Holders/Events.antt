@@ -1,6 +1,6 @@
 -- By each event that follows the row of its run alone changes, and what the run reaches: so the holders stay apart.
-use Rattle.std.proofs.Common.{arith, ◌≡◌, ◌≢◌, ◌==◌, ◌≤◌, ◌<◌, ◌+◌, ℕ, zero, suc, Bool, true, false, ◌&&◌, ◌||◌, not, if◌then◌else◌, List, [], ◌∷◌, ◌++◌, map, length, refl, ap, sym, ◌∙◌, subst, Option, Some, None}
-use Rattle.std.specs.Prelude.{nat_eq, nat_lt, slice_get}
+use Rattle.std.proofs.Common.{arith, ◌≡◌, ◌==◌, ◌≤◌, ◌<◌, ◌+◌, ℕ, zero, suc, Bool, true, false, ◌&&◌, ◌||◌, not, if◌then◌else◌, List, [], ◌∷◌, map, refl, ap, sym, ◌∙◌, subst, Option, Some, None}
+use Rattle.std.specs.Prelude.{nat_eq, nat_lt}
 use Rattle.std.specs.List.{AllByRecursion}
 use Rattle.std.specs.Option.{is_none, is_some, option_eq, option_map, option_map_or}
 use Rattle.std.proofs.lemmas.Bool.{false≢true}
@@ -34,7 +34,7 @@ use Rattle.ckr_points.specs.Office.{is_holder, passed_made}
 use Rattle.ckr_points.specs.Marks.{has_passed, point_at, put_back, removed_all, with_point, without_passed}
 use Rattle.ckr_points.specs.Restart.{after_abnormal, after_chosen, after_coded, after_ended, after_event, after_passed_ended, after_put_back, after_restarted, back_to_entry, back_to_start, by_step, effect_restarted, kept_at, place_of, point_restarted, row_on, step_in}
 use Rattle.ckr_points.specs.Rows.{EffectPoint, EntryPoint, KeptEntry, RunRow, StartPoint, TableSet, TablesModel, no_tables, run_of, standing_of, step_of_run, table_ways, with_run}
-use Rattle.ckr_points.specs.Tables.{after_submitted, after_cancelled, after_checkpointed, after_commit, after_dispositions, after_held, after_rewritten, after_started, after_step_ended, committed, earlier_made, entry_point, fresh_effect, kept_entry, is_checkpoints, is_updates, name_with_role, own_made, queued_run, effect_rewritten, point_rewritten, row_rewritten, run_disposals, start_point, table_rewritten, with_kept_entry}
+use Rattle.ckr_points.specs.Tables.{after_cancelled, after_checkpointed, after_commit, after_dispositions, after_held, after_rewritten, after_started, after_step_ended, committed, earlier_made, entry_point, fresh_effect, kept_entry, is_checkpoints, is_updates, name_with_role, own_made, effect_rewritten, point_rewritten, row_rewritten, run_disposals, start_point, table_rewritten, with_kept_entry}
 use Rattle.ckr_points.specs.RuleCases.{is_ended}
 use Rattle.ckr_points_invariant.proofs.Holders.Rows.{holder-ended, queued-is}
 use Rattle.ckr_points_invariant.proofs.Library.PassedList.{ended-stays, made-without}

@@ -1,5 +1,5 @@
 -- What holds of the holders stays where the row of one run changes, and with it data sets that its job names.
-use Rattle.std.proofs.Common.{◌≡◌, ◌≢◌, ◌+◌, ◌==◌, ℕ, zero, suc, pred, Bool, true, false, ◌&&◌, not, List, [], ◌∷◌, ◌++◌, drop, filter, cond, inl, inr, ⊎_elim, refl, ap, sym, ◌∙◌, subst, Some, arith}
+use Rattle.std.proofs.Common.{◌≡◌, ◌≢◌, ◌+◌, ◌==◌, ℕ, zero, suc, pred, Bool, true, false, ◌&&◌, not, List, [], ◌∷◌, drop, filter, cond, inl, inr, ⊎_elim, refl, ap, sym, ◌∙◌, subst, Some, arith}
 use Rattle.std.specs.Prelude.{slice_get}
 use mathlib.Core.Logic.{◌⊎◌}
 use Rattle.std.specs.List.{AllByRecursion}
