@@ -1,6 +1,6 @@
 -- What opening refuses of the entries of checkpoints in effect: one without its places in its data set, or one that isn't read as a
 -- point of the step that its run is in.
-use Rattle.std.specs.Prelude.{◌≡◌, ℕ, Bool, true, if◌then◌else◌, IfOk, List, [], find, Option, None, Some, option_and_then, Result, Ok, Err}
+use Rattle.std.specs.Prelude.{◌≡◌, ℕ, Bool, true, if◌then◌else◌, IfOk, List, find, Option, None, Some, option_and_then, Result, Ok, Err}
 use Rattle.std.specs.Option.{is_some, option_map_or}
 use Rattle.ckr_entry.specs.Entry.{IsEntry, entry_in, told_offset}
 use Rattle.ckr_entry.specs.Parts.{Entry}

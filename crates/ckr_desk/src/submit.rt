@@ -18,9 +18,9 @@ ghost use Rattle.ckr_desk.specs.Submit.{answer_to, call_by, next_number, number_
 
 use crate::{Desk, DeskError};
 use ckr_console::Operator;
+use ckr_desk_turn::{Submission, Submitted, submission_of, submitted_event};
 use ckr_jcl::Job;
 use ckr_outside::Disk;
-use ckr_desk_turn::{Submission, Submitted, submission_of, submitted_event};
 use ckr_points_tables::is_submittable;
 
 impl<D: Disk, O: Operator> Desk<D, O> {

@@ -1,5 +1,5 @@
 -- Where the entry of a run's checkpoint in effect is refused, by what the tables in code have of the run.
-use Rattle.std.proofs.Common.{◌≡◌, ◌≤◌, ℕ, Bool, true, false, cond, IsTrue, List, refl, ap, sym, ◌∙◌, subst, Option, None, Some, Result, Ok, Err, IfOk, option_and_then}
+use Rattle.std.proofs.Common.{◌≡◌, ℕ, Bool, true, false, cond, IsTrue, List, refl, ap, sym, ◌∙◌, subst, Option, None, Some, Result, Ok, Err, IfOk, option_and_then}
 use Rattle.std.specs.Option.{option_map, option_map_or}
 use Rattle.std.proofs.lemmas.Option.{same_Some}
 use Rattle.ckr_base.proofs.Bools.{bool-cases}

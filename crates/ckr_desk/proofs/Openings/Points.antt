@@ -1,38 +1,34 @@
 -- The points of checkpoints in effect that opening reads: what was found of a run, and whose the points of a list are.
-use Rattle.std.proofs.Common.{◌≡◌, ◌≢◌, ◌≤◌, ◌<◌, ◌+◌, ◌++◌, ◌^◌, ◌&&◌, ◌==◌, ℕ, zero, suc, Bool, true, false, cond, IfOk, IsTrue, List, [], ◌∷◌, find, length, if◌then◌else◌, refl, ap, sym, ◌∙◌, subst, append-nil, Option, None, Some, option_and_then, Result, Ok, Err, ⊎_elim, arith}
+use Rattle.std.proofs.Common.{◌≡◌, ◌≤◌, ◌<◌, ◌+◌, ◌++◌, ◌^◌, ◌&&◌, ◌==◌, ℕ, zero, suc, Bool, true, false, cond, List, [], ◌∷◌, find, length, if◌then◌else◌, refl, ap, sym, ◌∙◌, subst, Option, None, Some, Result, Ok, Err, arith}
 use Rattle.std.proofs.lemmas.Bool.{false≢true}
 use Rattle.std.specs.Prelude.{nat_le, nat_lt}
 use Rattle.std.specs.List.{AllByRecursion}
-use Rattle.std.specs.Option.{is_some, option_map_or}
+use Rattle.std.specs.Option.{option_map_or}
 use Rattle.ckr_base.proofs.Bools.{and-first, and-second, bool-cases}
 use Rattle.ckr_base.proofs.Numbers.{equal-from, equal-true, nat_le-from, nat_le-true, nat_lt-true, number-cases}
 use Rattle.ckr_base.proofs.Options.{is_some-true, some-not-none, some-one}
-use Rattle.ckr_base.proofs.Sequences.{each-append, each-implies, get-inside}
-use Rattle.ckr_entry.specs.Entry.{IsEntry, entry_in, told_offset}
+use Rattle.ckr_base.proofs.Sequences.{each-implies, get-inside}
+use Rattle.ckr_entry.specs.Entry.{IsEntry}
 use Rattle.ckr_entry.specs.Parts.{Entry}
 use Rattle.ckr_entry.specs.declared.point.State.{State}
 use Rattle.ckr_entry.specs.declared.point.State.TheVariants.{Plain, Matched}
 use Rattle.ckr_jcl.specs.declared.deck.Kind.{Kind}
 use Rattle.ckr_jcl.specs.declared.deck.Kind.TheVariants.{Copy, Select, Merge, Master, Update, Print, Br14}
-use Rattle.ckr_library.specs.NameMaps.{entry_at}
 use Rattle.ckr_meaning.specs.EffectiveJob.{OwnedStep, names_of}
 use Rattle.ckr_meaning.specs.States.{first_of, second_of}
-use Rattle.ckr_points.specs.declared.run.Run.{Run}
-use Rattle.ckr_points.specs.declared.run.RunState.{RunState}
 use Rattle.ckr_points.specs.Follows.{is_within, own_step}
 use Rattle.ckr_points.specs.Office.{is_holder}
 use Rattle.ckr_points.specs.Restart.{place_of, step_in}
-use Rattle.ckr_points.specs.Rows.{EffectPoint, RunRow, TableSet, TablesModel, run_of}
+use Rattle.ckr_points.specs.Rows.{EffectPoint, RunRow, TablesModel, run_of}
 use Rattle.ckr_points.specs.Statements.{kind_number}
 use Rattle.ckr_desk_memory.specs.EventChanges.{is_point_of}
-use Rattle.ckr_desk_memory.specs.OwnSteps.{HasPoint, HavePoints}
+use Rattle.ckr_desk_memory.specs.OwnSteps.{HavePoints}
 use Rattle.ckr_desk_memory.specs.Parts.{IsPointCounted}
 use Rattle.ckr_desk_memory.specs.View.{PointView}
-use Rattle.ckr_desk_refines.specs.Entries.{AreRead, IsPointOfEntry}
+use Rattle.ckr_desk_refines.specs.Entries.{AreRead}
 use Rattle.ckr_desk_refines.specs.EntryRefusal.{are_present, fault_in, is_of_run, is_of_step}
 use Rattle.ckr_desk_turn.proofs.Checkpoints.Ranges.{entry-range}
 use Rattle.ckr_desk_turn.specs.Checkpoints.{are_counts_in_range, is_state_in_range}
-use Rattle.ckr_steps.specs.EntryRecords.{bytes_on}
 use Rattle.ckr_steps.specs.Units.{entries_of, program_of, rejects_of, sum_of}
 use Rattle.ckr_volumes.specs.declared.layout.Layout.{Layout}
 use Rattle.ckr_desk.specs.Entries.{ArePointsRead, HasPointRead, IsFoundOf, IsPointRead, point_in, point_read, refused_at}

@@ -1,7 +1,7 @@
 -- An answer of the operator that was given stands.
-use Rattle.std.proofs.Common.{◌≡◌, ℕ, Bool, List, true, false, refl, ap, sym, ◌∙◌, subst, Option, None, Some, Result, Ok, Err, IfErr}
+use Rattle.std.proofs.Common.{◌≡◌, ℕ, Bool, List, false, refl, ap, sym, ◌∙◌, subst, Option, None, Some, Result, Ok, Err, IfErr}
 use Rattle.std.specs.Option.{option_map_or}
-use Rattle.ckr_console.specs.Answering.{Answering, answer_in_office, asked, restart_answer}
+use Rattle.ckr_console.specs.Answering.{Answering, answer_in_office, restart_answer}
 use Rattle.ckr_console.specs.declared.question.Answer.{Answer}
 use Rattle.ckr_console.specs.declared.question.Question.TheVariants.{Restart}
 use Rattle.ckr_events.specs.declared.event.Event.{Event}

@@ -19,7 +19,7 @@ use Rattle.ckr_volumes.specs.declared.layout.Layout.{Layout}
 use Rattle.ckr_desk.proofs.Turns.Events.{plans-desk, turned}
 use Rattle.ckr_desk.proofs.Turns.Resting.{turned-resting}
 use Rattle.ckr_desk.specs.Rewrite.{OpensSame}
-use Rattle.ckr_desk.specs.Soundness.{IsTrusted, state_of}
+use Rattle.ckr_desk.specs.Soundness.{state_of}
 use Rattle.ckr_desk.specs.State.{DeskView, RoomyDesk}
 use Rattle.ckr_desk.specs.Turn.{asks}
 use Rattle.ckr_desk.specs.Units.{HasTurned, IsPlanned}

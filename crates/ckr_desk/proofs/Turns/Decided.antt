@@ -1,5 +1,5 @@
 -- What is said of a plan is said of what the operator's answer makes of it.
-use Rattle.std.proofs.Common.{◌≡◌, ℕ, Bool, true, false, if◌then◌else◌, List, refl, subst, sym}
+use Rattle.std.proofs.Common.{◌≡◌, ℕ, Bool, true, false, if◌then◌else◌, List, refl, subst}
 use Rattle.std.proofs.lemmas.Bool.{true≢false}
 use Rattle.ckr_console.specs.declared.question.Answer.{Answer}
 use Rattle.ckr_console.specs.declared.question.Answer.TheVariants.{Yes, No, Hold, Silent}

@@ -1,5 +1,5 @@
 -- A turn that is no unit and passes no checkpoint, with the operator's answer if it asks him, from the desk as it stood.
-use Rattle.std.proofs.Common.{◌≡◌, ◌≤◌, ◌++◌, [], ℕ, List, Bool, true, false, refl, ap, sym, ◌∙◌, subst, append-nil, inl, inr, ⊎_elim, Option, Some, None, Result, Ok, Err, IfOk}
+use Rattle.std.proofs.Common.{◌≡◌, ◌≤◌, ◌++◌, [], ℕ, List, Bool, true, false, refl, ap, sym, ◌∙◌, subst, append-nil, inl, inr, Option, Some, None, Result, Ok, Err, IfOk}
 use Rattle.std.proofs.lemmas.Bool.{true≢false}
 use Rattle.ckr_base.specs.declared.code.Code.{Code}
 use Rattle.ckr_console.specs.declared.question.Answer.{Answer}
@@ -16,7 +16,7 @@ use Rattle.ckr_desk_turn.specs.declared.plan.Plan.{Plan}
 use Rattle.ckr_desk_turn.specs.declared.plan.Plan.TheVariants.{Rest, Tell, Work, Pass, Take, Ask, Wait}
 use Rattle.ckr_desk_turn.specs.declared.reply.Reply.{Reply}
 use Rattle.ckr_desk_turn.specs.declared.reply.Turn.{Turn}
-use Rattle.ckr_desk_turn.specs.Desk.{TurnDone, done_by, jobs_of as jobs_of_desk}
+use Rattle.ckr_desk_turn.specs.Desk.{TurnDone}
 use Rattle.ckr_desk_turn.specs.Inquiries.{decide, is_ask}
 use Rattle.ckr_desk_turn.specs.Plans.{plan_of}
 use Rattle.ckr_desk_turn.specs.Turns.{turn_of}

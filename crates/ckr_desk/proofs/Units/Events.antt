@@ -1,5 +1,5 @@
 -- What the event of a unit brings about, where its step ends with a code, and its run ends, is held or is restarted, and where it rewrites a record.
-use Rattle.std.proofs.Common.{◌≡◌, ◌≤◌, ◌<◌, ℕ, Bool, true, false, List, cond, refl, ap, sym, ◌∙◌, subst, slice_set, Option, Some, None}
+use Rattle.std.proofs.Common.{◌≡◌, ◌≤◌, ◌<◌, ℕ, Bool, true, List, cond, refl, ap, sym, ◌∙◌, subst, slice_set, Option, Some, None}
 use Rattle.std.specs.Prelude.{IsTrue}
 use Rattle.std.specs.Option.{option_map, option_map_or}
 use Rattle.std.proofs.lemmas.Option.{same_Some}

@@ -1,5 +1,5 @@
 -- A unit that wasn't worked out: the disk failed.
-use Rattle.std.proofs.Common.{◌≡◌, ℕ, Bool, Option, Result, Err}
+use Rattle.std.proofs.Common.{ℕ, Bool, Option, Result, Err}
 use Rattle.ckr_events.specs.declared.event.Event.{Event}
 use Rattle.ckr_desk_turn.specs.declared.reply.Reply.{Reply}
 use Rattle.ckr_desk.specs.declared.error.DeskError.{DeskError}

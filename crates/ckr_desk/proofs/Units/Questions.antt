@@ -1,10 +1,9 @@
 -- Whether the operator is asked in a turn that works: what its unit is going to tell shows it, before the unit is done.
-use Rattle.std.proofs.Common.{◌≡◌, ℕ, Bool, true, false, List, find, refl, ap, sym, ◌∙◌, subst, Option, Some, None}
+use Rattle.std.proofs.Common.{◌≡◌, ℕ, Bool, true, false, List, refl, ap, sym, ◌∙◌, Option, Some, None}
 use Rattle.std.specs.Option.{option_map_or}
 use Rattle.std.proofs.lemmas.Bool.{false≢true}
 use Rattle.std.proofs.lemmas.Option.{same_Some}
 use Rattle.ckr_base.proofs.Options.{some-not-none}
-use Rattle.ckr_base.specs.declared.code.Code.{Code}
 use Rattle.ckr_console.specs.declared.question.Answer.{Answer}
 use Rattle.ckr_console.specs.declared.question.Answer.TheVariants.{Yes}
 use Rattle.ckr_events.specs.declared.event.Event.{Event}
@@ -26,11 +25,11 @@ use Rattle.ckr_steps.specs.declared.step_run.Worked.TheVariants.{Abend, Rewrite,
 use Rattle.ckr_steps.specs.declared.unit_ahead.UnitAhead.{UnitAhead}
 use Rattle.ckr_steps.specs.StepUnit.{HasLooked}
 use Rattle.ckr_desk_turn.proofs.Codes.{by-verdict}
-use Rattle.ckr_desk_turn.specs.Codes.{CodePlaceModel, asked_at_entry, ended_by, initiator_of, judged_plan, running_reached, verdict_for}
+use Rattle.ckr_desk_turn.specs.Codes.{asked_at_entry, ended_by, initiator_of, judged_plan, running_reached, verdict_for}
 use Rattle.ckr_desk_turn.specs.declared.plan.Plan.{Plan}
 use Rattle.ckr_desk_turn.specs.declared.plan.Plan.TheVariants.{Work}
 use Rattle.ckr_desk_turn.specs.declared.reply.Turn.{Turn}
-use Rattle.ckr_desk_turn.specs.Desk.{DeskModel, TurnDone, done_by, progress_of, start_of, unit_done, with_progress, work_of, seen, jobs_of as jobs_of_desk}
+use Rattle.ckr_desk_turn.specs.Desk.{DeskModel, TurnDone, progress_of, start_of, unit_done, with_progress, work_of, seen, jobs_of as jobs_of_desk}
 use Rattle.ckr_desk_turn.specs.Inquiries.{decide, is_ask}
 use Rattle.ckr_desk_turn.specs.Jobs.{TurnStep, effect_entry}
 use Rattle.ckr_desk_turn.specs.Plans.{plan_of}

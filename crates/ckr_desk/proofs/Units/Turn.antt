@@ -82,7 +82,7 @@ use Rattle.ckr_desk.proofs.Trust.Conditions.{goes-out, shows-in, worked-out}
 use Rattle.ckr_desk.specs.Requests.{has_room, room_behind}
 use Rattle.ckr_desk.specs.Calls.{HasGoneOn, IsLeftBy, IsSettledBehind, may_keep}
 use Rattle.ckr_desk.specs.Rewrite.{IsWrittenBy, LacksAtMost, OpensSame}
-use Rattle.ckr_desk.specs.Turn.{asks, behind_turn, event_of_turn, reply_of, turn_fits}
+use Rattle.ckr_desk.specs.Turn.{asks, behind_turn, event_of_turn, reply_of}
 use Rattle.ckr_desk.specs.Units.{HasDoneUnit, HasGoneBehind, HasWrittenBehind, IsPlainPlan, IsLeftBehind, IsLeftByUnit, IsLeftRewriting, StemsFromUnit}
 use Rattle.ckr_desk.specs.Opening.{behind_records}
 use Rattle.ckr_desk.specs.Soundness.{HasKept, IsTrusted, events_in, last_on, office_on, state_of}

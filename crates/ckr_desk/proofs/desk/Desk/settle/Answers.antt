@@ -1,4 +1,4 @@
-use Rattle.std.proofs.Common.{◌≡◌, ◌∙◌, IfErr, ap, refl, sym, subst, inr}
+use Rattle.std.proofs.Common.{◌∙◌, IfErr, ap, refl, sym, subst, inr}
 use Rattle.ckr_console.specs.Answering.{answer_in_office, asked, restart_answer}
 use Rattle.ckr_console.specs.declared.question.Question.{Question}
 use Rattle.ckr_desk_turn.specs.declared.plan.Plan.{Plan}
@@ -9,7 +9,6 @@ use Rattle.ckr_desk.proofs.Turns.Answers.{answer-so, full-stands, unasked, unask
 use Rattle.ckr_desk.proofs.Turns.Decided.{decided-same, not-ask}
 use Rattle.ckr_desk.proofs.Turns.Readiness.{none-ok, prepared-by, unfit-unready}
 use Rattle.ckr_desk.proofs.Units.Preparation.{err-is}
-use Rattle.ckr_desk.specs.Calls.{HasSameJobs}
 use Rattle.ckr_desk.specs.Preparation.{IsPreparedPlan, NotReadyFor, NotSettled}
 use Rattle.ckr_desk.specs.State.{DeskView}
 use Rattle.ckr_desk.specs.Turn.{AnswerStands, operator_behind}

@@ -1,15 +1,13 @@
-use Rattle.std.proofs.Common.{◌≤◌, IfErr, sym, subst}
+use Rattle.std.proofs.Common.{IfErr, sym, subst}
 use Rattle.ckr_book.specs.Book.{room_of}
 use Rattle.ckr_desk_store.specs.State.{IsSound}
 use Rattle.ckr_desk_turn.specs.declared.plan.Plan.TheVariants.{Work}
-use Rattle.ckr_volumes.specs.declared.layout.Layout.{Layout}
 use Rattle.ckr_desk.proofs.Turns.Preparation.{planned-before, turned-before, turned-not}
 use Rattle.ckr_desk.proofs.Calls.FullBooks.{of-disk-numbers}
 use Rattle.ckr_desk.proofs.Calls.Requests.{if-err}
 use Rattle.ckr_desk.proofs.Calls.Stops.{reads-left}
 use Rattle.ckr_desk.proofs.Units.Preparation.{err-is}
 use Rattle.ckr_desk.proofs.Units.Failures.{unworked-cause, unworked-numbers, unworked-stands, unworked-takes}
-use Rattle.ckr_desk.proofs.Trust.Counts.{book-short}
 use Rattle.ckr_desk.proofs.Trust.Sameness.{IsAsBefore}
 use Rattle.ckr_desk.proofs.Turns.Answers.{stands-before}
 use Rattle.ckr_desk.specs.Requests.{TellsNumbers}
