@@ -1,6 +1,6 @@
 -- The tables in code go on by an event as the tables do.
 use Rattle.std.proofs.Common.{◌≡◌, ℕ, zero, suc, ◌+◌, ◌==◌, ◌<◌, ◌≤◌, ◌&&◌, ◌⊎◌, inl, inr, Bool, true, false, ◌||◌, not, IsSome, IsTrue, nat_eq, List, [], ◌∷◌, ◌++◌, find, length, map, slice_get, slice_set, refl, ap, sym, ◌∙◌, subst, arith, Some, None, Option}
-use Rattle.std.specs.Option.{option_map, option_map_or, option_and_then, option_eq, is_none}
+use Rattle.std.specs.Option.{option_map, option_map_or, option_and_then, option_eq, is_none, is_some}
 use Rattle.std.specs.List.{list_all}
 use Rattle.std.proofs.lemmas.Bool.{false≢true, not-true}
 use Rattle.std.proofs.lemmas.Option.{same_Some, slice_get-map, slice_get_within}
@@ -15,7 +15,7 @@ use Rattle.ckr_base.proofs.Options.{some-not-none}
 use Rattle.ckr_uses.specs.Uses.{are_distinct}
 use Rattle.ckr_events.specs.Jobs.{job_of}
 use Rattle.ckr_events.specs.declared.event.Event.{Event}
-use Rattle.ckr_events.specs.declared.event.Event.TheVariants.{Submitted, Selected, Started, Rewritten, Checkpointed, Cancelled, StepEnded, Ended, Purged}
+use Rattle.ckr_events.specs.declared.event.Event.TheVariants.{Submitted, Selected, Denied, Started, Rewritten, Checkpointed, Cancelled, StepEnded, Ended, Purged}
 use Rattle.ckr_events.specs.declared.event.Ending.{Ending}
 use Rattle.ckr_events.specs.declared.event.Ending.TheVariants.{Completed, Coded, Allocation}
 use Rattle.ckr_entry.specs.declared.point.Mark.{Mark}
@@ -51,7 +51,7 @@ use Rattle.ckr_points.specs.Tables.{is_checkpoints, name_with_role}
 use Rattle.ckr_points_library.specs.Commit.{output_names}
 use Rattle.ckr_points_tables.specs.RunJobs.{IsFitting, effective}
 use Rattle.ckr_points_tables.proofs.RunJobs.{step-all}
-use Rattle.ckr_points_tables.specs.View.{RoomyTables, TablesRoom, RunTableView, Writings, facts_of, has_few_dds, room_of, row_of, row_with, rows_of, seen_under, table_in, written_of}
+use Rattle.ckr_points_tables.specs.View.{RoomyTables, TablesRoom, RunTableView, Writings, facts_of, has_few_dds, room_of, row_of, row_with, rows_of, seen_under, table_in, written_of, next_of}
 use Rattle.ckr_points_tables.proofs.RunChanges.{MakesSameBy, event_in}
 use Rattle.ckr_points_tables.proofs.Follows.{lengths_fit, started-makes}
 use Rattle.ckr_points_tables.proofs.Initiators.{index_changed}
@@ -88,6 +88,7 @@ Followed layout tables event = (row : RunRow) × (run_of tables (job_of event) �
 
 followed : (layout : Layout) (tables : TablesModel) (event : Event) (deck : Option Job) → is_run_change event ≡ true → follows layout tables event deck ≡ true → Followed layout tables event
 followed layout tables (Selected job initiator earlier step id) deck change e = of_run-there tables job (selected_follows layout tables initiator earlier step id) e
+followed layout tables (Denied job rule name) deck change e = let there = of_run-there tables job (λ row. is_in_state Queued row && is_some row.deck.restart) e in (there.0, there.1, tt)
 followed layout tables (Started job step items) deck change e = of_run-there tables job (started_follows layout tables step items.items) e
 followed layout tables (Rewritten job taken writes lengths place image) deck change e = of_run-there tables job (λ row. is_running row && lengths_follow tables row lengths.items && of_step row (is_rewrite tables place image row)) e
 followed layout tables (Checkpointed job id taken writes lengths place bytes) deck change e =
@@ -227,6 +228,7 @@ module _ (library : Catalog) (lines : List Run) (tables : List RunTable) (index 
         sorted = spare.sorted.room;
         marks = spare.marks.room;
         passed = spare.passed.room;
+        next = option_map next_of spare.next;
         each = map room_of tables;
         writings = writings_room;
         entries = map (λ (one : Roomy WrittenEntry). one.room) entered;

@@ -28,3 +28,9 @@ pub mod Holds
 pub mod PutBack
 pub mod Restarts
 pub mod PointOrder
+pub mod UnnamedSets
+pub mod Selections
+pub mod Continuations
+pub mod Preparations
+pub mod ContinuedRuns
+pub mod SelectionRooms

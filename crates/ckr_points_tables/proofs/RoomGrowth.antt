@@ -1,5 +1,5 @@
 -- More room for a run changes nothing of the tables.
-use Rattle.std.proofs.Common.{◌≡◌, ℕ, zero, suc, ◌+◌, ◌<◌, ◌≤◌, Bool, IsSome, IsSomeAnd, List, [], ◌∷◌, length, map, slice_get, slice_set, refl, ap, sym, ◌∙◌, subst, arith, Option, None, Some}
+use Rattle.std.proofs.Common.{◌≡◌, ℕ, zero, suc, ◌+◌, ◌<◌, ◌≤◌, Bool, true, IsSome, IsSomeAnd, IsTrue, List, [], ◌∷◌, length, map, slice_get, slice_set, refl, ap, sym, ◌∙◌, subst, arith, Option, None, Some}
 use Rattle.std.specs.Option.{option_map}
 use Rattle.std.proofs.lemmas.Option.{same_Some, slice_get-map, slice_get_within}
 use Rattle.std.proofs.lemmas.Bool.{false≢true}
@@ -25,8 +25,9 @@ use Rattle.ckr_points_tables.specs.Checkpoint.{checkpoint_name}
 use Rattle.ckr_points_tables.specs.Needs.{step_now}
 use Rattle.ckr_points_tables.proofs.NamedViews.{at-viewed, viewed}
 use Rattle.ckr_points.specs.Rows.{RunRow, TablesModel, run_of}
+use Rattle.ckr_points.specs.Syschk.{names_its_set}
 use Rattle.ckr_points_tables.specs.RunJobs.{IsFitting, effective}
-use Rattle.ckr_points_tables.specs.View.{RoomyTables, TablesRoom, RunTableView, RunRoom, Writings, facts_of, kept_room, table_in, room_of, row_of, row_with, rows_of}
+use Rattle.ckr_points_tables.specs.View.{is_within_limits, RoomyTables, TablesRoom, RunTableView, RunRoom, Writings, facts_of, kept_room, table_in, room_of, row_of, row_with, rows_of}
 use Rattle.ckr_points_tables.proofs.Restarts.Views.{passed-there}
 use Rattle.ckr_points_tables.proofs.Runs.{rows-at, run-stays, runs-at, runs-set}
 
@@ -55,6 +56,12 @@ module _ (lines : List Run) (tables : List RunTable) (are : AreRuns 1 lines tabl
 
   pub fits_there : (job : ℕ) → job ≡ suc place → IsFitting (effective job old.job)
   fits_there job at = subst (λ n. IsFitting (effective n old.job)) (omega (arith, at)) is.fits
+
+  pub limits_there : IsTrue (is_within_limits old.job.deck)
+  limits_there = is.limits
+
+  pub syschk_there : names_its_set old.job.deck.syschk ≡ true
+  syschk_there = is.syschk
 
   pub distinct_there : HasDistinctNames (effective (1 + place) old.job)
   distinct_there = is.distinct

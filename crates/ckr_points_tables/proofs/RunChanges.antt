@@ -13,7 +13,7 @@ use Rattle.ckr_points_library.specs.Disposals.{disposals_by, with_names}
 use Rattle.ckr_uses.specs.Disposal.{dispose, is_temporary}
 use Rattle.ckr_events.specs.Jobs.{job_of}
 use Rattle.ckr_events.specs.declared.event.Event.{Event}
-use Rattle.ckr_events.specs.declared.event.Event.TheVariants.{Selected, Started, Rewritten, Checkpointed, Cancelled, StepEnded, Ended, Purged}
+use Rattle.ckr_events.specs.declared.event.Event.TheVariants.{Selected, Denied, Started, Rewritten, Checkpointed, Cancelled, StepEnded, Ended, Purged}
 use Rattle.ckr_events.specs.declared.event.Ending.{Ending}
 use Rattle.ckr_events.specs.declared.event.Ending.TheVariants.{Completed, Coded, Allocation}
 use Rattle.ckr_events.specs.declared.event.Made.{Made}
@@ -26,7 +26,7 @@ use Rattle.ckr_meaning.specs.EffectiveJob.{OwnedStep, placed_in, stamp_of, is_am
 use Rattle.ckr_meaning.specs.declared.place.Place.{Place}
 use Rattle.ckr_meaning.specs.declared.place.Place.TheVariants.{Before, Opened, Within}
 use Rattle.ckr_points.specs.declared.run.Run.{Run}
-use Rattle.ckr_points.specs.declared.run.RunState.TheVariants.{Purged as PurgedRun}
+use Rattle.ckr_points.specs.declared.run.RunState.TheVariants.{Denied as DeniedRun, Purged as PurgedRun}
 use Rattle.ckr_points_tables.specs.RunChange.{Going, going, fresh_point, opened_by, changed, checkpointed, coded, desk_with, disposed, disposed_of, earlier_for, earlier_now, ended, ended_at, ended_by, ended_in, gone_on, place_now, rewritten, started, step_ended, step_of, table_kit}
 use Rattle.ckr_points_tables.specs.MadeNames.{RunPoints, earlier_flags, made_at, made_in}
 use Rattle.ckr_points_tables.proofs.MadeNames.{flags-same, point_names, points-kept, row_points, steps-among}
@@ -256,5 +256,6 @@ module _ (desk : TablesModel) (line : Run) (facts : RunTableView) (found : run_o
       run-in desk line facts found job (λ row. by_step (λ own step. after_step_ended row own step rc writes lengths.items desk) row desk) same
       ∙ step_ended-by rc writes lengths.items (step_of now (step_in (place_now facts)))
   event_in (Ended job ending) deck change same makes = run-in desk line facts found job (λ row. after_ended row ending desk) same ∙ ended-in ending
+  event_in (Denied job rule name) deck change same makes = run-in desk line facts found job (λ row. with_run (record row { state = DeniedRun }) desk) same
   event_in (Purged job) deck change same makes = run-in desk line facts found job (λ row. with_run (record row { state = PurgedRun }) desk) same
   event_in _ deck change same makes = absurd (false≢true change)

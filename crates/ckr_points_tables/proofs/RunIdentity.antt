@@ -5,7 +5,7 @@ use Rattle.std.proofs.lemmas.Bool.{false≢true}
 use Rattle.std.proofs.lemmas.Option.{same_Some}
 use Rattle.ckr_base.proofs.Options.{some-not-none}
 use Rattle.ckr_events.specs.declared.event.Event.{Event}
-use Rattle.ckr_events.specs.declared.event.Event.TheVariants.{Selected, Started, Rewritten, Checkpointed, Cancelled, StepEnded, Ended, Purged}
+use Rattle.ckr_events.specs.declared.event.Event.TheVariants.{Selected, Denied, Started, Rewritten, Checkpointed, Cancelled, StepEnded, Ended, Purged}
 use Rattle.ckr_events.specs.declared.event.Ending.{Ending}
 use Rattle.ckr_events.specs.declared.event.Ending.TheVariants.{Completed, Coded, Allocation}
 use Rattle.ckr_library.specs.Catalog.{Holding}
@@ -61,6 +61,7 @@ module _ (event : Event) (now : Going Holding) where
 -- an event leaves its run so
 pub stays : (earlier : List Bool) (event : Event) (now : Going Holding) → Stays event now (changed holding_kit earlier event now)
 stays flags (Selected job initiator earlier step id) now = record { number = refl; name = refl; job = refl; free = λ e. absurd (false≢true e); on = λ i e. inr (same_Some initiator i e) }
+stays earlier (Denied job rule name) now = record { number = refl; name = refl; job = refl; free = λ e. absurd (false≢true e); on = λ i e. inl e }
 stays earlier (Started job step items) now =
     by_step-stays (Started job step items) now step (started holding_kit step items.items now) (λ own. record { number = refl; name = refl; job = refl; free = λ e. (e, refl); on = λ i e. inl e })
 stays earlier (Rewritten job taken writes lengths place image) now =

@@ -1,20 +1,22 @@
 -- The steps of a run: those that it has taken over, and then those of its own deck.
-use Rattle.std.proofs.Common.{◌≡◌, ℕ, zero, suc, ◌+◌, ◌-◌, ◌<◌, ◌≤◌, ◌||◌, Bool, true, false, nat_le, IsSome, IfSome, List, [], ◌∷◌, ◌++◌, drop, length, map, slice_get, refl, ap, sym, ◌∙◌, arith, add-one, take, length-append, Option, None, Some}
+use Rattle.std.proofs.Common.{◌≡◌, ℕ, zero, suc, ◌+◌, ◌-◌, ◌<◌, ◌≤◌, ◌&&◌, ◌||◌, Bool, true, false, nat_le, IsSome, IfSome, List, [], ◌∷◌, ◌++◌, drop, length, map, slice_get, refl, ap, sym, ◌∙◌, subst, arith, add-one, take, length-append, Option, None, Some}
 use Rattle.std.specs.List.{cons_option, list_all}
 use Rattle.std.specs.Option.{is_some, option_map, option_map_or}
 use Rattle.std.proofs.lemmas.Bool.{false≢true}
 use Rattle.std.proofs.lemmas.Bool.Decides.{nat_tests}
-use Rattle.std.proofs.lemmas.Option.{same_Some, slice_get-map}
-use Rattle.std.proofs.lemmas.List.{drop_all, length-drop, length-map}
+use Rattle.std.proofs.lemmas.Option.{same_Some, slice_get-map, slice_get_within}
+use Rattle.std.proofs.lemmas.List.{drop_all, length-drop, length-map, length-take}
 use Rattle.ckr_base.proofs.Bools.{and-first, and-second}
 use Rattle.ckr_base.proofs.Numbers.{nat_le-true}
 use Rattle.ckr_base.proofs.Options.{some-not-none}
 use Rattle.ckr_meaning.specs.EffectiveJob.{Effective, OwnedStep, names_of, names_of_steps, owned_by, step_at}
 use Rattle.std.proofs.lemmas.List.Sums.{sum_by-cons}
 use Rattle.ckr_library.specs.NameMaps.{Name}
+use Rattle.ckr_jcl.specs.declared.deck.Job.{Job}
+use Rattle.ckr_points.specs.Restart.{spliced}
 use Rattle.ckr_points_tables.specs.Rooms.{dds_of}
 use Rattle.ckr_points_tables.specs.MadeNames.{RunPoints, made_by, made_in}
-use Rattle.ckr_points_tables.specs.RunJobs.{AreTaken, IsFitting, IsFittingStep, JobView, effective, has_few_dds, is_fitting_step, names_in, own_of, taken_at, taken_from}
+use Rattle.ckr_points_tables.specs.RunJobs.{AreTaken, IsFitting, IsFittingStep, JobView, continued_view, effective, has_few_dds, is_fitting_step, names_in, own_of, taken_at, taken_from}
 use Rattle.ckr_points_tables.specs.declared.own_step.OwnStep.{OwnStep}
 use Rattle.ckr_points_tables.specs.declared.taken_step.TakenStep.{TakenStep}
 
@@ -49,6 +51,33 @@ pub taken-none : (start : ℕ) (items : List TakenStep) → AreTaken start items
 taken-none start [] are place none = refl
 taken-none start (first ∷ items) are zero none = absurd (some-not-none _ none)
 taken-none start (first ∷ items) are (suc place) none = taken-none (suc start) items are.1 place none ∙ later-of (taken_at start first) are.0 (taken_from (suc start) items) place
+
+pub taken-some : (start : ℕ) (items : List TakenStep) → AreTaken start items → (place : ℕ) (one : TakenStep) → slice_get items place ≡ Some one → IsSome (taken_at (start + place) one)
+taken-some start [] are place one there = absurd (some-not-none _ (sym there))
+taken-some start (first ∷ items) are zero one there = subst IsSome (ap (taken_at start) (same_Some first one there) ∙ ap (λ n. taken_at n one) (omega arith)) are.0
+taken-some start (first ∷ items) are (suc place) one there = subst (λ n. IsSome (taken_at n one)) (omega arith) (taken-some (suc start) items are.1 place one there)
+
+pub mapped-some : {A B : Type 0} (f : A → B) (found : Option A) → IsSome found → IsSome (option_map f found)
+mapped-some f None some = absurd (false≢true some)
+mapped-some f (Some one) some = refl
+
+pub unmapped-some : {A B : Type 0} (f : A → B) (found : Option A) → IsSome (option_map f found) → IsSome found
+unmapped-some f None some = absurd (false≢true some)
+unmapped-some f (Some one) some = refl
+
+-- one more
+pub taken-more : (start : ℕ) (items : List TakenStep) → AreTaken start items → (one : TakenStep) → IsSome (taken_at (start + length items) one) → AreTaken start (items ++ one ∷ [])
+taken-more start [] are one some = (subst (λ n. IsSome (taken_at n one)) (omega arith) some, tt)
+taken-more start (first ∷ items) are one some = (are.0, taken-more (suc start) items are.1 one (subst (λ n. IsSome (taken_at n one)) (omega arith) some))
+
+joined : {A : Type 0} (found : Option A) (rest more : List A) → cons_option found (rest ++ more) ≡ cons_option found rest ++ more
+joined None rest more = refl
+joined (Some one) rest more = refl
+
+pub taken-push : (start : ℕ) (items : List TakenStep) (one : TakenStep) (own : OwnedStep) → taken_at (start + length items) one ≡ Some own → taken_from start (items ++ one ∷ []) ≡ taken_from start items ++ own ∷ []
+taken-push start [] one own there = ap (λ found. cons_option found []) (ap (λ n. taken_at n one) (omega arith) ∙ there)
+taken-push start (first ∷ items) one own there =
+    ap (cons_option (taken_at start first)) (taken-push (suc start) items one own (ap (λ n. taken_at n one) (omega arith) ∙ there)) ∙ joined (taken_at start first) (taken_from (suc start) items) (own ∷ [])
 
 -- ---- the steps of a run
 
@@ -145,7 +174,7 @@ low-step job fits (suc place) there =
 
 -- ---- steps from a place on
 
-inside-get : {A : Type 0} (items : List A) (place : ℕ) → place < length items → (one : A) × (slice_get items place ≡ Some one)
+pub inside-get : {A : Type 0} (items : List A) (place : ℕ) → place < length items → (one : A) × (slice_get items place ≡ Some one)
 inside-get [] place inside = absurd (omega (arith, inside))
 inside-get (one ∷ items) zero inside = (one, refl)
 inside-get (one ∷ items) (suc place) inside = inside-get items place (omega (arith, inside))
@@ -199,3 +228,41 @@ made-next points root name steps count place next number first inside is =
 -- none is behind the last one
 pub made-end : (points : RunPoints) (root : ℕ) (name : Name) (steps : List OwnedStep) (count place number : ℕ) → length (take count steps) ≤ place → made_in points root number (drop place (take count steps)) name ≡ false
 made-end points root name steps count place number beyond = ap (λ some. made_in points root number some name) (drop_all place (take count steps) beyond)
+
+-- the first steps, where there are no more
+pub take-far : {A : Type 0} (items : List A) (place count : ℕ) → place ≤ count → (place < count → length items ≤ place) → take place items ≡ take count items
+take-far items zero zero within far = refl
+take-far [] zero (suc count) within far = refl
+take-far (one ∷ items) zero (suc count) within far = absurd (omega (arith, far (omega arith)))
+take-far items (suc place) zero within far = absurd (omega (arith, within))
+take-far [] (suc place) (suc count) within far = refl
+take-far (one ∷ items) (suc place) (suc count) within far = ap (λ rest. one ∷ rest) (take-far items place count (omega (arith, within)) (λ less. omega (arith, far (omega (arith, less)))))
+
+-- there is a step at each place before the end
+pub inside-some : {A : Type 0} (items : List A) (place : ℕ) → place < length items → IsSome (slice_get items place)
+inside-some [] place inside = absurd (omega (arith, inside))
+inside-some (one ∷ items) zero inside = refl
+inside-some (one ∷ items) (suc place) inside = inside-some items place (omega (arith, inside))
+
+-- a step of a continued job
+pub spliced-is : (number run step : ℕ) (deck : Job) (earlier : JobView) (own : OwnedStep) → step_at (effective number earlier) step ≡ Some own → spliced (effective number earlier) step run deck ≡ effective run (continued_view number deck earlier step)
+spliced-is number run zero deck earlier own there = absurd (some-not-none own (sym there))
+spliced-is number run (suc place) deck earlier own there =
+    let steps = (effective number earlier).steps in
+    let inside : place < length steps = slice_get_within steps place own there in
+    let long : suc place ≡ length (take (suc place) steps) = omega (arith, inside, length-take (suc place) steps) in
+    ap (λ n. let job : Effective = record { root = earlier.root; steps = take (suc place) steps ++ map (owned_by run deck) (drop n deck.steps) } in job) long
+
+-- the step at which it goes on is that of the earlier run
+pub continued-step : (number run step : ℕ) (deck : Job) (earlier : JobView) (own : OwnedStep) → step_at (effective number earlier) step ≡ Some own → step_at (effective run (continued_view number deck earlier step)) step ≡ Some own
+continued-step number run zero deck earlier own there = absurd (some-not-none own (sym there))
+continued-step number run (suc place) deck earlier own there =
+    let steps = (effective number earlier).steps in
+    let inside : place < length steps = slice_get_within steps place own there in
+    let front : place < length (take (suc place) steps) = omega (arith, inside, length-take (suc place) steps) in
+    sym (step-taken run (continued_view number deck earlier (suc place)) place front) ∙ take-get steps (suc place) place (omega arith) ∙ there
+
+pub take-next : {A : Type 0} (items : List A) (place : ℕ) (one : A) → slice_get items place ≡ Some one → take place items ++ one ∷ [] ≡ take (suc place) items
+take-next [] place one there = absurd (some-not-none _ (sym there))
+take-next (first ∷ items) zero one there = ap (λ x. x ∷ []) (sym (same_Some first one there))
+take-next (first ∷ items) (suc place) one there = ap (λ rest. first ∷ rest) (take-next items place one there)

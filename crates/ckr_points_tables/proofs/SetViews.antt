@@ -37,7 +37,7 @@ use Rattle.ckr_points_tables.specs.RunMarks.{carried_by, mark_by, own_names_of, 
 use Rattle.ckr_points_tables.specs.View.{Writings, find_last, later_or, point_for, seen_by, table_in, table_of}
 
 -- marks that are the same by name
-marked_same : (first second : Name → Mark) → ((name : Name) → first name ≡ second name) → (names : List Name) → marked_under first names ≡ marked_under second names
+pub marked_same : (first second : Name → Mark) → ((name : Name) → first name ≡ second name) → (names : List Name) → marked_under first names ≡ marked_under second names
 marked_same first second same [] = refl
 marked_same first second same (name ∷ names) =
     ap (λ mark. with_entry name mark (marked_under first names)) (same name) ∙ ap (with_entry name (second name)) (marked_same first second same names)

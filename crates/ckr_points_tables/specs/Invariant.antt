@@ -7,7 +7,7 @@ use Rattle.ckr_points_library.specs.Holdings.{owned}
 use Rattle.ckr_uses.specs.Uses.{are_distinct}
 use Rattle.ckr_events.specs.Jobs.{job_of}
 use Rattle.ckr_events.specs.declared.event.Event.{Event}
-use Rattle.ckr_events.specs.declared.event.Event.TheVariants.{Submitted, Selected, Started, Rewritten, Checkpointed, Cancelled, StepEnded, Restarted, Held, Released, Ended, Purged}
+use Rattle.ckr_events.specs.declared.event.Event.TheVariants.{Submitted, Selected, Denied, Started, Rewritten, Checkpointed, Cancelled, StepEnded, Restarted, Held, Released, Ended, Purged}
 use Rattle.ckr_jcl.specs.declared.deck.Job.{Job}
 use Rattle.ckr_jcl.specs.declared.deck.Step.{Step}
 use Rattle.ckr_entry.specs.declared.point.Mark.{Mark}
@@ -30,7 +30,8 @@ use Rattle.ckr_points.specs.Rows.{EffectPoint, KeptEntry, TableSet, TablesModel,
 use Rattle.ckr_points_tables.specs.Rewrite.{HasFewRewrites, has_master}
 use Rattle.ckr_points.specs.Restart.{kept_at, place_of, step_in}
 use Rattle.ckr_points_tables.specs.Restart.{HasPassedFor, passed_at_start}
-use Rattle.ckr_points_tables.specs.View.{RunRoom, TablesRoom, RoomyTables, is_within_limits, kept_room}
+use Rattle.ckr_points_tables.specs.Selection.{prepared_for}
+use Rattle.ckr_points_tables.specs.View.{NextRun, RunRoom, TablesRoom, RoomyTables, is_within_limits, kept_room}
 
 -- ---- what holds of runs
 
@@ -91,10 +92,11 @@ pub record AreKept (sets : Named Holding) (lines : List Run) (tables : List RunT
 
 -- ---- what an event needs
 
--- the events that the tables in code go on by: all but those of a run that continues another one, or is denied
+-- the events that the tables in code go on by: all but the selection of a run that continues another one
 abbrev pub is_plain_event : Event → Bool
 is_plain_event (Submitted job cards) = true
 is_plain_event (Selected job initiator earlier step id) = earlier == 0
+is_plain_event (Denied job rule name) = true
 is_plain_event (Started job step made) = true
 is_plain_event (Rewritten job taken writes lengths place image) = true
 is_plain_event (Checkpointed job id taken writes lengths place bytes) = true
@@ -105,7 +107,6 @@ is_plain_event (Held job code writes lengths) = true
 is_plain_event (Released job) = true
 is_plain_event (Ended job ending) = true
 is_plain_event (Purged job) = true
-is_plain_event _ = false
 
 abbrev pub is_submission : Event → Bool
 is_submission (Submitted job cards) = true
@@ -114,6 +115,7 @@ is_submission _ = false
 -- the plain events that bring a run further, or end it: no submission, hold, release or restart
 abbrev pub is_run_change : Event → Bool
 is_run_change (Selected job initiator earlier step id) = earlier == 0
+is_run_change (Denied job rule name) = true
 is_run_change (Started job step made) = true
 is_run_change (Rewritten job taken writes lengths place image) = true
 is_run_change (Checkpointed job id taken writes lengths place bytes) = true
@@ -211,6 +213,19 @@ pub record HasEntryRoom (now : RoomyTables) (row : RunRow) : Type 0 where
   pub few : row.count < 4294967295
   pub kept : HasKeptRoom now row.job.root (step_of_run row (step_in (place_of row)))
 
+-- the run was made for its selection, with a spare place for each name that it may lose
+pub record HasNext (now : RoomyTables) (row : RunRow) (earlier step : ℕ) (id : Option Name) : Type 0 where
+  pub facts : option_map (λ (next : NextRun). next.facts) now.room.next ≡ prepared_for now.desk row earlier step id
+  pub lost : (next : NextRun) → now.room.next ≡ Some next → length next.facts.passed ≤ next.lost
+
+abbrev pub HasSelectionRoom : RoomyTables → RunRow → ℕ → ℕ → Option Name → Type 0
+HasSelectionRoom now row zero step id = Unit {0}
+HasSelectionRoom now row (suc before) step id = HasNext now row (suc before) step id
+
+-- room for the selection of a run, if it is there
+abbrev pub CanSelect : RoomyTables → ℕ → ℕ → ℕ → Option Name → Type 0
+CanSelect now job earlier step id = (row : RunRow) (one : RunRoom) → run_of now.desk job ≡ Some row → room_at now.room job ≡ Some one → HasSelectionRoom now row earlier step id
+
 -- room for a checkpoint of a run, if it is there
 abbrev pub CanKeep : RoomyTables → ℕ → Type 0
 CanKeep now job = (row : RunRow) → run_of now.desk job ≡ Some row → HasEntryRoom now row
@@ -226,6 +241,7 @@ HasListRoom room _ = Unit {0}
 
 -- room for what the event makes of its run
 abbrev pub HasRoomIn : RoomyTables → RunRow → RunRoom → Event → Type 0
+HasRoomIn now row one (Selected job initiator earlier step id) = HasSelectionRoom now row earlier step id
 HasRoomIn now row one (Started job step made) = HasStartRoom now.room row one
 HasRoomIn now row one (Checkpointed job id taken writes lengths place bytes) = HasEntryRoom now row
 HasRoomIn now row one (StepEnded job step rc writes lengths) = HasEndRoom row one

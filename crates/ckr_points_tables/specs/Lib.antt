@@ -21,3 +21,4 @@ pub mod PutBack
 pub mod Restart
 pub mod PointOrder
 pub mod Release
+pub mod Selection

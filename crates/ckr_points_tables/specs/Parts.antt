@@ -1,10 +1,11 @@
 -- How the parts of the tables in code are seen.
 use Rattle.std.specs.Prelude.{◌-◌, map, vec_len, vec_capacity}
+use Rattle.std.specs.Option.{option_map}
 use Rattle.ckr_base.specs.RoomyLists.{Roomy}
 use Rattle.ckr_points_tables.specs.declared.run_table.WrittenEntry.{WrittenEntry}
 use Rattle.ckr_points_tables.specs.declared.tables.Tables.TheInside.{Inside}
 use Rattle.ckr_points_tables.specs.Invariant.{AreKept}
-use Rattle.ckr_points_tables.specs.View.{RoomyTables, room_of, rows_of, seen_under, table_in, written_of}
+use Rattle.ckr_points_tables.specs.View.{RoomyTables, next_of, room_of, rows_of, seen_under, table_in, written_of}
 
 abbrev pub tables_seen : Inside → RoomyTables
 tables_seen a = record {
@@ -20,6 +21,7 @@ tables_seen a = record {
     each = map room_of a.tables.items;
     writings = vec_capacity a.writings - vec_len a.writings;
     entries = map (λ (entries : Roomy WrittenEntry). entries.room) a.writings.items;
+    next = option_map next_of a.spare.next;
   };
 }
 

@@ -4,7 +4,7 @@ use Rattle.std.specs.Option.{option_map, option_map_or}
 use Rattle.ckr_points_library.specs.Commit.{committed, output_names}
 use Rattle.ckr_points_library.specs.Holdings.{holding_ways}
 use Rattle.ckr_events.specs.declared.event.Event.{Event}
-use Rattle.ckr_events.specs.declared.event.Event.TheVariants.{Selected, Started, Rewritten, Checkpointed, Cancelled, StepEnded, Ended, Purged}
+use Rattle.ckr_events.specs.declared.event.Event.TheVariants.{Selected, Denied, Started, Rewritten, Checkpointed, Cancelled, StepEnded, Ended, Purged}
 use Rattle.ckr_events.specs.declared.event.Ending.{Ending}
 use Rattle.ckr_events.specs.declared.event.Ending.TheVariants.{Completed, Coded, Allocation}
 use Rattle.ckr_events.specs.declared.event.Made.{Made}
@@ -22,7 +22,7 @@ use Rattle.ckr_meaning.specs.EffectiveJob.{OwnedStep, name_of, placed_in, stamp_
 use Rattle.ckr_meaning.specs.declared.place.Place.{Place}
 use Rattle.ckr_meaning.specs.declared.place.Place.TheVariants.{Before, Opened, Within}
 use Rattle.ckr_points.specs.declared.run.Run.{Run}
-use Rattle.ckr_points.specs.declared.run.RunState.TheVariants.{On, Ended as EndedRun, Purged as PurgedRun}
+use Rattle.ckr_points.specs.declared.run.RunState.TheVariants.{On, Ended as EndedRun, Denied as DeniedRun, Purged as PurgedRun}
 use Rattle.ckr_points_tables.specs.MadeNames.{HasFlags, RunPoints, earlier_flags}
 use Rattle.ckr_points_tables.specs.StepEnd.{disposals_at}
 use Rattle.ckr_points.specs.Tables.{effect_rewritten, fresh_effect, is_checkpoints, is_updates, kept_entry, name_with_role, point_rewritten, with_kept_entry}
@@ -110,6 +110,9 @@ kept_by now id place bytes = record { id = id; run = now.line.number; place = pl
 abbrev pub checkpointed_facts : ℕ → ℕ → Name → Kept → RunTableView → RunTableView
 checkpointed_facts step writes set kept facts =
     record facts { place = Some (Within step writes); count = suc facts.count; in_effect = Some (fresh_effect set kept) }
+
+abbrev pub denied : {X : Type 0} → Going X → Going X
+denied now = record now { line = record now.line { state = DeniedRun } }
 
 abbrev pub purged : {X : Type 0} → Going X → Going X
 purged now = record now { line = record now.line { state = PurgedRun } }
@@ -247,6 +250,7 @@ module _ {X : Type 0} (kit : Kit X) where
     -- what an event of the run makes of it
     abbrev pub changed : Event → Going X → Going X
     changed (Selected job initiator earlier step id) now = selected initiator now
+    changed (Denied job rule name) now = denied now
     changed (Started job step items) now = by_step_of step (started step items.items now) now
     changed (Rewritten job taken writes lengths place image) now =
         let running = step_in (place_now now.facts) in

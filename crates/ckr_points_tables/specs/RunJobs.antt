@@ -1,5 +1,5 @@
 -- The job of a run: the steps that it has taken over from earlier runs, and then those of its own deck.
-use Rattle.std.specs.Prelude.{◌≡◌, ◌≤◌, ℕ, suc, Bool, true, ◌&&◌, nat_le, IsSome, List, [], ◌∷◌, ◌++◌, drop, length, map, slice_get, Option}
+use Rattle.std.specs.Prelude.{◌≡◌, ◌≤◌, ℕ, suc, Bool, true, ◌&&◌, nat_le, IsSome, List, [], ◌∷◌, ◌++◌, drop, length, map, slice_get, take, Option}
 use Rattle.std.specs.Option.{option_map, option_map_or}
 use Rattle.std.specs.List.{cons_option, list_all}
 use Rattle.std.specs.Rc.{rc_value}
@@ -29,6 +29,11 @@ effective number job = record {
 -- the job of a run that continues none
 abbrev pub plain_view : ℕ → Job → JobView
 plain_view number deck = record { deck = deck; root = number; earlier = 0; earlier_step = 0; taken = [] }
+
+-- the job of a run with this deck that continues a run of this number and job at a step
+abbrev pub continued_view : ℕ → Job → JobView → ℕ → JobView
+continued_view number deck earlier step =
+    record { deck = deck; root = earlier.root; earlier = number; earlier_step = step; taken = take step (effective number earlier).steps }
 
 -- the names of a step, if there is one
 abbrev pub names_in : ℕ → Option OwnedStep → List Name

@@ -10,9 +10,13 @@ use Rattle.ckr_points_tables.specs.RunJobs.{JobView, effective}
 use Rattle.ckr_points_tables.specs.View.{RunTableView, seen_by, table_of}
 use Rattle.ckr_points_tables.specs.declared.marking.Marking.{Marking}
 
+-- the names of the steps of a run from a place on
+abbrev pub names_from : ℕ → ℕ → JobView → List Name
+names_from place number job = names_of_steps job.root (drop place (effective number job).steps)
+
 -- the names of the steps that a run executes itself
 abbrev pub own_names_of : ℕ → JobView → List Name
-own_names_of number job = names_of_steps job.root (drop (pred job.earlier_step) (effective number job).steps)
+own_names_of number job = names_from (pred job.earlier_step) number job
 
 -- the mark of a name: own names as they are now, others as they were carried over, where they were
 abbrev pub mark_by : (Name → Mark) → List Name → List Mark → Name → Mark
@@ -27,10 +31,14 @@ abbrev pub point_marks : ℕ → RunTableView → (Name → Mark) → List Mark
 point_marks number facts now =
     marks_for (mark_by now (own_names_of number facts.job) (carried_by facts.points facts.job.earlier_step)) (names_of_job (effective number facts.job))
 
+-- the names that are marked as the data sets are
+abbrev pub marking_names : Marking → List Name
+marking_names marking = names_from marking.own_from marking.run marking.job.now
+
 -- the mark of a name as the code takes it
 abbrev pub marking_mark : Marking → Name → Mark
-marking_mark marking = mark_by (mark_now (seen_by table_of marking.library.now.sets)) (own_names_of marking.run marking.job.now) marking.carried.now
+marking_mark marking = mark_by (mark_now (seen_by table_of marking.library.now.sets)) (marking_names marking) marking.carried.now
 
--- these names are the run's own
+-- these names are among those
 abbrev pub AreOwn : Marking → List Name → Type 0
-AreOwn marking names = (name : Name) → is_among names name ≡ true → is_among (own_names_of marking.run marking.job.now) name ≡ true
+AreOwn marking names = (name : Name) → is_among names name ≡ true → is_among (marking_names marking) name ≡ true

@@ -1,5 +1,5 @@
 -- How the tables in code are seen.
-use Rattle.std.specs.Prelude.{ℕ, zero, suc, ◌==◌, Bool, false, ◌&&◌, nat_eq, if◌then◌else◌, List, [], ◌∷◌, map, find, slice_get, take, Option, Some, None}
+use Rattle.std.specs.Prelude.{ℕ, zero, suc, ◌-◌, vec_len, vec_capacity, ◌==◌, Bool, false, ◌&&◌, nat_eq, if◌then◌else◌, List, [], ◌∷◌, map, find, slice_get, take, Option, Some, None}
 use Rattle.std.specs.Option.{option_map, option_map_or, option_eq}
 use Rattle.ckr_base.specs.RoomyLists.{Roomy}
 use Rattle.ckr_base.specs.declared.code.Code.{Code}
@@ -237,8 +237,16 @@ pub record RunRoom : Type 0 where
 abbrev pub room_of : RunTable → RunRoom
 room_of table = record { points = table.points.room; codes = table.codes.room; passed = table.passed.room }
 
+-- a run as it was made for its selection, and how many more names it loses with no memory taken
+pub record NextRun : Type 0 where
+  pub facts : RunTableView
+  pub lost : ℕ
+
+abbrev pub next_of : RunTable → NextRun
+next_of table = record { facts = facts_of table; lost = vec_capacity table.lost - vec_len table.lost }
+
 -- how much more the tables take: data sets, and entries of each; runs, their lines and lists of entries; what a point is made of; what each run takes, and
--- how many more entries of each
+-- how many more entries of each; and the run that was made for its selection, if one was
 pub record TablesRoom : Type 0 where
   pub sets : ℕ
   pub kept : Named ℕ
@@ -250,6 +258,7 @@ pub record TablesRoom : Type 0 where
   pub each : List RunRoom
   pub writings : ℕ
   pub entries : List ℕ
+  pub next : Option NextRun
 
 -- the tables, and how much more they take with no memory
 pub record RoomyTables : Type 0 where

@@ -1,14 +1,15 @@
 //! The job of a run: the steps that it has taken over from earlier runs, and those of its own deck.
-ghost use Rattle.std.specs.Prelude.{◌≡◌, ◌≤◌, ℕ, IfSome, length, map, slice_get};
+ghost use Rattle.std.specs.Prelude.{◌≡◌, ◌≤◌, ℕ, ◌++◌, ◌∷◌, [], IfOk, IfSome, IsSome, OnOk, Some, length, map, slice_get, take};
 ghost use Rattle.std.specs.Rc.{rc_value};
-ghost use Rattle.std.specs.Option.{is_some, option_copied, option_map};
-ghost use Rattle.ckr_meaning.specs.EffectiveJob.{is_among, names_of_job, owned_by, step_at};
-ghost use Rattle.ckr_points_tables.specs.RunJobs.{effective, own_of, plain_view, IsFitting, IsFittingStep};
+ghost use Rattle.std.specs.Option.{is_some, option_map};
+ghost use Rattle.ckr_meaning.specs.EffectiveJob.{is_among, names_of_job, owned_by, step_at, OwnedStep};
+ghost use Rattle.ckr_points_tables.specs.RunJobs.{continued_view, effective, own_of, plain_view, IsFitting, IsFittingStep};
 
 use crate::made_names::has_name_from;
-use crate::{OwnStep, TakenStep};
-use ckr_base::DsName;
-use ckr_jcl::{Job, Step};
+use crate::taken_step::step_of;
+use crate::{OwnStep, TakenSteps};
+use ckr_base::{DsName, NoMemory};
+use ckr_jcl::Job;
 use std::alloc::Global;
 use std::marker::Model;
 use std::rc::Rc;
@@ -20,18 +21,16 @@ pub struct EffectiveJob {
     root: u32,
     earlier: u32,
     earlier_step: u8,
-    taken: Vec<TakenStep>,
+    taken: TakenSteps,
 }
 
 impl Model for EffectiveJob {
     ghost use Rattle.std.specs.Rc.{rc_value};
-    ghost use Rattle.ckr_points_tables.specs.RunJobs.{taken_from, AreTaken, JobView};
+    ghost use Rattle.ckr_points_tables.specs.RunJobs.{JobView};
 
     ghost Value = { JobView };
 
-    ghost view = { λ a. record { deck = rc_value a.deck; root = a.root; earlier = a.earlier; earlier_step = a.earlier_step; taken = taken_from 0 a.taken.items } };
-
-    ghost invariant = { λ a. AreTaken 0 a.taken.items };
+    ghost view = { λ a. record { deck = rc_value a.deck; root = a.root; earlier = a.earlier; earlier_step = a.earlier_step; taken = a.taken } };
 }
 
 impl EffectiveJob {
@@ -44,7 +43,7 @@ impl EffectiveJob {
             root: run,
             earlier: 0,
             earlier_step: 0,
-            taken: Vec::new(alloc),
+            taken: TakenSteps::new(alloc),
         }
     }
 
@@ -84,20 +83,52 @@ impl EffectiveJob {
         has_name_from(self, run, 0, name)
     }
 
-    /// How many steps it has taken over.
-    fn count_taken(&self) -> usize
-        ensures { result ≡ length self.now.taken }
+    /// The job of a run with this deck that continues an earlier run, of this number and job, at a step: it takes over the steps up to
+    /// that one.
+    ///
+    /// `NoMemory`: there may be no memory for them.
+    pub(crate) fn continued(
+        &self,
+        alloc: Global,
+        run: u32,
+        earlier: &EffectiveJob,
+        step: u8,
+    ) -> Result<Self, NoMemory>
+        ensures { IfOk result (λ job. job ≡ continued_view run self.now.deck earlier.now step) }
     {
-        self.taken.len()
+        let taken = earlier.steps_up_to(alloc, run, step)?;
+        let deck = self.deck.clone()?;
+        Ok(EffectiveJob {
+            deck,
+            root: earlier.root,
+            earlier: run,
+            earlier_step: step,
+            taken,
+        })
     }
 
-    /// The step that it has taken over at a place.
-    fn taken_in(&self, place: usize) -> Option<OwnStep<'_>>
-        ensures { option_map own_of result ≡ slice_get self.now.taken place }
+    /// The steps of a run of this number and job up to one, to be taken over.
+    fn steps_up_to(&self, alloc: Global, run: u32, step: u8) -> Result<TakenSteps, NoMemory>
+        ensures { IfOk result (λ steps. steps ≡ take step (effective run self.now).steps) }
     {
-        match taken_step(self.taken.as_slice(), place) {
-            Some(taken) => step_of(taken.deck.as_ref(), taken.owner, place),
-            None => None,
+        let mut steps = TakenSteps::new(alloc);
+        let count = self.count_steps().min(usize::from(step));
+        for place in 0..count {
+            self.take_over(run, place, &mut steps)?;
+        }
+        Ok(steps)
+    }
+
+    /// The step at the next place is taken over, of a run of this number and job.
+    fn take_over(&self, run: u32, place: usize, steps: &mut TakenSteps) -> Result<(), NoMemory>
+        requires next { length steps.old ≡ place }
+        requires there { IsSome (slice_get (effective run self.now).steps place) }
+        ensures { (own : OwnedStep) → slice_get (effective run self.now).steps place ≡ Some own → OnOk result (steps.new ≡ steps.old ++ own ∷ []) }
+    {
+        if place < self.taken.count() {
+            steps.push_taken(&self.taken, place)
+        } else {
+            steps.push(&self.deck, run)
         }
     }
 
@@ -105,7 +136,7 @@ impl EffectiveJob {
     pub(crate) fn count_steps(&self) -> usize
         ensures { (run : ℕ) → result ≡ length (effective run self.now).steps }
     {
-        let taken = self.count_taken();
+        let taken = self.taken.count();
         let own = self.deck().steps.as_slice().len();
         if taken < own { own } else { taken }
     }
@@ -115,36 +146,12 @@ impl EffectiveJob {
         ensures step { option_map own_of result ≡ slice_get (effective run self.now).steps place }
         ensures fitting { IsFitting (effective run self.now) → IfSome result (λ own. IsFittingStep (own_of own)) }
     {
-        if place < self.count_taken() {
-            self.taken_in(place)
+        if place < self.taken.count() {
+            self.taken.step_in(place)
         } else {
             step_of(self.deck(), run, place)
         }
     }
-}
-
-/// The step that was taken over at a place.
-fn taken_step(taken: &[TakenStep], place: usize) -> Option<&TakenStep>
-    ensures { option_copied result ≡ slice_get taken.now place }
-{
-    taken.get(place)
-}
-
-/// The step at a place of a deck, with the run that owns it.
-fn step_of(deck: &Job, owner: u32, place: usize) -> Option<OwnStep<'_>>
-    ensures { option_map own_of result ≡ option_map (owned_by owner deck.now) (slice_get deck.now.steps place) }
-{
-    match deck_step(deck.steps.as_slice(), place) {
-        Some(step) => Some(OwnStep { deck, step, owner }),
-        None => None,
-    }
-}
-
-/// The step at a place of these.
-fn deck_step(steps: &[Step], place: usize) -> Option<&Step>
-    ensures { option_copied result ≡ slice_get steps.now place }
-{
-    steps.get(place)
 }
 
 /// A step of a job by its number, from 1, for the run of this number.

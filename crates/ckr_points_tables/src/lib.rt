@@ -3,6 +3,7 @@
 
 mod allocation;
 mod checkpoint;
+mod continuation;
 mod effective_job;
 mod entry_now;
 mod event;
@@ -20,6 +21,7 @@ mod rooms;
 mod run_change;
 mod run_marks;
 mod run_table;
+mod selection;
 mod start;
 mod step_end;
 mod step_points;
@@ -40,4 +42,4 @@ pub use step_end::place_now;
 pub use step_points::StepPoints;
 pub use submit::is_submittable;
 pub use tables::Tables;
-pub use taken_step::TakenStep;
+pub use taken_step::{TakenStep, TakenSteps};

@@ -33,7 +33,7 @@ fn made_at(points: &[StepPoint], step: u8, name: &DsName) -> bool
 }
 
 /// Whether the data set of a DD has this name, for a DD of the step of that name.
-fn is_named(dd: &Dd, root: u32, owner: u32, step: &Name8, name: &DsName) -> bool
+pub(crate) fn is_named(dd: &Dd, root: u32, owner: u32, step: &Name8, name: &DsName) -> bool
     requires root { root ≤ 9999999 }
     requires owner { owner ≤ 9999999 }
     ensures { result ≡ option_map_or (same_name name.now) (library_name dd.now root owner step.now) false }

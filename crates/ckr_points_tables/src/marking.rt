@@ -10,6 +10,8 @@ pub(crate) struct Marking<'a> {
     /// The number of the run.
     pub(crate) run: u32,
     pub(crate) job: &'a EffectiveJob,
+    /// The place of the first step whose names are marked as the data sets are.
+    pub(crate) own_from: usize,
     /// The marks of the point from which the run was continued.
     pub(crate) carried: &'a [Mark],
     pub(crate) library: &'a Library,

@@ -28,7 +28,7 @@ pub(crate) fn delete(name: &DsName, library: &mut Library)
 }
 
 /// A data set goes that a point marks absent.
-fn delete_made(marks: &[Mark], name: &DsName, library: &mut Library)
+pub(crate) fn delete_made(marks: &[Mark], name: &DsName, library: &mut Library)
     ensures { library.new.sets ≡ made_gone marks.now name.now library.old.sets }
 {
     if is_marked_absent(marks, name) {
@@ -83,7 +83,7 @@ fn put_back_length(marks: &[Mark], name: &DsName, library: &mut Library)
 }
 
 /// The outputs of a step get the lengths of their marks.
-fn put_back_lengths(root: u32, own: &OwnStep<'_>, marks: &[Mark], library: &mut Library)
+pub(crate) fn put_back_lengths(root: u32, own: &OwnStep<'_>, marks: &[Mark], library: &mut Library)
     requires root { root ≤ 9999999 }
     requires owner { own.now.owner ≤ 9999999 }
     requires filled { EachEntry IsFilled library.old.sets }
@@ -106,7 +106,7 @@ fn set_catalog(name: &DsName, on: bool, library: &mut Library)
 }
 
 /// A data set gets the catalog mark of its mark, if it has one.
-fn put_back_catalog(marks: &[Mark], name: &DsName, library: &mut Library)
+pub(crate) fn put_back_catalog(marks: &[Mark], name: &DsName, library: &mut Library)
     ensures { library.new.sets ≡ catalog_back marks.now name.now library.old.sets }
 {
     if let Some(present) = present_at(marks, name) {

@@ -210,7 +210,7 @@ fn taken_of(point: Option<&WrittenEntry>) -> u32
 }
 
 /// How many writes the step had made at a point of an entry.
-fn writes_of(point: Option<&WrittenEntry>) -> u32
+pub(crate) fn writes_of(point: Option<&WrittenEntry>) -> u32
     ensures { result ≡ (point_written (option_copied point.entry)).writes }
 {
     match point {
@@ -220,7 +220,7 @@ fn writes_of(point: Option<&WrittenEntry>) -> u32
 }
 
 /// How many entries the job had written at a point of an entry.
-fn count_of(point: Option<&WrittenEntry>) -> u32
+pub(crate) fn count_of(point: Option<&WrittenEntry>) -> u32
     ensures { result ≡ (point_written (option_copied point.entry)).count }
 {
     match point {

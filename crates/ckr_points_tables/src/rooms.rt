@@ -1,10 +1,12 @@
 //! Memory for an event, before it is written.
-ghost use Rattle.std.specs.Prelude.{◌≡◌, ℕ, suc, Some, None, ◌+◌, ◌*◌, ◌≤◌, ◌<◌, OnOk, length, map, slice_get, vec_len, vec_capacity};
-ghost use Rattle.std.specs.Option.{option_and_then, option_map_or};
+ghost use Rattle.std.specs.Prelude.{◌≡◌, ℕ, suc, Some, None, IfOk, IfSome, ◌+◌, ◌*◌, ◌≤◌, ◌<◌, OnOk, length, map, slice_get, vec_len, vec_capacity};
+ghost use Rattle.std.specs.Option.{option_and_then, option_map, option_map_or};
 ghost use Rattle.ckr_events.specs.declared.event.Event.{Event as EventOfDesk};
 ghost use Rattle.ckr_meaning.specs.EffectiveJob.{step_at, OwnedStep};
+ghost use Rattle.ckr_points.specs.Rows.{run_of, RunRow};
+ghost use Rattle.ckr_points_tables.specs.Selection.{prepared_for, HasLostRoom};
 ghost use Rattle.ckr_points_tables.specs.StepEnd.{HasPassedRoom};
-ghost use Rattle.ckr_points_tables.specs.Invariant.{CanEnd, CanKeep, CanRestart, CanStart, HasRoom, HasRunRoom};
+ghost use Rattle.ckr_points_tables.specs.Invariant.{CanEnd, CanKeep, CanRestart, CanSelect, CanStart, HasRoom, HasRunRoom};
 ghost use Rattle.ckr_library.specs.Catalog.{KeepsEntryRoom};
 ghost use Rattle.ckr_points_tables.specs.Checkpoint.{checkpoint_name};
 ghost use Rattle.ckr_points_tables.specs.Needs.{step_now};
@@ -15,12 +17,13 @@ ghost use Rattle.ckr_points_tables.specs.View.{facts_of, room_of, written_of};
 ghost use Rattle.ckr_points_tables.specs.Start.{HasPointRoom};
 
 use crate::checkpoint::checkpoint_name;
+use crate::continuation::continuation;
 use crate::restart::{entry_for, kept_under, passed_of};
 use crate::start::point_at;
 use crate::step_end::step_now;
 use crate::tables::Spare;
 use crate::{EffectiveJob, RunTable, Tables, WrittenEntries, step_at};
-use ckr_base::{DsName, NoMemory};
+use ckr_base::{CheckId, DsName, NoMemory};
 use ckr_entry::Passed;
 use ckr_events::Event;
 use ckr_library::Library;
@@ -36,6 +39,13 @@ impl Tables {
     {
         match event {
             Event::Submitted { .. } => self.room_to_submit(),
+            Event::Selected {
+                job,
+                earlier,
+                step,
+                id,
+                ..
+            } => self.room_to_select(*job, *earlier, *step, id),
             Event::Started { job, .. } => self.room_to_start(*job),
             Event::Checkpointed { job, .. } => self.room_to_keep(*job),
             Event::StepEnded { job, .. } | Event::Ended { job, .. } => self.room_to_end(*job),
@@ -80,6 +90,56 @@ impl Tables {
         self.tables.reserve(1)?;
         self.writings.reserve(1)?;
         Ok(())
+    }
+
+    /// Makes a run as it goes on, for its selection, where it is to continue an earlier one and both are there.
+    fn room_to_select(
+        &mut self,
+        job: u32,
+        earlier: u32,
+        step: u8,
+        id: &Option<CheckId>,
+    ) -> Result<(), NoMemory>
+        ensures desk { self.new.desk ≡ self.old.desk }
+        ensures ok { OnOk result (CanSelect self.new job earlier step id.now) }
+        ensures room { IsRoomier self.old.room self.new.room }
+    {
+        if earlier == 0 {
+            return Ok(());
+        }
+        let next = self.continuation_of(job, earlier, step, id)?;
+        self.spare.next = next;
+        Ok(())
+    }
+
+    /// A run as it goes on that is to continue an earlier one, if both are there.
+    fn continuation_of(
+        &self,
+        job: u32,
+        earlier: u32,
+        step: u8,
+        id: &Option<CheckId>,
+    ) -> Result<Option<RunTable>, NoMemory>
+        ensures facts { IfOk result (λ next. (row : RunRow) → run_of self.now.desk job ≡ Some row → option_map facts_of next ≡ prepared_for self.now.desk row earlier step id.now) }
+        ensures room { IfOk result (λ next. IfSome next HasLostRoom) }
+    {
+        let Some(place) = place_in(job, self.tables.as_slice()) else {
+            return Ok(None);
+        };
+        let Some(other) = place_in(earlier, self.tables.as_slice()) else {
+            return Ok(None);
+        };
+        continuation(
+            self.spare.alloc,
+            job,
+            &self.tables[place].job,
+            earlier,
+            &self.tables[other],
+            step,
+            id,
+            &self.library,
+            self.writings.as_slice(),
+        )
     }
 
     /// Makes room for the start of a step of a run, if there is such a run.
@@ -160,7 +220,7 @@ pub(crate) fn place_in(job: u32, tables: &[RunTable]) -> Option<usize>
 }
 
 /// How many DDs the steps of a run have.
-fn dds_of(run: u32, job: &EffectiveJob) -> u32
+pub(crate) fn dds_of(run: u32, job: &EffectiveJob) -> u32
     requires { IsFitting (effective run job.now) }
     ensures { result ≡ dds_of (effective run job.now).steps }
 {

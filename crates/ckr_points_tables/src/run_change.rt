@@ -59,6 +59,7 @@ pub(crate) fn change_run(
             line.initiator = Some(*initiator);
             table.place = Some(Place::Before(1));
         }
+        Event::Denied { .. } => line.state = RunState::Denied,
         Event::Started { step, made, .. } => {
             start(line, *step, made.as_slice(), table, library, spare);
         }

@@ -1,20 +1,20 @@
 //! The marks of a run's names, as the tables are now.
-ghost use Rattle.std.specs.Prelude.{◌≡◌, ◌+◌, ◌≤◌, [], ◌++◌, Some, length, List, map, slice_get, true};
+ghost use Rattle.std.specs.Prelude.{◌≡◌, ◌+◌, ◌≤◌, [], ◌++◌, Some, length, List, map, pred, slice_get, true};
 ghost use Rattle.std.specs.Option.{option_map, option_map_or, option_to_list};
 ghost use Rattle.ckr_library.specs.NameMaps.{entry_at};
 ghost use Rattle.ckr_meaning.specs.EffectiveJob.{is_among, name_of, names_of, names_of_job};
 ghost use Rattle.ckr_points.specs.Marks.{first_volume, mark_at, mark_now, marks_for, present_of};
 ghost use Rattle.ckr_points_tables.specs.MarkOrder.{marked, marked_onto};
 ghost use Rattle.ckr_entry.specs.declared.point.Mark.{Mark as MarkOfName};
-ghost use Rattle.ckr_points_tables.specs.RunMarks.{marking_mark, own_names_of, AreOwn};
+ghost use Rattle.ckr_points_tables.specs.RunMarks.{marking_mark, marking_names, names_from, AreOwn};
 ghost use Rattle.ckr_points_tables.specs.RunJobs.{effective, names_in, own_of, IsFitting};
 ghost use Rattle.ckr_points_tables.specs.View.{seen_by, table_of};
 
-use crate::OwnStep;
 use crate::made_names::has_name_from;
 use crate::marking::Marking;
 use crate::marks_in_order::MarksInOrder;
 use crate::start::copy_of_mark;
+use crate::{EffectiveJob, OwnStep};
 use ckr_base::DsName;
 use ckr_entry::{Mark, Present};
 use ckr_jcl::Dd;
@@ -64,13 +64,19 @@ fn mark_now(name: DsName, library: &Library) -> Mark
     Mark { name, present }
 }
 
-/// Whether a name is one of the steps that a run executes itself.
+/// Whether a name is one of those that are marked as the data sets are.
 fn is_own_name(marking: &Marking<'_>, name: &DsName) -> bool
     requires fits { IsFitting (effective marking.now.run marking.now.job.now) }
-    ensures { result ≡ is_among (own_names_of marking.now.run marking.now.job.now) name.now }
+    ensures { result ≡ is_among (marking_names marking.now) name.now }
 {
-    let first = usize::from(marking.job.earlier_step()).saturating_sub(1);
-    has_name_from(marking.job, marking.run, first, name)
+    has_name_from(marking.job, marking.run, marking.own_from, name)
+}
+
+/// The place of the first step that a run executes itself.
+pub(crate) fn own_from(job: &EffectiveJob) -> usize
+    ensures { result ≡ pred job.now.earlier_step }
+{
+    usize::from(job.earlier_step()).saturating_sub(1)
 }
 
 /// The mark that was carried over for a name, or else the name as the data sets are.
@@ -86,7 +92,7 @@ fn carried_mark(name: DsName, marking: &Marking<'_>) -> Mark
 /// The mark of a name, which may be known to be one of the run's own.
 fn mark_of(name: DsName, own: bool, marking: &Marking<'_>) -> Mark
     requires fits { IsFitting (effective marking.now.run marking.now.job.now) }
-    requires own { own ≡ true → is_among (own_names_of marking.now.run marking.now.job.now) name ≡ true }
+    requires own { own ≡ true → is_among (marking_names marking.now) name ≡ true }
     ensures { result ≡ marking_mark marking.now name }
 {
     if own || is_own_name(marking, &name) {
@@ -135,8 +141,7 @@ fn mark_step_in(place: usize, marking: &Marking<'_>, marks: &mut MarksInOrder)
     ensures room { marks.old.room ≤ marks.new.room + length (names_in marking.now.job.now.root (slice_get (effective marking.now.run marking.now.job.now).steps place)) }
 {
     if let Some(step) = marking.job.step_in(marking.run, place) {
-        let own = usize::from(marking.job.earlier_step()).saturating_sub(1) <= place;
-        mark_step(&step, own, marking, marks);
+        mark_step(&step, marking.own_from <= place, marking, marks);
     }
 }
 

@@ -12,7 +12,7 @@ ghost use Rattle.ckr_points_tables.specs.Start.{fresh_point, started_facts, star
 
 use crate::marking::Marking;
 use crate::new_sets::make_sets;
-use crate::run_marks::mark_job;
+use crate::run_marks::{mark_job, own_from};
 use crate::tables::Spare;
 use crate::{RunTable, StepPoint, step_at};
 use ckr_entry::{Mark, Marks, Passed, PassedList};
@@ -50,7 +50,7 @@ pub(crate) fn copy_of_mark(mark: &Mark) -> Mark
 }
 
 /// Puts marks behind others. There is a spare place for each.
-fn put_marks(items: &[Mark], marks: &mut Marks)
+pub(crate) fn put_marks(items: &[Mark], marks: &mut Marks)
     requires { length items.now ≤ marks.old.room }
     ensures { marks.new.items ≡ marks.old.items ++ items.now }
 {
@@ -108,6 +108,7 @@ pub(crate) fn take_marks(run: u32, table: &RunTable, library: &Library, spare: &
     let marking = Marking {
         run,
         job: &table.job,
+        own_from: own_from(&table.job),
         carried: carried_by(table.points.as_slice(), table.job.earlier_step()),
         library,
     };

@@ -23,6 +23,8 @@ pub(crate) struct Spare {
     pub(crate) sorted: MarksInOrder,
     pub(crate) marks: Marks,
     pub(crate) passed: PassedList,
+    /// A run as it goes on that continues another one, made before it is selected.
+    pub(crate) next: Option<RunTable>,
 }
 
 /// The tables of the desk: its data sets, and its runs in the order of their numbers.
@@ -65,6 +67,7 @@ impl Tables {
                 sorted: MarksInOrder::new(alloc),
                 marks: Marks::new(alloc),
                 passed: PassedList::new(alloc),
+                next: None,
             },
             writings: Vec::new(alloc),
         }

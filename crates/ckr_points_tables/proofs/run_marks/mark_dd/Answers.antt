@@ -6,7 +6,7 @@ use Rattle.ckr_meaning.specs.EffectiveJob.{is_among, name_of}
 use Rattle.ckr_points.specs.Marks.{mark_now}
 use Rattle.ckr_points_tables.specs.MarkOrder.{marked, marked_onto}
 use Rattle.ckr_points_tables.specs.RunJobs.{own_of}
-use Rattle.ckr_points_tables.specs.RunMarks.{marking_mark, own_names_of}
+use Rattle.ckr_points_tables.specs.RunMarks.{marking_mark, marking_names}
 use Rattle.ckr_points_tables.specs.View.{seen_by, table_of}
 use Rattle.ckr_uses.specs.SetNames.{library_name}
 use Rattle.ckr_points_tables.proofs.OwnNames.{among-itself, named-by}
@@ -25,7 +25,7 @@ returns-in-Some-clause-items c =
     let mark = marking_mark c.args.marking.now in
     let before = marked c.args.marks.now.items in
     let named : (mark c.in-Some.name).name ≡ c.in-Some.name =
-    named-by (mark_now (seen_by table_of c.args.marking.now.library.now.sets)) (λ name. refl) (own_names_of c.args.marking.now.run c.args.marking.now.job.now) c.args.marking.now.carried.now c.in-Some.name in
+    named-by (mark_now (seen_by table_of c.args.marking.now.library.now.sets)) (λ name. refl) (marking_names c.args.marking.now) c.args.marking.now.carried.now c.in-Some.name in
     c.enter.ensures.items
     ∙ ap (λ (one : Mark). with_entry one.name one before) c.mark_of.ensures
     ∙ ap (λ name. with_entry name (mark c.in-Some.name) before) named

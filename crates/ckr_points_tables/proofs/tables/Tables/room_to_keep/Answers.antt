@@ -11,7 +11,7 @@ use Rattle.ckr_points.specs.Rows.{TablesModel, run_of}
 use Rattle.ckr_points_tables.specs.Parts.{tables_seen}
 use Rattle.ckr_points_tables.specs.Invariant.{HasEntryRoom, IsFilled, IsWide, entries_at}
 use Rattle.ckr_points_tables.specs.Rooms.{EntryFits, HasNoPlace, IsRoomier}
-use Rattle.ckr_points_tables.specs.View.{RoomyTables, TablesRoom, room_of, row_of, rows_of, seen_under, table_in, writing_of, written_of}
+use Rattle.ckr_points_tables.specs.View.{RoomyTables, TablesRoom, room_of, row_of, rows_of, seen_under, table_in, writing_of, written_of, next_of}
 use Rattle.ckr_points_tables.specs.declared.run_table.WrittenEntry.{WrittenEntry}
 use Rattle.ckr_points_tables.proofs.RoomGrowth.{checkpoint_there, each-stays, entries_by, found_there, has-seen, fits_there, line_there, none_beyond, numbered_there}
 use Rattle.ckr_points_tables.proofs.Runs.{length-rows}
@@ -81,6 +81,7 @@ returns-in-Some-clause-ok c =
       sorted = c.reserve_checkpoint.new.spare.sorted.room;
       marks = c.reserve_checkpoint.new.spare.marks.room;
       passed = c.reserve_checkpoint.new.spare.passed.room;
+      next = option_map next_of c.reserve_checkpoint.new.spare.next;
       each = map room_of tables;
       writings = vec_capacity c.self.inside.writings - vec_len c.self.inside.writings;
       entries = map (λ (written : Roomy WrittenEntry). written.room) (slice_set writings place new);
@@ -122,6 +123,7 @@ returns-in-Some-clause-room c =
       sorted = c.reserve_checkpoint.new.spare.sorted.room;
       marks = c.reserve_checkpoint.new.spare.marks.room;
       passed = c.reserve_checkpoint.new.spare.passed.room;
+      next = option_map next_of c.reserve_checkpoint.new.spare.next;
       each = map room_of c.self.inside.tables.items;
       writings = vec_capacity c.self.inside.writings - vec_len c.self.inside.writings;
       entries = map (λ (written : Roomy WrittenEntry). written.room) (slice_set writings place new);

@@ -1,4 +1,5 @@
 use Rattle.std.proofs.Common.{◌≡◌, ◌-◌, ◌<◌, vec_len, vec_capacity, ap, sym, ◌∙◌, subst, arith, length, map, refl, slice_get, slice_set, Some}
+use Rattle.std.specs.Option.{option_map}
 use Rattle.std.proofs.lemmas.Result.{on_ok_weaker}
 use Rattle.ckr_base.proofs.Sequences.{get-from}
 use Rattle.ckr_base.specs.RoomyLists.{Roomy}
@@ -7,7 +8,7 @@ use Rattle.ckr_points_tables.specs.Parts.{tables_seen}
 use Rattle.ckr_points_tables.specs.Invariant.{AreKept, room_at}
 use Rattle.ckr_points_tables.specs.Rooms.{HasNoPlace, IsRoomier}
 use Rattle.ckr_points.specs.Rows.{TablesModel, run_of}
-use Rattle.ckr_points_tables.specs.View.{TablesRoom, room_of, rows_of, seen_under, table_in, written_of}
+use Rattle.ckr_points_tables.specs.View.{TablesRoom, room_of, rows_of, seen_under, table_in, written_of, next_of}
 use Rattle.ckr_points_tables.proofs.RoomGrowth.{fits_there, rows_there, kept_there, start_there, each_by, entries-stay, none_beyond}
 use Rattle.ckr_points_tables.proofs.Runs.{length-rows}
 use Rattle.ckr_points_tables.proofs.tables.Tables.room_to_start.Goals as goal
@@ -57,6 +58,7 @@ returns-in-Some-clause-ok c =
       sorted = c.reserve_start.new.spare.sorted.room;
       marks = c.reserve_start.new.spare.marks.room;
       passed = c.reserve_start.new.spare.passed.room;
+      next = option_map next_of c.reserve_start.new.spare.next;
       each = map room_of (slice_set tables place c.reserve_start.new.table);
       writings = vec_capacity c.self.inside.writings - vec_len c.self.inside.writings;
       entries = map (λ (entries : Roomy WrittenEntry). entries.room) c.self.inside.writings.items;
@@ -84,6 +86,7 @@ returns-in-Some-clause-room c =
       sorted = c.reserve_start.new.spare.sorted.room;
       marks = c.reserve_start.new.spare.marks.room;
       passed = c.reserve_start.new.spare.passed.room;
+      next = option_map next_of c.reserve_start.new.spare.next;
       each = map room_of (slice_set tables place c.reserve_start.new.table);
       writings = vec_capacity c.self.inside.writings - vec_len c.self.inside.writings;
       entries = map (λ (entries : Roomy WrittenEntry). entries.room) c.self.inside.writings.items;
