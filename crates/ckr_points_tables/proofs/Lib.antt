@@ -34,3 +34,4 @@ pub mod Continuations
 pub mod Preparations
 pub mod ContinuedRuns
 pub mod SelectionRooms
+pub mod ContinuedCalls

@@ -1,5 +1,5 @@
 -- The steps of a run: those that it has taken over, and then those of its own deck.
-use Rattle.std.proofs.Common.{◌≡◌, ℕ, zero, suc, ◌+◌, ◌-◌, ◌<◌, ◌≤◌, ◌&&◌, ◌||◌, Bool, true, false, nat_le, IsSome, IfSome, List, [], ◌∷◌, ◌++◌, drop, length, map, slice_get, refl, ap, sym, ◌∙◌, subst, arith, add-one, take, length-append, Option, None, Some}
+use Rattle.std.proofs.Common.{◌≡◌, ℕ, zero, suc, ◌+◌, ◌-◌, ◌<◌, ◌≤◌, ◌||◌, Bool, true, false, nat_le, IsSome, IfSome, List, [], ◌∷◌, ◌++◌, drop, length, map, slice_get, refl, ap, sym, ◌∙◌, subst, arith, add-one, take, length-append, Option, None, Some}
 use Rattle.std.specs.List.{cons_option, list_all}
 use Rattle.std.specs.Option.{is_some, option_map, option_map_or}
 use Rattle.std.proofs.lemmas.Bool.{false≢true}

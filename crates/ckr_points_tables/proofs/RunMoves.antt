@@ -92,19 +92,17 @@ module _ (sets : Named Holding) (lines : List Run) (tables : List RunTable) (ind
   only-on i k on there =
       suc-same k place (sym (kept.indexed.all i k there) ∙ kept.indexed.all i place (ap (λ (found : Option Run). option_and_then (λ (l : Run). l.initiator) found) lined ∙ on))
 
-  module _ (new : Run) (after : RunTable) (now_sets : Named Holding) (stays : StaysRun (going line (facts_of table) sets) (going new (facts_of after) now_sets)) where
+  -- another line and table of the run
+  module _ (new : Run) (after : RunTable) (now_sets : Named Holding) (same : new.number ≡ line.number) (new_is : IsRun (1 + place) new after) where
     -- the tables as they are seen
-    pub desk_moved : record { sets = seen now_sets; runs = rows_of (slice_set lines place new) (slice_set tables place after) } ≡ desk_with (going new (facts_of after) (seen now_sets)) desk
-    desk_moved =
+    pub desk_replaced : record { sets = seen now_sets; runs = rows_of (slice_set lines place new) (slice_set tables place after) } ≡ desk_with (going new (facts_of after) (seen now_sets)) desk
+    desk_replaced =
         ap (λ runs. let all : TablesModel = record { sets = seen now_sets; runs = runs } in all)
-        (rows-set lines tables place new after ∙ ap (λ n. with_row (row_of new after) n (rows_of lines tables)) (sym (stays.number ∙ number_is)))
-
-    new_is : IsRun (1 + place) new after
-    new_is = run-stays (1 + place) line new table after is_run stays.number stays.name stays.job stays.free
+        (rows-set lines tables place new after ∙ ap (λ n. with_row (row_of new after) n (rows_of lines tables)) (sym (same ∙ number_is)))
 
     -- what is kept, with an index of the lines as they are then
-    pub kept_moved : (other : List ℕ) (spared : List Mark) → EachEntry IsWide now_sets → EachEntry IsFilled now_sets → IsIndexOf other (slice_set lines place new) → spared ≡ [] → AreKept now_sets (slice_set lines place new) (slice_set tables place after) other spared entered
-    kept_moved other spared wide filled indexed empty = record {
+    pub kept_replaced : (other : List ℕ) (spared : List Mark) → EachEntry IsWide now_sets → EachEntry IsFilled now_sets → IsIndexOf other (slice_set lines place new) → spared ≡ [] → AreKept now_sets (slice_set lines place new) (slice_set tables place after) other spared entered
+    kept_replaced other spared wide filled indexed empty = record {
       wide = wide;
       filled = filled;
       runs = runs-set 1 lines tables kept.runs place new after new_is;
@@ -113,6 +111,17 @@ module _ (sets : Named Holding) (lines : List Run) (tables : List RunTable) (ind
       spare = empty;
       written = kept.written ∙ sym (length-set tables place after);
     }
+
+  -- where the run keeps its number, its name and its job
+  module _ (new : Run) (after : RunTable) (now_sets : Named Holding) (stays : StaysRun (going line (facts_of table) sets) (going new (facts_of after) now_sets)) where
+    new_is : IsRun (1 + place) new after
+    new_is = run-stays (1 + place) line new table after is_run stays.number stays.name stays.job stays.free
+
+    pub desk_moved : record { sets = seen now_sets; runs = rows_of (slice_set lines place new) (slice_set tables place after) } ≡ desk_with (going new (facts_of after) (seen now_sets)) desk
+    desk_moved = desk_replaced new after now_sets stays.number new_is
+
+    pub kept_moved : (other : List ℕ) (spared : List Mark) → EachEntry IsWide now_sets → EachEntry IsFilled now_sets → IsIndexOf other (slice_set lines place new) → spared ≡ [] → AreKept now_sets (slice_set lines place new) (slice_set tables place after) other spared entered
+    kept_moved = kept_replaced new after now_sets stays.number new_is
 
     -- the index of a run that is where it was
     initiator-same : new.initiator ≡ line.initiator → (k : ℕ) → initiator_at (slice_set lines place new) k ≡ initiator_at lines k

@@ -7,7 +7,7 @@ use Rattle.ckr_points_library.specs.Holdings.{owned}
 use Rattle.ckr_uses.specs.Uses.{are_distinct}
 use Rattle.ckr_events.specs.Jobs.{job_of}
 use Rattle.ckr_events.specs.declared.event.Event.{Event}
-use Rattle.ckr_events.specs.declared.event.Event.TheVariants.{Submitted, Selected, Denied, Started, Rewritten, Checkpointed, Cancelled, StepEnded, Restarted, Held, Released, Ended, Purged}
+use Rattle.ckr_events.specs.declared.event.Event.TheVariants.{Submitted, Selected, Denied, Started, Rewritten, Checkpointed, Cancelled, StepEnded, Restarted, Ended, Purged}
 use Rattle.ckr_jcl.specs.declared.deck.Job.{Job}
 use Rattle.ckr_jcl.specs.declared.deck.Step.{Step}
 use Rattle.ckr_entry.specs.declared.point.Mark.{Mark}
@@ -15,7 +15,7 @@ use Rattle.ckr_entry.specs.declared.point.Passed.{Passed}
 use Rattle.ckr_library.specs.Catalog.{Holding}
 use Rattle.ckr_library.specs.NameMaps.{EachEntry, Name, Named, entry_at}
 use Rattle.ckr_volumes.specs.declared.layout.Layout.{Layout}
-use Rattle.ckr_meaning.specs.EffectiveJob.{HasDistinctNames, OwnedStep, names_of, names_of_job}
+use Rattle.ckr_meaning.specs.EffectiveJob.{HasDistinctNames, OwnedStep, names_of, names_of_job, owned_by}
 use Rattle.ckr_points.specs.declared.run.Run.{Run}
 use Rattle.ckr_points.specs.declared.run.RunState.{RunState}
 use Rattle.ckr_points.specs.declared.run.RunState.TheVariants.{Queued}
@@ -92,27 +92,11 @@ pub record AreKept (sets : Named Holding) (lines : List Run) (tables : List RunT
 
 -- ---- what an event needs
 
--- the events that the tables in code go on by: all but the selection of a run that continues another one
-abbrev pub is_plain_event : Event → Bool
-is_plain_event (Submitted job cards) = true
-is_plain_event (Selected job initiator earlier step id) = earlier == 0
-is_plain_event (Denied job rule name) = true
-is_plain_event (Started job step made) = true
-is_plain_event (Rewritten job taken writes lengths place image) = true
-is_plain_event (Checkpointed job id taken writes lengths place bytes) = true
-is_plain_event (Cancelled job) = true
-is_plain_event (StepEnded job step rc writes lengths) = true
-is_plain_event (Restarted job initiator code checkpoint) = true
-is_plain_event (Held job code writes lengths) = true
-is_plain_event (Released job) = true
-is_plain_event (Ended job ending) = true
-is_plain_event (Purged job) = true
-
 abbrev pub is_submission : Event → Bool
 is_submission (Submitted job cards) = true
 is_submission _ = false
 
--- the plain events that bring a run further, or end it: no submission, hold, release or restart
+-- the events that bring a run further with the job that it has, or end it: no submission, hold, release or restart, and no selection of a run that continues another one
 abbrev pub is_run_change : Event → Bool
 is_run_change (Selected job initiator earlier step id) = earlier == 0
 is_run_change (Denied job rule name) = true
@@ -142,6 +126,17 @@ IsAnySubmittable number (Some job) = IsTrue (is_submittable number job)
 abbrev pub MaySubmit : Event → Option Job → Type 0
 MaySubmit (Submitted job cards) deck = IsAnySubmittable job deck
 MaySubmit _ deck = Unit {0}
+
+-- The deck of a run may continue an earlier run: in each of its steps names stand once under the root of that run too, and its UPDATE steps have a
+-- MASTER.
+pub record CanContinue (row earlier : RunRow) : Type 0 where
+  pub distinct : list_all (λ (step : Step). are_distinct (names_of earlier.job.root (owned_by row.number row.deck step))) row.deck.steps ≡ true
+  pub masters : list_all has_master row.deck.steps ≡ true
+
+-- so it is with a run that is selected to continue another one
+abbrev pub MayContinue : Event → TablesModel → Type 0
+MayContinue (Selected job initiator earlier step id) tables = (row before : RunRow) → run_of tables job ≡ Some row → run_of tables earlier ≡ Some before → CanContinue row before
+MayContinue _ tables = Unit {0}
 
 -- the stamps have not been counted out
 abbrev pub MayCount : Event → Named TableSet → Type 0

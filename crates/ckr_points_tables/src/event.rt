@@ -5,7 +5,7 @@ ghost use Rattle.std.specs.Rc.{rc_value};
 ghost use Rattle.ckr_library.specs.NameMaps.{are_named_in_order};
 ghost use Rattle.ckr_jcl.specs.declared.deck.Job.{Job as JobOfDeck};
 ghost use Rattle.ckr_points.specs.Tables.{after_submitted};
-ghost use Rattle.ckr_points_tables.specs.Invariant.{is_plain_event, is_run_change, is_submittable, put_at, HasRoom, HasRunRoom, IsAnySubmittable, MayCount, MayFollow, MaySubmit};
+ghost use Rattle.ckr_points_tables.specs.Invariant.{is_run_change, is_submittable, put_at, HasRoom, HasRunRoom, IsAnySubmittable, MayContinue, MayCount, MayFollow, MaySubmit};
 ghost use Rattle.ckr_points.specs.Restart.{after_event};
 ghost use Rattle.ckr_points_tables.specs.View.{facts_of, fresh_facts};
 
@@ -26,15 +26,28 @@ impl Tables {
     /// Submitted and its cards are a deck, and it is that deck. There is room for the event, by `make_room` for it or for one
     /// that differs from it in its writes and lengths alone; Rewritten needs none. It takes no memory (this project's profile).
     pub fn apply(&mut self, event: &Event, deck: Option<Rc<Job>>)
-        requires kept { IsTrue (is_plain_event event.now) }
         requires follows { MayFollow self.old.desk event.now (option_map rc_value deck) }
         requires deck { MaySubmit event.now (option_map rc_value deck) }
         requires room { HasRoom self.old event.now }
         requires count { MayCount event.now self.old.desk.sets }
+        requires continues { MayContinue event.now self.old.desk }
         ensures { self.new.desk ≡ after_event event.now (option_map rc_value deck) self.old.desk }
     {
         match event {
             Event::Submitted { job: number, .. } => self.submit_deck(*number, deck),
+            Event::Selected {
+                job: number,
+                initiator,
+                earlier,
+                step,
+                id,
+            } => {
+                if *earlier == 0 {
+                    self.change(event)
+                } else {
+                    self.continue_run(*number, *initiator, *earlier, *step, id)
+                }
+            }
             Event::Restarted {
                 job: number,
                 initiator,

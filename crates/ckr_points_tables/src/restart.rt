@@ -63,7 +63,7 @@ impl Tables {
 }
 
 /// A run goes on, on an initiator.
-fn go_on(initiator: u8, line: &mut Run)
+pub(crate) fn go_on(initiator: u8, line: &mut Run)
     ensures { line.new ≡ line_on initiator line.old }
 {
     line.state = RunState::On;

@@ -1,17 +1,19 @@
 //! The selection of a run that continues another one: what is put back, and which passed names the run loses.
-ghost use Rattle.std.specs.Prelude.{◌≡◌, ◌≤◌, ◌<◌, ◌+◌, ◌&&◌, ◌++◌, ◌∷◌, [], false, length, slice_get, map, true, vec_len, vec_capacity, IfSome, Some};
+ghost use Rattle.std.specs.Prelude.{◌≡◌, ◌≤◌, ◌<◌, ◌+◌, ◌&&◌, ◌++◌, ◌∷◌, [], false, length, slice_get, map, true, vec_len, vec_capacity, IfSome, Option, Some};
 ghost use Rattle.std.specs.List.{list_any};
-ghost use Rattle.std.specs.Option.{is_none, option_copied, option_map, option_map_or};
+ghost use Rattle.std.specs.Option.{is_none, option_copied, option_map, option_map_or, option_or};
+ghost use Rattle.ckr_events.specs.declared.event.Event.TheVariants.{Selected};
+ghost use Rattle.ckr_jcl.specs.declared.deck.Job.{Job as JobOfDeck};
 ghost use Rattle.ckr_jcl.specs.declared.deck.Dd.{Dd as DdOfStep};
 ghost use Rattle.ckr_jcl.specs.declared.deck.Step.{Step as StepOfDeck};
 ghost use Rattle.ckr_library.specs.NameMaps.{entry_at, same_name, EachEntry};
 ghost use Rattle.ckr_meaning.specs.EffectiveJob.{is_among, name_of, names_of, owned_by, step_at, OwnedStep as StepWithOwner};
 ghost use Rattle.ckr_points.specs.Marks.{deck_names, is_as_marked, is_sysout, point_at, present_at, same_stamp, still_exists, sysout_names};
-ghost use Rattle.ckr_points.specs.Restart.{without_names};
+ghost use Rattle.ckr_points.specs.Restart.{after_event, without_names};
 ghost use Rattle.ckr_points.specs.Rows.{StartPoint, TableSet};
 ghost use Rattle.ckr_points.specs.Syschk.{names_its_set};
 ghost use Rattle.ckr_entry.specs.declared.point.Present.{Present as PresentInMark};
-ghost use Rattle.ckr_points_tables.specs.Invariant.{IsFilled};
+ghost use Rattle.ckr_points_tables.specs.Invariant.{HasRoom, IsFilled, MayContinue, MayFollow};
 ghost use Rattle.ckr_points_tables.specs.PutBack.{all_made_gone, catalogs_back};
 ghost use Rattle.ckr_points_tables.specs.RunJobs.{effective, names_in, own_of, IsFitting};
 ghost use Rattle.ckr_points_tables.specs.RunMarks.{names_from, own_names_of};
@@ -19,11 +21,13 @@ ghost use Rattle.ckr_points_tables.specs.Selection.{entries_in, lost_by, printed
 ghost use Rattle.ckr_points_tables.specs.View.{facts_of, seen_by, table_of, written_of};
 
 use crate::continuation::resumption_for;
+use crate::event::put_at;
 use crate::made_names::{has_name, has_name_from, is_named};
 use crate::put_back::{delete_made, put_back_catalog, put_back_lengths};
+use crate::restart::go_on;
 use crate::run_marks::own_from;
 use crate::start::point_at;
-use crate::{EffectiveJob, LostNames, OwnStep, RunTable, WrittenEntries, step_at};
+use crate::{EffectiveJob, LostNames, OwnStep, RunTable, Tables, WrittenEntries, step_at};
 use ckr_base::{CheckId, DsName};
 use ckr_entry::{Mark, Passed, Present};
 use ckr_jcl::{Dd, Job, Origin, Step};
@@ -322,4 +326,53 @@ pub(crate) fn resume(
         library,
         &mut next.lost,
     );
+}
+
+/// A run goes on as it was made beforehand, with the checkpoint in effect at which it goes on, or else the one that it had.
+fn go_on_as(next: RunTable, table: &mut RunTable)
+    ensures { facts_of table.new ≡ record (facts_of next) { in_effect = option_or (facts_of next).in_effect (facts_of table.old).in_effect } }
+{
+    let mut next = next;
+    if next.in_effect.is_none() {
+        next.in_effect = table.in_effect.take();
+    }
+    *table = next;
+}
+
+impl Tables {
+    /// A run goes on, on an initiator, where it continues an earlier one: at the start of a step of it, or at an entry. It was made
+    /// beforehand. It takes no memory.
+    pub(crate) fn continue_run(
+        &mut self,
+        number: u32,
+        initiator: u8,
+        earlier: u32,
+        step: u8,
+        id: &Option<CheckId>,
+    )
+        requires earlier { 1 ≤ earlier }
+        requires follows { (deck : Option JobOfDeck) → MayFollow self.old.desk (Selected number initiator earlier step id.now) deck }
+        requires room { HasRoom self.old (Selected number initiator earlier step id.now) }
+        requires continues { MayContinue (Selected number initiator earlier step id.now) self.old.desk }
+        ensures { (deck : Option JobOfDeck) → self.new.desk ≡ after_event (Selected number initiator earlier step id.now) deck self.old.desk }
+    {
+        let Some(mut next) = self.spare.next.take() else {
+            return;
+        };
+        let place = number as usize - 1;
+        resume(
+            number,
+            step,
+            id,
+            &mut next,
+            &self.tables[earlier as usize - 1],
+            &mut self.library,
+            self.writings.as_slice(),
+        );
+        let before = self.lines[place].initiator;
+        go_on(initiator, &mut self.lines[place]);
+        go_on_as(next, &mut self.tables[place]);
+        put_at(&mut self.index, before, 0);
+        put_at(&mut self.index, Some(initiator), number);
+    }
 }

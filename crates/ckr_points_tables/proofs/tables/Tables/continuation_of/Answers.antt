@@ -1,11 +1,11 @@
-use Rattle.std.proofs.Common.{◌≡◌, ℕ, Option, ◌<◌, ◌≤◌, length, map, slice_get, refl, ap, sym, ◌∙◌, subst, arith, Some}
-use Rattle.std.specs.Option.{option_and_then, option_map}
+use Rattle.std.proofs.Common.{◌≡◌, ℕ, Option, ◌<◌, length, map, slice_get, refl, ap, sym, ◌∙◌, subst, arith, Some}
+use Rattle.std.specs.Option.{option_and_then}
 use Rattle.std.proofs.lemmas.Option.{same_Some}
 use Rattle.std.proofs.lemmas.Result.{IfOk-weaker}
 use Rattle.ckr_base.proofs.Sequences.{get-from}
 use Rattle.ckr_points.specs.Marks.{mark_now}
 use Rattle.ckr_points.specs.Restart.{kept_at}
-use Rattle.ckr_points.specs.Rows.{RunRow, TablesModel, run_of}
+use Rattle.ckr_points.specs.Rows.{RunRow, run_of}
 use Rattle.ckr_points_tables.specs.Rooms.{HasNoPlace}
 use Rattle.ckr_points_tables.specs.Parts.{tables_seen}
 use Rattle.ckr_points_tables.specs.RunJobs.{effective}
@@ -14,7 +14,6 @@ use Rattle.ckr_points_tables.specs.View.{facts_of, row_of, seen_by, table_of, wr
 use Rattle.ckr_points_tables.proofs.RoomGrowth.{fits_there, found_there, line_there, limits_there, none_beyond, numbered_there, syschk_there}
 use Rattle.ckr_points_tables.proofs.Runs.{length-rows}
 use Rattle.ckr_points_tables.proofs.SelectionRooms.{prepared-beyond, prepared-seen}
-use Rattle.ckr_points_tables.proofs.NamedViews.{viewed}
 use Rattle.ckr_points_tables.proofs.tables.Tables.continuation_of.Goals as goal
 
 pub index-requires : goal.index-requires
