@@ -1,23 +1,14 @@
--- The events by which a desk goes on, as the tables in code have them.
-use Rattle.std.proofs.Common.{◌≡◌, true, refl}
-use Rattle.std.proofs.lemmas.Bool.{false≢true}
+-- No run continues another one by the events by which a desk goes on.
+use Rattle.std.proofs.Common.{◌≡◌, true, ap, sym, ◌∙◌}
+use Rattle.ckr_base.proofs.Numbers.{equal-true}
+use Rattle.ckr_base.proofs.Options.{some-not-none}
 use Rattle.ckr_events.specs.declared.event.Event.{Event}
-use Rattle.ckr_events.specs.declared.event.Event.TheVariants.{Submitted, Selected, Started, Rewritten, Checkpointed, Cancelled, StepEnded, Restarted, Held, Released, Ended, Purged}
-use Rattle.ckr_points_tables.specs.Invariant.{is_plain_event}
+use Rattle.ckr_events.specs.declared.event.Event.TheVariants.{Selected}
+use Rattle.ckr_points.specs.Rows.{TablesModel, run_of}
+use Rattle.ckr_points_tables.specs.Invariant.{MayContinue}
 use Rattle.ckr_desk_memory.specs.ForwardEvents.{is_forward_event}
 
--- the tables go on by them too
-pub forward-plain : (event : Event) → is_forward_event event ≡ true → is_plain_event event ≡ true
-forward-plain (Submitted job cards) forward = refl
-forward-plain (Selected job initiator earlier step id) forward = forward
-forward-plain (Started job step made) forward = refl
-forward-plain (Rewritten job taken writes lengths place image) forward = refl
-forward-plain (Checkpointed job id taken writes lengths place bytes) forward = refl
-forward-plain (Cancelled job) forward = refl
-forward-plain (StepEnded job step rc writes lengths) forward = refl
-forward-plain (Restarted job initiator code checkpoint) forward = refl
-forward-plain (Held job code writes lengths) forward = refl
-forward-plain (Released job) forward = refl
-forward-plain (Ended job ending) forward = refl
-forward-plain (Purged job) forward = refl
-forward-plain _ forward = absurd (false≢true forward)
+-- so what is asked of one that does holds
+pub forward-continues : (event : Event) (tables : TablesModel) → is_forward_event event ≡ true → MayContinue event tables
+forward-continues (Selected job initiator earlier step id) tables forward = λ row before here there. absurd (some-not-none before (sym there ∙ ap (run_of tables) (equal-true earlier 0 forward)))
+forward-continues _ tables forward = tt

@@ -1,13 +1,15 @@
 -- An event that needs no memory has its room, and memory for whatever the operator answers.
-use Rattle.std.proofs.Common.{◌≡◌, ℕ, Bool, true, false, refl, sym, subst, Option, None}
+use Rattle.std.proofs.Common.{not, ◌==◌, ◌≡◌, ℕ, Bool, true, false, refl, sym, subst, Option, None}
 use Rattle.std.specs.Option.{is_some}
 use Rattle.std.proofs.lemmas.Bool.{false≢true}
 use Rattle.ckr_events.specs.declared.event.Event.{Event}
-use Rattle.ckr_events.specs.declared.event.Event.TheVariants.{Checkpointed, Ended, Restarted, Started, StepEnded, Submitted}
+use Rattle.ckr_events.specs.declared.event.Event.TheVariants.{Checkpointed, Ended, Restarted, Selected, Started, StepEnded, Submitted}
 use Rattle.ckr_jcl.specs.declared.deck.Job.{Job}
 use Rattle.ckr_base.specs.declared.code.Code.{Code}
 use Rattle.ckr_points_tables.specs.Invariant.{CanEnd, CanRestart, HasRoom}
 use Rattle.ckr_points_tables.specs.View.{RoomyTables}
+use Rattle.ckr_points_tables.proofs.SelectionRooms.{needs-none}
+use Rattle.ckr_base.proofs.Numbers.{equal-true}
 use Rattle.ckr_desk_memory.specs.EventChanges.{HasUses}
 use Rattle.ckr_desk_turn.specs.declared.inquiry.Inquiry.{Inquiry}
 use Rattle.ckr_desk_memory.specs.declared.jobs.RunningStep.{RunningStep}
@@ -23,6 +25,15 @@ pub record IsRoomFree (tables : RoomyTables) (queue : ℕ) (event : Event) (deck
 
 pub room-free : (tables : RoomyTables) (queue : ℕ) (event : Event) (deck : Option Job) → needs_room event ≡ false → IsRoomFree tables queue event deck
 room-free tables queue (Submitted job cards) deck none = absurd (false≢true (sym none))
+room-free tables queue (Selected job initiator earlier step id) deck none = record {
+  tables_free = record { lists = tt; run = λ row one at there. needs-none tables row earlier step id (by (earlier == 0) refl none) };
+  queue_free = tt;
+  uses_free = tt;
+}
+  where
+    by : (b : Bool) → (earlier == 0) ≡ b → not b ≡ false → earlier ≡ 0
+    by true is none = equal-true earlier 0 is
+    by false is none = absurd (false≢true (sym none))
 room-free tables queue (Started job step items) deck none = absurd (false≢true (sym none))
 room-free tables queue (Checkpointed job id taken writes lengths place bytes) deck none = absurd (false≢true (sym none))
 room-free tables queue (StepEnded job step rc writes lengths) deck none = absurd (false≢true (sym none))

@@ -1,7 +1,7 @@
 -- The memory for an event.
-use Rattle.std.specs.Prelude.{◌≡◌, ◌≤◌, ◌<◌, ℕ, Bool, true, false, IfSome, [], find, Option, None, Some}
+use Rattle.std.specs.Prelude.{not, ◌==◌, ◌≡◌, ◌≤◌, ◌<◌, ℕ, Bool, true, false, IfSome, [], find, Option, None, Some}
 use Rattle.ckr_events.specs.declared.event.Event.{Event}
-use Rattle.ckr_events.specs.declared.event.Event.TheVariants.{Submitted, Started, Checkpointed, StepEnded, Restarted, Ended}
+use Rattle.ckr_events.specs.declared.event.Event.TheVariants.{Submitted, Selected, Started, Checkpointed, StepEnded, Restarted, Ended}
 use Rattle.ckr_jcl.specs.declared.deck.Job.{Job}
 use Rattle.ckr_meaning.specs.EffectiveJob.{OwnedStep}
 use Rattle.ckr_points.specs.Follows.{own_step}
@@ -19,6 +19,7 @@ use Rattle.ckr_desk_memory.specs.View.{JobsView, PointView, begun, resumed}
 -- whether an event needs memory
 abbrev pub needs_room : Event → Bool
 needs_room (Submitted job cards) = true
+needs_room (Selected job initiator earlier step id) = not (earlier == 0)
 needs_room (Started job step items) = true
 needs_room (Checkpointed job id taken writes lengths place bytes) = true
 needs_room (StepEnded job step rc writes lengths) = true

@@ -90,19 +90,21 @@ fn point_in(points: &[StepPoint], run: u32) -> Option<&StepPoint>
     points.iter().find(|point| point.run == run)
 }
 
-/// Whether an event needs memory: one that submits a run, starts or ends a step, restarts or ends a run, or keeps an entry.
+/// Whether an event needs memory: one that submits a run, selects one that continues another, starts or ends a step, restarts or ends a
+/// run, or keeps an entry.
 fn needs_room(event: &Event) -> bool
     ensures { result ≡ needs_room event.now }
 {
-    matches!(
-        event,
+    match event {
+        Event::Selected { earlier, .. } => *earlier != 0,
         Event::Submitted { .. }
-            | Event::Started { .. }
-            | Event::Checkpointed { .. }
-            | Event::StepEnded { .. }
-            | Event::Restarted { .. }
-            | Event::Ended { .. }
-    )
+        | Event::Started { .. }
+        | Event::Checkpointed { .. }
+        | Event::StepEnded { .. }
+        | Event::Restarted { .. }
+        | Event::Ended { .. } => true,
+        _ => false,
+    }
 }
 
 impl Jobs {

@@ -1,6 +1,6 @@
 //! Checkpoints of two jobs, event by event: which follow, and which entries the data set keeps behind each.
 ghost use Rattle.std.specs.Prelude.{IsTrue, None};
-ghost use Rattle.ckr_points_tables.specs.Invariant.{MayCount, MaySubmit, is_plain_event};
+ghost use Rattle.ckr_points_tables.specs.Invariant.{MayContinue, MayCount, MaySubmit};
 
 use crate::decks::job_of;
 use arrayvec::ArrayVec;
@@ -90,9 +90,9 @@ pub(crate) fn submit(
 
 /// The tables go on by an event; false where it doesn't follow.
 fn tell(tables: &mut Tables, layout: &Layout, event: &Event) -> Result<bool, NoMemory>
-    requires kept { IsTrue (is_plain_event event.now) }
     requires deck { MaySubmit event.now None }
     requires count { MayCount event.now tables.old.desk.sets }
+    requires continues { MayContinue event.now tables.old.desk }
 {
     if !follows(tables, layout, event, None) {
         return Ok(false);

@@ -3,12 +3,12 @@ use Rattle.std.specs.Option.{option_map}
 use Rattle.std.specs.Rc.{rc_value}
 use Rattle.ckr_desk_turn.specs.Queue.{AreNumbered}
 use Rattle.ckr_desk_memory.specs.View.{JobsView}
-use Rattle.ckr_desk_memory.proofs.ForwardEvents.{forward-plain}
+use Rattle.ckr_desk_memory.proofs.ForwardEvents.{forward-continues}
 use Rattle.ckr_desk_memory.proofs.Invariant.{follow-inside, may-go, queued-behind}
 use Rattle.ckr_desk_memory.proofs.jobs.Jobs.go_on.Goals as goal
 
-pub apply-requires-clause-kept : goal.apply-requires-clause-kept
-apply-requires-clause-kept c = forward-plain c.args.event.now c.requires.plain
+pub apply-requires-clause-continues : goal.apply-requires-clause-continues
+apply-requires-clause-continues c = forward-continues c.args.event.now c.self.inside.tables.desk c.requires.plain
 
 pub keep_queue-requires-clause-may : goal.keep_queue-requires-clause-may
 keep_queue-requires-clause-may c =
