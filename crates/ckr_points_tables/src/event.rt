@@ -24,7 +24,8 @@ use std::rc::Rc;
 impl Tables {
     /// Goes on by an event that follows: the tables are those of one more event. A deck is given exactly where the event is
     /// Submitted and its cards are a deck, and it is that deck. There is room for the event, by `make_room` for it or for one
-    /// that differs from it in its writes and lengths alone; Rewritten needs none. It takes no memory (this project's profile).
+    /// that differs from it in its writes and lengths alone; Rewritten needs none. The deck of a run that is selected to continue an
+    /// earlier one is such that it may. It takes no memory (this project's profile).
     pub fn apply(&mut self, event: &Event, deck: Option<Rc<Job>>)
         requires follows { MayFollow self.old.desk event.now (option_map rc_value deck) }
         requires deck { MaySubmit event.now (option_map rc_value deck) }
