@@ -24,7 +24,7 @@ use Rattle.ckr_desk.specs.Requests.{MayFail, TellsNumbers}
 use Rattle.ckr_desk.specs.Rewrite.{OpensSame}
 use Rattle.ckr_desk.specs.Soundness.{state_of}
 use Rattle.ckr_desk.specs.State.{DeskView}
-use Rattle.ckr_desk.specs.Turn.{AnswerStands, AnswerStandsBy, asks}
+use Rattle.ckr_desk.specs.Turn.{AnswerStands, AnswerStandsBy, asks, event_of_turn, reply_of}
 use Rattle.ckr_desk.specs.NoChange.{StaysBy}
 use Rattle.ckr_desk.specs.Units.{HasTurned, IsPlainTold, IsPlanned}
 use Rattle.ckr_desk.proofs.desk.Desk.carry_out.Goals as goal
@@ -142,7 +142,7 @@ returns-in_ok-plan-in_default g c =
             events = on-ok (go-told d.told d.content d.may_leave d.moment d.left_since d.size d.faults mid q.trusted turn q.its answer its new comes) c.go_on.result c.go_on.ensures.gone;
             trusted = on-ok-both (go-trusted d.told d.content d.may_leave d.moment d.left_since d.size d.faults mid q.trusted turn q.its answer its new comes shape c.go_on.ensures.layout) c.go_on.result c.go_on.ensures.gone c.go_on.ensures.settled;
             cause = if-err (λ error not. go-cause d.told d.content d.may_leave d.moment d.left_since d.size d.faults mid q.trusted turn q.its answer its new error not) c.go_on.result c.go_on.ensures.cause;
-            takes = if-err (λ error not. behind-takes d.faults mid new its _ _ _ error not) c.go_on.result c.go_on.ensures.cause;
+            takes = if-err (λ error not. behind-takes d.faults mid new its (reply_of (state_of d.content mid) turn answer) (event_of_turn (state_of d.content mid) turn answer) (asks (state_of d.content mid) turn answer) error not) c.go_on.result c.go_on.ensures.cause;
             kept = came-of-disk d.content d.moment d.left_since d.size mid new _ c.go_on.result of_disk
                 (go-kept d.told d.content d.may_leave d.moment d.left_since d.size d.faults mid q.trusted turn q.its answer its new comes shape opens (c.go_on.ensures.left p.trusted.tells));
           });

@@ -12,7 +12,7 @@ use Rattle.ckr_desk.proofs.Trust.Sameness.{IsAsBefore}
 use Rattle.ckr_desk.proofs.Turns.Answers.{stands-before}
 use Rattle.ckr_desk.specs.Requests.{TellsNumbers}
 use Rattle.ckr_desk.specs.Soundness.{state_of}
-use Rattle.ckr_desk.specs.Turn.{AnswerStands, asks}
+use Rattle.ckr_desk.specs.Turn.{AnswerStands, asks, event_of_turn, reply_of}
 use Rattle.ckr_console.specs.Answering.{restart_answer}
 use Rattle.ckr_desk.specs.State.{DeskView}
 use Rattle.ckr_desk.specs.Units.{HasTurned}
@@ -38,7 +38,7 @@ returns-in_err-unit-clause-turned g c turn p =
     subst (HasTurned d.told d.content d.may_leave d.moment d.left_since d.size turn (restart_answer now.operator) now new) (sym (err-is c.from_residual.result c.in_err-unit.field-0.0 c.from_residual.ensures.1))
     (turned-not d.told d.content d.may_leave d.moment d.left_since d.size now new is e.size since turn (restart_answer now.operator) p.trusted c.in_err-unit.field-0.0
     (unworked-cause d.faults now new _ _ c.in_err-unit.field-0.0 c.in_err-unit.ensures.cause)
-    (unworked-takes d.faults now new _ _ _ c.in_err-unit.field-0.0 c.in_err-unit.ensures.cause))
+    (unworked-takes d.faults now new (reply_of (state_of d.content now) turn (restart_answer now.operator)) (event_of_turn (state_of d.content now) turn (restart_answer now.operator)) (asks (state_of d.content now) turn (restart_answer now.operator)) c.in_err-unit.field-0.0 c.in_err-unit.ensures.cause))
 
 pub returns-in-Went-clause-turned : goal.returns-in-Went-clause-turned
 returns-in-Went-clause-turned g c turn p =
