@@ -38,7 +38,7 @@ const DELETES: [&[u8]; 6] = [
 pub(crate) fn one_volume() -> Layout {
     let mut volumes = ArrayVec::new();
     volumes.push(Volume {
-        serial: Volser::default(),
+        serial: Volser::read(b"VOL001").unwrap_or_default(),
         start: 4096,
         bytes: 100_000,
     });
@@ -140,6 +140,78 @@ fn made_by(output: u32, entries: Option<u32>) -> ArrayVec<Made, 80> {
     items
 }
 
+/// What a step makes, by its DDs: the number of the DD, the first byte on the volume, and the records.
+fn all_made(pieces: &[(u8, u32, u32)]) -> ArrayVec<Made, 80> {
+    let mut items = ArrayVec::new();
+    for (dd, start, records) in pieces {
+        if !items.is_full() {
+            items.push(made(*dd, *start, *records));
+        }
+    }
+    items
+}
+
+/// The lengths of a step's outputs.
+fn all_lengths(of_outputs: &[u32]) -> ArrayVec<u32, 16> {
+    let mut lengths = ArrayVec::new();
+    for length in of_outputs {
+        if !lengths.is_full() {
+            lengths.push(*length);
+        }
+    }
+    lengths
+}
+
+fn start_making(
+    tables: &mut Tables,
+    layout: &Layout,
+    job: u32,
+    step: u8,
+    pieces: &[(u8, u32, u32)],
+) -> Result<bool, NoMemory> {
+    let event = Event::Started {
+        job,
+        step,
+        made: all_made(pieces),
+    };
+    tell(tables, layout, &event)
+}
+
+fn end_of_step(
+    tables: &mut Tables,
+    layout: &Layout,
+    job: u32,
+    step: u8,
+    writes: u32,
+    of_outputs: &[u32],
+) -> Result<bool, NoMemory> {
+    let event = Event::StepEnded {
+        job,
+        step,
+        rc: 0,
+        writes,
+        lengths: all_lengths(of_outputs),
+    };
+    tell(tables, layout, &event)
+}
+
+/// The run ends with a code, since RD forbids the restart.
+fn fail(
+    tables: &mut Tables,
+    layout: &Layout,
+    job: u32,
+    writes: u32,
+    of_outputs: &[u32],
+) -> Result<bool, NoMemory> {
+    let ending = Ending::Coded {
+        code: Code::System(1),
+        rule: 1,
+        writes,
+        lengths: all_lengths(of_outputs),
+    };
+    tell(tables, layout, &Event::Ended { job, ending })
+}
+
 fn start(
     tables: &mut Tables,
     layout: &Layout,
@@ -182,23 +254,6 @@ fn keep(
 
 fn cancel(tables: &mut Tables, layout: &Layout, job: u32) -> Result<bool, NoMemory> {
     tell(tables, layout, &Event::Cancelled { job })
-}
-
-fn end_step(
-    tables: &mut Tables,
-    layout: &Layout,
-    job: u32,
-    first: u32,
-    second: u32,
-) -> Result<bool, NoMemory> {
-    let event = Event::StepEnded {
-        job,
-        step: 1,
-        rc: 0,
-        writes: first,
-        lengths: two_lengths(first, second),
-    };
-    tell(tables, layout, &event)
 }
 
 fn hold(
@@ -258,10 +313,16 @@ pub(crate) enum Told {
     /// Its step ends with these lengths.
     StepEnded(u32, u32),
     Ended,
+    /// A step of this number starts, and makes data sets: the number of each DD, the first byte on the volume, and the records.
+    StartedMaking(u8, &'static [(u8, u32, u32)]),
+    /// A step of this number ends behind so many writes, with these lengths.
+    StepEndedWith(u8, u32, &'static [u32]),
+    /// It ends with a code behind so many writes, with these lengths.
+    Failed(u32, &'static [u32]),
 }
 
 /// The job goes on so; false where that doesn't follow.
-fn go_on(
+pub(crate) fn go_on(
     alloc: Global,
     tables: &mut Tables,
     layout: &Layout,
@@ -279,8 +340,15 @@ fn go_on(
         Told::Restarted(initiator, checkpoint) => {
             restart(tables, layout, job, *initiator, *checkpoint)
         }
-        Told::StepEnded(first, second) => end_step(tables, layout, job, *first, *second),
+        Told::StepEnded(first, second) => {
+            end_of_step(tables, layout, job, 1, *first, &[*first, *second])
+        }
         Told::Ended => end(tables, layout, job),
+        Told::StartedMaking(step, pieces) => start_making(tables, layout, job, *step, *pieces),
+        Told::StepEndedWith(step, writes, lengths) => {
+            end_of_step(tables, layout, job, *step, *writes, *lengths)
+        }
+        Told::Failed(writes, lengths) => fail(tables, layout, job, *writes, *lengths),
     }
 }
 

@@ -10,6 +10,8 @@ mod decks;
 #[cfg(test)]
 mod deferred;
 #[cfg(test)]
+mod denials;
+#[cfg(test)]
 mod follows;
 #[cfg(test)]
 mod freshness;
@@ -23,6 +25,10 @@ mod operators;
 mod programs;
 #[cfg(test)]
 mod queue;
+#[cfg(test)]
+mod restart_decks;
+#[cfg(test)]
+mod restart_histories;
 #[cfg(test)]
 mod restarts;
 #[cfg(test)]
