@@ -34,12 +34,14 @@ use Rattle.ckr_points_library.specs.Holdings.{owned}
 use Rattle.ckr_points_tables.specs.declared.run_table.RunTable.{RunTable}
 use Rattle.ckr_points_tables.specs.Checkpoint.{checkpoint_name}
 use Rattle.ckr_points_tables.specs.RunJobs.{IsFitting, effective, is_fitting_step, names_in, own_of}
+use Rattle.ckr_points_tables.specs.RunMarks.{mark_by}
+use Rattle.ckr_points_tables.proofs.OwnNames.{names-behind}
 use Rattle.ckr_points_tables.proofs.RunJobs.{step-fits}
 use Rattle.ckr_points_tables.specs.View.{RunTableView, facts_in, line_of, row_with, seen_by}
 use Rattle.ckr_desk_memory.specs.declared.entry_marks.Behind.{Behind}
 use Rattle.ckr_desk_memory.specs.Entries.{IsEntryOf, entry_bytes, entry_end, entry_in_set, entry_to, fits_in, next_entry, is_written, next_id, row_of_line, step_now}
 use Rattle.ckr_desk_memory.specs.View.{RunningStepView}
-use Rattle.ckr_desk_memory.specs.EntryMarks.{length_behind, mark_behind, present_behind}
+use Rattle.ckr_desk_memory.specs.EntryMarks.{length_behind, mark_behind, now_behind, present_behind}
 use Rattle.ckr_desk_turn.specs.Checkpoints.{is_in_range, is_state_in_range, step_entries, id_in}
 use Rattle.ckr_desk_turn.specs.EntryStates.{at_checkpoint}
 use Rattle.ckr_desk_memory.specs.Plans.{IsKnown, row_for}
@@ -59,16 +61,6 @@ marked_among first second (name ∷ names) same =
 
 marks_among : (first second : Name → Mark) (names : List Name) → ((name : Name) → is_among names name ≡ true → first name ≡ second name) → marks_for first names ≡ marks_for second names
 marks_among first second names same = ap (λ (all : Named Mark). map (λ entry. entry.1) all) (marked_among first second names same)
-
--- the marks of a run that continues none
-own_mark : RunRow → Named TableSet → Bool → Name → Mark
-own_mark row sets own name = if own then mark_now sets name else option_map_or (λ mark. mark) (mark_at (carried_marks row) name) (mark_now sets name)
-
-pub own-marks : (row : RunRow) (sets : Named TableSet) → own_names row ≡ names_of_job row.job → marks_now row sets ≡ marks_for (mark_now sets) (names_of_job row.job)
-unfolding own_mark
-own-marks row sets own =
-    marks_among (λ name. own_mark row sets (is_among (own_names row) name) name) (mark_now sets) (names_of_job row.job)
-    (λ name among. ap (λ b. own_mark row sets b name) (ap (λ (names : List Name). is_among names name) own ∙ among))
 
 -- ---- lengths that are committed
 
@@ -110,7 +102,7 @@ sizes behind = length_behind (Some behind.check.now) behind.end behind.on.now.se
 -- the mark of each name, by the data sets of the tables
 pub mark-is : (behind : Behind) (sets : Named TableSet) → behind.committed.now.sets ≡ seen_by holding_of sets → (name : Name)
     → let names = output_names behind.table.now.job.root (own_of behind.own.now) in
-    mark_behind behind name ≡ mark_now (committed names (map (length_behind (Some behind.check.now) behind.end behind.on.now.sets.sets) names) sets) name
+    now_behind behind name ≡ mark_now (committed names (map (length_behind (Some behind.check.now) behind.end behind.on.now.sets.sets) names) sets) name
 mark-is behind sets seen name =
     ap (λ (present : Option Present). let mark : Mark = record { name = name; present = present } in mark)
     (ap (option_map (present_behind behind name)) (ap (λ (all : Named Holding). option_map (λ (h : Holding). h.set) (entry_at all name)) seen ∙ ap (option_map (λ (h : Holding). h.set)) (at-viewed holding_of sets name))
@@ -121,10 +113,14 @@ mark-is behind sets seen name =
     by None = refl
     by (Some table) = refl
 
-pub marks-are : (behind : Behind) (sets : Named TableSet) → behind.committed.now.sets ≡ seen_by holding_of sets → (all : List Name)
+-- so it is with those that are carried over beside them
+pub marks-are : (behind : Behind) (sets : Named TableSet) → behind.committed.now.sets ≡ seen_by holding_of sets → (own : List Name) (carried : List Mark) (all : List Name)
     → let names = output_names behind.table.now.job.root (own_of behind.own.now) in
-    marks_for (mark_behind behind) all ≡ marks_for (mark_now (committed names (map (length_behind (Some behind.check.now) behind.end behind.on.now.sets.sets) names) sets)) all
-marks-are behind sets seen all = marks_among (mark_behind behind) (mark_now _) all (λ name among. mark-is behind sets seen name)
+    marks_for (mark_by (now_behind behind) own carried) all
+    ≡ marks_for (mark_by (mark_now (committed names (map (length_behind (Some behind.check.now) behind.end behind.on.now.sets.sets) names) sets)) own carried) all
+marks-are behind sets seen own carried all =
+    marks_among (mark_by (now_behind behind) own carried) (mark_by (mark_now _) own carried) all
+    (λ name among. ap (λ now. if is_among own name then now else option_map_or (λ mark. mark) (mark_at carried name) now) (mark-is behind sets seen name))
 
 -- ---- the identifier
 
@@ -174,20 +170,19 @@ pub record IsMadeOf (behind : Behind) (entry : Entry) : Type 0 where
   pub marks : entry.marks ≡ marks_for (mark_behind behind) (names_of_job (effective behind.on.now.run behind.table.now.job))
   pub passed : entry.passed ≡ behind.table.now.passed.items
 
-pub made-entry : (id : Name) (behind : Behind) (tables : TablesModel) (entry : Entry) → behind.committed.now.sets ≡ seen_by holding_of tables.sets → entry.id ≡ id → behind.table.now.job.earlier_step ≡ 0 → IsMadeOf behind entry → IsEntryOf id behind tables entry
+pub made-entry : (id : Name) (behind : Behind) (tables : TablesModel) (entry : Entry) → behind.committed.now.sets ≡ seen_by holding_of tables.sets → entry.id ≡ id → IsMadeOf behind entry → IsEntryOf id behind tables entry
 unfolding entry_to
-made-entry id behind tables entry seen its first made = λ line own for_it.
+made-entry id behind tables entry seen its made = λ line own for_it.
     let row : RunRow = row_of_line behind.on.now.run line behind.table.now in
     let all : Name → ℕ = sizes behind in
     let names : List Name = output_names row.job.root own in
-    let own_names = its-outputs row.job.root own behind.own.now.step.now behind.own.now.owner for_it.step for_it.owner in
+    let outputs_so = its-outputs row.job.root own behind.own.now.step.now behind.own.now.owner for_it.step for_it.owner in
     entry-parts entry.id (next_id row own) entry.job behind.table.now.job.deck.name entry.step_name own.step.name entry.run row.number entry.owner own.owner entry.step (step_now row) entry.count (suc row.count) entry.taken (taken_of behind.on.now.step.state) entry.writes
     behind.on.now.step.writes entry.state _ entry.marks (marks_now row (committed names (map all names) tables.sets)) entry.passed row.passed (its ∙ for_it.id) made.job (made.step_name ∙ ap (λ (s : Step). s.name) (sym for_it.step)) made.run (made.owner ∙ sym for_it.owner) made.step
     made.count made.taken made.writes made.state
     (made.marks
-    ∙ marks-are behind tables.sets seen (names_of_job row.job)
-    ∙ ap (λ (ns : List Name). marks_for (mark_now (committed ns (map all ns) tables.sets)) (names_of_job row.job)) (sym own_names)
-    ∙ sym (own-marks row (committed names (map all names) tables.sets) (ap (λ n. names_of_steps row.job.root (drop (pred n) row.job.steps)) first)))
+    ∙ marks-are behind tables.sets seen (own_names row) (carried_marks row) (names_of_job row.job)
+    ∙ ap (λ (ns : List Name). marks_for (mark_by (mark_now (committed ns (map all ns) tables.sets)) (own_names row) (carried_marks row)) (names_of_job row.job)) (sym outputs_so))
     made.passed
 
 -- ---- whether it fits
@@ -391,9 +386,14 @@ names-before job (suc place) some = ap (λ n. names_of_steps job.root (drop n jo
     from (own ∷ steps) zero = refl
     from (own ∷ steps) (suc place) = from steps place
 
+-- the names of a step that a run executes itself are among those of the steps from there on
+pub names-own : (job : Effective) (from step : ℕ) (own : OwnedStep) (name : Name) → suc (pred from) ≤ step → step_at job step ≡ Some own → is_among (names_of job.root own) name ≡ true → is_among (names_of_steps job.root (drop (pred from) job.steps)) name ≡ true
+names-own job from zero own name executed there among = absurd (some-not-none own (sym there))
+names-own job from (suc place) own name executed there among = names-behind job.root job.steps (pred from) place own name (omega (arith, executed)) there among
+
 -- ---- a run by its line
 
--- a run that continues none is told by its line and by what the tables keep of it
+-- a run is told by its line and by what the tables keep of it
 pub told-row : (tables : TablesModel) (run : ℕ) (table : RunTable) (known : IsKnown tables run table) (row : RunRow) → run_of tables run ≡ Some row → row ≡ row_with (line_of row) (facts_in row) → row ≡ row_of_line run (line_of row) table
 told-row tables run table known row at told =
     let same = known-row tables run table known row at in

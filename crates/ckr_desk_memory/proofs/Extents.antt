@@ -1,12 +1,10 @@
 -- The data sets stay laid out behind an event that follows.
-use Rattle.std.proofs.Common.{◌≡◌, ◌==◌, ◌&&◌, ◌||◌, ℕ, Bool, true, false, cond, List, refl, ap, sym, ◌∙◌, subst, Option, None, Some}
-use Rattle.std.proofs.lemmas.Bool.{false≢true}
+use Rattle.std.proofs.Common.{◌≡◌, ◌==◌, ◌&&◌, ◌||◌, ℕ, zero, suc, Bool, true, false, cond, List, refl, ap, sym, ◌∙◌, Option, None, Some}
 use Rattle.std.specs.Option.{option_map_or}
 use Rattle.ckr_base.proofs.Bools.{and-first, and-second}
-use Rattle.ckr_base.proofs.Numbers.{equal-true}
 use Rattle.ckr_events.specs.declared.event.Made.{Made}
 use Rattle.ckr_events.specs.declared.event.Event.{Event}
-use Rattle.ckr_events.specs.declared.event.Event.TheVariants.{Submitted, Selected, Started, Rewritten, Checkpointed, Cancelled, StepEnded, Restarted, Held, Released as ReleasedEvent, Ended, Purged}
+use Rattle.ckr_events.specs.declared.event.Event.TheVariants.{Submitted, Selected, Denied, Started, Rewritten, Checkpointed, Cancelled, StepEnded, Restarted, Held, Released as ReleasedEvent, Ended, Purged}
 use Rattle.ckr_events.specs.declared.event.Ending.{Ending}
 use Rattle.ckr_events.specs.declared.event.Ending.TheVariants.{Completed, Coded, Allocation}
 use Rattle.ckr_jcl.specs.declared.deck.Job.{Job}
@@ -27,14 +25,14 @@ use Rattle.ckr_points_library.specs.Commit.{output_names}
 use Rattle.ckr_points.specs.declared.run.RunState.TheVariants.{On, Held as HeldRun, Released}
 use Rattle.ckr_points.specs.Tables.{after_checkpointed, after_commit, after_dispositions, after_rewritten, after_started, after_step_ended, name_with_role, is_checkpoints, is_updates, run_disposals, own_made, earlier_made, table_rewritten}
 use Rattle.ckr_points.specs.Follows.{are_items, are_lengths, are_made_clear, ended_follows, follows, is_checkpoint, is_empty, is_in_state, is_rewrite, is_running, lengths_follow, may_start, of_run, of_step, started_follows}
-use Rattle.ckr_points.specs.Marks.{point_at, removed_all, has_passed, without_passed}
-use Rattle.ckr_points.specs.Restart.{after_abnormal, after_ended, after_event, after_restarted, by_step, kept_at, place_of, step_in}
+use Rattle.ckr_points.specs.Marks.{point_at, removed_all, has_passed, made_names, sysout_names, without_passed}
+use Rattle.ckr_points.specs.Restart.{after_abnormal, after_ended, after_event, after_restarted, by_step, kept_at, needed_names, place_of, spliced, step_in, without_names}
 use Rattle.ckr_points.specs.Rows.{RunRow, TableSet, TablesModel, run_of, standing_of, step_of_run, table_ways}
 use Rattle.ckr_points.specs.Soundness.{AreLaidOut}
 use Rattle.ckr_points_invariant.proofs.Library.Extents.{committed-laid, disposed_all-laid, fit-lengths, laid-changed, made_all-laid, passed_ended-laid}
 use Rattle.ckr_points_invariant.proofs.PutBack.Sets.{put_back-laid, removed_all-laid}
-use Rattle.ckr_desk_memory.specs.ForwardEvents.{is_forward_event}
 use Rattle.ckr_desk_memory.specs.View.{length_in}
+use Rattle.ckr_desk_memory.proofs.Continuations.{by-continuation}
 use Rattle.ckr_desk_memory.proofs.Runs.{by-run, by-step}
 
 -- what an event asks of its run, the run meets
@@ -115,10 +113,18 @@ ended_so layout tables laid row (Coded code rule writes lengths) follow =
 ended_so layout tables laid row (Allocation dd cause first second) follow = abnormal_so layout tables laid row (place_of row)
 
 module _ (layout : Layout) (tables : TablesModel) (laid : AreLaidOut layout tables.sets) where
-  selected_so : (job initiator earlier step : ℕ) (id : Option (List ℕ)) (deck : Option Job) → earlier ≡ 0 → AreLaidOut layout (after_event (Selected job initiator earlier step id) deck tables).sets
-  selected_so job initiator earlier step id deck is =
-      subst (λ n. AreLaidOut layout (after_event (Selected job initiator n step id) deck tables).sets) (sym is)
-      (by-run (Laid layout tables laid) tables job _ laid (λ row at. laid))
+  -- a run that continues another one: what is put back for it
+  continued_so : (job initiator before step : ℕ) (id : Option (List ℕ)) (deck : Option Job) → follows layout tables (Selected job initiator (suc before) step id) deck ≡ true
+      → AreLaidOut layout (after_event (Selected job initiator (suc before) step id) deck tables).sets
+  continued_so job initiator before step id deck follow =
+      by-continuation layout tables job initiator before step deck (Laid layout tables laid) id follow
+      (λ its.
+      let sysout = sysout_names its.other.job.root its.owned in
+      let removed = made_names its.point.marks sysout in
+      put_back-laid layout its.point.marks (output_names its.other.job.root its.owned)
+      (without_names sysout (needed_names (spliced its.other.job step its.row.number its.row.deck) step its.point.marks)) (removed_all removed tables.sets) (removed_all-laid layout removed tables.sets laid))
+      (λ id its entry.
+      put_back-laid layout entry.point.marks (output_names its.other.job.root its.owned) (needed_names (spliced its.other.job step its.row.number its.row.deck) step entry.point.marks) tables.sets laid)
 
   restarted_so : (row : RunRow) (initiator : ℕ) (checkpoint : Bool) → Laid layout tables laid (by_step (λ owned step. after_restarted row owned step initiator checkpoint tables) row tables)
   restarted_so row initiator true =
@@ -137,23 +143,25 @@ module _ (layout : Layout) (tables : TablesModel) (laid : AreLaidOut layout tabl
       put_back-laid layout point.marks (output_names row.job.root owned) (names_of row.job.root owned) (removed_all made tables.sets) (removed_all-laid layout made tables.sets laid)))
 
   -- what an event opens, makes, commits, disposes of and puts back stays laid out
-  pub laid-behind : (event : Event) (deck : Option Job) → is_forward_event event ≡ true → follows layout tables event deck ≡ true → AreLaidOut layout (after_event event deck tables).sets
-  laid-behind (Submitted job cards) None plain follow = laid
-  laid-behind (Submitted job cards) (Some deck) plain follow = laid
-  laid-behind (Selected job initiator earlier step id) deck plain follow = selected_so job initiator earlier step id deck (equal-true earlier 0 plain)
-  laid-behind (Started job step items) deck plain follow =
+  pub laid-behind : (event : Event) (deck : Option Job) → follows layout tables event deck ≡ true → AreLaidOut layout (after_event event deck tables).sets
+  laid-behind (Submitted job cards) None follow = laid
+  laid-behind (Submitted job cards) (Some deck) follow = laid
+  laid-behind (Selected job initiator zero step id) deck follow = by-run (Laid layout tables laid) tables job _ laid (λ row at. laid)
+  laid-behind (Selected job initiator (suc before) step id) deck follow = continued_so job initiator before step id deck follow
+  laid-behind (Denied job rule name) deck follow = by-run (Laid layout tables laid) tables job _ laid (λ row at. laid)
+  laid-behind (Started job step items) deck follow =
       by-run (Laid layout tables laid) tables job _ laid
       (λ row at.
       by-step (Laid layout tables laid) tables (step_of_run row step) _ laid
       (started_so layout tables laid step items.items row (tested tables job (started_follows layout tables step items.items) follow row at)))
-  laid-behind (Rewritten job taken writes lengths place image) deck plain follow =
+  laid-behind (Rewritten job taken writes lengths place image) deck follow =
       by-run (Laid layout tables laid) tables job _ laid
       (λ row at.
       let its = tested tables job (λ row. is_running row && lengths_follow tables row lengths.items && of_step row (is_rewrite tables place image row)) follow row at in
       by-step (Laid layout tables laid) tables (step_of_run row (step_in (place_of row))) _ laid
       (λ owned there.
       rewritten_so layout tables laid row writes lengths.items (and-second (is_running row) (lengths_follow tables row lengths.items) (and-first _ (of_step row (is_rewrite tables place image row)) its)) owned there (step_in (place_of row))))
-  laid-behind (Checkpointed job id taken writes lengths place bytes) deck plain follow =
+  laid-behind (Checkpointed job id taken writes lengths place bytes) deck follow =
       by-run (Laid layout tables laid) tables job _ laid
       (λ row at.
       let its = tested tables job (λ row. is_running row && lengths_follow tables row lengths.items && of_step row (is_checkpoint tables id lengths.items place bytes row)) follow row at in
@@ -161,15 +169,15 @@ module _ (layout : Layout) (tables : TablesModel) (laid : AreLaidOut layout tabl
       (λ owned there.
       checkpointed_so layout tables laid row (record { id = id; run = job; place = place; bytes = bytes }) taken writes lengths.items
       (and-second (is_running row) (lengths_follow tables row lengths.items) (and-first _ (of_step row (is_checkpoint tables id lengths.items place bytes row)) its)) owned there (step_in (place_of row))))
-  laid-behind (Cancelled job) deck plain follow = by-run (Laid layout tables laid) tables job _ laid (λ row at. laid)
-  laid-behind (StepEnded job step rc writes lengths) deck plain follow =
+  laid-behind (Cancelled job) deck follow = by-run (Laid layout tables laid) tables job _ laid (λ row at. laid)
+  laid-behind (StepEnded job step rc writes lengths) deck follow =
       by-run (Laid layout tables laid) tables job _ laid
       (λ row at.
       let its = tested tables job (λ row. is_running row && step_in (place_of row) == step && lengths_follow tables row lengths.items) follow row at in
       by-step (Laid layout tables laid) tables (step_of_run row (step_in (place_of row))) _ laid
       (λ owned there. step_ended_so layout tables laid row rc writes lengths.items (and-second _ (lengths_follow tables row lengths.items) its) owned there (step_in (place_of row))))
-  laid-behind (Restarted job initiator code checkpoint) deck plain follow = by-run (Laid layout tables laid) tables job _ laid (λ row at. restarted_so row initiator checkpoint)
-  laid-behind (Held job code writes lengths) deck plain follow =
+  laid-behind (Restarted job initiator code checkpoint) deck follow = by-run (Laid layout tables laid) tables job _ laid (λ row at. restarted_so row initiator checkpoint)
+  laid-behind (Held job code writes lengths) deck follow =
       by-run (Laid layout tables laid) tables job _ laid
       (λ row at.
       let its = tested tables job (λ row. (is_running row || is_in_state Released row) && lengths_follow tables row lengths.items) follow row at in
@@ -177,11 +185,10 @@ module _ (layout : Layout) (tables : TablesModel) (laid : AreLaidOut layout tabl
       (λ owned there.
       committed_so layout tables laid (record row { state = HeldRun; initiator = None; code = Some code }) lengths.items (and-second (is_running row || is_in_state Released row) (lengths_follow tables row lengths.items) its)
       owned there (step_in (place_of row)) writes))
-  laid-behind (ReleasedEvent job) deck plain follow = by-run (Laid layout tables laid) tables job _ laid (λ row at. laid)
-  laid-behind (Ended job ending) deck plain follow =
+  laid-behind (ReleasedEvent job) deck follow = by-run (Laid layout tables laid) tables job _ laid (λ row at. laid)
+  laid-behind (Ended job ending) deck follow =
       by-run (Laid layout tables laid) tables job _ laid (λ row at. ended_so layout tables laid row ending (tested tables job (λ row. ended_follows tables row ending) follow row at))
-  laid-behind (Purged job) deck plain follow = by-run (Laid layout tables laid) tables job _ laid (λ row at. laid)
-  laid-behind _ deck plain follow = absurd (false≢true plain)
+  laid-behind (Purged job) deck follow = by-run (Laid layout tables laid) tables job _ laid (λ row at. laid)
 
 -- ---- lengths behind an entry
 

@@ -18,6 +18,7 @@ pub mod Inquiries
 pub mod KeptEntries
 pub mod Rooms
 pub mod OwnSteps
+pub mod QueuedPoints
 pub mod PlanCases
 pub mod OwnPlans
 pub mod OwnUnits

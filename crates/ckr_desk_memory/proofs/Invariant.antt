@@ -1,5 +1,5 @@
 -- What holds of the jobs in memory holds behind an event that follows.
-use Rattle.std.proofs.Common.{◌≡◌, ◌+◌, ◌≤◌, ◌==◌, ◌&&◌, ◌||◌, ℕ, zero, suc, Bool, true, false, not, cond, List, [], ◌∷◌, ◌++◌, map, filter, length, refl, ap, sym, ◌∙◌, slice_set, subst, Option, None, Some, Ok, arith, length-append}
+use Rattle.std.proofs.Common.{◌≡◌, ◌+◌, ◌≤◌, ◌==◌, ◌&&◌, ◌||◌, ℕ, zero, suc, Bool, true, false, not, cond, List, [], ◌∷◌, ◌++◌, map, filter, length, refl, ap, sym, ◌∙◌, subst, Option, None, Some, arith, length-append}
 use Rattle.std.proofs.lemmas.Bool.{and_from, false≢true, or_right}
 use Rattle.std.specs.Prelude.{if◌then◌else◌, nat_eq, nat_le}
 use Rattle.std.specs.List.{AllByRecursion}
@@ -7,15 +7,15 @@ use Rattle.std.specs.Option.{is_none, is_some, option_eq, option_map, option_map
 use Rattle.ckr_base.proofs.Bools.{and-first, and-second, bool-cases, if-then, or-cases}
 use Rattle.ckr_base.proofs.Options.{is_none-true, is_some-from}
 use Rattle.ckr_base.proofs.Numbers.{equal-true, nat_le-from, nat_le-true}
-use Rattle.ckr_base.proofs.Sequences.{each-append}
+use Rattle.ckr_base.proofs.Sequences.{each-append, find-passes}
 use Rattle.ckr_events.specs.declared.event.Event.{Event}
-use Rattle.ckr_events.specs.declared.event.Event.TheVariants.{Submitted, Selected, Started, Rewritten, Checkpointed, Cancelled, StepEnded, Restarted, Held, Released, Ended, Purged}
+use Rattle.ckr_events.specs.declared.event.Event.TheVariants.{Submitted, Selected, Denied, Started, Rewritten, Checkpointed, Cancelled, StepEnded, Restarted, Held, Released, Ended, Purged}
 use Rattle.ckr_base.specs.declared.code.Code.{Code}
 use Rattle.ckr_events.specs.declared.event.Ending.{Ending}
 use Rattle.ckr_events.specs.declared.event.Ending.TheVariants.{Completed, Coded, Allocation}
 use Rattle.ckr_jcl.specs.declared.deck.Job.{Job}
 use Rattle.ckr_meaning.specs.Allotments.{opened_all}
-use Rattle.ckr_meaning.specs.EffectiveJob.{OwnedStep, flaws_in, placed_in, plain_job, stamp_of, step_at}
+use Rattle.ckr_meaning.specs.EffectiveJob.{Effective, OwnedStep, flaws_in, placed_in, stamp_of, step_at}
 use Rattle.ckr_meaning.specs.declared.place.Place.{Place}
 use Rattle.ckr_meaning.specs.declared.place.Place.TheVariants.{Before, Opened, Within}
 use Rattle.ckr_volumes.specs.declared.layout.Layout.{Layout}
@@ -23,34 +23,30 @@ use Rattle.ckr_points.specs.Marks.{point_at}
 use Rattle.ckr_points.specs.Office.{is_holder}
 use Rattle.ckr_points.specs.Tables.{after_commit, after_held, effect_rewritten, point_rewritten, queued_run, start_point}
 use Rattle.ckr_points.specs.declared.run.RunState.{RunState}
-use Rattle.ckr_points.specs.declared.run.RunState.TheVariants.{Queued, On, Held as HeldRun, Released as ReleasedRun, Purged as PurgedRun}
+use Rattle.ckr_points.specs.declared.run.RunState.TheVariants.{Queued, On, Held as HeldRun, Released as ReleasedRun, Denied as DeniedRun, Purged as PurgedRun}
 use Rattle.ckr_points.specs.Follows.{ended_follows, follows, is_checkpoint, is_empty, is_free, is_in_state, is_rewrite, is_running, is_within, lengths_follow, may_hold, may_restart_again, may_start, of_run, of_step, selected_follows, started_follows, state_number}
-use Rattle.ckr_points.specs.Restart.{after_abnormal, after_coded, after_ended, after_event, after_restarted, by_step, kept_at, place_of, step_in}
-use Rattle.ckr_points.specs.Rows.{RunRow, StartPoint, TablesModel, run_of, standing_of, step_of_run, table_ways, with_row}
+use Rattle.ckr_points.specs.Restart.{after_abnormal, after_coded, after_ended, after_event, after_restarted, by_step, carried_point, kept_at, place_of, spliced, step_in}
+use Rattle.ckr_points.specs.Rows.{RunRow, StartPoint, TableSet, TablesModel, run_of, standing_of, step_of_run, table_ways, with_row}
 use Rattle.ckr_queue.specs.declared.entry.QueueEntry.{QueueEntry}
-use Rattle.ckr_desk_turn.specs.Model.Form.{is_run}
+use Rattle.ckr_library.specs.NameMaps.{Named}
 use Rattle.ckr_points_invariant.proofs.Holders.Rows.{queued-is}
+use Rattle.ckr_desk_turn.proofs.AdmittedSteps.{spliced-here}
 use Rattle.ckr_points_invariant.proofs.Steps.Events.{on-holds}
 use Rattle.ckr_points_invariant.proofs.Marks.Points.{point_at-new}
-use Rattle.ckr_points_tables.specs.Invariant.{MayFollow, MaySubmit, is_submission}
-use Rattle.ckr_desk_memory.specs.ForwardEvents.{is_forward_event}
+use Rattle.ckr_points_tables.specs.Invariant.{MayFollow, MaySubmit}
 use Rattle.ckr_desk_turn.specs.Invariant.{is_off, is_on_one}
 use Rattle.ckr_desk_turn.specs.Queue.{AreNumbered}
 use Rattle.ckr_desk_turn.specs.Spelling.{IsCode}
-use Rattle.ckr_desk_memory.specs.Invariant.{IsAcceptedRow, IsAnyAccepted, IsPlacedRow, is_in_step}
+use Rattle.ckr_desk_memory.specs.Invariant.{IsAnyAccepted, IsPlacedRow, is_in_step}
 use Rattle.ckr_desk_memory.specs.Parts.{AreQueued, step_seen}
 use Rattle.ckr_desk_memory.specs.declared.jobs.RunningStep.{RunningStep}
 use Rattle.ckr_desk_memory.specs.View.{RunningStepView}
 use Rattle.ckr_desk_memory.specs.EventChanges.{MayQueue, queue_after, without_run}
+use Rattle.ckr_desk_memory.proofs.Continuations.{by-continuation}
 use Rattle.ckr_desk_memory.proofs.Starts.Steps.{row-among}
 use Rattle.ckr_desk_memory.proofs.Extents.{tested, tested-step}
 use Rattle.ckr_desk_memory.proofs.Queue.{held-is, may-queue, on-is, queue-behind, released-is}
-use Rattle.ckr_desk_memory.proofs.Runs.{Kind, by-run, by-step, kind_of, long-stay, numbered-more, numbered-stay, rest_in, runs-stay}
-
--- an event submits a deck, or does something else
-by-submission : (Q : Event → Type 0) → ((job : ℕ) (cards : List ℕ) → Q (Submitted job cards)) → ((event : Event) → is_submission event ≡ false → Q event) → (event : Event) → Q event
-by-submission Q submits other (Submitted job cards) = submits job cards
-by-submission Q submits other event = other event refl
+use Rattle.ckr_desk_memory.proofs.Runs.{by-run, by-step, by-submission, each-put, numbered-more, numbers-stay}
 
 -- the number of a deck that is submitted
 next_number : (layout : Layout) (tables : TablesModel) (job : ℕ) (cards : List ℕ) (deck : Option Job) → follows layout tables (Submitted job cards) deck ≡ true → job ≡ suc (length tables.runs)
@@ -64,12 +60,12 @@ numbered_submitted layout tables job cards (Some deck) e numbered =
     let is : 1 + length tables.runs ≡ job = omega (arith, next_number layout tables job cards (Some deck) e) in
     subst (λ n. AreNumbered 1 (tables.runs ++ queued_run n deck ∷ [])) is (numbered-more 1 tables.runs deck numbered)
 
-pub numbered-behind : (layout : Layout) (tables : TablesModel) (event : Event) (deck : Option Job) → is_forward_event event ≡ true → follows layout tables event deck ≡ true → AreNumbered 1 tables.runs → AreNumbered 1 (after_event event deck tables).runs
-numbered-behind layout tables event deck plain e numbered =
-    by-submission (λ event. is_forward_event event ≡ true → follows layout tables event deck ≡ true → AreNumbered 1 (after_event event deck tables).runs)
-    (λ job cards plain e. numbered_submitted layout tables job cards deck e numbered)
-    (λ event other plain e. numbered-stay 1 tables.runs (after_event event deck tables).runs (runs-stay tables numbered event deck plain other) numbered)
-    event plain e
+pub numbered-behind : (layout : Layout) (tables : TablesModel) (event : Event) (deck : Option Job) → follows layout tables event deck ≡ true → AreNumbered 1 tables.runs → AreNumbered 1 (after_event event deck tables).runs
+numbered-behind layout tables event deck e numbered =
+    by-submission (λ event. follows layout tables event deck ≡ true → AreNumbered 1 (after_event event deck tables).runs)
+    (λ job cards e. numbered_submitted layout tables job cards deck e numbered)
+    (λ event other e. (numbers-stay tables numbered layout event deck other e).numbered)
+    event e
 
 few_submitted : (layout : Layout) (tables : TablesModel) (job : ℕ) (cards : List ℕ) (deck : Option Job) → follows layout tables (Submitted job cards) deck ≡ true → MaySubmit (Submitted job cards) deck → length tables.runs ≤ 9999999
     → length (after_event (Submitted job cards) deck tables).runs ≤ 9999999
@@ -79,65 +75,31 @@ few_submitted layout tables job cards (Some deck) e submits few =
     let most : job ≤ 9999999 = nat_le-true job 9999999 (and-first _ _ (and-first _ _ (and-first _ _ (and-first _ _ submits)))) in
     omega (arith, length-append tables.runs (queued_run job deck ∷ []))
 
-few-behind : (layout : Layout) (tables : TablesModel) (event : Event) (deck : Option Job) → is_forward_event event ≡ true → follows layout tables event deck ≡ true → MaySubmit event deck → AreNumbered 1 tables.runs → length tables.runs ≤ 9999999
+few-behind : (layout : Layout) (tables : TablesModel) (event : Event) (deck : Option Job) → follows layout tables event deck ≡ true → MaySubmit event deck → AreNumbered 1 tables.runs → length tables.runs ≤ 9999999
     → length (after_event event deck tables).runs ≤ 9999999
-few-behind layout tables event deck plain e submits numbered few =
-    by-submission (λ event. is_forward_event event ≡ true → follows layout tables event deck ≡ true → MaySubmit event deck → length (after_event event deck tables).runs ≤ 9999999)
-    (λ job cards plain e submits. few_submitted layout tables job cards deck e submits few)
-    (λ event other plain e submits. subst (λ n. n ≤ 9999999) (sym (long-stay tables.runs (after_event event deck tables).runs (runs-stay tables numbered event deck plain other))) few)
-    event plain e submits
+few-behind layout tables event deck e submits numbered few =
+    by-submission (λ event. follows layout tables event deck ≡ true → MaySubmit event deck → length (after_event event deck tables).runs ≤ 9999999)
+    (λ job cards e submits. few_submitted layout tables job cards deck e submits few)
+    (λ event other e submits. subst (λ n. n ≤ 9999999) (sym (numbers-stay tables numbered layout event deck other e).long) few)
+    event e submits
 
 -- the queue stays that of the tables
-pub queued-behind : (desk after : TablesModel) (queue now : List QueueEntry) (event : Event) (deck : Option Job) → is_forward_event event ≡ true → MayFollow desk event deck → MaySubmit event deck → AreQueued desk queue
+pub queued-behind : (desk after : TablesModel) (queue now : List QueueEntry) (event : Event) (deck : Option Job) → MayFollow desk event deck → MaySubmit event deck → AreQueued desk queue
     → after ≡ after_event event deck desk → now ≡ queue_after after event deck queue → AreQueued after now
-queued-behind desk after queue now event deck plain follow submits are is queue_is =
+queued-behind desk after queue now event deck follow submits are is queue_is =
     subst (λ t. AreQueued t now) (sym is) (subst (λ q. AreQueued (after_event event deck desk) q) (sym (queue_is ∙ ap (λ t. queue_after t event deck queue) is)) (record {
-      numbered = numbered-behind follow.0 desk event deck plain follow.1 are.numbered;
-      few = few-behind follow.0 desk event deck plain follow.1 submits are.numbered are.few;
-      same = ap (queue_after (after_event event deck desk) event deck) are.same ∙ sym (queue-behind follow.0 desk event deck are.numbered plain follow.1);
+      numbered = numbered-behind follow.0 desk event deck follow.1 are.numbered;
+      few = few-behind follow.0 desk event deck follow.1 submits are.numbered are.few;
+      same = ap (queue_after (after_event event deck desk) event deck) are.same ∙ sym (queue-behind follow.0 desk event deck are.numbered follow.1);
     }))
 
 -- what the tables follow as they are seen
 pub follow-inside : (desk seen : TablesModel) (event : Event) (deck : Option Job) → desk ≡ seen → MayFollow seen event deck → MayFollow desk event deck
 follow-inside desk seen event deck same follow = (follow.0, ap (λ t. follows follow.0 t event deck) same ∙ follow.1)
 
-pub may-go : (desk seen : TablesModel) (queue : List QueueEntry) (event : Event) (deck : Option Job) → desk ≡ seen → AreQueued desk queue → is_forward_event event ≡ true → MayFollow seen event deck → MayQueue event queue
-may-go desk seen queue event deck same are plain follow =
-    subst (MayQueue event) (sym are.same) (may-queue follow.0 desk event deck are.numbered plain (ap (λ t. follows follow.0 t event deck) same ∙ follow.1))
-
--- ---- the decks of the runs
-
-accepted_as : (old new : RunRow) → kind_of new ≡ kind_of old → IsAcceptedRow old → IsAcceptedRow new
-accepted_as old new same accepted = record {
-  cards = accepted.cards;
-  accepted = accepted.accepted ∙ sym (ap (λ (k : Kind). Ok k.1) same);
-  is_run = ap (λ (k : Kind). is_run k.1) same ∙ accepted.is_run;
-  steps = λ number owned found. accepted.steps number owned (sym (ap (λ (k : Kind). step_at k.2 number) same) ∙ found);
-  plain = λ none.
-      ap (λ (k : Kind). k.2) same ∙ accepted.plain (sym (ap (λ (k : Kind). k.1.restart) same) ∙ none) ∙ sym (ap (λ (k : Kind). plain_job k.0 k.1) same);
-  first = λ none. ap (λ (k : Kind). k.3) same ∙ accepted.first (sym (ap (λ (k : Kind). k.1.restart) same) ∙ none);
-}
-
-abbrev first_or : Kind → List Kind → Kind
-first_or k [] = k
-first_or k (first ∷ rest) = first
-
-accepted_stay : (old new : List RunRow) → map kind_of new ≡ map kind_of old → AllByRecursion IsAcceptedRow old → AllByRecursion IsAcceptedRow new
-accepted_stay old [] same accepted = tt
-accepted_stay [] (row ∷ rows) same accepted = cc
-accepted_stay (first ∷ old) (row ∷ rows) same accepted =
-    (accepted_as first row (ap (first_or (kind_of row)) same) accepted.0, accepted_stay old rows (ap rest_in same) accepted.1)
-
-accepted_submitted : (tables : TablesModel) (job : ℕ) (cards : List ℕ) (deck : Option Job) → IsAnyAccepted (Submitted job cards) deck → AllByRecursion IsAcceptedRow tables.runs → AllByRecursion IsAcceptedRow (after_event (Submitted job cards) deck tables).runs
-accepted_submitted tables job cards None is accepted = accepted
-accepted_submitted tables job cards (Some deck) is accepted = each-append IsAcceptedRow tables.runs (queued_run job deck ∷ []) accepted (is, tt)
-
-pub accepted-behind : (tables : TablesModel) (event : Event) (deck : Option Job) → AreNumbered 1 tables.runs → is_forward_event event ≡ true → IsAnyAccepted event deck → AllByRecursion IsAcceptedRow tables.runs → AllByRecursion IsAcceptedRow (after_event event deck tables).runs
-accepted-behind tables event deck numbered plain is accepted =
-    by-submission (λ event. is_forward_event event ≡ true → IsAnyAccepted event deck → AllByRecursion IsAcceptedRow (after_event event deck tables).runs)
-    (λ job cards plain is. accepted_submitted tables job cards deck is accepted)
-    (λ event other plain is. accepted_stay tables.runs (after_event event deck tables).runs (runs-stay tables numbered event deck plain other) accepted)
-    event plain is
+pub may-go : (desk seen : TablesModel) (queue : List QueueEntry) (event : Event) (deck : Option Job) → desk ≡ seen → AreQueued desk queue → MayFollow seen event deck → MayQueue event queue
+may-go desk seen queue event deck same are follow =
+    subst (MayQueue event) (sym are.same) (may-queue follow.0 desk event deck are.numbered (ap (λ t. follows follow.0 t event deck) same ∙ follow.1))
 
 -- ---- the places and codes of the runs
 
@@ -146,13 +108,7 @@ ArePlaced tables = AllByRecursion IsPlacedRow tables.runs
 
 -- a row that is put is such a one
 placed_put : (rows : List RunRow) (number : ℕ) (row : RunRow) → IsPlacedRow row → AllByRecursion IsPlacedRow rows → AllByRecursion IsPlacedRow (with_row row number rows)
-placed_put rows zero row is placed = placed
-placed_put rows (suc place) row is placed = at rows place placed
-  where
-    at : (rows : List RunRow) (place : ℕ) → AllByRecursion IsPlacedRow rows → AllByRecursion IsPlacedRow (slice_set rows place row)
-    at [] place placed = placed
-    at (first ∷ rows) zero placed = (is, placed.1)
-    at (first ∷ rows) (suc place) placed = (placed.0, at rows place placed.1)
+placed_put rows number row is placed = each-put IsPlacedRow rows number row is placed
 
 -- a run within a step has the point of its start
 pub begun-within : (row : RunRow) → is_within (place_of row) ≡ true → IsPlacedRow row → is_some (point_at row.points (step_in (place_of row))) ≡ true
@@ -318,16 +274,52 @@ idle-between row between is = by (is_holder row.state) (is_none row.in_effect) (
     by true n e = e
     by false n e = e
 
-placed_selected : (layout : Layout) (tables : TablesModel) (job initiator earlier step : ℕ) (id : Option (List ℕ)) (deck : Option Job) → earlier ≡ 0 → follows layout tables (Selected job initiator earlier step id) deck ≡ true → ArePlaced tables
-    → ArePlaced (after_event (Selected job initiator earlier step id) deck tables)
-placed_selected layout tables job initiator earlier step id deck is follow placed =
-    subst (λ n. ArePlaced (after_event (Selected job initiator n step id) deck tables)) (sym is)
-    (by-run ArePlaced tables job _ placed
+placed_selected : (layout : Layout) (tables : TablesModel) (job initiator step : ℕ) (id : Option (List ℕ)) (deck : Option Job) → follows layout tables (Selected job initiator 0 step id) deck ≡ true → ArePlaced tables
+    → ArePlaced (after_event (Selected job initiator 0 step id) deck tables)
+placed_selected layout tables job initiator step id deck follow placed =
+    by-run ArePlaced tables job _ placed
     (λ row at.
     let its = row-among IsPlacedRow tables job row placed at in
-    let asked = tested tables job (selected_follows layout tables initiator earlier step id) follow row at in
+    let asked = tested tables job (selected_follows layout tables initiator 0 step id) follow row at in
     let waits = and-first (is_in_state Queued row) _ (and-first (is_in_state Queued row && is_free layout tables initiator) _ (and-first (is_in_state Queued row && is_free layout tables initiator && may_hold tables row) _ asked)) in
-    placed_put tables.runs row.number _ (record { place = tt; from = ap (λ n. nat_le n 1) (early-queued row waits its); early = refl; begun = refl; idle = idle_queued row waits its; lodged = refl; seated = refl; code = code_queued row waits its; coded = its.coded; off = refl }) placed))
+    placed_put tables.runs row.number _ (record { place = tt; from = ap (λ n. nat_le n 1) (early-queued row waits its); early = refl; begun = refl; idle = idle_queued row waits its; lodged = refl; seated = refl; code = code_queued row waits its; coded = its.coded; off = refl }) placed)
+
+-- a run that continues another one has the point of the start of the step
+continued_begun : (step : ℕ) (points : List StartPoint) (point : StartPoint) (job : Effective) (sets : Named TableSet) → point_at points step ≡ Some point → is_some (point_at (carried_point job sets point ∷ []) step) ≡ true
+continued_begun step points point job sets at =
+    ap (λ b. is_some (cond b (Some (carried_point job sets point)) None)) (find-passes (λ (point : StartPoint). point.step == step) points point at)
+
+-- a run that continues another one is before the step at which it does, or within it at a checkpoint
+placed_continued : (layout : Layout) (tables : TablesModel) (job initiator before step : ℕ) (id : Option (List ℕ)) (deck : Option Job) → follows layout tables (Selected job initiator (suc before) step id) deck ≡ true → ArePlaced tables
+    → ArePlaced (after_event (Selected job initiator (suc before) step id) deck tables)
+placed_continued layout tables job initiator before step id deck follow placed =
+    by-continuation layout tables job initiator before step deck ArePlaced id follow
+    (λ its.
+    placed_put tables.runs its.row.number _ (record {
+      place = tt;
+      from = nat_le-from step step (omega arith);
+      early = refl;
+      begun = refl;
+      idle = idle_queued its.row its.queued (row-among IsPlacedRow tables job its.row placed its.row_at);
+      lodged = refl;
+      seated = refl;
+      code = refl;
+      coded = tt;
+      off = refl;
+    }) placed)
+    (λ id its entry.
+    placed_put tables.runs its.row.number _ (record {
+      place = is_some-from (step_at (spliced its.other.job step its.row.number its.row.deck) step) its.owned (spliced-here its.other.job step its.row.number its.row.deck its.owned its.found);
+      from = nat_le-from step step (omega arith);
+      early = refl;
+      begun = continued_begun step its.other.points its.point (spliced its.other.job step its.row.number its.row.deck) tables.sets its.at_point;
+      idle = refl;
+      lodged = refl;
+      seated = refl;
+      code = refl;
+      coded = tt;
+      off = refl;
+    }) placed)
 
 placed_submitted : (tables : TablesModel) (job : ℕ) (cards : List ℕ) (deck : Option Job) → ArePlaced tables → ArePlaced (after_event (Submitted job cards) deck tables)
 placed_submitted tables job cards None placed = placed
@@ -336,6 +328,21 @@ placed_submitted tables job cards (Some deck) placed = each-append IsPlacedRow t
 -- a run that waits is on no initiator, also where it is purged
 off_purged : (row : RunRow) → is_in_state Queued row ≡ true → IsPlacedRow row → IsPlacedRow (record row { state = PurgedRun })
 off_purged row waits is = record {
+  place = is.place;
+  from = is.from;
+  early = refl;
+  begun = is.begun;
+  idle = idle_queued row waits is;
+  lodged = sym (ap (λ (state : RunState). is_none row.initiator || is_on_one state) (queued-is row.state waits)) ∙ is.lodged;
+  seated = refl;
+  code = code_queued row waits is;
+  coded = is.coded;
+  off = refl;
+}
+
+-- so it is with one that is denied
+off_denied : (row : RunRow) → is_in_state Queued row ≡ true → IsPlacedRow row → IsPlacedRow (record row { state = DeniedRun })
+off_denied row waits is = record {
   place = is.place;
   from = is.from;
   early = refl;
@@ -389,12 +396,18 @@ step_ended_runs tables job step lengths follow row at =
     and-first (is_running row) _
     (and-first (is_running row && step_in (place_of row) == step) (lengths_follow tables row lengths) (tested tables job (λ row. is_running row && step_in (place_of row) == step && lengths_follow tables row lengths) follow row at))
 
--- A forward event that follows leaves a run within no step that it hasn't, that it doesn't execute itself or that has no point; a run is on an initiator exactly where
+-- An event that follows leaves a run within no step that it hasn't, that it doesn't execute itself or that has no point; a run is on an initiator exactly where
 -- it has one, and has a code exactly while it is off its initiator within a step.
-pub placed-behind : (layout : Layout) (tables : TablesModel) (event : Event) (deck : Option Job) → is_forward_event event ≡ true → IsAnyAccepted event deck → follows layout tables event deck ≡ true → AllByRecursion IsPlacedRow tables.runs → AllByRecursion IsPlacedRow (after_event event deck tables).runs
-placed-behind layout tables (Submitted job cards) deck plain accepted follow placed = placed_submitted tables job cards deck placed
-placed-behind layout tables (Selected job initiator earlier step id) deck plain accepted follow placed = placed_selected layout tables job initiator earlier step id deck (equal-true earlier 0 plain) follow placed
-placed-behind layout tables (Started job step items) deck plain accepted follow placed =
+pub placed-behind : (layout : Layout) (tables : TablesModel) (event : Event) (deck : Option Job) → IsAnyAccepted event deck → follows layout tables event deck ≡ true → AllByRecursion IsPlacedRow tables.runs → AllByRecursion IsPlacedRow (after_event event deck tables).runs
+placed-behind layout tables (Submitted job cards) deck accepted follow placed = placed_submitted tables job cards deck placed
+placed-behind layout tables (Selected job initiator zero step id) deck accepted follow placed = placed_selected layout tables job initiator step id deck follow placed
+placed-behind layout tables (Selected job initiator (suc before) step id) deck accepted follow placed = placed_continued layout tables job initiator before step id deck follow placed
+placed-behind layout tables (Denied job rule name) deck accepted follow placed =
+    by-run ArePlaced tables job _ placed
+    (λ row at.
+    placed_put tables.runs row.number _
+    (off_denied row (and-first (is_in_state Queued row) _ (tested tables job (λ row. is_in_state Queued row && is_some row.deck.restart) follow row at)) (row-among IsPlacedRow tables job row placed at)) placed)
+placed-behind layout tables (Started job step items) deck accepted follow placed =
     by-run ArePlaced tables job _ placed
     (λ row at.
     let is = row-among IsPlacedRow tables job row placed at in
@@ -416,7 +429,7 @@ placed-behind layout tables (Started job step items) deck plain accepted follow 
       coded = is.coded;
       off = or_right (not (is_off row.state)) true refl;
     }) placed))
-placed-behind layout tables (Rewritten job taken writes lengths place image) deck plain accepted follow placed =
+placed-behind layout tables (Rewritten job taken writes lengths place image) deck accepted follow placed =
     by-run ArePlaced tables job _ placed
     (λ row at.
     let is = row-among IsPlacedRow tables job row placed at in
@@ -436,7 +449,7 @@ placed-behind layout tables (Rewritten job taken writes lengths place image) dec
       coded = is.coded;
       off = or_right (not (is_off row.state)) true refl;
     }) placed))
-placed-behind layout tables (Checkpointed job id taken writes lengths place bytes) deck plain accepted follow placed =
+placed-behind layout tables (Checkpointed job id taken writes lengths place bytes) deck accepted follow placed =
     by-run ArePlaced tables job _ placed
     (λ row at.
     let is = row-among IsPlacedRow tables job row placed at in
@@ -456,12 +469,12 @@ placed-behind layout tables (Checkpointed job id taken writes lengths place byte
       coded = is.coded;
       off = or_right (not (is_off row.state)) true refl;
     }) placed))
-placed-behind layout tables (Cancelled job) deck plain accepted follow placed =
+placed-behind layout tables (Cancelled job) deck accepted follow placed =
     by-run ArePlaced tables job _ placed
     (λ row at.
     let is = row-among IsPlacedRow tables job row placed at in
     placed_put tables.runs row.number _ (record { place = is.place; from = is.from; early = is.early; begun = is.begun; idle = or_right (is_in_step row) true refl; lodged = is.lodged; seated = is.seated; code = is.code; coded = is.coded; off = is.off }) placed)
-placed-behind layout tables (StepEnded job step rc writes lengths) deck plain accepted follow placed =
+placed-behind layout tables (StepEnded job step rc writes lengths) deck accepted follow placed =
     by-run ArePlaced tables job _ placed
     (λ row at.
     let is = row-among IsPlacedRow tables job row placed at in
@@ -481,7 +494,7 @@ placed-behind layout tables (StepEnded job step rc writes lengths) deck plain ac
       off = ap (λ (state : RunState). not (is_off state) || false) (on-is row.state (and-first (is_in_state On row) (is_within (place_of row)) runs));
     })
     (placed_commit row owned writes lengths.items tables there (running_within row runs) is placed)))
-placed-behind layout tables (Restarted job initiator code checkpoint) deck plain accepted follow placed =
+placed-behind layout tables (Restarted job initiator code checkpoint) deck accepted follow placed =
     by-run ArePlaced tables job _ placed
     (λ row at.
     let is = row-among IsPlacedRow tables job row placed at in
@@ -489,7 +502,7 @@ placed-behind layout tables (Restarted job initiator code checkpoint) deck plain
     (restarts-in_step layout tables initiator checkpoint row is
     (tested tables job (λ row. (is_running row && option_eq nat_eq row.initiator (Some initiator) || is_in_state ReleasedRun row && is_free layout tables initiator) && may_restart_again checkpoint row) follow row at))
     is placed)
-placed-behind layout tables (Held job code writes lengths) deck plain accepted follow placed =
+placed-behind layout tables (Held job code writes lengths) deck accepted follow placed =
     by-run ArePlaced tables job _ placed
     (λ row at.
     let is = row-among IsPlacedRow tables job row placed at in
@@ -497,16 +510,15 @@ placed-behind layout tables (Held job code writes lengths) deck plain accepted f
     (λ owned there.
     placed_held row owned code writes lengths.items tables accepted there
     (coded_within row tables lengths.items is (tested tables job (λ row. (is_running row || is_in_state ReleasedRun row) && lengths_follow tables row lengths.items) follow row at)) is placed))
-placed-behind layout tables (Released job) deck plain accepted follow placed =
+placed-behind layout tables (Released job) deck accepted follow placed =
     by-run ArePlaced tables job _ placed
     (λ row at. placed_put tables.runs row.number _ (placed_released row (tested tables job (is_in_state HeldRun) follow row at) (row-among IsPlacedRow tables job row placed at)) placed)
-placed-behind layout tables (Ended job ending) deck plain accepted follow placed =
+placed-behind layout tables (Ended job ending) deck accepted follow placed =
     by-run ArePlaced tables job _ placed
     (λ row at. placed_ended row ending tables (tested tables job (λ row. ended_follows tables row ending) follow row at) (row-among IsPlacedRow tables job row placed at) placed)
-placed-behind layout tables (Purged job) deck plain accepted follow placed =
+placed-behind layout tables (Purged job) deck accepted follow placed =
     by-run ArePlaced tables job _ placed
     (λ row at. placed_put tables.runs row.number _ (off_purged row (tested tables job (is_in_state Queued) follow row at) (row-among IsPlacedRow tables job row placed at)) placed)
-placed-behind layout tables _ deck plain accepted follow placed = absurd (false≢true plain)
 
 -- ---- the running steps
 

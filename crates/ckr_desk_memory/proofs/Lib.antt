@@ -1,10 +1,14 @@
 pub use Rattle.ckr_points_follows.proofs.RewriteCounts
+pub mod AcceptedRuns
 pub mod FoundRuns
 pub mod Plans
 pub mod Points
 pub mod DuePlans
+pub mod DeferredPlans
+pub mod DeferredRestarts
 pub mod RuleCases
 pub mod FailedRuns
+pub mod Continuations
 pub mod ForwardEvents
 pub mod Masters
 pub mod RecordCounts

@@ -18,7 +18,7 @@ use Rattle.ckr_base.proofs.Numbers.{equal-true}
 use Rattle.ckr_base.proofs.Options.{is_some-true, some-not-none}
 use Rattle.ckr_base.proofs.Sequences.{find-passes}
 use Rattle.ckr_events.specs.declared.event.Event.{Event}
-use Rattle.ckr_events.specs.declared.event.Event.TheVariants.{Selected as SelectedEvent, Started as StartedEvent, Ended as EndedEvent}
+use Rattle.ckr_events.specs.declared.event.Event.TheVariants.{Started as StartedEvent, Ended as EndedEvent}
 use Rattle.ckr_events.specs.declared.event.Ending.TheVariants.{Completed as CompletedEnding, Allocation as AllocationEnding}
 use Rattle.ckr_events.specs.declared.event.Made.{Made}
 use Rattle.ckr_jcl.specs.declared.deck.Dd.{Dd}
@@ -41,7 +41,7 @@ use Rattle.ckr_points_tables.specs.View.{run_on, seen_by}
 use Rattle.ckr_desk_turn.specs.declared.plan.Plan.{Plan}
 use Rattle.ckr_desk_turn.specs.declared.plan.Plan.TheVariants.{Rest, Tell}
 use Rattle.ckr_desk_turn.specs.declared.reply.How.TheVariants.{Completed, Allocation as AllocationHow}
-use Rattle.ckr_desk_turn.specs.declared.reply.Reply.TheVariants.{Idle, NothingToFail, Selected as SelectedReply, Started, JobEnded}
+use Rattle.ckr_desk_turn.specs.declared.reply.Reply.TheVariants.{Idle, NothingToFail, Started, JobEnded}
 use Rattle.ckr_desk_turn.specs.Allocation.{allocation_of, cause_numbers, items_in}
 use Rattle.ckr_desk_turn.specs.Select.{is_on, next_run, run_on_initiator}
 use Rattle.ckr_desk_turn.specs.Codes.{code_plan, initiator_of, reached_by}
@@ -330,13 +330,10 @@ module _ (layout : Layout) (jobs : JobsView) (initiator job : ℕ) (table : RunT
         | Some code ↦ code_plan layout jobs.tables.desk row initiator false code (reached_by (jobs_of jobs) row)
       ]
 
-  -- it is selected where it has none and its deck no RESTART, and goes on with it else
-  pub chosen-queued : row.deck.restart ≡ None → None ≡ table.code → Tell (SelectedReply job) (SelectedEvent job initiator 0 0 None) ≡ chosen_plan layout (jobs_of jobs) initiator row
+  -- it is taken up where it has none, and goes on with it else
+  pub chosen-queued : None ≡ table.code → queued_plan layout jobs.tables.desk initiator row row.deck.restart ≡ chosen_plan layout (jobs_of jobs) initiator row
   unfolding jobs_of
-  chosen-queued restartless none =
-      ap (λ n. Tell (SelectedReply n) (SelectedEvent n initiator 0 0 None)) (sym (number-known jobs.tables.desk job table known row at))
-      ∙ ap (queued_plan layout jobs.tables.desk initiator row) (sym restartless)
-      ∙ ap if_coded (none ∙ sym (code-kept jobs.tables.desk job table known row at))
+  chosen-queued none = ap if_coded (none ∙ sym (code-kept jobs.tables.desk job table known row at))
 
   pub chosen-coded : (code : Code) → Some code ≡ table.code → code_plan layout jobs.tables.desk (row_for job table) initiator false code (reached_by (jobs_of jobs) (row_for job table)) ≡ chosen_plan layout (jobs_of jobs) initiator row
   unfolding jobs_of

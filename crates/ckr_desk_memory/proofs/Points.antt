@@ -2,7 +2,7 @@
 use Rattle.std.proofs.Common.{◌≡◌, ◌≢◌, ◌==◌, ℕ, Bool, true, false, not, cond, List, [], ◌∷◌, find, refl, ap, sym, ◌∙◌, Option, None, Some}
 use Rattle.std.specs.List.{AllByRecursion}
 use Rattle.std.specs.Option.{option_map_or}
-use Rattle.ckr_base.proofs.Numbers.{equal-true}
+use Rattle.ckr_base.proofs.Numbers.{equal-itself, equal-true}
 use Rattle.ckr_base.proofs.Sequences.{find-holds, find-passes}
 use Rattle.ckr_events.specs.Jobs.{job_of}
 use Rattle.ckr_events.specs.declared.event.Event.{Event}
@@ -54,6 +54,10 @@ counted-behind (Restarted job initiator code false) running points all counted =
 counted-behind (Ended job ending) running points all counted = all-without_point IsPointCounted job points counted
 counted-behind _ running points all counted = counted
 
+-- where one is put before those of other runs
+pub counted-put : (point : PointView) (points : List PointView) → IsPointCounted point → AllByRecursion IsPointCounted points → AllByRecursion IsPointCounted (point ∷ without_point point.run points)
+counted-put point points its counted = (its, all-without_point IsPointCounted point.run points counted)
+
 -- ---- the point of a run
 
 other-without : (job run : ℕ) → run ≢ job → (points : List PointView) → find (is_point_of run) (without_point job points) ≡ find (is_point_of run) points
@@ -68,6 +72,17 @@ other-without job run apart (point ∷ rest) = by (point.run == job) refl (other
         → find (is_point_of run) (cond (not b) (point ∷ without_point job rest) (without_point job rest)) ≡ cond (point.run == run) (Some point) (find (is_point_of run) rest)
     by true is later = later ∙ passed is (point.run == run) refl
     by false is later = ap (cond (point.run == run) (Some point)) later
+
+-- where one is put before those of other runs
+pub own-put : (point : PointView) (points : List PointView) → find (is_point_of point.run) (point ∷ without_point point.run points) ≡ Some point
+own-put point points = ap (λ b. cond b (Some point) (find (is_point_of point.run) (without_point point.run points))) (equal-itself point.run)
+
+pub other-put : (point : PointView) (points : List PointView) (run : ℕ) → run ≢ point.run → find (is_point_of run) (point ∷ without_point point.run points) ≡ find (is_point_of run) points
+other-put point points run apart = by (point.run == run) refl
+  where
+    by : (b : Bool) → (point.run == run) ≡ b → cond b (Some point) (find (is_point_of run) (without_point point.run points)) ≡ find (is_point_of run) points
+    by true same = absurd (apart (sym (equal-true point.run run same)))
+    by false same = other-without point.run run apart points
 
 module _ (job : ℕ) (running : List RunningStepView) (points : List PointView) where
   -- that of the run itself

@@ -10,7 +10,7 @@ use Rattle.ckr_base.proofs.Bools.{and-first, and-second, or-cases}
 use Rattle.ckr_base.proofs.Numbers.{equal-true}
 use Rattle.ckr_library.specs.NameMaps.{Named}
 use Rattle.ckr_events.specs.declared.event.Event.{Event}
-use Rattle.ckr_events.specs.declared.event.Event.TheVariants.{Submitted, Selected, Started, Rewritten, Checkpointed, Cancelled, StepEnded, Restarted, Held as HeldEvent, Released as ReleasedEvent, Ended, Purged}
+use Rattle.ckr_events.specs.declared.event.Event.TheVariants.{Submitted, Selected, Denied, Started, Rewritten, Checkpointed, Cancelled, StepEnded, Restarted, Held as HeldEvent, Released as ReleasedEvent, Ended, Purged}
 use Rattle.arrayvec.specs.ArrayVec.{ArrayVec}
 use Rattle.ckr_base.specs.declared.code.Code.{Code}
 use Rattle.ckr_events.specs.declared.event.Ending.{Ending}
@@ -31,8 +31,8 @@ use Rattle.ckr_queue.specs.declared.entry.QueueEntry.{QueueEntry}
 use Rattle.ckr_queue.specs.declared.entry.QueueState.{QueueState}
 use Rattle.ckr_queue.specs.declared.entry.QueueState.TheVariants as InQueue
 use Rattle.ckr_queue.specs.Queue.{has_names, is_held, is_in, is_of, is_queued, may_take, passes, starts, state_of, with_state}
+use Rattle.ckr_points_invariant.proofs.Continuations.Follows.{may-continue}
 use Rattle.ckr_points_invariant.proofs.Holders.Rows.{queued-is, run-same}
-use Rattle.ckr_desk_memory.specs.ForwardEvents.{is_forward_event}
 use Rattle.ckr_desk_turn.specs.Queue.{AreNumbered, entry_of, entry_with, queue_of, queue_state}
 use Rattle.ckr_desk_turn.proofs.Queue.Events as behind
 use Rattle.ckr_desk_turn.proofs.Queue.Events.{kept_state, new_state, queue_in, run_number}
@@ -175,30 +175,33 @@ module _ (layout : Layout) (tables : TablesModel) (numbered : AreNumbered 1 tabl
   in_state test job row state at is holds =
       ap (λ (found : Option QueueEntry). passes test (option_map (λ (entry : QueueEntry). entry.state) found)) (found-run tables job row state numbered at is) ∙ holds
 
-  may : (event : Event) (deck : Option Job) → is_forward_event event ≡ true → follows layout tables event deck ≡ true → MayQueue event (queue_of tables)
-  may (Submitted job cards) deck plain e = none-behind tables job numbered (equal-true job (suc (length tables.runs)) (and-first _ _ (and-first _ (is_some deck) e)))
-  may (Selected job initiator earlier step id) deck plain e =
+  may : (event : Event) (deck : Option Job) → follows layout tables event deck ≡ true → MayQueue event (queue_of tables)
+  may (Submitted job cards) deck e = none-behind tables job numbered (equal-true job (suc (length tables.runs)) (and-first _ _ (and-first _ (is_some deck) e)))
+  may (Selected job initiator earlier step id) deck e =
       let there = run-there tables job (selected_follows layout tables initiator earlier step id) e in
       taken job initiator earlier step id there.0 there.1 there.2
-  may (Restarted job initiator code checkpoint) deck plain e =
+  may (Denied job rule name) deck e =
+      let there = run-there tables job (λ row. is_in_state Runs.Queued row && is_some row.deck.restart) e in
+      in_state is_queued job there.0 InQueue.Queued there.1 (ap queue_state (queued-is there.0.state (and-first (is_in_state Runs.Queued there.0) _ there.2))) refl
+  may (Restarted job initiator code checkpoint) deck e =
       let there = run-there tables job (λ row. (is_running row && option_eq nat_eq row.initiator (Some initiator) || is_in_state Runs.Released row && is_free layout tables initiator) && may_restart_again checkpoint row) e in
       let entry = restarts-with layout tables initiator checkpoint there.0 there.2 in
       in_state has_names job there.0 entry.state there.1 entry.is entry.names
-  may (HeldEvent job code writes lengths) deck plain e =
+  may (HeldEvent job code writes lengths) deck e =
       let there = run-there tables job (λ row. (is_running row || is_in_state Runs.Released row) && lengths_follow tables row lengths.items) e in
       let entry = at-hand there.0 (and-first (is_running there.0 || is_in_state Runs.Released there.0) _ there.2) in
       in_state has_names job there.0 entry.state there.1 entry.is entry.names
-  may (ReleasedEvent job) deck plain e =
+  may (ReleasedEvent job) deck e =
       let there = run-there tables job (is_in_state Runs.Held) e in
       in_state is_held job there.0 InQueue.Held there.1 (ap queue_state (held-is there.0.state there.2)) refl
-  may (Ended job ending) deck plain e =
+  may (Ended job ending) deck e =
       let there = run-there tables job (λ row. ended_follows tables row ending) e in
       let entry = ends_with_names tables there.0 ending there.2 in
       in_state has_names job there.0 entry.state there.1 entry.is entry.names
-  may (Purged job) deck plain e =
+  may (Purged job) deck e =
       let there = run-there tables job (is_in_state Runs.Queued) e in
       in_state is_queued job there.0 InQueue.Queued there.1 (ap queue_state (queued-is there.0.state there.2)) refl
-  may _ deck plain e = tt
+  may _ deck e = tt
 
   -- ---- the queue behind it
 
@@ -210,12 +213,14 @@ module _ (layout : Layout) (tables : TablesModel) (numbered : AreNumbered 1 tabl
   submitted_so job cards (Some deck) is =
       subst (λ n. Behind (Submitted n cards) (Some deck)) (sym is ∙ refl) (subst (λ n. Behind (Submitted n cards) (Some deck)) (omega arith) (added tables.runs 1 deck numbered))
 
-  selected_so : (job initiator earlier step : ℕ) (id : Option (List ℕ)) (deck : Option Job) → earlier ≡ 0 → follows layout tables (Selected job initiator earlier step id) deck ≡ true → Behind (Selected job initiator earlier step id) deck
-  selected_so job initiator earlier step id deck is e =
-      let there = run-there tables job (selected_follows layout tables initiator earlier step id) e in
+  selected_so : (job initiator earlier step : ℕ) (id : Option (List ℕ)) (deck : Option Job) → follows layout tables (Selected job initiator earlier step id) deck ≡ true → Behind (Selected job initiator earlier step id) deck
+  selected_so job initiator zero step id deck e =
+      let there = run-there tables job (selected_follows layout tables initiator zero step id) e in
       let asked = and-first (is_in_state Runs.Queued there.0 && is_free layout tables initiator && may_hold tables there.0) _ there.2 in
       let queued = queued-is there.0.state (and-first (is_in_state Runs.Queued there.0) _ (and-first (is_in_state Runs.Queued there.0 && is_free layout tables initiator) _ asked)) in
-      subst (λ n. Behind (Selected job initiator n step id) deck) (sym is) (behind.selected tables job initiator step id deck there.0 numbered there.1 queued)
+      behind.selected tables job initiator step id deck there.0 numbered there.1 queued
+  selected_so job initiator (suc before) step id deck e =
+      behind.continued layout tables job initiator before step id deck numbered (may-continue layout tables job initiator (suc before) step id (λ none. omega (arith, none)) e)
 
   -- a run keeps its state
   checkpointed_so : (job taken writes place bytes : ℕ) (id : List ℕ) (lengths : ArrayVec ℕ) (deck : Option Job) → Behind (Checkpointed job id taken writes lengths place bytes) deck
@@ -325,28 +330,30 @@ module _ (layout : Layout) (tables : TablesModel) (numbered : AreNumbered 1 tabl
       let owned = step-there (own_step row) (λ owned. nat_le 1 dd && nat_le dd (length owned.step.dds)) (and-second (is_in_state Runs.On row) _ e) in
       behind.refused tables job dd cause first second deck row owned.0 entry.state numbered at owned.1 entry.is
 
-  queue_so : (event : Event) (deck : Option Job) → is_forward_event event ≡ true → follows layout tables event deck ≡ true → Behind event deck
-  queue_so (Submitted job cards) deck plain e = submitted_so job cards deck (equal-true job (suc (length tables.runs)) (and-first _ _ (and-first _ (is_some deck) e)))
-  queue_so (Selected job initiator earlier step id) deck plain e = selected_so job initiator earlier step id deck (equal-true earlier 0 plain) e
-  queue_so (Started job step items) deck plain e = behind.started tables job step items deck numbered
-  queue_so (Rewritten job t writes lengths place image) deck plain e = behind.rewritten tables job t writes place lengths image deck numbered
-  queue_so (Checkpointed job id taken writes lengths place bytes) deck plain e = checkpointed_so job taken writes place bytes id lengths deck
-  queue_so (Cancelled job) deck plain e = cancelled_so job deck
-  queue_so (StepEnded job step rc writes lengths) deck plain e = behind.step_ended tables job step rc writes lengths deck numbered
-  queue_so (Restarted job initiator code checkpoint) deck plain e = restarted_so job initiator code checkpoint deck e
-  queue_so (HeldEvent job code writes lengths) deck plain e = held_so job code writes lengths deck e
-  queue_so (ReleasedEvent job) deck plain e = released_so job deck e
-  queue_so (Ended job ending) deck plain e =
+  queue_so : (event : Event) (deck : Option Job) → follows layout tables event deck ≡ true → Behind event deck
+  queue_so (Submitted job cards) deck e = submitted_so job cards deck (equal-true job (suc (length tables.runs)) (and-first _ _ (and-first _ (is_some deck) e)))
+  queue_so (Selected job initiator earlier step id) deck e = selected_so job initiator earlier step id deck e
+  queue_so (Denied job rule name) deck e =
+      let there = run-there tables job (λ row. is_in_state Runs.Queued row && is_some row.deck.restart) e in
+      behind.denied tables job rule name deck there.0 numbered there.1 (queued-is there.0.state (and-first (is_in_state Runs.Queued there.0) _ there.2))
+  queue_so (Started job step items) deck e = behind.started tables job step items deck numbered
+  queue_so (Rewritten job t writes lengths place image) deck e = behind.rewritten tables job t writes place lengths image deck numbered
+  queue_so (Checkpointed job id taken writes lengths place bytes) deck e = checkpointed_so job taken writes place bytes id lengths deck
+  queue_so (Cancelled job) deck e = cancelled_so job deck
+  queue_so (StepEnded job step rc writes lengths) deck e = behind.step_ended tables job step rc writes lengths deck numbered
+  queue_so (Restarted job initiator code checkpoint) deck e = restarted_so job initiator code checkpoint deck e
+  queue_so (HeldEvent job code writes lengths) deck e = held_so job code writes lengths deck e
+  queue_so (ReleasedEvent job) deck e = released_so job deck e
+  queue_so (Ended job ending) deck e =
       let there = run-there tables job (λ row. ended_follows tables row ending) e in
       ended_so job ending deck there.0 there.1 there.2
-  queue_so (Purged job) deck plain e =
+  queue_so (Purged job) deck e =
       let there = run-there tables job (is_in_state Runs.Queued) e in
       behind.purged tables job deck there.0 numbered there.1 (queued-is there.0.state there.2)
-  queue_so _ deck plain e = absurd (false≢true plain)
 
-pub may-queue : (layout : Layout) (tables : TablesModel) (event : Event) (deck : Option Job) → AreNumbered 1 tables.runs → is_forward_event event ≡ true → follows layout tables event deck ≡ true → MayQueue event (queue_of tables)
-may-queue layout tables event deck numbered plain e = may layout tables numbered event deck plain e
+pub may-queue : (layout : Layout) (tables : TablesModel) (event : Event) (deck : Option Job) → AreNumbered 1 tables.runs → follows layout tables event deck ≡ true → MayQueue event (queue_of tables)
+may-queue layout tables event deck numbered e = may layout tables numbered event deck e
 
-pub queue-behind : (layout : Layout) (tables : TablesModel) (event : Event) (deck : Option Job) → AreNumbered 1 tables.runs → is_forward_event event ≡ true → follows layout tables event deck ≡ true
+pub queue-behind : (layout : Layout) (tables : TablesModel) (event : Event) (deck : Option Job) → AreNumbered 1 tables.runs → follows layout tables event deck ≡ true
     → queue_of (after_event event deck tables) ≡ queue_after (after_event event deck tables) event deck (queue_of tables)
-queue-behind layout tables event deck numbered plain e = queue_so layout tables numbered event deck plain e
+queue-behind layout tables event deck numbered e = queue_so layout tables numbered event deck e

@@ -25,7 +25,8 @@ use Rattle.ckr_desk_memory.specs.Invariant.{AreJobs, IsAcceptedDeck, IsAcceptedR
 use Rattle.ckr_desk_memory.specs.Replay.{IsBounded, deck_of, goes_on, is_run_as, is_run_by, replayed}
 use Rattle.ckr_desk_memory.specs.View.{JobsView}
 use Rattle.ckr_desk_turn.proofs.AdmittedSteps.{own-step}
-use Rattle.ckr_desk_memory.proofs.Invariant.{accepted-behind, placed-behind}
+use Rattle.ckr_desk_memory.proofs.AcceptedRuns.{accepted-behind}
+use Rattle.ckr_desk_memory.proofs.Invariant.{placed-behind}
 use Rattle.ckr_desk_memory.proofs.Extents.{laid-behind}
 
 -- ---- where it goes on
@@ -107,8 +108,8 @@ jobs-replayed layout old new event bounded numbered goes tables running are =
     let its = goes-on-with layout old.tables.desk event (deck_of event) goes in
     let accepted = any_accepted event bounded its.run in
     record {
-      laid = subst (λ (t : TablesModel). AreLaidOut layout t.sets) (sym tables) (laid-behind layout old.tables.desk are.laid event (deck_of event) its.plain its.follow);
-      rows = subst (λ (t : TablesModel). AllByRecursion IsAcceptedRow t.runs) (sym tables) (accepted-behind old.tables.desk event (deck_of event) numbered its.plain accepted are.rows);
-      placed = subst (λ (t : TablesModel). AllByRecursion IsPlacedRow t.runs) (sym tables) (placed-behind layout old.tables.desk event (deck_of event) its.plain accepted its.follow are.placed);
+      laid = subst (λ (t : TablesModel). AreLaidOut layout t.sets) (sym tables) (laid-behind layout old.tables.desk are.laid event (deck_of event) its.follow);
+      rows = subst (λ (t : TablesModel). AllByRecursion IsAcceptedRow t.runs) (sym tables) (accepted-behind layout old.tables.desk event (deck_of event) numbered accepted its.follow are.rows);
+      placed = subst (λ (t : TablesModel). AllByRecursion IsPlacedRow t.runs) (sym tables) (placed-behind layout old.tables.desk event (deck_of event) accepted its.follow are.placed);
       running = subst (AllByRecursion (IsRunnable layout)) (sym running) are.running;
     }

@@ -1,11 +1,12 @@
--- The runs of the tables behind an event: each keeps its number, its deck and its job, and the step at which it continues another one.
+-- The runs of the tables behind an event: each keeps its number and its deck, and but where it is selected to continue another one its job and the step at which it does.
 use Rattle.std.proofs.Common.{◌≡◌, ◌+◌, ℕ, zero, suc, Bool, true, false, List, [], ◌∷◌, ◌++◌, map, length, refl, ap, sym, ◌∙◌, subst, Option, None, Some, arith, slice_get, slice_set}
 use Rattle.std.proofs.lemmas.Option.{same_Some}
 use Rattle.std.proofs.lemmas.Bool.{false≢true}
 use Rattle.std.specs.Option.{option_map_or}
-use Rattle.ckr_base.proofs.Numbers.{equal-true}
+use Rattle.ckr_base.proofs.Options.{some-not-none}
+use Rattle.std.specs.List.{AllByRecursion}
 use Rattle.ckr_events.specs.declared.event.Event.{Event}
-use Rattle.ckr_events.specs.declared.event.Event.TheVariants.{Submitted, Selected, Started, Rewritten, Checkpointed, Cancelled, StepEnded, Restarted, Held, Released, Ended, Purged}
+use Rattle.ckr_events.specs.declared.event.Event.TheVariants.{Submitted, Selected, Denied, Started, Rewritten, Checkpointed, Cancelled, StepEnded, Restarted, Held, Released, Ended, Purged}
 use Rattle.ckr_events.specs.declared.event.Ending.{Ending}
 use Rattle.ckr_events.specs.declared.event.Ending.TheVariants.{Completed, Coded, Allocation}
 use Rattle.ckr_jcl.specs.declared.deck.Job.{Job}
@@ -16,10 +17,18 @@ use Rattle.ckr_points.specs.Tables.{after_commit, queued_run}
 use Rattle.ckr_points.specs.Marks.{point_at}
 use Rattle.ckr_points.specs.Restart.{after_abnormal, after_coded, after_ended, after_event, after_restarted, by_run, by_step, kept_at, place_of, step_in}
 use Rattle.ckr_points.specs.Rows.{RunRow, TablesModel, run_of, step_of_run, with_row}
+use Rattle.ckr_points_invariant.specs.PlainRuns.{continues}
 use Rattle.ckr_points_tables.specs.Invariant.{is_submission}
-use Rattle.ckr_desk_memory.specs.ForwardEvents.{is_forward_event}
+use Rattle.ckr_points.specs.Follows.{follows}
+use Rattle.ckr_volumes.specs.declared.layout.Layout.{Layout}
+use Rattle.ckr_desk_memory.proofs.Continuations.{by-continuation}
 use Rattle.ckr_desk_turn.specs.Queue.{AreNumbered}
 use Rattle.ckr_desk_turn.proofs.Queue.Events.{row_twice, run_number}
+
+-- an event submits a deck, or does something else
+pub by-submission : (Q : Event → Type 0) → ((job : ℕ) (cards : List ℕ) → Q (Submitted job cards)) → ((event : Event) → is_submission event ≡ false → Q event) → (event : Event) → Q event
+by-submission Q submits other (Submitted job cards) = submits job cards
+by-submission Q submits other event = other event refl
 
 -- ---- what a run, its step or the point of the step changes, holds of the tables
 
@@ -86,11 +95,6 @@ module _ (tables : TablesModel) (numbered : AreNumbered 1 tables.runs) where
   ended_same job row at (Coded code rule writes lengths) = coded_same job row at writes lengths.items
   ended_same job row at (Allocation dd cause first second) = abnormal_same job row at (place_of row)
 
-  selected_same : (job initiator earlier step : ℕ) (id : Option (List ℕ)) (deck : Option Job) → earlier ≡ 0 → Stay (after_event (Selected job initiator earlier step id) deck tables)
-  selected_same job initiator earlier step id deck is =
-      subst (λ n. Stay (after_event (Selected job initiator n step id) deck tables)) (sym is)
-      (by-run Stay tables job _ refl (λ row at. same_row tables numbered job row at _ refl))
-
   restarted_same : (job initiator : ℕ) (row : RunRow) → run_of tables job ≡ Some row → (checkpoint : Bool) → Stay (by_step (λ owned step. after_restarted row owned step initiator checkpoint tables) row tables)
   restarted_same job initiator row at true =
       by-step Stay tables (step_of_run row (step_in (place_of row))) _ refl
@@ -102,9 +106,11 @@ module _ (tables : TablesModel) (numbered : AreNumbered 1 tables.runs) where
       (λ owned there. by-step Stay tables (point_at row.points (step_in (place_of row))) _ refl (λ point began. same_row tables numbered job row at _ refl))
 
   -- each run keeps what it is
-  pub runs-stay : (event : Event) (deck : Option Job) → is_forward_event event ≡ true → is_submission event ≡ false → Stay (after_event event deck tables)
+  pub runs-stay : (event : Event) (deck : Option Job) → continues event ≡ false → is_submission event ≡ false → Stay (after_event event deck tables)
   runs-stay (Submitted job cards) deck plain other = absurd (false≢true (sym other))
-  runs-stay (Selected job initiator earlier step id) deck plain other = selected_same job initiator earlier step id deck (equal-true earlier 0 plain)
+  runs-stay (Selected job initiator zero step id) deck plain other = by-run Stay tables job _ refl (λ row at. same_row tables numbered job row at _ refl)
+  runs-stay (Selected job initiator (suc before) step id) deck plain other = absurd (false≢true (sym plain))
+  runs-stay (Denied job rule name) deck plain other = by-run Stay tables job _ refl (λ row at. same_row tables numbered job row at _ refl)
   runs-stay (Started job step items) deck plain other =
       by-run Stay tables job _ refl (λ row at. by-step Stay tables (step_of_run row step) _ refl (λ owned there. same_row tables numbered job row at _ refl))
   runs-stay (Rewritten job taken writes lengths place image) deck plain other =
@@ -120,7 +126,6 @@ module _ (tables : TablesModel) (numbered : AreNumbered 1 tables.runs) where
   runs-stay (Released job) deck plain other = by-run Stay tables job _ refl (λ row at. same_row tables numbered job row at _ refl)
   runs-stay (Ended job ending) deck plain other = by-run Stay tables job _ refl (λ row at. ended_same job row at ending)
   runs-stay (Purged job) deck plain other = by-run Stay tables job _ refl (λ row at. same_row tables numbered job row at _ refl)
-  runs-stay _ deck plain other = absurd (false≢true plain)
 
 -- ---- what holds of runs that stay
 
@@ -151,3 +156,51 @@ pub numbered-more : (from : ℕ) (rows : List RunRow) (deck : Job) → AreNumber
 numbered-more from [] deck numbered = (omega arith, tt)
 numbered-more from (first ∷ rows) deck numbered =
     (numbered.0, subst (λ n. AreNumbered (suc from) (rows ++ queued_run n deck ∷ [])) (omega arith) (numbered-more (suc from) rows deck numbered.1))
+
+-- ---- a row that is put
+
+-- what holds of each run holds with a row of which it holds
+pub each-put : (P : RunRow → Type 0) (rows : List RunRow) (number : ℕ) (row : RunRow) → P row → AllByRecursion P rows → AllByRecursion P (with_row row number rows)
+each-put P rows zero row is each = each
+each-put P rows (suc place) row is each = at rows place each
+  where
+    at : (rows : List RunRow) (place : ℕ) → AllByRecursion P rows → AllByRecursion P (slice_set rows place row)
+    at [] place each = tt
+    at (first ∷ rows) zero each = (is, each.1)
+    at (first ∷ rows) (suc place) each = (each.0, at rows place each.1)
+
+-- the runs keep their numbers, and there are as many
+pub record KeepNumbers (old new : List RunRow) : Type 0 where
+  pub numbered : AreNumbered 1 new
+  pub long : length new ≡ length old
+
+numbered_at : (from place : ℕ) (rows : List RunRow) (row new : RunRow) → slice_get rows place ≡ Some row → new.number ≡ row.number → AreNumbered from rows → AreNumbered from (slice_set rows place new)
+numbered_at from place [] row new at same numbered = tt
+numbered_at from zero (first ∷ rows) row new at same numbered = (same ∙ ap (λ (r : RunRow). r.number) (sym (same_Some first row at)) ∙ numbered.0, numbered.1)
+numbered_at from (suc place) (first ∷ rows) row new at same numbered = (numbered.0, numbered_at (suc from) place rows row new at same numbered.1)
+
+long_at : (place : ℕ) (rows : List RunRow) (new : RunRow) → length (slice_set rows place new) ≡ length rows
+long_at place [] new = refl
+long_at zero (first ∷ rows) new = refl
+long_at (suc place) (first ∷ rows) new = ap (λ n. suc n) (long_at place rows new)
+
+module _ (tables : TablesModel) (numbered : AreNumbered 1 tables.runs) where
+  numbers_there : (job : ℕ) (row new : RunRow) → run_of tables job ≡ Some row → new.number ≡ row.number → KeepNumbers tables.runs (with_row new job tables.runs)
+  numbers_there zero row new at same = absurd (some-not-none row (sym at))
+  numbers_there (suc place) row new at same = record { numbered = numbered_at 1 place tables.runs row new at same numbered; long = long_at place tables.runs new }
+
+  numbers_put : (job : ℕ) (row : RunRow) → run_of tables job ≡ Some row → (new : RunRow) → new.number ≡ row.number → KeepNumbers tables.runs (with_row new new.number tables.runs)
+  numbers_put job row at new same =
+      subst (λ n. KeepNumbers tables.runs (with_row new n tables.runs)) (sym (same ∙ run_number tables job row numbered at)) (numbers_there job row new at same)
+
+  -- by each event but a submission
+  pub numbers-stay : (layout : Layout) (event : Event) (deck : Option Job) → is_submission event ≡ false → follows layout tables event deck ≡ true → KeepNumbers tables.runs (after_event event deck tables).runs
+  numbers-stay layout (Selected job initiator (suc before) step id) deck other follow =
+      by-continuation layout tables job initiator before step deck (λ after. KeepNumbers tables.runs after.runs) id follow
+      (λ its. numbers_put job its.row its.row_at _ refl) (λ id its entry. numbers_put job its.row its.row_at _ refl)
+  numbers-stay layout event deck other follow =
+      let same = runs-stay tables numbered event deck refl other in
+      record {
+        numbered = numbered-stay 1 tables.runs (after_event event deck tables).runs same numbered;
+        long = long-stay tables.runs (after_event event deck tables).runs same;
+      }

@@ -21,7 +21,7 @@ use Rattle.ckr_volumes.specs.declared.layout.Layout.{Layout}
 use Rattle.ckr_points_library.specs.declared.cause.Refusal.{Refusal}
 use Rattle.ckr_points_library.specs.Allocation.{Allocation}
 use Rattle.ckr_points.specs.declared.run.RunState.{RunState}
-use Rattle.ckr_points.specs.declared.run.RunState.TheVariants.{On}
+use Rattle.ckr_points.specs.declared.run.RunState.TheVariants.{On, Queued}
 use Rattle.ckr_points.specs.Follows.{follows, is_in_state, is_running, is_within, own_step, state_number}
 use Rattle.ckr_points.specs.Restart.{place_of, step_in}
 use Rattle.ckr_points.specs.Rows.{RunRow, TablesModel, run_of, standing_of, table_ways}
@@ -35,7 +35,7 @@ use Rattle.ckr_desk_turn.specs.declared.reply.Reply.TheVariants.{Idle, JobEnded,
 use Rattle.ckr_desk_turn.specs.declared.reply.Turn.{Turn}
 use Rattle.ckr_desk_turn.specs.Allocation.{allocation_of, cause_numbers, holdings, items_in}
 use Rattle.ckr_desk_turn.specs.Codes.{CodePlaceModel, code_plan, initiator_of, reached_by}
-use Rattle.ckr_desk_turn.specs.Deferred.{queued_plan}
+use Rattle.ckr_desk_turn.specs.Deferred.{deferred_plan, queued_plan}
 use Rattle.ckr_desk_turn.specs.Invariant.{IsTurnOf, is_off}
 use Rattle.ckr_desk_turn.specs.Jobs.{TurnJobs, TurnStep, is_failed, running_in, waiting_code}
 use Rattle.ckr_desk_turn.specs.Plans.{allocation_ended, between_plan, chosen_plan, due_plan, fail_plan, free_plan, is_within as is_planned, placed_plan, plan_of, run_plan, running_plan, start_plan, suppressed_plan, system_failure, unmarked_plan}
@@ -45,11 +45,13 @@ use Rattle.ckr_desk_turn.proofs.Codes.{by-verdict}
 use Rattle.ckr_desk_turn.proofs.NextEvents.BetweenSteps.{completed-follows, lodged-on, next_cases, refused-follows, selected-follows}
 use Rattle.ckr_desk_turn.proofs.RunEnd.{refused-inside}
 use Rattle.ckr_desk_turn.proofs.Start.Invariant.{started-follows}
+use Rattle.ckr_desk_memory.specs.Holders.{AreHolders}
 use Rattle.ckr_desk_memory.specs.Invariant.{AreJobs, IsAcceptedRow, IsPlacedRow}
+use Rattle.ckr_desk_memory.specs.OwnSteps.{PlanFollows}
 use Rattle.ckr_desk_memory.specs.Plans.{is_coded}
 use Rattle.ckr_desk_memory.specs.View.{JobsView, jobs_of}
+use Rattle.ckr_desk_memory.proofs.DeferredRestarts.{deferred-follows}
 use Rattle.ckr_desk_memory.proofs.FoundRuns.{found-run}
-use Rattle.ckr_desk_memory.proofs.Holders.Names.{accepted-plain}
 use Rattle.ckr_desk_memory.proofs.Starts.Steps.{row-among}
 
 -- whether an event commits what a running step has written, or puts it back: a rewrite in place, a checkpoint, the end of the step, its restart, or the
@@ -73,12 +75,22 @@ FollowsBetween layout tables (Take job) = Unit {0}
 FollowsBetween layout tables (Ask inquiry) = Unit {0}
 FollowsBetween layout tables (Wait job code) = Unit {0}
 
+-- an event that follows does so if it isn't one of these
+between-from : (layout : Layout) (tables : TablesModel) (plan : Plan) → PlanFollows layout tables plan → FollowsBetween layout tables plan
+between-from layout tables (Rest reply) follow = tt
+between-from layout tables (Tell reply event) follow = λ not. follow
+between-from layout tables (Work job) follow = tt
+between-from layout tables (Pass job reply) follow = tt
+between-from layout tables (Take job) follow = tt
+between-from layout tables (Ask inquiry) follow = tt
+between-from layout tables (Wait job code) follow = tt
+
 refused-all : (all : Result Allocation Refusal) (refusal : Refusal) → items_in all ≡ Err refusal → all ≡ Err refusal
 refused-all (Ok done) refusal e = cc
 refused-all (Err other) refusal e = cc
 
 module _ (layout : Layout) (seen : TurnJobs) (numbered : AreNumbered 1 seen.tables.runs) (rows : AllByRecursion IsAcceptedRow seen.tables.runs) (placed : AllByRecursion IsPlacedRow seen.tables.runs)
-    (laid : AreLaidOut layout seen.tables.sets) where
+    (laid : AreLaidOut layout seen.tables.sets) (holders : AreHolders seen.tables) where
   abbrev tables : TablesModel
   tables = seen.tables
 
@@ -97,15 +109,12 @@ module _ (layout : Layout) (seen : TurnJobs) (numbered : AreNumbered 1 seen.tabl
       option-cases row.code
       (λ none.
       subst (λ (o : Option Code). Follows (plan o)) (sym none)
-      (subst (λ (r : Option Restart). Follows (queued_plan layout tables i row r)) (sym restartless)
-      (λ not.
-      next_cases tables row next
-      (λ queued. selected-follows layout tables i row at queued restartless above below free next)
+      (next_cases tables row next queued-so
       (λ released.
       absurd
       (some-not-none-code
       (ap (λ (state : RunState). if is_off state then is_some row.code else is_none row.code) (sym released) ∙ is.code)
-      none)))))
+      none))))
       (λ code some. subst (λ (o : Option Code). Follows (plan o)) (sym some) (coded-follows row i false code (reached_by seen row)))
     where
       at : run_of tables row.number ≡ Some row
@@ -114,8 +123,14 @@ module _ (layout : Layout) (seen : TurnJobs) (numbered : AreNumbered 1 seen.tabl
       is : IsPlacedRow row
       is = row-among IsPlacedRow tables row.number row placed at
 
-      restartless : row.deck.restart ≡ None
-      restartless = accepted-plain row (row-among IsAcceptedRow tables row.number row rows at)
+      -- without RESTART it is selected, and with it the deferred rules decide
+      queued-so : row.state ≡ Queued → Follows (queued_plan layout tables i row row.deck.restart)
+      queued-so queued =
+          option-cases row.deck.restart
+          (λ none. subst (λ (r : Option Restart). Follows (queued_plan layout tables i row r)) (sym none) (λ not. selected-follows layout tables i row at queued none above below free next))
+          (λ restart has.
+          subst (λ (r : Option Restart). Follows (queued_plan layout tables i row r)) (sym has)
+          (between-from layout tables (deferred_plan layout tables i row restart) (deferred-follows layout tables rows numbered placed holders row i restart queued has above below free next)))
 
       plan : Option Code → Plan
       plan o =
@@ -250,6 +265,6 @@ module _ (layout : Layout) (seen : TurnJobs) (numbered : AreNumbered 1 seen.tabl
       (run-follows turn.initiator row found turn.fail))
 
 -- what a turn comes to by the jobs in memory
-pub plan-follows : (layout : Layout) (jobs : JobsView) (turn : Turn) → AreNumbered 1 jobs.tables.desk.runs → AreJobs layout jobs → IsTurnOf layout turn → FollowsBetween layout jobs.tables.desk (plan_of layout (jobs_of jobs) turn)
+pub plan-follows : (layout : Layout) (jobs : JobsView) (turn : Turn) → AreNumbered 1 jobs.tables.desk.runs → AreJobs layout jobs → AreHolders jobs.tables.desk → IsTurnOf layout turn → FollowsBetween layout jobs.tables.desk (plan_of layout (jobs_of jobs) turn)
 unfolding jobs_of
-plan-follows layout jobs turn numbered are its = plan-seen layout (jobs_of jobs) numbered are.rows are.placed are.laid turn its.above its.below
+plan-follows layout jobs turn numbered are holders its = plan-seen layout (jobs_of jobs) numbered are.rows are.placed are.laid holders turn its.above its.below

@@ -1,5 +1,6 @@
--- The marks of an entry, by the data sets with the lengths that are committed and by those of the step.
-use Rattle.std.specs.Prelude.{◌≡◌, ◌≤◌, ℕ, Bool, false, if◌then◌else◌, [], Option, Some}
+-- The marks of an entry: of the names of the run's own steps by the data sets with the lengths that are committed and by those of the step, and of the others as
+-- they were carried over.
+use Rattle.std.specs.Prelude.{◌≡◌, ◌≤◌, ℕ, Bool, true, false, if◌then◌else◌, List, [], Option, Some}
 use Rattle.std.specs.Option.{option_map, option_map_or}
 use Rattle.ckr_entry.specs.declared.point.Mark.{Mark}
 use Rattle.ckr_entry.specs.declared.point.Present.{Present}
@@ -10,6 +11,8 @@ use Rattle.ckr_meaning.specs.EffectiveJob.{is_among}
 use Rattle.ckr_points_library.specs.Commit.{output_names}
 use Rattle.ckr_points.specs.Marks.{present_of}
 use Rattle.ckr_points_tables.specs.RunJobs.{IsFitting, effective, own_of}
+use Rattle.ckr_points_tables.specs.RunMarks.{carried_by, mark_by, own_names_of}
+use Rattle.ckr_points_tables.specs.View.{facts_of}
 use Rattle.ckr_desk_memory.specs.declared.entry_marks.Behind.{Behind}
 use Rattle.ckr_desk_memory.specs.View.{length_in}
 
@@ -27,12 +30,27 @@ length_of behind name set = if is_output_of behind name then length_behind (Some
 abbrev pub present_behind : Behind → Name → DataSet → Present
 present_behind behind name set = record (present_of (record { set = set; entries = [] })) { length = length_of behind name set }
 
--- the mark of a name
-abbrev pub mark_behind : Behind → Name → Mark
-mark_behind behind name = record { name = name; present = option_map (present_behind behind name) (set_of behind.committed.now name) }
+-- the mark of a name as the data sets are behind the checkpoint
+abbrev pub now_behind : Behind → Name → Mark
+now_behind behind name = record { name = name; present = option_map (present_behind behind name) (set_of behind.committed.now name) }
 
--- a run continues none, its job is within the limits, and the number of the run that owns its step has at most seven digits
+-- the names of the steps that the run executes itself
+abbrev pub own_names_behind : Behind → List Name
+own_names_behind behind = own_names_of behind.on.now.run behind.table.now.job
+
+-- the marks of the point from which the run was continued
+abbrev pub carried_behind : Behind → List Mark
+carried_behind behind = carried_by (facts_of behind.table.now).points behind.table.now.job.earlier_step
+
+-- the mark of a name: own names as the data sets are, others as they were carried over, where they were
+abbrev pub mark_behind : Behind → Name → Mark
+mark_behind behind = mark_by (now_behind behind) (own_names_behind behind) (carried_behind behind)
+
+-- these names are of steps that the run executes itself
+abbrev pub AreOwnNames : Behind → List Name → Type 0
+AreOwnNames behind names = (name : Name) → is_among names name ≡ true → is_among (own_names_behind behind) name ≡ true
+
+-- the job of the run is within the limits, and the number of the run that owns its step has at most seven digits
 pub record MayMark (behind : Behind) : Type 0 where
   pub fits : IsFitting (effective behind.on.now.run behind.table.now.job)
   pub owner : behind.own.now.owner ≤ 9999999
-  pub first : behind.table.now.job.earlier_step ≡ 0

@@ -5,7 +5,7 @@ use Rattle.ckr_base.specs.declared.code.Code.{Code}
 use Rattle.ckr_uses.specs.Uses.{uses_of}
 use Rattle.ckr_library.specs.declared.uses.Use.{Use}
 use Rattle.ckr_events.specs.declared.event.Event.{Event}
-use Rattle.ckr_events.specs.declared.event.Event.TheVariants.{Submitted, Selected, Checkpointed, Cancelled, StepEnded, Restarted, Held, Released, Ended, Purged}
+use Rattle.ckr_events.specs.declared.event.Event.TheVariants.{Submitted, Selected, Denied, Checkpointed, Cancelled, StepEnded, Restarted, Held, Released, Ended, Purged}
 use Rattle.ckr_jcl.specs.declared.deck.Job.{Job}
 use Rattle.ckr_library.specs.Catalog.{Holding, with_length}
 use Rattle.ckr_library.specs.NameMaps.{Name, Named, entry_at, with_changed}
@@ -29,6 +29,7 @@ use Rattle.ckr_desk_memory.specs.View.{PointView, RunningStepView}
 abbrev pub MayQueue : Event → List QueueEntry → Type 0
 MayQueue (Submitted job cards) queue = state_of job queue ≡ None
 MayQueue (Selected job initiator earlier step id) queue = IsTrue (may_take job queue)
+MayQueue (Denied job rule name) queue = IsTrue (is_in is_queued job queue)
 MayQueue (Restarted job initiator code checkpoint) queue = IsTrue (is_in has_names job queue)
 MayQueue (Held job code writes lengths) queue = IsTrue (is_in has_names job queue)
 MayQueue (Released job) queue = IsTrue (is_in is_held job queue)

@@ -1,9 +1,9 @@
--- The events by which a desk goes on.
+-- The events by which a desk goes on as its events are read again.
 use Rattle.std.specs.Prelude.{◌==◌, Bool, true, false}
 use Rattle.ckr_events.specs.declared.event.Event.{Event}
 use Rattle.ckr_events.specs.declared.event.Event.TheVariants.{Submitted, Selected, Started, Rewritten, Checkpointed, Cancelled, StepEnded, Restarted, Held, Released, Ended, Purged}
 
--- an event by which a desk goes on: no run continues another one or is denied
+-- an event by which a desk goes on as it is read again: no run continues another one or is denied
 abbrev pub is_forward_event : Event → Bool
 is_forward_event (Submitted job cards) = true
 is_forward_event (Selected job initiator earlier step id) = earlier == 0

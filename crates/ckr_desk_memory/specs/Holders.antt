@@ -18,6 +18,7 @@ use Rattle.ckr_points.specs.Rows.{EffectPoint, EntryPoint, KeptEntry, RunRow, St
 use Rattle.ckr_points.specs.Tables.{is_updates}
 use Rattle.ckr_points_invariant.specs.Invariant.{AreOrderly}
 use Rattle.ckr_points_invariant.specs.JobNames.{AreKin, IsNamedByDeck}
+use Rattle.ckr_desk_turn.specs.Invariant.{HasStepName}
 use Rattle.ckr_uses.specs.Uses.{holds, uses_of}
 
 -- whether a step may change the records of a DD
@@ -81,13 +82,26 @@ pub record IsOwnEntry (row : RunRow) (set : Name) (point : EntryPoint) : Type 0 
   pub passed : IsStartPassed row point.step point.passed
   pub changes : (owned : OwnedStep) → step_of_run row point.step ≡ Some owned → is_among (changed_names row.job.root owned) set ≡ true
 
+-- an entry tells the run that wrote it, the name of its job, and that of a step that the run executed itself
+pub record IsNamedEntry (row : RunRow) (entry : KeptEntry) : Type 0 where
+  pub run : entry.kept.run ≡ row.number
+  pub job : entry.point.job ≡ row.deck.name
+  pub owned : OwnedStep
+  pub found : step_of_run row entry.point.step ≡ Some owned
+  pub name : entry.point.step_name ≡ owned.step.name
+  pub executed : row.earlier_step ≤ entry.point.step
+
+-- the steps that a run executes itself have the names that its deck gives them
+abbrev pub HasStepNames : RunRow → Type 0
+HasStepNames row = (number : ℕ) (owned : OwnedStep) → row.earlier_step ≤ number → step_of_run row number ≡ Some owned → HasStepName row.deck number owned.step.name
+
 -- each entry that the data sets keep, with the name of its data set
 abbrev pub EachEntryKept : (Name → KeptEntry → Type 0) → Named TableSet → Type 0
 EachEntryKept P sets = (set : Name) (table : TableSet) → entry_at sets set ≡ Some table → AllByRecursion (P set) table.entries
 
 -- each that this run wrote
 abbrev pub KeepsOwnEntries : Named TableSet → RunRow → Type 0
-KeepsOwnEntries sets row = EachEntryKept (λ set entry. entry.point.run ≡ row.number → IsOwnEntry row set entry.point) sets
+KeepsOwnEntries sets row = EachEntryKept (λ set entry. entry.point.run ≡ row.number → IsOwnEntry row set entry.point × IsNamedEntry row entry) sets
 
 -- no two of these entries have one identifier
 abbrev pub AreSingleEntries : List KeptEntry → Type 0
@@ -120,11 +134,13 @@ HasChanged sets row =
     (owned : OwnedStep) (name : Name) → is_holder row.state ≡ true → is_within (place_of row) ≡ true → own_step row ≡ Some owned
     → is_among (changed_names row.job.root owned) name ≡ true → is_some (entry_at sets name) ≡ true
 
--- so it is with each run of the tables; its kin have its job name, and have ended where they aren't itself. Each entry was written by a run.
+-- so it is with each run of the tables; its kin have its job name, and have ended where they aren't itself. Its own steps have the names of its deck. Each entry was
+-- written by a run, and tells it.
 pub record AreHolders (tables : TablesModel) : Type 0 where
   pub orderly : AreOrderly tables
   pub kin : (number : ℕ) (row : RunRow) → run_of tables number ≡ Some row → AreKin tables row
   pub named : (number : ℕ) (row : RunRow) → run_of tables number ≡ Some row → AreOfDeck tables row
+  pub steps : (number : ℕ) (row : RunRow) → run_of tables number ≡ Some row → HasStepNames row
   pub apart : HoldApart tables
   pub passed : (number : ℕ) (row : RunRow) → run_of tables number ≡ Some row → PassesOnOwn tables.sets row
   pub changed : (number : ℕ) (row : RunRow) → run_of tables number ≡ Some row → HasChanged tables.sets row

@@ -50,7 +50,7 @@ pub record IsRunningOf (tables : TablesModel) (on : RunningStepView) : Type 0 wh
   pub found : own_step row ≡ Some owned
   pub program : program_of on.step.state ≡ owned.step.program
   pub parm : on.step.parm ≡ owned.step.parm
-  pub files : on.step.files ≡ files_of on.run on.run owned.step
+  pub files : on.step.files ≡ files_of row.job.root owned.owner owned.step
   pub changed : (name : Name) → is_among (changed_names row.job.root owned) name ≡ true → AreCopies (entry_at tables.sets name) (set_of on.sets name)
   pub updated : is_update owned.step.program ≡ true
       → AreEven (entry_at tables.sets (name_with_role row.job.root owned is_updates)) (set_of on.sets (name_with_role row.job.root owned is_updates))

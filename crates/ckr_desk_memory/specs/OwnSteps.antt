@@ -1,6 +1,6 @@
 -- The jobs in memory hold their own: their runs stay apart, each running step is that of its run, and the only one of it, and where a checkpoint is in
 -- effect they have its point.
-use Rattle.std.specs.Prelude.{◌≡◌, ◌≢◌, ℕ, true, find, List, [], ◌∷◌, None, Some}
+use Rattle.std.specs.Prelude.{◌≡◌, ◌≢◌, ℕ, suc, true, find, List, [], ◌∷◌, None, Some}
 use Rattle.std.specs.List.{AllByRecursion}
 use Rattle.std.specs.Option.{is_some}
 use Rattle.ckr_desk_turn.specs.declared.failed_run.FailedRun.{FailedRun}
@@ -10,9 +10,9 @@ use Rattle.ckr_desk_turn.specs.declared.plan.Plan.TheVariants.{Rest, Tell, Work,
 use Rattle.ckr_desk_turn.specs.Inquiries.{hold_event, refusal_event, restart_event}
 use Rattle.ckr_events.specs.Jobs.{job_of}
 use Rattle.ckr_events.specs.declared.event.Event.{Event}
-use Rattle.ckr_events.specs.declared.event.Event.TheVariants.{StepEnded}
+use Rattle.ckr_events.specs.declared.event.Event.TheVariants.{Selected, StepEnded}
 use Rattle.ckr_points.specs.Follows.{follows, is_running, own_step}
-use Rattle.ckr_points.specs.Rows.{RunRow, TablesModel, run_of}
+use Rattle.ckr_points.specs.Rows.{RunRow, TablesModel, run_of, step_of_run}
 use Rattle.ckr_meaning.specs.EffectiveJob.{OwnedStep}
 use Rattle.ckr_steps.specs.Units.{program_of}
 use Rattle.ckr_volumes.specs.declared.layout.Layout.{Layout}
@@ -39,6 +39,12 @@ abbrev pub HavePoints : TablesModel → List PointView → Type 0
 HavePoints tables points =
     (number : ℕ) (row : RunRow) (owned : OwnedStep) → run_of tables number ≡ Some row → is_in_step row ≡ true → is_some row.in_effect ≡ true → own_step row ≡ Some owned
     → HasPoint points number owned
+
+-- where a run goes on with an earlier one at a checkpoint, its point is known before, with the program of the earlier run's step
+abbrev pub KnowsItsPoint : Event → TablesModel → List PointView → Type 0
+KnowsItsPoint (Selected job initiator (suc before) step (Some id)) tables points =
+    (row : RunRow) (owned : OwnedStep) → run_of tables (suc before) ≡ Some row → step_of_run row step ≡ Some owned → HasPoint points job owned
+KnowsItsPoint _ tables points = Unit {0}
 
 pub record HoldTheirOwn (jobs : JobsView) : Type 0 where
   pub holders : AreHolders jobs.tables.desk

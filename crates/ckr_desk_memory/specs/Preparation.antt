@@ -1,5 +1,5 @@
 -- The memory for an event.
-use Rattle.std.specs.Prelude.{not, ◌==◌, ◌≡◌, ◌≤◌, ◌<◌, ℕ, Bool, true, false, IfSome, [], find, Option, None, Some}
+use Rattle.std.specs.Prelude.{not, ◌==◌, ◌≡◌, ◌≤◌, ◌<◌, ℕ, suc, Bool, true, false, IfSome, [], find, Option, None, Some}
 use Rattle.ckr_events.specs.declared.event.Event.{Event}
 use Rattle.ckr_events.specs.declared.event.Event.TheVariants.{Submitted, Selected, Started, Checkpointed, StepEnded, Restarted, Ended}
 use Rattle.ckr_jcl.specs.declared.deck.Job.{Job}
@@ -54,14 +54,23 @@ pub record StandsEmpty (job : ℕ) (place : StepRun) (on : RunningStep) : Type 0
 abbrev pub HasStep : TablesModel → ℕ → ℕ → Option RunningStep → Type 0
 HasStep tables job step prepared =
     (row : RunRow) (owned : OwnedStep) → run_of tables job ≡ Some row → step_of_run row step ≡ Some owned
-    → (on : RunningStep) × (prepared ≡ Some on) × StandsEmpty job (begun job owned.step) on
+    → (on : RunningStep) × (prepared ≡ Some on) × StandsEmpty job (begun row.job.root owned) on
+
+-- a step of a run of this root is prepared at a point of it
+abbrev pub IsResumed : ℕ → ℕ → OwnedStep → PointView → Option RunningStep → Type 0
+IsResumed job root owned point prepared = (on : RunningStep) × (prepared ≡ Some on) × StandsEmpty job (resumed root owned point) on
 
 -- the step that a run is in is prepared at this point of it, and none is where there is no point
 abbrev pub HasAgain : Option PointView → TablesModel → ℕ → Option RunningStep → Type 0
 HasAgain None tables job prepared = prepared ≡ None
 HasAgain (Some point) tables job prepared =
-    (row : RunRow) (owned : OwnedStep) → run_of tables job ≡ Some row → own_step row ≡ Some owned
-    → (on : RunningStep) × (prepared ≡ Some on) × StandsEmpty job (resumed job owned.step point) on
+    (row : RunRow) (owned : OwnedStep) → run_of tables job ≡ Some row → own_step row ≡ Some owned → IsResumed job row.job.root owned point prepared
+
+-- so is the step of this number of another run, in which the run goes on
+abbrev pub HasTaken : Option PointView → TablesModel → ℕ → ℕ → ℕ → Option RunningStep → Type 0
+HasTaken None tables earlier step job prepared = prepared ≡ None
+HasTaken (Some point) tables earlier step job prepared =
+    (row : RunRow) (owned : OwnedStep) → run_of tables earlier ≡ Some row → step_of_run row step ≡ Some owned → IsResumed job row.job.root owned point prepared
 
 -- the step that starts is prepared, and there is room among the running ones
 pub record HasStarting (jobs : JobsView) (job number : ℕ) (prepared : Option RunningStep) : Type 0 where
@@ -75,7 +84,14 @@ pub record HasGoingBack (jobs : JobsView) (job : ℕ) (prepared : Option Running
   pub empty : IfSome prepared (IsEmpty job)
   pub step : HasAgain (find (is_point_of job) jobs.points) jobs.tables.desk job prepared
 
+-- so is the step of an earlier run in which the run goes on at a checkpoint
+pub record HasGoingOver (jobs : JobsView) (job earlier number : ℕ) (prepared : Option RunningStep) : Type 0 where
+  pub room : 0 < jobs.running_room
+  pub empty : IfSome prepared (IsEmpty job)
+  pub step : HasTaken (find (is_point_of job) jobs.points) jobs.tables.desk earlier number job prepared
+
 abbrev pub HasStarted : Event → JobsView → Option RunningStep → Type 0
+HasStarted (Selected job initiator (suc before) step (Some id)) jobs prepared = HasGoingOver jobs job (suc before) step prepared
 HasStarted (Started job step items) jobs prepared = HasStarting jobs job step prepared
 HasStarted (Restarted job initiator code true) jobs prepared = HasGoingBack jobs job prepared
 HasStarted _ jobs prepared = Unit {0}

@@ -1,8 +1,8 @@
 -- The running steps go on by an event.
-use Rattle.std.specs.Prelude.{◌≡◌, ◌≤◌, ◌<◌, ◌+◌, ℕ, Bool, true, false, ◌&&◌, IfSome, List, find, length, Option, None, Some}
+use Rattle.std.specs.Prelude.{◌≡◌, ◌≤◌, ◌<◌, ◌+◌, ℕ, suc, Bool, true, false, ◌&&◌, IfSome, List, find, length, Option, None, Some}
 use Rattle.std.specs.List.{AllByRecursion}
 use Rattle.ckr_events.specs.declared.event.Event.{Event}
-use Rattle.ckr_events.specs.declared.event.Event.TheVariants.{Started, Checkpointed, Cancelled, StepEnded, Restarted, Held, Ended}
+use Rattle.ckr_events.specs.declared.event.Event.TheVariants.{Selected, Started, Checkpointed, Cancelled, StepEnded, Restarted, Held, Ended}
 use Rattle.ckr_library.specs.Catalog.{records_of}
 use Rattle.ckr_meaning.specs.EffectiveJob.{OwnedStep, names_of}
 use Rattle.ckr_points.specs.Follows.{is_in_state, own_step}
@@ -46,6 +46,7 @@ pub record MayLookUp (tables : TablesModel) : Type 0 where
 -- what an event asks of the step that is prepared and of its run, by the tables behind it
 abbrev pub MayRun : Event → TablesModel → Option RunningStep → ℕ → Type 0
 MayRun (Started job step items) tables begun room = MayStartStep job step tables begun room
+MayRun (Selected job initiator (suc before) step (Some id)) tables begun room = MayGoBack job tables begun room
 MayRun (Restarted job initiator code true) tables begun room = MayGoBack job tables begun room
 MayRun (Checkpointed job id taken writes lengths place bytes) tables begun room = MayLookUp tables
 MayRun _ tables begun room = Unit {0}
@@ -53,31 +54,34 @@ MayRun _ tables begun room = Unit {0}
 -- a step of a run, by the tables behind its start, has started
 abbrev pub StepStarts : ℕ → ℕ → TablesModel → List RunningStepView → List RunningStepView → Type 0
 StepStarts job step tables old new =
-    (row : RunRow) (owned : OwnedStep) → run_of tables job ≡ Some row → step_of_run row step ≡ Some owned → HasNew job owned (begun job owned.step) tables.sets old new
+    (row : RunRow) (owned : OwnedStep) → run_of tables job ≡ Some row → step_of_run row step ≡ Some owned → HasNew job row.job.root owned (begun row.job.root owned) tables.sets old new
 
 -- the step that goes on from its run's point is prepared
 abbrev pub IsStartedFrom : Event → TablesModel → List PointView → Option RunningStep → Type 0
+IsStartedFrom (Selected job initiator (suc before) step (Some id)) tables points prepared = HasAgain (find (is_point_of job) points) tables job prepared
 IsStartedFrom (Restarted job initiator code true) tables points prepared = HasAgain (find (is_point_of job) points) tables job prepared
 IsStartedFrom _ tables points prepared = Unit {0}
 
 -- whether a run may go on from its point: it is on its initiator, and the tables have all that its step names
-abbrev pub may_go_back : TablesModel → ℕ → OwnedStep → RunRow → Bool
-may_go_back tables job owned row = is_in_state On row && has_sets tables.sets (names_of job owned)
+abbrev pub may_go_back : TablesModel → OwnedStep → RunRow → Bool
+may_go_back tables owned row = is_in_state On row && has_sets tables.sets (names_of row.job.root owned)
 
 -- from a point, where it may
-abbrev pub GoesFrom : Bool → ℕ → OwnedStep → PointView → TablesModel → List RunningStepView → List RunningStepView → Type 0
-GoesFrom true job owned point tables old new = HasNew job owned (resumed job owned.step point) tables.sets old new
-GoesFrom false job owned point tables old new = new ≡ without_run job old
+abbrev pub GoesFrom : Bool → ℕ → ℕ → OwnedStep → PointView → TablesModel → List RunningStepView → List RunningStepView → Type 0
+GoesFrom true job root owned point tables old new = HasNew job root owned (resumed root owned point) tables.sets old new
+GoesFrom false job root owned point tables old new = new ≡ without_run job old
 
 -- a run goes on from its point, if there is one, in the step that it is in; no other step of it is running
 abbrev pub StepGoesBack : Option PointView → ℕ → TablesModel → List RunningStepView → List RunningStepView → Type 0
 StepGoesBack None job tables old new = new ≡ without_run job old
 StepGoesBack (Some point) job tables old new =
-    (row : RunRow) (owned : OwnedStep) → run_of tables job ≡ Some row → own_step row ≡ Some owned → GoesFrom (may_go_back tables job owned row) job owned point tables old new
+    (row : RunRow) (owned : OwnedStep) → run_of tables job ≡ Some row → own_step row ≡ Some owned → GoesFrom (may_go_back tables owned row) job row.job.root owned point tables old new
 
 -- The running steps behind an event, by the tables behind it: a step is running from its start to its end, or to the end, a hold or a restart of its run,
--- and from a restart at its checkpoint on; a checkpoint or a cancel that is due is done, and the data set for checkpoints has the length behind the entry.
+-- and from a checkpoint on at which its run is restarted or goes on with an earlier one; a checkpoint or a cancel that is due is done, and the data set for
+-- checkpoints has the length behind the entry.
 abbrev pub GoesOn : Event → TablesModel → List PointView → List RunningStepView → List RunningStepView → Type 0
+GoesOn (Selected job initiator (suc before) step (Some id)) tables points old new = StepGoesBack (find (is_point_of job) points) job tables old new
 GoesOn (Started job step items) tables points old new = StepStarts job step tables old new
 GoesOn (Checkpointed job id taken writes lengths place bytes) tables points old new = HasEntered job (check_name_in tables job) (place + records_of bytes) old new
 GoesOn (Cancelled job) tables points old new = new ≡ served_in job old

@@ -49,12 +49,12 @@ set_in_tables sets name = option_map (λ (table : TableSet). table.set) (entry_a
 abbrev pub has_sets : Named TableSet → List Name → Bool
 has_sets sets names = list_all (λ name. is_some (entry_at sets name)) names
 
--- A step has started: it stands before the other running steps, at this place of its work, with the data sets of its names as the tables have them,
--- and its run waits with no code. No other step of its run is running.
-pub record HasNew (job : ℕ) (owned : OwnedStep) (place : StepRun) (tables : Named TableSet) (old new : List RunningStepView) : Type 0 where
+-- A step of a run of this root has started: it stands before the other running steps, at this place of its work, with the data sets of its names as
+-- the tables have them, and its run waits with no code. No other step of its run is running.
+pub record HasNew (job root : ℕ) (owned : OwnedStep) (place : StepRun) (tables : Named TableSet) (old new : List RunningStepView) : Type 0 where
   pub on : RunningStepView
   pub first : new ≡ on ∷ without_run job old
   pub run : on.run ≡ job
   pub step : on.step ≡ place
   pub code : on.code ≡ None
-  pub sets : (name : Name) → set_of on.sets name ≡ (if is_among (names_of job owned) name then set_in_tables tables name else None)
+  pub sets : (name : Name) → set_of on.sets name ≡ (if is_among (names_of root owned) name then set_in_tables tables name else None)

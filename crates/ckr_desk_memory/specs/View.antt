@@ -3,7 +3,6 @@ use Rattle.std.specs.Prelude.{ℕ, List, [], map, None, Option}
 use Rattle.std.specs.Option.{option_map_or}
 use Rattle.ckr_points_library.specs.Commit.{output_names}
 use Rattle.ckr_base.specs.declared.code.Code.{Code}
-use Rattle.ckr_jcl.specs.declared.deck.Step.{Step}
 use Rattle.ckr_library.specs.Catalog.{Catalog, Holding}
 use Rattle.ckr_library.specs.NameMaps.{Name, Named, entry_at}
 use Rattle.ckr_meaning.specs.EffectiveJob.{OwnedStep}
@@ -25,17 +24,17 @@ pub record RunningStepView : Type 0 where
   pub sets : Catalog
   pub code : Option Code
 
--- a step of a run that owns it, at its beginning
-abbrev pub begun : ℕ → Step → StepRun
-begun job step = record { state = first_state step.program; parm = step.parm; files = files_of job job step; writes = 0 }
+-- a step of a run of this root, at its beginning
+abbrev pub begun : ℕ → OwnedStep → StepRun
+begun root owned = record { state = first_state owned.step.program; parm = owned.step.parm; files = files_of root owned.owner owned.step; writes = 0 }
 
 -- where the step of a run stands at its checkpoint in effect: its program's state, and the number of its writes
 abbrev pub PointView : Type 0
 PointView = StepPoint
 
--- a step of a run that owns it, as it goes on from there
-abbrev pub resumed : ℕ → Step → PointView → StepRun
-resumed job step point = record { state = point.state; parm = step.parm; files = files_of job job step; writes = point.writes }
+-- a step of a run of this root, as it goes on from there
+abbrev pub resumed : ℕ → OwnedStep → PointView → StepRun
+resumed root owned point = record { state = point.state; parm = owned.step.parm; files = files_of root owned.owner owned.step; writes = point.writes }
 
 -- The tables with their room, the running steps, the runs that were running when the system failed, and where steps stand at their checkpoints in
 -- effect. So many more runs fit in the queue, so many more steps among the running ones, and so many more points, with no memory taken.

@@ -350,7 +350,6 @@ fn next_of(
     requires run { on.now.run ≤ 9999999 }
     requires owner { own.now.owner ≤ 9999999 }
     requires fits { IsFitting (effective on.now.run table.now.job) }
-    requires first { table.now.job.earlier_step ≡ 0 }
     requires counted { AreCounted on.now.step }
     requires names { length (names_of_job (effective on.now.run table.now.job)) ≤ 1024 }
     ensures entry { (line : RunOfDesk) (tables : TablesModel) (owned : OwnedStep) → library.now.sets ≡ seen_by holding_of tables.sets → owned.step ≡ own.now.step.now → owned.owner ≡ own.now.owner → IfOk result (λ found. entry_made found ≡ next_entry tables (row_of_line on.now.run line table.now) owned (step_seen on.now)) }
@@ -391,7 +390,7 @@ impl Jobs {
     }
 
     /// The entry that the next checkpoint of a running step writes behind the last record of its data set for checkpoints, with its bytes: its
-    /// marks are those of the data sets behind it (IBM GC28-6708). `None` where it doesn't fit: the data set isn't there, has records of
+    /// marks are those of the data sets behind it, and of names that the run's own steps don't use those that it carries over (IBM GC28-6708). `None` where it doesn't fit: the data set isn't there, has records of
     /// another length than 256 bytes or no space for the entry's, or keeps one of its identifier; or a number is out of its range, the
     /// identifier isn't in its grammar, or 65,536 names or more were passed on (this project's profile). Nothing changes. It is an entry that is
     /// read back, where its state has the form of its program's states.

@@ -8,7 +8,7 @@ ghost use Rattle.ckr_desk_memory.specs.EventChanges.{check_name_in, point_of, po
 ghost use Rattle.ckr_desk_memory.specs.RunningSteps.{GoesOn, IsStartedFrom, MayGoBack, MayLookUp, MayRun, StepGoesBack};
 ghost use Rattle.ckr_desk_memory.specs.Invariant.{AreJobs, IsAnyAccepted, MayGoOn};
 ghost use Rattle.ckr_desk_memory.specs.OwnSets.{CommitsItsOwn};
-ghost use Rattle.ckr_desk_memory.specs.OwnSteps.{AreLeft, HoldTheirOwn, LeavesLeft};
+ghost use Rattle.ckr_desk_memory.specs.OwnSteps.{AreLeft, HoldTheirOwn, KnowsItsPoint, LeavesLeft};
 ghost use Rattle.ckr_desk_memory.specs.Parts.{step_seen};
 ghost use Rattle.ckr_desk_memory.specs.Plans.{HasCounts};
 ghost use Rattle.ckr_desk_memory.specs.Preparation.{HasAgain, HasPointRoom, HasQueueRoom, IsPrepared};
@@ -20,8 +20,7 @@ ghost use Rattle.ckr_library.specs.Catalog.{records_of};
 ghost use Rattle.ckr_points.specs.Follows.{follows};
 ghost use Rattle.ckr_points.specs.Restart.{after_event};
 ghost use Rattle.ckr_queue.specs.Queue.{queued, state_of, with_entry};
-ghost use Rattle.ckr_points_tables.specs.Invariant.{HasRoom, MayCount, MayFollow, MaySubmit};
-ghost use Rattle.ckr_desk_memory.specs.ForwardEvents.{is_forward_event};
+ghost use Rattle.ckr_points_tables.specs.Invariant.{HasRoom, MayContinue, MayCount, MayFollow, MaySubmit};
 ghost use Rattle.ckr_desk_turn.specs.Desk.{failed_behind, without_mark};
 ghost use Rattle.ckr_desk_turn.specs.Queue.{AreNumbered};
 ghost use Rattle.ckr_volumes.specs.declared.layout.Layout.{Layout as LayoutOfDisk};
@@ -54,10 +53,9 @@ fn queue_run(queue: &mut Queue, number: u32, uses: Uses)
     }
 }
 
-/// The queue goes on by a forward event that follows, by the tables behind it: a run that is restarted is selected where it is on an initiator. The
+/// The queue goes on by an event that follows, by the tables behind it: a run that is restarted is selected where it is on an initiator. The
 /// uses are those of a deck that is submitted, and there is room for it.
 fn keep_queue(queue: &mut Queue, event: &Event, uses: Option<Uses>, tables: &Tables)
-    requires plain { IsTrue (is_forward_event event.now) }
     requires may { MayQueue event.now queue.old.entries }
     requires room { HasQueueRoom event.now queue.old.room }
     ensures { (deck : Option JobOfDeck) → HasUses event.now deck uses → queue.new.entries ≡ queue_after tables.now.desk event.now deck queue.old.entries }
@@ -79,7 +77,7 @@ fn keep_queue(queue: &mut Queue, event: &Event, uses: Option<Uses>, tables: &Tab
             queue.release(*job);
         }
         Event::Ended { job, .. } => queue.end(*job),
-        Event::Purged { job } => {
+        Event::Denied { job, .. } | Event::Purged { job } => {
             queue.purge(*job);
         }
         _ => {}
@@ -143,9 +141,30 @@ fn restart(
     }
 }
 
-/// The running steps behind a forward event, by the tables behind it. The step that starts is at its beginning, that of a run that is restarted
-/// at its checkpoint is at the run's point, and there is room for it. A checkpoint is due of the step whose entry was
-/// written, and a cancel of the step that cancels.
+/// A run is selected. Where it continues an earlier run at a checkpoint it goes on there, as it was prepared.
+fn go_over(
+    job: u32,
+    earlier: u32,
+    checkpoint: bool,
+    taken: Option<RunningStep>,
+    tables: &Tables,
+    running: &mut Vec<RunningStep>,
+)
+    requires { 0 < earlier → checkpoint ≡ true → MayGoBack job tables.now.desk taken (vec_capacity running.old - vec_len running.old) }
+    ensures over { 0 < earlier → checkpoint ≡ true → (point : Option PointView) → HasAgain point tables.now.desk job taken → StepGoesBack point job tables.now.desk (map step_seen running.old.items) (map step_seen running.new.items) }
+    ensures alone { earlier ≡ 0 → running.new.items ≡ running.old.items }
+    ensures start { checkpoint ≡ false → running.new.items ≡ running.old.items }
+{
+    if earlier != 0 {
+        if checkpoint {
+            start_again(job, taken, tables, running);
+        }
+    }
+}
+
+/// The running steps behind an event, by the tables behind it. The step that starts is at its beginning, that of a run that is restarted at its
+/// checkpoint, or goes on with an earlier one at a checkpoint, is at the run's point, and there is room for it. A checkpoint is due of the step
+/// whose entry was written, and a cancel of the step that cancels.
 fn keep_running(
     event: &Event,
     begun: Option<RunningStep>,
@@ -157,6 +176,12 @@ fn keep_running(
     ensures { (points : List PointView) → IsStartedFrom event.now tables.now.desk points begun → GoesOn event.now tables.now.desk points (map step_seen running.old.items) (map step_seen running.new.items) }
 {
     match event {
+        Event::Selected {
+            job,
+            earlier,
+            id,
+            ..
+        } => go_over(*job, *earlier, id.is_some(), begun, tables, running),
         Event::Started { job, step, .. } => start_prepared(*job, *step, begun, tables, running),
         Event::Restarted {
             job,
@@ -183,7 +208,7 @@ fn keep_running(
 }
 
 /// Those points that aren't of a run.
-fn forget_point(points: &mut Vec<StepPoint>, run: u32)
+pub(crate) fn forget_point(points: &mut Vec<StepPoint>, run: u32)
     ensures items { points.new.items ≡ without_point run points.old.items }
     ensures bound { vec_len points.new ≤ vec_len points.old }
     ensures capacity { vec_capacity points.new ≡ vec_capacity points.old }
@@ -205,7 +230,7 @@ fn point_of(on: &RunningStep) -> StepPoint
 }
 
 /// A point stands before the others. There is room for it.
-fn put_point(points: &mut Vec<StepPoint>, point: StepPoint)
+pub(crate) fn put_point(points: &mut Vec<StepPoint>, point: StepPoint)
     requires { vec_len points.old < vec_capacity points.old }
     ensures { points.new.items ≡ point ∷ points.old.items }
 {
@@ -227,7 +252,7 @@ fn keep_point(points: &mut Vec<StepPoint>, run: u32, running: &[RunningStep])
     }
 }
 
-/// The points behind a forward event, by the running steps behind it. There is room for that of a checkpoint.
+/// The points behind an event, by the running steps behind it. There is room for that of a checkpoint.
 fn keep_points(points: &mut Vec<StepPoint>, event: &Event, running: &[RunningStep])
     requires room { HasPointRoom event.now (vec_capacity points.old - vec_len points.old) }
     requires counted { AllByRecursion HasCounts (map step_seen running.now) }
@@ -260,11 +285,10 @@ fn keep_failed(failed: &mut Vec<FailedRun>, event: &Event)
 }
 
 impl Jobs {
-    /// Goes on by a forward event that follows, with the memory that `prepare` took for it. A deck is given exactly where the event is
-    /// Submitted and its cards are a deck, and it is that deck, accepted and of a form that the desk runs. It takes no memory, and
-    /// doesn't fail. A record that the event tells has its place then (this project's profile).
+    /// Goes on by an event that follows, with the memory that `prepare` took for it. A deck is given exactly where the event is Submitted
+    /// and its cards are a deck, and it is that deck, accepted and of a form that the desk runs. It takes no memory, and doesn't fail. A
+    /// record that the event tells has its place then (this project's profile).
     pub fn keep(&mut self, event: &Event, deck: Option<Rc<Job>>, prepared: Prepared)
-        requires plain { IsTrue (is_forward_event event.now) }
         requires follows { MayGoOn self.old event.now (option_map rc_value deck) }
         requires deck { MaySubmit event.now (option_map rc_value deck) }
         requires accepted { IsAnyAccepted event.now (option_map rc_value deck) }
@@ -277,7 +301,7 @@ impl Jobs {
         ensures place { HasRecordPlace event.now self.new.tables.desk }
         ensures jobs { (layout : LayoutOfDisk) → AreJobs layout self.old → follows layout self.old.tables.desk event.now (option_map rc_value deck) ≡ true → AreJobs layout self.new }
         ensures own { (layout : LayoutOfDisk) → AreJobs layout self.old → HoldTheirOwn self.old → follows layout self.old.tables.desk event.now (option_map rc_value deck) ≡ true
-            → CommitsItsOwn event.now self.old.tables.desk self.old.running → HoldTheirOwn self.new }
+            → KnowsItsPoint event.now self.old.tables.desk self.old.points → CommitsItsOwn event.now self.old.tables.desk self.old.running → HoldTheirOwn self.new }
         ensures left { (layout : LayoutOfDisk) → AreJobs layout self.old → AreLeft self.old → follows layout self.old.tables.desk event.now (option_map rc_value deck) ≡ true
             → LeavesLeft event.now self.old.failed → AreLeft self.new }
     {
@@ -287,10 +311,10 @@ impl Jobs {
         keep_points(&mut self.points, event, self.running.as_slice());
     }
 
-    /// The tables go on by a forward event that follows, and the queue with them. There is room for the event, and the uses are those
-    /// of the deck that it submits. It takes no memory, and doesn't fail.
+    /// The tables go on by an event that follows, and the queue with them. There is room for the event, and the uses are those
+    /// of the deck that it submits; the deck of a run that is selected to continue another one may do so. It takes no memory, and doesn't fail.
     pub(crate) fn go_on(&mut self, event: &Event, deck: Option<Rc<Job>>, uses: Option<Uses>)
-        requires plain { IsTrue (is_forward_event event.now) }
+        requires continues { MayContinue event.now self.old.tables.desk }
         requires follows { MayFollow self.old.tables.desk event.now (option_map rc_value deck) }
         requires deck { MaySubmit event.now (option_map rc_value deck) }
         requires count { MayCount event.now self.old.tables.desk.sets }

@@ -13,7 +13,6 @@ ghost use Rattle.ckr_points.specs.Follows.{follows};
 ghost use Rattle.ckr_points.specs.Restart.{after_event};
 ghost use Rattle.ckr_points.specs.Rows.{TablesModel, no_tables};
 ghost use Rattle.ckr_points.specs.Soundness.{AreLaidOut};
-ghost use Rattle.ckr_desk_memory.specs.ForwardEvents.{is_forward_event};
 ghost use Rattle.ckr_volumes.specs.declared.layout.Layout.{Layout};
 ghost use Rattle.ckr_steps.specs.Inputs.{AreStored, AreThere};
 ghost use Rattle.ckr_steps.specs.StepUnit.{HasDone, done_for, worked_for};
@@ -31,7 +30,7 @@ ghost use Rattle.ckr_desk_turn.specs.Queue.{AreNumbered};
 ghost use Rattle.ckr_desk_memory.specs.Holders.{AreHolders};
 ghost use Rattle.ckr_desk_memory.specs.OwnEvents.{HasOwnLengths, IsLeftWithin, IsOwnEvent};
 ghost use Rattle.ckr_desk_memory.specs.OwnSets.{CommitsItsOwn, IsCommitted, IsRunningOf};
-ghost use Rattle.ckr_desk_memory.specs.OwnSteps.{AreLeft, HavePoints, HoldTheirOwn, IsOfOther};
+ghost use Rattle.ckr_desk_memory.specs.OwnSteps.{AreLeft, HavePoints, HoldTheirOwn, IsOfOther, KnowsItsPoint};
 
 /// Runs that hold their names stay apart by each event that follows, whether it is sound or not: no two of them hold against each other,
 /// each executes steps whose names are of its deck, with kin as their owners, has lost all else that was passed on as made, and what its step may
@@ -48,8 +47,8 @@ pub fn holders_stay_apart()
 pub fn running_steps_stay_theirs()
     ensures event { (layout : Layout) (tables : TablesModel) (event : Event) (deck : Option Job) (points : List PointView) (old new : List RunningStepView)
         → AreHolders tables → AllByRecursion IsAcceptedRow tables.runs → AreNumbered 1 tables.runs → AllByRecursion IsPlacedRow tables.runs
-        → IsAnyAccepted event deck → MaySubmit event deck → is_forward_event event ≡ true → follows layout tables event deck ≡ true
-        → AllByRecursion (IsRunningOf tables) old → HavePoints tables points
+        → IsAnyAccepted event deck → MaySubmit event deck → follows layout tables event deck ≡ true
+        → AllByRecursion (IsRunningOf tables) old → HavePoints tables points → KnowsItsPoint event tables points
         → CommitsItsOwn event tables old → GoesOn event (after_event event deck tables) points old new
         → AllByRecursion (IsRunningOf (after_event event deck tables)) new }
     ensures unit { (tables : TablesModel) (old new : RunningStepView) (heads : HeadsOfInputs) (worked : WorkedUnit)

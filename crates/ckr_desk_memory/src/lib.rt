@@ -3,6 +3,7 @@
 
 mod checkpoint;
 mod decision;
+mod deferred;
 mod entry;
 mod entry_laws;
 mod entry_marks;
@@ -10,6 +11,7 @@ mod event;
 mod found_run;
 mod holder_laws;
 mod jobs;
+mod known_point;
 mod lines;
 mod opening;
 mod plan;

@@ -20,13 +20,14 @@ ghost use Rattle.ckr_desk_turn.specs.Plans.{allocation_ended, between_plan, chec
 ghost use Rattle.ckr_desk_turn.specs.Queue.{AreNumbered};
 ghost use Rattle.ckr_desk_turn.specs.Spelling.{IsCode};
 
+use crate::deferred::queued_plan;
 use crate::found_run::SYSTEM_FAILURE;
 use crate::run_code::{Extents, Seat, code_plan, is_suppressed, lengths_of, name_within, place_of};
 use crate::{Jobs, RunningStep};
 use ckr_base::{Code, Name8, NextDue, NoMemory};
 use ckr_desk_turn::{
     Chkpt, How, Plan, Reply, Turn, allocation_event, cancelled_event, completed_event,
-    selected_event, started_event, step_ended_event,
+    started_event, step_ended_event,
 };
 use ckr_meaning::Place;
 use ckr_points::step_in;
@@ -384,7 +385,7 @@ impl Jobs {
         }
     }
 
-    /// A run comes to an initiator. One that was released goes on with the code that it was held with.
+    /// A run comes to an initiator. One that was released goes on with the code that it was held with; of one with RESTART the deferred rules decide.
     fn chosen(&self, layout: &Layout, initiator: u8, job: u32) -> Plan
         requires jobs { AreJobs layout.now self.now }
         ensures plan { (row : RunRow) → run_of self.now.tables.desk job ≡ Some row → result ≡ chosen_plan layout.now (jobs_of self.now) initiator row }
@@ -394,10 +395,7 @@ impl Jobs {
             return Plan::Rest(Reply::Idle);
         };
         match table.code {
-            None => Plan::Tell {
-                reply: Reply::Selected { job },
-                event: selected_event(job, initiator),
-            },
+            None => queued_plan(layout, &self.tables, initiator, job),
             Some(code) => {
                 let seat = Seat {
                     initiator,

@@ -5,11 +5,12 @@ ghost use Rattle.std.specs.Option.{option_copied};
 ghost use Rattle.ckr_desk_memory.specs.EventChanges.{is_point_of, AreUsesOf, HasUses};
 ghost use Rattle.ckr_desk_memory.specs.Invariant.{AreJobs, IsAcceptedRow};
 ghost use Rattle.ckr_desk_memory.specs.Parts.{IsPointCounted};
-ghost use Rattle.ckr_desk_memory.specs.Preparation.{needs_room, HasAgain, HasQueueRoom, HasStarting, HasStep, IsEmpty, IsPrepared, IsPreparedFor, StandsEmpty};
+ghost use Rattle.ckr_desk_memory.specs.Preparation.{needs_room, HasAgain, HasTaken, HasQueueRoom, HasStarting, HasStep, IsEmpty, IsPrepared, IsPreparedFor, StandsEmpty};
 ghost use Rattle.ckr_desk_memory.specs.View.{begun, resumed};
 ghost use Rattle.ckr_steps.specs.StepUnit.{AreCounted};
 ghost use Rattle.ckr_programs.specs.Ranges.{IsInRange};
 ghost use Rattle.ckr_points_tables.specs.Invariant.{HasRoom, IsAnySubmittable, MaySubmit};
+ghost use Rattle.ckr_points_tables.specs.RunJobs.{own_of};
 ghost use Rattle.ckr_volumes.specs.declared.layout.Layout.{Layout as LayoutOfDisk};
 
 use crate::run_code::place_of;
@@ -17,15 +18,15 @@ use crate::{Jobs, RunningStep, StepPoint};
 use ckr_base::NoMemory;
 use ckr_desk_turn::Inquiry;
 use ckr_events::Event;
-use ckr_jcl::{Job, Step};
+use ckr_jcl::Job;
 use ckr_library::Library;
 use ckr_points::step_in;
-use ckr_points_tables::step_at;
+use ckr_points_tables::{OwnStep, step_at};
 use ckr_steps::StepRun;
 use ckr_uses::{Uses, uses_of};
 use std::alloc::Global;
 
-/// The memory for an event: the uses of a deck that is submitted, and the step that starts or goes on from its run's point.
+/// The memory for an event: the uses of a deck that is submitted, and the step that starts or goes on from a run's point.
 #[derive(Drop)]
 pub struct Prepared {
     pub(crate) uses: Option<Uses>,
@@ -58,28 +59,40 @@ fn with_room(alloc: Global, job: u32, step: StepRun) -> Result<RunningStep, NoMe
     })
 }
 
-/// A step that starts.
-fn begin_step(alloc: Global, job: u32, step: &Step) -> Result<RunningStep, NoMemory>
-    requires job { job ≤ 9999999 }
-    requires parm { IsInRange step.now.parm }
-    ensures { IfOk result (StandsEmpty job (begun job step.now)) }
+/// A step of a run of this root that starts.
+fn begin_step(
+    alloc: Global,
+    job: u32,
+    root: u32,
+    own: &OwnStep<'_>,
+) -> Result<RunningStep, NoMemory>
+    requires root { root ≤ 9999999 }
+    requires owner { own.now.owner ≤ 9999999 }
+    requires parm { IsInRange own.now.step.now.parm }
+    ensures { IfOk result (StandsEmpty job (begun root (own_of own.now))) }
 {
-    with_room(alloc, job, StepRun::begin(alloc, step, job, job)?)
+    with_room(
+        alloc,
+        job,
+        StepRun::begin(alloc, own.step, root, own.owner)?,
+    )
 }
 
-/// A step that goes on from a point of it.
+/// A step of a run of this root that goes on from a point of it.
 fn resume_step(
     alloc: Global,
     job: u32,
-    step: &Step,
+    root: u32,
+    own: &OwnStep<'_>,
     point: &StepPoint,
 ) -> Result<RunningStep, NoMemory>
-    requires job { job ≤ 9999999 }
-    requires parm { IsInRange step.now.parm }
+    requires root { root ≤ 9999999 }
+    requires owner { own.now.owner ≤ 9999999 }
+    requires parm { IsInRange own.now.step.now.parm }
     requires counted { IsPointCounted point.now }
-    ensures { IfOk result (StandsEmpty job (resumed job step.now point.now)) }
+    ensures { IfOk result (StandsEmpty job (resumed root (own_of own.now) point.now)) }
 {
-    let again = StepRun::at_point(alloc, step, job, job, &point.state, point.writes)?;
+    let again = StepRun::at_point(alloc, own.step, root, own.owner, &point.state, point.writes)?;
     with_room(alloc, job, again)
 }
 
@@ -118,7 +131,25 @@ impl Jobs {
             return Ok(None);
         };
         match step_at(&table.job, job, step) {
-            Some(own) => Ok(Some(begin_step(self.alloc, job, own.step)?)),
+            Some(own) => Ok(Some(begin_step(self.alloc, job, table.job.root(), &own)?)),
+            None => Ok(None),
+        }
+    }
+
+    /// The step of this number of an earlier run, as a run goes on in it from its own point. None where that isn't known.
+    fn taken(&self, earlier: u32, step: u8, job: u32) -> Result<Option<RunningStep>, NoMemory>
+        requires { AllByRecursion IsAcceptedRow self.now.tables.desk.runs }
+        ensures step { IfOk result (HasTaken (find (is_point_of job) self.now.points) self.now.tables.desk earlier step job) }
+        ensures empty { IfOk result (λ taken. IfSome taken (IsEmpty job)) }
+    {
+        let Some(point) = point_in(self.points.as_slice(), job) else {
+            return Ok(None);
+        };
+        let Some(table) = self.known(earlier) else {
+            return Ok(None);
+        };
+        match step_at(&table.job, earlier, step) {
+            Some(own) => Ok(Some(resume_step(self.alloc, job, table.job.root(), &own, point)?)),
             None => Ok(None),
         }
     }
@@ -129,14 +160,8 @@ impl Jobs {
         ensures step { IfOk result (HasAgain (find (is_point_of job) self.now.points) self.now.tables.desk job) }
         ensures empty { IfOk result (λ again. IfSome again (IsEmpty job)) }
     {
-        let Some(point) = point_in(self.points.as_slice(), job) else {
-            return Ok(None);
-        };
-        let Some(table) = self.known(job) else {
-            return Ok(None);
-        };
-        match step_at(&table.job, job, step_in(place_of(table))) {
-            Some(own) => Ok(Some(resume_step(self.alloc, job, own.step, point)?)),
+        match self.known(job) {
+            Some(table) => self.taken(job, step_in(place_of(table)), job),
             None => Ok(None),
         }
     }
@@ -161,6 +186,20 @@ impl Jobs {
             Event::Started { job, step, .. } => {
                 self.running.reserve(1)?;
                 let step = self.begun(*job, *step)?;
+                Ok(Prepared { uses, step })
+            }
+            Event::Selected {
+                job,
+                earlier,
+                step,
+                id: Some(_),
+                ..
+            } => {
+                if *earlier == 0 {
+                    return Ok(Prepared { uses, step: None });
+                }
+                self.running.reserve(1)?;
+                let step = self.taken(*earlier, *step, *job)?;
                 Ok(Prepared { uses, step })
             }
             Event::Restarted {

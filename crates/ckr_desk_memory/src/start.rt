@@ -99,7 +99,7 @@ fn start_step(
     requires numbered { AreNumbered 1 tables.now.desk.runs }
     requires fit { AllFit (seen_by holding_of tables.now.desk.sets) }
     requires room { vec_len running.old < vec_capacity running.old }
-    ensures { (row : RowOfRun) (owned : OwnedStepOfRun) → run_of tables.now.desk job ≡ Some row → step_of_run row step ≡ Some owned → HasNew job owned on.step tables.now.desk.sets (map step_seen running.old.items) (map step_seen running.new.items) }
+    ensures { (row : RowOfRun) (owned : OwnedStepOfRun) → run_of tables.now.desk job ≡ Some row → step_of_run row step ≡ Some owned → HasNew job row.job.root owned on.step tables.now.desk.sets (map step_seen running.old.items) (map step_seen running.new.items) }
 {
     let _lines = tables.runs();
     let Some(table) = tables.run(job) else {
@@ -108,7 +108,7 @@ fn start_step(
     let Some(own) = step_at(&table.job, job, step) else {
         return;
     };
-    take_sets(job, &own, tables.library(), &mut on.sets);
+    take_sets(table.job.root(), &own, tables.library(), &mut on.sets);
     leave(running, job);
     put_first(running, on);
 }
@@ -160,7 +160,7 @@ fn step_there(tables: &Tables, job: u32) -> Option<u8>
     requires job { job ≤ 9999999 }
     requires rows { AllByRecursion IsAcceptedRow tables.now.desk.runs }
     requires numbered { AreNumbered 1 tables.now.desk.runs }
-    ensures { (row : RowOfRun) (owned : OwnedStepOfRun) → run_of tables.now.desk job ≡ Some row → own_step row ≡ Some owned → result ≡ if may_go_back tables.now.desk job owned row then Some (step_in_place (place_of_row row)) else None }
+    ensures { (row : RowOfRun) (owned : OwnedStepOfRun) → run_of tables.now.desk job ≡ Some row → own_step row ≡ Some owned → result ≡ if may_go_back tables.now.desk owned row then Some (step_in_place (place_of_row row)) else None }
 {
     if !is_on(tables, job) {
         return None;
@@ -173,7 +173,7 @@ fn step_there(tables: &Tables, job: u32) -> Option<u8>
     let Some(own) = step_at(&table.job, job, step) else {
         return None;
     };
-    if has_sets(job, &own, tables.library()) {
+    if has_sets(table.job.root(), &own, tables.library()) {
         Some(step)
     } else {
         None

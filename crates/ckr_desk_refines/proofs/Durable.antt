@@ -6,6 +6,7 @@ pub mod OtherSets
 pub mod Office
 pub mod Events
 pub mod Restart
+pub mod Continuation
 pub mod Start
 pub mod Fellows
 pub mod Extents

@@ -2,6 +2,7 @@ pub mod Sets
 pub mod Rows
 pub mod Legs
 pub mod There
+pub mod Continuation
 pub mod Events
 pub mod Checkpoint
 pub mod Images
@@ -11,6 +12,8 @@ pub mod KeptEntries
 pub mod Effects
 pub mod EffectEvents
 pub mod Restart
+pub mod Owners
+pub mod EffectContinuation
 pub mod EffectLaws
 pub mod States
 pub mod NewEntry

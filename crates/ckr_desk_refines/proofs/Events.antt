@@ -9,4 +9,6 @@ pub mod Restarts
 pub mod Plans
 pub mod Cancel
 pub mod Desk
+pub mod Deny
+pub mod Continuation
 pub mod Turns

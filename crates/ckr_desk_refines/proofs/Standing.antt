@@ -8,3 +8,4 @@ pub mod Points
 pub mod Openings
 pub mod Waits
 pub mod Restartless
+pub mod Continuation

@@ -115,11 +115,15 @@ pub record IsPointOfEntry (points : List PointView) (run : ℕ) (entry : Entry) 
   pub state : point.state ≡ entry.state
   pub writes : point.writes ≡ entry.writes
 
--- so it is with each run within its step that holds its names, and the entry of its checkpoint in effect that the image has
-abbrev pub AreRead : Layout → TablesModel → List ℕ → List PointView → Type 0
-AreRead layout tables image points =
-    (run : ℕ) (row : RunRow) (effect : EffectPoint) (table : TableSet) (entry : Entry) → run_of tables run ≡ Some row → is_in_step row ≡ true → row.in_effect ≡ Some effect → entry_at tables.sets effect.set ≡ Some table
+-- so it is with a run, where it is within its step and holds its names, and the entry of its checkpoint in effect that the image has
+abbrev pub IsRead : Layout → TablesModel → List ℕ → List PointView → ℕ → Type 0
+IsRead layout tables image points run =
+    (row : RunRow) (effect : EffectPoint) (table : TableSet) (entry : Entry) → run_of tables run ≡ Some row → is_in_step row ≡ true → row.in_effect ≡ Some effect → entry_at tables.sets effect.set ≡ Some table
     → entry_in (bytes_on image layout table.set effect.kept.place effect.kept.bytes) ≡ Ok entry → IsPointOfEntry points run entry
+
+-- and with each run
+abbrev pub AreRead : Layout → TablesModel → List ℕ → List PointView → Type 0
+AreRead layout tables image points = (run : ℕ) → IsRead layout tables image points run
 
 -- ---- entries within their data sets
 
@@ -136,6 +140,23 @@ KeepsNoneIfPlain table = table.set.content ≡ Plain → table.entries ≡ []
 
 abbrev pub OnlyCheckSetsKeep : Named TableSet → Type 0
 OnlyCheckSetsKeep sets = UnderEachName KeepsNoneIfPlain sets
+
+-- ---- the owners of entries
+
+-- an entry tells the owner of its step, as the job of its run has it
+pub record HasOwner (legs : List Leg) (entry : KeptEntry) : Type 0 where
+  pub leg : Leg
+  pub led : find (λ leg. leg.number == entry.point.run) legs ≡ Some leg
+  pub owned : OwnedStep
+  pub found : step_at leg.job entry.point.step ≡ Some owned
+  pub owner : entry.point.owner ≡ owned.owner
+
+abbrev pub HaveOwners : List Leg → TableSet → Type 0
+HaveOwners legs table = AllByRecursion (HasOwner legs) table.entries
+
+-- so it is with each entry that the tables keep
+abbrev pub AreOwned : Office → Type 0
+AreOwned office = UnderEachName (HaveOwners office.legs) office.tables.sets
 
 -- ---- a checkpoint is taken
 

@@ -1,5 +1,5 @@
 -- What opening refuses of the entries: that of a checkpoint in effect which isn't read as a point of its run's step.
-use Rattle.std.specs.Prelude.{◌≡◌, ◌≢◌, ◌==◌, ℕ, Bool, true, false, ◌&&◌, if◌then◌else◌, List, [], ◌∷◌, option_and_then, Option, None, Some, Result, Ok, Err}
+use Rattle.std.specs.Prelude.{◌≡◌, ◌≢◌, ◌==◌, ℕ, Bool, true, false, ◌&&◌, if◌then◌else◌, List, [], ◌∷◌, find, option_and_then, Option, None, Some, Result, Ok, Err}
 use Rattle.std.specs.List.{list_all}
 use Rattle.std.specs.Option.{is_some, option_map_or}
 use Rattle.ckr_entry.specs.Entry.{entry_in, told_offset}
@@ -7,17 +7,18 @@ use Rattle.ckr_entry.specs.Parts.{Entry}
 use Rattle.ckr_entry.specs.declared.point.Mark.{Mark}
 use Rattle.ckr_library.specs.NameMaps.{Name, Named, entry_at}
 use Rattle.ckr_meaning.specs.EffectiveJob.{OwnedStep, is_among, names_of}
+use Rattle.ckr_meaning.specs.JobRun.{start_at}
+use Rattle.ckr_meaning.specs.StepRun.{StepStart, case_at}
 use Rattle.ckr_points.specs.Follows.{is_within, own_step}
 use Rattle.ckr_points.specs.Marks.{present_at}
 use Rattle.ckr_points.specs.Office.{Leg, Office, is_holder}
 use Rattle.ckr_points.specs.Restart.{kept_at, place_of, step_in}
-use Rattle.ckr_points.specs.Rows.{EffectPoint, KeptEntry, RunRow, TableSet, TablesModel, run_of}
+use Rattle.ckr_points.specs.Rows.{EffectPoint, EntryPoint, KeptEntry, RunRow, TableSet, TablesModel, run_of}
 use Rattle.ckr_points.specs.Statements.{kind_number}
 use Rattle.ckr_points_invariant.specs.Invariant.{IsHolder}
 use Rattle.ckr_steps.specs.EntryRecords.{bytes_on}
 use Rattle.ckr_steps.specs.Units.{program_of}
 use Rattle.ckr_volumes.specs.declared.layout.Layout.{Layout}
-use Rattle.ckr_desk_refines.specs.Entries.{jobs_of, program_at}
 
 -- ---- what is judged
 
@@ -62,26 +63,39 @@ entry_refusal layout tables image = first_fault (run_fault layout tables image) 
 
 -- ---- what the events give
 
--- The checkpoint in effect of a run is one that it took in the step that it is in. Its data set keeps its entry, with a point of that step.
-pub record IsInEffect (tables : TablesModel) (row : RunRow) (effect : EffectPoint) : Type 0 where
+-- The job of the run that took an entry comes to its step as another run's own job does: with the same case of its program.
+pub record HasSameCase (legs : List Leg) (run : ℕ) (owned : OwnedStep) (point : EntryPoint) : Type 0 where
+  pub leg : Leg
+  pub led : find (λ leg. leg.number == run) legs ≡ Some leg
+  pub start : StepStart
+  pub starts : start_at leg.job leg.start point.step ≡ Some start
+  pub program : start.owned.step.program ≡ owned.step.program
+  pub taker : Leg
+  pub taker_led : find (λ leg. leg.number == point.run) legs ≡ Some taker
+  pub begun : StepStart
+  pub begins : start_at taker.job taker.start point.step ≡ Some begun
+  pub same : case_at begun ≡ case_at start
+
+-- The checkpoint in effect of a run is one of the step that it is in, which it took, or the run that it continues. Its data set keeps its entry,
+-- with a point of that step, which the job of the run that took it comes to as the run's own.
+pub record IsInEffect (office : Office) (row : RunRow) (effect : EffectPoint) : Type 0 where
   pub holds : is_holder row.state ≡ true
   pub within : is_within (place_of row) ≡ true
   pub owned : OwnedStep
   pub found : own_step row ≡ Some owned
   pub among : is_among (names_of row.job.root owned) effect.set ≡ true
   pub entry : KeptEntry
-  pub at : kept_at tables.sets effect.set effect.kept.id ≡ Some entry
+  pub at : kept_at office.tables.sets effect.set effect.kept.id ≡ Some entry
   pub kept : entry.kept ≡ effect.kept
-  pub run : entry.point.run ≡ row.number
+  pub same : HasSameCase office.legs row.number owned entry.point
   pub owner : entry.point.owner ≡ owned.owner
   pub step : entry.point.step ≡ step_in (place_of row)
-  pub program : program_at (jobs_of tables) entry.point.run entry.point.step ≡ Some owned.step.program
   pub present : are_present entry.point.marks (names_of row.job.root owned) ≡ true
 
 -- so it is with each run that has one
-abbrev pub AreInEffect : TablesModel → Type 0
-AreInEffect tables =
-    (number : ℕ) (row : RunRow) (effect : EffectPoint) → run_of tables number ≡ Some row → row.in_effect ≡ Some effect → IsInEffect tables row effect
+abbrev pub AreInEffect : Office → Type 0
+AreInEffect office =
+    (number : ℕ) (row : RunRow) (effect : EffectPoint) → run_of office.tables number ≡ Some row → row.in_effect ≡ Some effect → IsInEffect office row effect
 
 -- ---- what an event leaves
 

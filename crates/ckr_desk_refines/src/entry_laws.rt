@@ -20,8 +20,7 @@ ghost use Rattle.ckr_points.specs.Rows.{KeptEntry, RunRow, TableSet, no_tables, 
 ghost use Rattle.ckr_points.specs.Soundness.{AreLaidOut, may_come};
 ghost use Rattle.ckr_points.specs.Tables.{is_checkpoints, name_with_role};
 ghost use Rattle.ckr_points_invariant.specs.Invariant.{IsKept};
-ghost use Rattle.ckr_points_invariant.specs.PlainRuns.{NoneContinues, continues};
-ghost use Rattle.ckr_points_invariant.specs.Points.{ArePointed};
+ghost use Rattle.ckr_points_invariant.specs.KeptEvents.{AreKept};
 ghost use Rattle.ckr_points_invariant.specs.Readiness.{AreReady};
 ghost use Rattle.ckr_steps.specs.EntryRecords.{HasEntry, SameRecordsOutside};
 ghost use Rattle.ckr_steps.specs.Writes.{Keeps};
@@ -33,10 +32,10 @@ ghost use Rattle.ckr_desk_turn.specs.Checkpoints.{MayCheckpoint, check_set, entr
 ghost use Rattle.ckr_desk_turn.specs.Desk.{DeskStep, start_of};
 ghost use Rattle.ckr_desk_turn.specs.Jobs.{effect_entry};
 ghost use Rattle.ckr_desk_turn.specs.Invariant.{HasRuns};
-ghost use Rattle.ckr_desk_turn.specs.RunEvents.{AreRunEvents};
+ghost use Rattle.ckr_desk_turn.specs.RunEvents.{AreDeckEvents};
 ghost use Rattle.ckr_desk_refines.specs.StepSets.{HasSets};
 ghost use Rattle.ckr_desk_refines.specs.SharedSets.{LeavesOthers};
-ghost use Rattle.ckr_desk_refines.specs.Entries.{AreWithin, HasCheckDd, HasCheckSet, HasEntries, HasNewEntry, IsReadBack, IsReadInEffect, HasWritten, OnlyCheckSetsKeep, SameKept, entry_taken, jobs_of, takes_checkpoint};
+ghost use Rattle.ckr_desk_refines.specs.Entries.{AreOwned, AreWithin, HasCheckDd, HasCheckSet, HasEntries, HasNewEntry, IsReadBack, IsReadInEffect, HasWritten, OnlyCheckSetsKeep, SameKept, entry_taken, jobs_of, takes_checkpoint};
 ghost use Rattle.ckr_desk_refines.specs.EntryRefusal.{AreInEffect, HasStepNames, LeavesReach, entry_refusal};
 
 /// The tables of no events keep no entry, and no run has a checkpoint in effect.
@@ -44,16 +43,18 @@ pub fn no_events_keep_no_entry()
     ensures there { (layout : Layout) (image : List ℕ) → HasEntries layout no_office image }
     ensures within { AreWithin no_tables.sets }
     ensures plain { OnlyCheckSetsKeep no_tables.sets }
-    ensures effect { AreInEffect no_tables }
+    ensures owners { AreOwned no_office }
+    ensures effect { AreInEffect no_office }
 {}
 
-/// An event that may come, takes no checkpoint, and by which no run continues another one, a restart too, leaves the entries that the tables
-/// keep: those of a data set that is emptied or deleted go, and those that end behind the length to which one is cut; the others stand where
-/// they stood, within their data sets, which are data sets for checkpoints.
+/// An event that may come and takes no checkpoint, a restart too, also one by which a run continues another one, leaves the entries that the
+/// tables keep: those of a data set that is emptied or deleted go, and those that end behind the length to which one is cut; the others stand
+/// where they stood, within their data sets, which are data sets for checkpoints. Any event leaves them telling the owners of their steps.
 pub fn events_leave_entries()
-    ensures there { (layout : Layout) (now : Office) (image : List ℕ) (event : Event) (deck : Option Job) → continues event ≡ false → takes_checkpoint event ≡ false → IsKept layout now → may_come layout now (event, deck) ≡ true → HasEntries layout now image → HasEntries layout (office_after (event, deck) now) image }
-    ensures within { (layout : Layout) (now : Office) (event : Event) (deck : Option Job) → continues event ≡ false → takes_checkpoint event ≡ false → IsKept layout now → AreWithin now.tables.sets → AreWithin (after_event event deck now.tables).sets }
-    ensures plain { (layout : Layout) (now : Office) (event : Event) (deck : Option Job) → continues event ≡ false → takes_checkpoint event ≡ false → IsKept layout now → OnlyCheckSetsKeep now.tables.sets → OnlyCheckSetsKeep (after_event event deck now.tables).sets }
+    ensures there { (layout : Layout) (now : Office) (image : List ℕ) (event : Event) (deck : Option Job) → takes_checkpoint event ≡ false → IsKept layout now → may_come layout now (event, deck) ≡ true → HasEntries layout now image → HasEntries layout (office_after (event, deck) now) image }
+    ensures within { (layout : Layout) (now : Office) (event : Event) (deck : Option Job) → takes_checkpoint event ≡ false → IsKept layout now → AreWithin now.tables.sets → AreWithin (after_event event deck now.tables).sets }
+    ensures plain { (layout : Layout) (now : Office) (event : Event) (deck : Option Job) → takes_checkpoint event ≡ false → IsKept layout now → OnlyCheckSetsKeep now.tables.sets → OnlyCheckSetsKeep (after_event event deck now.tables).sets }
+    ensures owners { (layout : Layout) (now : Office) (event : Event) (deck : Option Job) → IsKept layout now → may_come layout now (event, deck) ≡ true → AreOwned now → AreOwned (office_after (event, deck) now) }
 {}
 
 /// An entry that a step has written, with the state of its program, is the new one of its checkpoint's event. The event adds the entry
@@ -86,25 +87,24 @@ pub fn kept_entries_are_read()
 {}
 
 /// The bytes at the place of the entry of a run's checkpoint in effect are read as its point, with a state that stands for the records taken
-/// in the run's own job: its program isn't closed, the checkpoint is done, and a cancel isn't.
+/// in the run's own job, also where it continues the run that took the checkpoint: its program isn't closed, the checkpoint is done, and a cancel
+/// isn't.
 pub fn entries_in_effect_have_the_state_of_their_job()
-    ensures { (layout : Layout) (office : Office) (image : List ℕ) (number : ℕ) (row : RunRow) (entry : KeptEntry) (start : StepStart) → IsKept layout office → AreReady office → AreInEffect office.tables → HasEntries layout office image
+    ensures { (layout : Layout) (office : Office) (image : List ℕ) (number : ℕ) (row : RunRow) (entry : KeptEntry) (start : StepStart) → IsKept layout office → AreReady office → AreInEffect office → HasEntries layout office image
         → run_of office.tables number ≡ Some row → effect_entry office.tables row ≡ Some entry → start_of office row ≡ Some start → IsReadInEffect layout office image row entry start }
 {}
 
 /// Where an image has the entries that the tables keep, and each checkpoint in effect is one of the step that its run is in, no entry is
-/// refused. So none of sound events is by which no run continues another one.
+/// refused. So none of sound events is.
 pub fn kept_entries_are_not_refused()
-    ensures sound { (layout : Layout) (events : List Decked) (image : List ℕ) → AreSound layout events → NoneContinues events → HasEntries layout (office events) image → entry_refusal layout (office events).tables image ≡ None }
-    ensures effect { (layout : Layout) (office : Office) (image : List ℕ) → HasEntries layout office image → AreInEffect office.tables → entry_refusal layout office.tables image ≡ None }
+    ensures sound { (layout : Layout) (events : List Decked) (image : List ℕ) → AreSound layout events → HasEntries layout (office events) image → entry_refusal layout (office events).tables image ≡ None }
+    ensures effect { (layout : Layout) (office : Office) (image : List ℕ) → HasEntries layout office image → AreInEffect office → entry_refusal layout office.tables image ≡ None }
 {}
 
-/// Where all runs are ready to restart, an event by which no run continues another one, and which leaves what other selected runs reach,
-/// leaves each checkpoint in effect of those and that of its own run, also where the run restarts at it, until the step ends or is
-/// restarted from its start, its run ends or the restarts are cancelled. A checkpoint that is taken comes into effect.
+/// An event leaves each checkpoint in effect, also where its run restarts at it, until the step ends or is restarted from its start, its run
+/// ends or the restarts are cancelled. A checkpoint that is taken comes into effect, and so does that at which a run continues another one.
 pub fn events_leave_checkpoints_in_effect()
-    ensures { (layout : Layout) (now : Office) (event : Event) (deck : Option Job) → continues event ≡ false → IsKept layout now → AreReady now → may_come layout now (event, deck) ≡ true → AreWithin now.tables.sets
-        → LeavesReach now (job_of event) (after_event event deck now.tables).sets → AreInEffect now.tables → AreInEffect (after_event event deck now.tables) }
+    ensures { (layout : Layout) (now : Office) (event : Event) (deck : Option Job) → AreKept layout now → IsNext layout now (event, deck) → AreWithin now.tables.sets → AreOwned now → AreInEffect now → AreInEffect (office_after (event, deck) now) }
 {}
 
 /// A checkpoint of kept events leaves each data set that another selected run reaches, and each name of its step is a data set.
@@ -114,16 +114,16 @@ pub fn checkpoints_leave_others()
     ensures others { (layout : Layout) (now : Office) (job taken writes place bytes : ℕ) (id : Name) (lengths : ArrayVec ℕ) (deck : Option Job) → IsKept layout now → may_come layout now (Checkpointed job id taken writes lengths place bytes, deck) ≡ true → LeavesOthers now job (office_after (Checkpointed job id taken writes lengths place bytes, deck) now) }
 {}
 
-/// At every prefix of sound events by which no run continues another one each entry that the tables keep ends within its data set, and
-/// each checkpoint in effect is one of the step that its run is in. For one more event, a restart too, leaves what other selected runs
-/// reach. Where they are those of what the desk runs, whose decks are accepted ones, only data sets for checkpoints keep entries, and the
-/// step of a checkpoint has a DD for them.
+/// At every prefix of sound events each entry that the tables keep ends within its data set and tells the owner of its step, and each checkpoint
+/// in effect is one of the step that its run is in. For one more event, a restart too, leaves what other selected runs reach. Where the decks
+/// are those of their cards, which are accepted ones, only data sets for checkpoints keep entries, and the step of a checkpoint has a DD for them.
 pub fn sound_events_keep_entries_within()
-    ensures within { (layout : Layout) (front more : List Decked) → AreSound layout (front ++ more) → NoneContinues (front ++ more) → AreWithin (office front).tables.sets }
-    ensures effect { (layout : Layout) (front more : List Decked) → AreSound layout (front ++ more) → NoneContinues (front ++ more) → AreInEffect (office front).tables }
-    ensures plain { (layout : Layout) (front more : List Decked) → AreSound layout (front ++ more) → AreRunEvents (front ++ more) → OnlyCheckSetsKeep (office front).tables.sets }
+    ensures within { (layout : Layout) (front more : List Decked) → AreSound layout (front ++ more) → AreWithin (office front).tables.sets }
+    ensures owners { (layout : Layout) (front more : List Decked) → AreSound layout (front ++ more) → AreOwned (office front) }
+    ensures effect { (layout : Layout) (front more : List Decked) → AreSound layout (front ++ more) → AreInEffect (office front) }
+    ensures plain { (layout : Layout) (front more : List Decked) → AreSound layout (front ++ more) → AreDeckEvents (front ++ more) → OnlyCheckSetsKeep (office front).tables.sets }
     ensures checks { (layout : Layout) (now : Office) (job taken writes place bytes : ℕ) (id : Name) (lengths : ArrayVec ℕ) (deck : Option Job) → IsKept layout now → HasRuns now → may_come layout now (Checkpointed job id taken writes lengths place bytes, deck) ≡ true → HasCheckDd now.tables job }
-    ensures others { (layout : Layout) (now : Office) (event : Event) (deck : Option Job) → continues event ≡ false → IsKept layout now → ArePointed now → AreReady now → IsNext layout now (event, deck) → LeavesReach now (job_of event) (after_event event deck now.tables).sets }
+    ensures others { (layout : Layout) (now : Office) (event : Event) (deck : Option Job) → AreKept layout now → IsNext layout now (event, deck) → LeavesReach now (job_of event) (after_event event deck now.tables).sets }
 {}
 
 /// Where an image has the records of the entry that the checkpoint of a running step writes, in a data set that lies where the tables have

@@ -1,13 +1,14 @@
 //! The jobs in memory behind an event. A law is the contract of a function that does nothing.
-ghost use Rattle.std.specs.Prelude.{◌≡◌, ◌≤◌, ℕ, suc, Bool, true, List, length, None, Some, Ok};
+ghost use Rattle.std.specs.Prelude.{◌≡◌, ◌≤◌, ℕ, suc, Bool, true, List, length, Option, None, Some, Ok};
 ghost use Rattle.arrayvec.specs.ArrayVec.{ArrayVec};
 ghost use Rattle.ckr_base.specs.declared.code.Code.{Code};
 ghost use Rattle.ckr_console.specs.declared.question.Answer.{Answer};
 ghost use Rattle.ckr_events.specs.declared.event.Ending.TheVariants.{Coded};
 ghost use Rattle.ckr_events.specs.declared.event.Event.{Event};
-ghost use Rattle.ckr_events.specs.declared.event.Event.TheVariants.{Ended as EndedEvent, Held as HeldEvent, Purged as PurgedEvent, Released as ReleasedEvent, Restarted as RestartedEvent, Submitted as SubmittedEvent};
+ghost use Rattle.ckr_events.specs.declared.event.Event.TheVariants.{Denied as DeniedEvent, Ended as EndedEvent, Held as HeldEvent, Purged as PurgedEvent, Released as ReleasedEvent, Restarted as RestartedEvent, Selected as SelectedEvent, Submitted as SubmittedEvent};
 ghost use Rattle.ckr_jcl.specs.declared.deck.Job.{Job};
 ghost use Rattle.ckr_jcl_decks.specs.Deck.{stored_deck};
+ghost use Rattle.ckr_library.specs.NameMaps.{Name};
 ghost use Rattle.ckr_desk_memory.specs.View.{JobsView};
 ghost use Rattle.ckr_desk_turn.specs.NextEvents.{Comes};
 ghost use Rattle.ckr_desk_turn.specs.Invariant.{IsDesk, IsTurnOf};
@@ -79,6 +80,23 @@ pub fn desks_behind_restarts_stand()
         → StandsForDesk layout new after (behind (RestartedEvent run initiator code checkpoint) None desk) }
 {}
 
+/// Behind the event by which the restart of a run is denied.
+pub fn desks_behind_denials_stand()
+    ensures { (layout : Layout) (old new : JobsView) (before after : List ℕ) (desk : DeskModel) (run rule : ℕ) (name : Option Name)
+        → StandsForDesk layout old before desk → Comes desk (DeniedEvent run rule name) → IsDesk (behind (DeniedEvent run rule name) None desk)
+        → HaveMoved (DeniedEvent run rule name) None old new → HasSameRecords desk.layout before after
+        → StandsForDesk layout new after (behind (DeniedEvent run rule name) None desk) }
+{}
+
+/// Behind the event by which a run is selected to continue another one at the start of a step: it has no running step and no point.
+pub fn desks_behind_continuations_stand()
+    ensures { (layout : Layout) (old new : JobsView) (before after : List ℕ) (desk : DeskModel) (run initiator earlier step : ℕ)
+        → StandsForDesk layout old before desk → Comes desk (SelectedEvent run initiator (suc earlier) step None)
+        → IsDesk (behind (SelectedEvent run initiator (suc earlier) step None) None desk)
+        → HaveMoved (SelectedEvent run initiator (suc earlier) step None) None old new → HasSameRecords desk.layout before after
+        → StandsForDesk layout new after (behind (SelectedEvent run initiator (suc earlier) step None) None desk) }
+{}
+
 /// The event is committed on each image that has the records.
 pub fn events_are_committed()
     ensures told { (layout : Layout) (jobs : JobsView) (before : List ℕ) (desk : DeskModel) (turn : Turn) (answer : Answer) (reply : Reply) (event : Event)
@@ -108,4 +126,12 @@ pub fn events_are_committed()
         → IsDesk (behind (RestartedEvent run initiator code checkpoint) None desk)
         → (image : List ℕ) → HasSameRecords desk.layout before image
         → HasCommitted desk.layout (behind (RestartedEvent run initiator code checkpoint) None desk).office image }
+    ensures denied { (layout : Layout) (jobs : JobsView) (before : List ℕ) (desk : DeskModel) (run rule : ℕ) (name : Option Name)
+        → StandsForDesk layout jobs before desk → IsDesk (behind (DeniedEvent run rule name) None desk)
+        → (image : List ℕ) → HasSameRecords desk.layout before image → HasCommitted desk.layout (behind (DeniedEvent run rule name) None desk).office image }
+    ensures continued { (layout : Layout) (jobs : JobsView) (before : List ℕ) (desk : DeskModel) (run initiator earlier step : ℕ) (id : Option Name)
+        → StandsForDesk layout jobs before desk → Comes desk (SelectedEvent run initiator (suc earlier) step id)
+        → IsDesk (behind (SelectedEvent run initiator (suc earlier) step id) None desk)
+        → (image : List ℕ) → HasSameRecords desk.layout before image
+        → HasCommitted desk.layout (behind (SelectedEvent run initiator (suc earlier) step id) None desk).office image }
 {}

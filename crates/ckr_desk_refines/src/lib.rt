@@ -31,8 +31,9 @@ pub use entry_laws::{
     kept_entries_are_read, no_events_keep_no_entry, sound_events_keep_entries_within,
 };
 pub use event_laws::{
-    desks_behind_calls_stand, desks_behind_codes_stand, desks_behind_holds_stand,
-    desks_behind_restarts_stand, desks_behind_turns_that_tell_stand, events_are_committed,
+    desks_behind_calls_stand, desks_behind_codes_stand, desks_behind_continuations_stand,
+    desks_behind_denials_stand, desks_behind_holds_stand, desks_behind_restarts_stand,
+    desks_behind_turns_that_tell_stand, events_are_committed,
 };
 pub use rewrite_laws::{
     desks_behind_rewrites_stand, rewrites_are_committed_once_they_are_written, rewrites_are_told,

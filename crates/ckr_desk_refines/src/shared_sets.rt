@@ -1,9 +1,9 @@
 //! What the events of a run leave of the data sets of other runs. A law is the contract of a function that does nothing.
-ghost use Rattle.std.specs.Prelude.{◌≡◌, ◌≢◌, ℕ, Bool, List, Option, Some, false, length, true};
+ghost use Rattle.std.specs.Prelude.{◌≡◌, ◌≢◌, ℕ, suc, Bool, List, Option, Some, false, length, true};
 ghost use Rattle.arrayvec.specs.ArrayVec.{ArrayVec};
 ghost use Rattle.ckr_points_library.specs.Commit.{output_names};
 ghost use Rattle.ckr_base.specs.declared.code.Code.{Code};
-ghost use Rattle.ckr_events.specs.declared.event.Event.TheVariants.{Cancelled, Checkpointed, Ended, Held, Purged, Released, Restarted, Rewritten, Selected, Started, StepEnded, Submitted};
+ghost use Rattle.ckr_events.specs.declared.event.Event.TheVariants.{Cancelled, Checkpointed, Denied, Ended, Held, Purged, Released, Restarted, Rewritten, Selected, Started, StepEnded, Submitted};
 ghost use Rattle.ckr_events.specs.declared.event.Ending.TheVariants.{Allocation, Coded, Completed};
 ghost use Rattle.ckr_events.specs.declared.event.Made.{Made};
 ghost use Rattle.ckr_jcl.specs.declared.deck.Job.{Job};
@@ -24,10 +24,13 @@ ghost use Rattle.ckr_desk_refines.specs.SharedSets.{IsInStep, IsShared, LeavesOt
 
 /// One more event of kept events leaves each data set that another selected run reaches, and so those of the step that this one is in,
 /// as the tables have it: its extents, its length, its stamp and its entries. For what two selected runs have in common, both use with
-/// SHR and KEEP at both ends, and a step neither opens for output, makes, rewrites nor deletes what it uses so (this project's profile).
+/// SHR and KEEP at both ends, and a step neither opens for output, makes, rewrites nor deletes what it uses so; and a run that continues another
+/// one has nothing in common with other selected runs (this project's profile).
 pub fn events_leave_the_data_sets_of_other_steps()
     ensures submitted { (now : Office) (job : ℕ) (cards : List ℕ) (deck : Option Job) → LeavesOthers now job (office_after (Submitted job cards, deck) now) }
     ensures selected { (layout : Layout) (now : Office) (job initiator step : ℕ) (id : Option Name) (deck : Option Job) → IsKept layout now → may_come layout now (Selected job initiator 0 step id, deck) ≡ true → LeavesOthers now job (office_after (Selected job initiator 0 step id, deck) now) }
+    ensures continued { (layout : Layout) (now : Office) (job initiator before step : ℕ) (id : Option Name) (deck : Option Job) → IsKept layout now → may_come layout now (Selected job initiator (suc before) step id, deck) ≡ true → IsKept layout (office_after (Selected job initiator (suc before) step id, deck) now) → LeavesOthers now job (office_after (Selected job initiator (suc before) step id, deck) now) }
+    ensures denied { (now : Office) (job rule : ℕ) (name : Option Name) (deck : Option Job) → LeavesOthers now job (office_after (Denied job rule name, deck) now) }
     ensures started { (layout : Layout) (now : Office) (job step : ℕ) (items : ArrayVec Made) (deck : Option Job) → IsKept layout now → may_come layout now (Started job step items, deck) ≡ true → carries layout now (Started job step items) deck ≡ true → LeavesOthers now job (office_after (Started job step items, deck) now) }
     ensures cancelled { (now : Office) (job : ℕ) (deck : Option Job) → LeavesOthers now job (office_after (Cancelled job, deck) now) }
     ensures step_ended { (layout : Layout) (now : Office) (job step rc writes : ℕ) (lengths : ArrayVec ℕ) (deck : Option Job) → IsKept layout now → may_come layout now (StepEnded job step rc writes lengths, deck) ≡ true → carries layout now (StepEnded job step rc writes lengths) deck ≡ true → LeavesOthers now job (office_after (StepEnded job step rc writes lengths, deck) now) }

@@ -27,7 +27,7 @@ pub fn desks_are_seen_in_memory()
 /// Jobs in memory with no running step stand for the desk that is opened, where the image has what is committed, and the points are those that
 /// were read of the entries in effect, in this image or in an earlier one that had the entries that the tables keep, and no run has RESTART.
 pub fn opened_desks_stand()
-    ensures { (layout : Layout) (office : Office) (jobs : JobsView) (earlier image : List ℕ) → IsDesk (opened layout office) → AreInEffect office.tables → HasCommitted layout office image → HasEntries layout office earlier
+    ensures { (layout : Layout) (office : Office) (jobs : JobsView) (earlier image : List ℕ) → IsDesk (opened layout office) → AreInEffect office → HasCommitted layout office image → HasEntries layout office earlier
         → jobs.tables.desk ≡ office.tables → jobs.failed ≡ (opened layout office).failed → jobs.running ≡ [] → AreRead layout office.tables earlier jobs.points → AreRestartless office.tables
         → StandsForDesk layout jobs image (opened layout office) }
 {}

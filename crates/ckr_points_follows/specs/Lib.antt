@@ -7,3 +7,4 @@ pub mod Lengths
 pub mod Placements
 pub mod Rewrite
 pub mod Start
+pub mod Model

@@ -32,3 +32,8 @@ pub use select::{denied_follows, purged_follows, selected_follows};
 pub use start::started_follows;
 pub use step_end::{ended_follows, step_ended_follows};
 pub use submit::submitted_follows;
+
+/// A run with RESTART as it is judged, for the crates above this one.
+pub use ckr_points_deferred::{
+    RunNow, WantedNow, deferred_case, denial_of, earlier_number, run_now, wanted_of,
+};

@@ -1,10 +1,10 @@
 -- The entries that the tables keep, in the images of a disk, and behind an event.
-use Rattle.std.proofs.Common.{◌≡◌, ◌≤◌, ◌+◌, ◌++◌, ℕ, suc, Bool, true, false, cond, IsTrue, List, [], ◌∷◌, find, slice_get, refl, ap, sym, ◌∙◌, subst, append-nil, Option, None, Some, option_and_then, Ok, arith}
+use Rattle.std.proofs.Common.{◌≡◌, ◌≤◌, ◌+◌, ◌++◌, ℕ, suc, Bool, true, cond, IsTrue, List, [], ◌∷◌, find, slice_get, refl, ap, sym, ◌∙◌, subst, append-nil, Option, None, Some, option_and_then, Ok, arith}
 use Rattle.std.specs.Option.{option_map_or}
 use Rattle.ckr_base.proofs.Numbers.{nat_le-from, nat_le-true}
 use Rattle.ckr_base.proofs.Sequences.{find-holds}
 use Rattle.ckr_events.specs.declared.event.Event.{Event}
-use Rattle.ckr_events.specs.declared.event.Event.TheVariants.{Checkpointed, Selected, Submitted}
+use Rattle.ckr_events.specs.declared.event.Event.TheVariants.{Checkpointed, Submitted}
 use Rattle.ckr_events.specs.Event.{spelling}
 use Rattle.ckr_desk_memory.specs.Replay.{deck_of}
 use Rattle.ckr_desk_refines.proofs.Entries.Checkpoint.{has-taken}
@@ -19,7 +19,7 @@ use Rattle.ckr_desk_refines.specs.Moves.{HasSameRecords}
 use Rattle.ckr_desk_store.specs.OpenImages.{event_records}
 use Rattle.ckr_desk_turn.proofs.Runs.Lists.{events-kept, run-decks}
 use Rattle.ckr_desk_turn.specs.Desk.{DeskModel}
-use Rattle.ckr_desk_turn.specs.RunEvents.{AreRunEvents}
+use Rattle.ckr_desk_turn.specs.RunEvents.{AreDeckEvents, AreRunEvents}
 use Rattle.ckr_jcl.specs.declared.deck.Job.{Job}
 use Rattle.ckr_library.specs.Catalog.{ends_within, records_of}
 use Rattle.ckr_library.specs.NameMaps.{entry_at, same_name}
@@ -32,11 +32,10 @@ use Rattle.ckr_points.specs.Rows.{EffectPoint, KeptEntry, RunRow, TableSet, Tabl
 use Rattle.ckr_points.specs.Soundness.{AreLaidOut, may_come}
 use Rattle.ckr_points_invariant.proofs.EventList.{office-more}
 use Rattle.ckr_points_invariant.specs.Invariant.{IsAgreed}
-use Rattle.ckr_points_invariant.specs.PlainRuns.{NoneContinues, continues}
 use Rattle.ckr_volumes.specs.Layouts.{StandsIn}
 use Rattle.ckr_volumes.specs.declared.layout.Layout.{Layout}
 use Rattle.ckr_desk.proofs.Images.NextEvent.{events-more, opens-grown, replayed-so, sound-grown}
-use Rattle.ckr_desk.proofs.Openings.RunRecords.{never-continues, none-continues, run-records, went-on}
+use Rattle.ckr_desk.proofs.Openings.RunRecords.{run-records}
 use Rattle.ckr_desk.proofs.Trust.Events.{IsComing}
 use Rattle.ckr_desk.specs.Entries.{ArePlaced, bad_entry, effect_refusal, has_places, is_placed, run_refusal}
 use Rattle.ckr_desk.specs.Opening.{behind_records}
@@ -49,15 +48,15 @@ use Rattle.ckr_desk.specs.State.{DeskView}
 ends-more : (length space : ℕ) (kept : Kept) → length ≤ space → IsTrue (ends_within length kept) → ends_within space kept ≡ true
 ends-more length space kept fits ends = let end : kept.place + records_of kept.bytes ≤ length = nat_le-true _ _ ends in nat_le-from (kept.place + records_of kept.bytes) space (omega (arith, fits, end))
 
-effect-placed : (layout : Layout) (tables : TablesModel) → AreLaidOut layout tables.sets → AreWithin tables.sets → (row : RunRow) (effect : EffectPoint) → IsInEffect tables row effect → is_placed tables effect ≡ true
-effect-placed layout tables laid within row effect its = by (entry_at tables.sets effect.set) refl its.at
+effect-placed : (layout : Layout) (office : Office) → AreLaidOut layout office.tables.sets → AreWithin office.tables.sets → (row : RunRow) (effect : EffectPoint) → IsInEffect office row effect → is_placed office.tables effect ≡ true
+effect-placed layout office laid within row effect its = by (entry_at office.tables.sets effect.set) refl its.at
   where
-    by : (found : Option TableSet) → entry_at tables.sets effect.set ≡ found → option_map_or (λ (table : TableSet). find (λ (entry : KeptEntry). same_name entry.kept.id effect.kept.id) table.entries) found None ≡ Some its.entry → option_map_or (has_places effect.kept) found true ≡ true
+    by : (found : Option TableSet) → entry_at office.tables.sets effect.set ≡ found → option_map_or (λ (table : TableSet). find (λ (entry : KeptEntry). same_name entry.kept.id effect.kept.id) table.entries) found None ≡ Some its.entry → option_map_or (has_places effect.kept) found true ≡ true
     by None e at = refl
     by (Some table) e at =
         let ends : IsTrue (ends_within table.set.length its.entry.kept) =
         find-holds (λ (entry : KeptEntry). IsTrue (ends_within table.set.length entry.kept)) (λ (entry : KeptEntry). same_name entry.kept.id effect.kept.id) table.entries its.entry (within effect.set table e) at in
-        let stands : StandsIn layout table.set = each-at (λ (table : TableSet). StandsIn layout table.set) tables.sets laid.stand effect.set table e in
+        let stands : StandsIn layout table.set = each-at (λ (table : TableSet). StandsIn layout table.set) office.tables.sets laid.stand effect.set table e in
         subst (λ (kept : Kept). ends_within table.set.space kept ≡ true) its.kept (ends-more table.set.length table.set.space its.entry.kept stands.length_fits ends)
 
 run-same : (layout : Layout) (tables : TablesModel) (image : List ℕ) (row : RunRow) → ((effect : EffectPoint) → row.in_effect ≡ Some effect → is_placed tables effect ≡ true)
@@ -92,29 +91,29 @@ module _ (layout : Layout) (records : List (List ℕ)) (tables : TablesModel) (s
   run : AreRunEvents (events_in records)
   run = run-records layout no_tables 0 records tables brings
 
-  none-other : NoneContinues (events_in records)
-  none-other = none-continues (events_in records) run
+  decks : AreDeckEvents (events_in records)
+  decks = run-decks (events_in records) run
 
-  kept-within : AreWithin (office (events_in records)).tables.sets × AreInEffect (office (events_in records)).tables
-  kept-within = sound-entries layout (events_in records) [] (subst (AreSound layout) (sym (append-nil (events_in records))) sound) (subst NoneContinues (sym (append-nil (events_in records))) none-other)
+  kept-within : AreWithin (office (events_in records)).tables.sets × AreInEffect (office (events_in records))
+  kept-within = sound-entries layout (events_in records) [] (subst (AreSound layout) (sym (append-nil (events_in records))) sound)
 
   pub are-within : AreWithin (office (events_in records)).tables.sets
   are-within = kept-within.0
 
-  pub are-in-effect : AreInEffect (office (events_in records)).tables
+  pub are-in-effect : AreInEffect (office (events_in records))
   are-in-effect = kept-within.1
 
   pub checks-keep : OnlyCheckSetsKeep (office (events_in records)).tables.sets
   checks-keep =
-      sound-plain layout (events_in records) [] (subst (AreSound layout) (sym (append-nil (events_in records))) sound) (subst AreRunEvents (sym (append-nil (events_in records))) run)
+      sound-plain layout (events_in records) [] (subst (AreSound layout) (sym (append-nil (events_in records))) sound) (subst AreDeckEvents (sym (append-nil (events_in records))) decks)
 
   -- none of the entries is refused
   pub none-bad : (image : List ℕ) → HasEntries layout (office (events_in records)) image → bad_entry layout (office (events_in records)).tables image ≡ None
   none-bad image has =
       placed-same layout (office (events_in records)).tables image
       (λ number row effect at is.
-      effect-placed layout (office (events_in records)).tables (events-kept layout (events_in records) sound (run-decks (events_in records) run)).events.extents kept-within.0 row effect (kept-within.1 number row effect at is))
-      ∙ sound-refused layout (events_in records) image sound none-other has
+      effect-placed layout (office (events_in records)) (events-kept layout (events_in records) sound decks).events.extents kept-within.0 row effect (kept-within.1 number row effect at is))
+      ∙ sound-refused layout (events_in records) image sound has
 
 -- so it is with an image that has these records
 pub none-bad-on : (layout : Layout) (image : List ℕ) (tables : TablesModel) → AreSound layout (events_in (event_records layout image)) → behind_records layout no_tables 0 (event_records layout image) ≡ Ok tables
@@ -130,10 +129,9 @@ HasNewOne layout now (Checkpointed job id taken writes lengths place bytes) imag
 HasNewOne layout now _ image = Unit {0}
 
 module _ (layout : Layout) (now : Office) (agreed : IsAgreed layout now) (image : List ℕ) (has : HasEntries layout now image) where
-  has-behind : (event : Event) (deck : Option Job) → continues event ≡ false → may_come layout now (event, deck) ≡ true → HasNewOne layout now event image → HasEntries layout (office_after (event, deck) now) image
-  has-behind (Checkpointed job id taken writes lengths place bytes) deck on may new = has-taken layout now agreed.numbered id job taken writes place bytes lengths deck image has new
-  has-behind (Selected job initiator earlier step id) deck on may new = has-next layout now agreed image has (Selected job initiator earlier step id) deck on refl may
-  has-behind event deck on may new = has-next layout now agreed image has event deck on refl may
+  has-behind : (event : Event) (deck : Option Job) → may_come layout now (event, deck) ≡ true → HasNewOne layout now event image → HasEntries layout (office_after (event, deck) now) image
+  has-behind (Checkpointed job id taken writes lengths place bytes) deck may new = has-taken layout now agreed.numbered id job taken writes place bytes lengths deck image has new
+  has-behind event deck may new = has-next layout now agreed image has event deck refl may
 
 -- ---- a trusted disk
 
@@ -188,8 +186,7 @@ module _ {D : Type 0} (told : Type 0) (content : D → List ℕ) (may_leave : D 
     behind-has : (image : List ℕ) → HasNewOne layout office_now event image → HasEntries layout office_now image → HasEntries layout desk.office image
     behind-has image new has =
         subst (λ (o : Office). HasEntries layout o image) (sym coming.office)
-        (has-behind layout office_now trusted.stands.is_desk.kept.events image has event (deck_of event)
-        (never-continues event (deck_of event) (went-on layout old.jobs.tables.desk event coming.goes)) coming.next.may new)
+        (has-behind layout office_now trusted.stands.is_desk.kept.events image has event (deck_of event) coming.next.may new)
 
     -- and so has another one with the same records of the data sets that keep entries then
     pub behind-kept : (from image : List ℕ) → HasNewOne layout office_now event from → HasEntries layout office_now from → SameKept layout desk.office.tables.sets from image → HasEntries layout desk.office image

@@ -72,7 +72,7 @@ numbered-replayed layout tables event numbered =
     by (goes_on layout tables event (deck_of event))
     (λ goes.
     let its = goes-on-with layout tables event (deck_of event) goes in
-    numbered-behind layout tables event (deck_of event) its.plain its.follow numbered)
+    numbered-behind layout tables event (deck_of event) its.follow numbered)
   where
     after : TablesModel
     after = after_event event (deck_of event) tables

@@ -1,20 +1,17 @@
 -- Records that bring about tables spell events of what the desk runs.
-use Rattle.std.proofs.Common.{◌≡◌, ◌+◌, ℕ, zero, suc, Bool, true, false, not, cond, List, [], ◌∷◌, ◌++◌, length, refl, sym, ap, ◌∙◌, subst, Option, Some, None, Result, Ok, Err, arith}
-use Rattle.std.proofs.lemmas.Bool.{and_from, false≢true}
+use Rattle.std.proofs.Common.{◌≡◌, ◌+◌, ℕ, Bool, true, false, cond, List, [], ◌∷◌, ◌++◌, length, refl, sym, ap, ◌∙◌, subst, Option, Some, None, Result, Ok, Err}
+use Rattle.std.proofs.lemmas.Bool.{false≢true}
 use Rattle.ckr_base.proofs.Bools.{and-first, and-second}
-use Rattle.ckr_base.proofs.Numbers.{equal-true}
 use Rattle.ckr_base.proofs.Options.{option-cases}
 use Rattle.ckr_events.specs.declared.event.Event.{Event}
 use Rattle.ckr_events.specs.declared.event.Event.TheVariants.{Cancelled, Ended, Held, Purged, Released, Restarted, Rewritten, Selected, Started, StepEnded, Submitted, Checkpointed}
 use Rattle.ckr_events.specs.Event.{event_of}
 use Rattle.ckr_desk_memory.specs.Replay.{deck_of, goes_on, is_run_as, is_run_by, replayed}
 use Rattle.ckr_desk_turn.specs.RunEvents.{AreRunEvents, IsRunDeck, IsRunEvent}
-use Rattle.ckr_jcl.specs.declared.deck.Job.{Job}
-use Rattle.ckr_points.specs.Restart.{Decked, after_event}
+use Rattle.ckr_points.specs.Restart.{after_event}
 use Rattle.ckr_points.specs.Rows.{TablesModel}
 use Rattle.ckr_desk_turn.specs.Model.Cards.{kept_deck}
 use Rattle.ckr_desk_turn.specs.Model.Form.{is_run}
-use Rattle.ckr_points_invariant.specs.PlainRuns.{NoneContinues, continues}
 use Rattle.ckr_desk_memory.specs.ForwardEvents.{is_forward_event}
 use Rattle.ckr_volumes.specs.declared.layout.Layout.{Layout}
 use Rattle.ckr_desk.specs.Opening.{behind_read, behind_record, behind_records, or_bad}
@@ -42,19 +39,9 @@ run-event (Ended job ending) plain runs = tt
 run-event (Purged job) plain runs = tt
 run-event _ plain runs = absurd (false≢true plain)
 
-pub went-on : (layout : Layout) (tables : TablesModel) (event : Event) → goes_on layout tables event (deck_of event) ≡ true → IsRunEvent event (deck_of event)
+went-on : (layout : Layout) (tables : TablesModel) (event : Event) → goes_on layout tables event (deck_of event) ≡ true → IsRunEvent event (deck_of event)
 went-on layout tables event goes =
     run-event event (and-first (is_forward_event event) _ goes) (and-first (is_run_by event (deck_of event)) _ (and-second (is_forward_event event) _ goes))
-
--- by none of them a run continues another one
-pub never-continues : (event : Event) (deck : Option Job) → IsRunEvent event deck → continues event ≡ false
-never-continues (Selected job initiator zero step id) deck is = refl
-never-continues (Selected job initiator (suc before) step id) deck is = let same : suc before ≡ 0 = equal-true (suc before) 0 is in absurd (let none : ⊥ = omega (arith, same) in none)
-never-continues _ deck is = refl
-
-pub none-continues : (events : List Decked) → AreRunEvents events → NoneContinues events
-none-continues [] run = refl
-none-continues (event ∷ rest) run = and_from (not (continues event.0)) _ (ap not (never-continues event.0 event.1 run.0)) (none-continues rest run.1)
 
 abbrev or_none : Bool → Layout → TablesModel → Event → Option TablesModel
 or_none goes layout tables event = cond goes (Some (after_event event (deck_of event) tables)) None

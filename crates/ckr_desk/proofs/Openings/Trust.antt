@@ -165,7 +165,7 @@ module _ (image : List ℕ) (size : ℕ) (opened : Opened) (sound : Sound size i
   unfolding office_on
   checks-so = checks-keep opened.layout (event_records opened.layout image) opened.tables events-so (gives-tables image size opened opens)
 
-  effects-so : AreInEffect (office_on opened.layout image).tables
+  effects-so : AreInEffect (office_on opened.layout image)
   unfolding office_on
   effects-so = are-in-effect opened.layout (event_records opened.layout image) opened.tables events-so (gives-tables image size opened opens)
 

@@ -15,7 +15,6 @@ use Rattle.ckr_points.specs.Tables.{after_checkpointed, committed, fresh_effect,
 use Rattle.ckr_points_invariant.proofs.Writes.Likeness.{committed-other}
 use Rattle.ckr_points_library.specs.Commit.{output_names}
 use Rattle.ckr_points_tables.specs.Checkpoint.{checkpoint_name}
-use Rattle.ckr_steps.specs.Files.{files_of}
 use Rattle.ckr_steps.specs.Units.{entries_of, program_of}
 use Rattle.ckr_steps.specs.declared.step_run.StepRun.{StepRun}
 use Rattle.ckr_desk_memory.proofs.Holders.CheckSets.{check-among, check-named, not-among}
@@ -114,7 +113,7 @@ module _ (tables : TablesModel) (on new : RunningStepView) (is : IsRunningOf tab
     found = is.found;
     program = ap (λ (s : StepRun). program_of s.state) entered.step ∙ served-program on.step.parm (nat_lt (entries_of on.step.state) 1000000) on.step.state ∙ is.program;
     parm = ap (λ (s : StepRun). s.parm) entered.step ∙ is.parm;
-    files = ap (λ (s : StepRun). s.files) entered.step ∙ is.files ∙ ap (λ n. files_of n n is.owned.step) (sym entered.run);
+    files = ap (λ (s : StepRun). s.files) entered.step ∙ is.files;
     changed = λ name among.
         subst (λ (owns : Named Holding). AreCopies (entry_at after.sets name) (option_map the_set (entry_at owns name))) (sym entered.sets)
         (copies-changed (own name) (name_with_role is.row.job.root is.owned is_checkpoints) name _ done

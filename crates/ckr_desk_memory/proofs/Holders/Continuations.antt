@@ -41,7 +41,7 @@ use Rattle.ckr_points_invariant.proofs.Marks.Points.{among-filter}
 use Rattle.ckr_points_invariant.proofs.PutBack.Sets.{at-removed_all, put_back-apart}
 use Rattle.ckr_points_invariant.proofs.WrittenEntries.Sets.{put_back-has, removed_all-has}
 use Rattle.ckr_volumes.specs.declared.layout.Layout.{Layout}
-use Rattle.ckr_desk_turn.proofs.AdmittedSteps.{spliced-here}
+use Rattle.ckr_desk_turn.proofs.AdmittedSteps.{spliced-here, spliced-named}
 use Rattle.ckr_desk_turn.specs.Queue.{AreNumbered}
 use Rattle.ckr_desk_memory.proofs.Holders.KeptEntries.{kept-put_back}
 use Rattle.ckr_desk_memory.proofs.Holders.OwnEntries.{kept-weaker}
@@ -167,7 +167,7 @@ module _ (layout : Layout) (tables : TablesModel) (rows : AreNumbered 1 tables.r
       none-own own =
           each-entry (IsOwnOf its.row) (λ set entry. entry.point.run ≡ its.row.number → ⊥) tables.sets
           (λ set entry is run.
-          let entry_is = is run in
+          let entry_is = (is run).0 in
           let begun = subst (λ place. entry.point.step < steps_begun (option_map_or (λ (place : Place). place) place (Before 1))) (unplaced-queued its.row its.queued is_placed) entry_is.begun in
           omega (arith, begun, entry_is.first)) own
 
@@ -196,6 +196,7 @@ module _ (layout : Layout) (tables : TablesModel) (rows : AreNumbered 1 tables.r
           acts = λ given. acts;
           kin = λ given. kin-next;
           named = λ given. named-next;
+          steps = λ given. spliced-named its.row.number its.row.deck its.other.job step its.owned its.mine its.found its.its its.same;
           begins = λ was now. its.may;
           passed = λ given. record {
             passed = own-passed marks sets lost;
@@ -305,7 +306,7 @@ module _ (layout : Layout) (tables : TablesModel) (rows : AreNumbered 1 tables.r
     of_step = subst (IsEntryOf its.other step (Some id)) kept its.entry
 
     own : IsOwnEntry its.other set entry.point
-    own = entry-found (IsOwnOf its.other) tables.sets set id entry (are.entries (suc before) its.other its.other_at) kept of_step.0
+    own = (entry-found (IsOwnOf its.other) tables.sets set id entry (are.entries (suc before) its.other its.other_at) kept of_step.0).0
 
     same : entry.point.passed ≡ its.point.passed
     same =

@@ -1,12 +1,12 @@
 -- By each event that follows the row of its run alone changes, and what the run reaches: so the holders stay apart.
-use Rattle.std.proofs.Common.{arith, ◌≡◌, ◌==◌, ◌≤◌, ◌<◌, ◌+◌, ℕ, zero, suc, Bool, true, false, ◌&&◌, ◌||◌, not, if◌then◌else◌, List, [], ◌∷◌, map, refl, ap, sym, ◌∙◌, subst, Option, Some, None}
+use Rattle.std.proofs.Common.{arith, ◌≡◌, ◌≢◌, ◌==◌, ◌≤◌, ◌<◌, ◌+◌, ℕ, zero, suc, Bool, true, false, ◌&&◌, ◌||◌, not, if◌then◌else◌, List, [], ◌∷◌, map, refl, ap, sym, ◌∙◌, subst, Option, Some, None}
 use Rattle.std.specs.Prelude.{nat_eq, nat_lt}
 use Rattle.std.specs.List.{AllByRecursion}
 use Rattle.std.specs.Option.{is_none, is_some, option_eq, option_map, option_map_or}
 use Rattle.std.proofs.lemmas.Bool.{false≢true}
 use Rattle.std.proofs.lemmas.Option.{same_Some}
 use Rattle.ckr_base.proofs.Bools.{and-first, and-second, bool-cases, or-cases}
-use Rattle.ckr_base.proofs.Numbers.{equal-true, nat_le-true}
+use Rattle.ckr_base.proofs.Numbers.{nat_le-true}
 use Rattle.ckr_base.proofs.Options.{is_some-true, some-not-none, some-one}
 use Rattle.ckr_base.specs.declared.code.Code.{Code}
 use Rattle.ckr_entry.specs.declared.point.Passed.{Passed}
@@ -32,19 +32,19 @@ use Rattle.ckr_points.specs.declared.run.RunState.TheVariants.{Queued, On, Held 
 use Rattle.ckr_points.specs.Follows.{follows, is_checkpoint, is_empty, is_free, is_in_state, is_length_of, is_rewrite, is_running, is_update, is_within, lengths_follow, may_hold, may_restart_again, may_start, of_step, own_step, selected_follows, started_follows, state_number, ended_follows}
 use Rattle.ckr_points.specs.Office.{is_holder, passed_made}
 use Rattle.ckr_points.specs.Marks.{has_passed, point_at, put_back, removed_all, with_point, without_passed}
-use Rattle.ckr_points.specs.Restart.{after_abnormal, after_chosen, after_coded, after_ended, after_event, after_passed_ended, after_put_back, after_restarted, back_to_entry, back_to_start, by_step, effect_restarted, kept_at, place_of, point_restarted, row_on, step_in}
+use Rattle.ckr_points.specs.Restart.{after_abnormal, after_coded, after_ended, after_event, after_passed_ended, after_put_back, after_restarted, back_to_entry, back_to_start, by_step, effect_restarted, kept_at, place_of, point_restarted, row_on, step_in}
 use Rattle.ckr_points.specs.Rows.{EffectPoint, EntryPoint, KeptEntry, RunRow, StartPoint, TableSet, TablesModel, no_tables, run_of, standing_of, step_of_run, table_ways, with_run}
-use Rattle.ckr_points.specs.Tables.{after_cancelled, after_checkpointed, after_commit, after_dispositions, after_held, after_rewritten, after_started, after_step_ended, committed, earlier_made, entry_point, fresh_effect, kept_entry, is_checkpoints, is_updates, name_with_role, own_made, effect_rewritten, point_rewritten, row_rewritten, run_disposals, start_point, table_rewritten, with_kept_entry}
+use Rattle.ckr_points.specs.Tables.{after_cancelled, after_checkpointed, after_commit, after_dispositions, after_held, after_rewritten, after_selected, after_started, after_step_ended, committed, earlier_made, entry_point, fresh_effect, kept_entry, is_checkpoints, is_updates, name_with_role, own_made, effect_rewritten, point_rewritten, row_rewritten, run_disposals, start_point, table_rewritten, with_kept_entry}
 use Rattle.ckr_points.specs.RuleCases.{is_ended}
-use Rattle.ckr_points_invariant.proofs.Holders.Rows.{holder-ended, queued-is}
+use Rattle.ckr_points_invariant.proofs.Holders.Rows.{holder-ended, queued-is, run-other}
 use Rattle.ckr_points_invariant.proofs.Library.PassedList.{ended-stays, made-without}
 use Rattle.ckr_points_invariant.proofs.Steps.Events.{on-holds}
 use Rattle.ckr_points_invariant.proofs.Marks.Points.{point_at-new}
+use Rattle.ckr_points_invariant.specs.PlainRuns.{continues}
 use Rattle.ckr_points_invariant.proofs.WaitingRuns.{tested-run}
 use Rattle.ckr_points_invariant.proofs.WrittenEntries.Sets.{EachHas, GoesOnThrough, committed-has, disposed_all-has, made_all-has, opened_all-has, passed_ended-has, put_back-has, removed_all-has, rewritten-has}
 use Rattle.ckr_points_library.specs.Commit.{output_names}
 use Rattle.ckr_points_tables.specs.Invariant.{MaySubmit, is_submission}
-use Rattle.ckr_desk_memory.specs.ForwardEvents.{is_forward_event}
 use Rattle.ckr_volumes.specs.declared.layout.Layout.{Layout}
 use Rattle.ckr_desk_memory.proofs.Holders.CheckSets.{length-among, not-among}
 use Rattle.ckr_desk_memory.proofs.Holders.Continuations.{continued-goes}
@@ -54,6 +54,7 @@ use Rattle.ckr_desk_memory.proofs.Holders.Names.{changed-named, names-outside, o
 use Rattle.ckr_desk_memory.proofs.Holders.OwnEntries.{checks-keep, kept-weaker, own-as, passed-as, passed-restarted, passed-rewritten, starts-own, step-first, steps-within, within-at}
 use Rattle.ckr_desk_memory.proofs.Holders.Sets.{committed-outside, disposed-outside, passed-outside, put_back-outside, restarted-outside, started-outside, there-changed, there-committed, there-put_back, there-started, updated-outside}
 use Rattle.ckr_desk_memory.proofs.Holders.Submissions.{holders-submitted}
+use Rattle.ckr_desk_memory.proofs.Continuations.{by-continuation}
 use Rattle.ckr_desk_memory.proofs.Runs.{by-step}
 use Rattle.ckr_desk_memory.specs.Invariant.{IsAcceptedRow, IsAnyAccepted, IsPlacedRow, is_in_step}
 use Rattle.ckr_desk_memory.proofs.Invariant.{hand-in_step, in_step-holds, in_step-within, not-within, restarts-in_step, start-step, unplaced-queued}
@@ -167,32 +168,30 @@ module _ (tables : TablesModel) (rows : AllByRecursion IsAcceptedRow tables.runs
   queued-on : is_in_state Queued row ≡ true → is_ended row.state ≡ false
   queued-on queued = ap is_ended (queued-is row.state queued)
 
-  selected : (layout : Layout) (initiator earlier step : ℕ) (id : Option Name) → earlier ≡ 0 → selected_follows layout tables initiator earlier step id row ≡ true → Goes (after_chosen row initiator earlier step id tables)
-  selected layout initiator earlier step id none follow =
-      subst (λ n. Goes (after_chosen row initiator n step id tables)) (sym none)
-      (record {
-        row = row;
-        next = record row { state = On; initiator = Some initiator; place = Some (Before 1) };
-        row_at = at;
-        rows = row-next tables tables job row _ tables.sets (row-as_is tables job row at) mine;
-        number = refl;
-        deck = refl;
-        job_is = refl;
-        from_is = refl;
-        on = queued-on (and-first (is_in_state Queued row) _ (and-first (is_in_state Queued row && is_free layout tables initiator) _ (and-first (is_in_state Queued row && is_free layout tables initiator && may_hold tables row) _ follow)));
-        begins = λ was now. and-second (is_in_state Queued row && is_free layout tables initiator) (may_hold tables row) (and-first (is_in_state Queued row && is_free layout tables initiator && may_hold tables row) _ follow);
-        start = λ begun own ends at. absurd (false≢true at);
-        own = λ begun set point its. record { first = its.first; begun = subst (λ place. point.step < steps_begun (option_map_or (λ place. place) place (Before 1))) (unplaced-queued row (and-first (is_in_state Queued row) _ (and-first (is_in_state Queued row && is_free layout tables initiator) _ (and-first (is_in_state Queued row && is_free layout tables initiator && may_hold tables row) _ follow))) is_placed) its.begun; passed = passed-as row _ refl its.passed; changes = its.changes };
-        kept = λ begun. goes-through tables.sets tables.sets _ (λ E through each. each);
-        passed = λ begun own. record {
-          passed = own.passed;
-          points = λ ends. own.points (queued-on (and-first (is_in_state Queued row) _ (and-first (is_in_state Queued row && is_free layout tables initiator) _ (and-first (is_in_state Queued row && is_free layout tables initiator && may_hold tables row) _ follow))));
-          effect = λ effect is. no-effect own (queued-free row.state (and-first (is_in_state Queued row) _ (and-first (is_in_state Queued row && is_free layout tables initiator) _ (and-first (is_in_state Queued row && is_free layout tables initiator && may_hold tables row) _ follow)))) effect is;
-        };
-        still = λ was name. refl;
-        outside = λ own name out. refl;
-        changed = λ has owned name holding within found among. absurd (false≢true within);
-      })
+  selected : (layout : Layout) (initiator step : ℕ) (id : Option Name) → selected_follows layout tables initiator 0 step id row ≡ true → Goes (after_selected row initiator tables)
+  selected layout initiator step id follow = record {
+    row = row;
+    next = record row { state = On; initiator = Some initiator; place = Some (Before 1) };
+    row_at = at;
+    rows = row-next tables tables job row _ tables.sets (row-as_is tables job row at) mine;
+    number = refl;
+    deck = refl;
+    job_is = refl;
+    from_is = refl;
+    on = queued-on (and-first (is_in_state Queued row) _ (and-first (is_in_state Queued row && is_free layout tables initiator) _ (and-first (is_in_state Queued row && is_free layout tables initiator && may_hold tables row) _ follow)));
+    begins = λ was now. and-second (is_in_state Queued row && is_free layout tables initiator) (may_hold tables row) (and-first (is_in_state Queued row && is_free layout tables initiator && may_hold tables row) _ follow);
+    start = λ begun own ends at. absurd (false≢true at);
+    own = λ begun set point its. record { first = its.first; begun = subst (λ place. point.step < steps_begun (option_map_or (λ place. place) place (Before 1))) (unplaced-queued row (and-first (is_in_state Queued row) _ (and-first (is_in_state Queued row && is_free layout tables initiator) _ (and-first (is_in_state Queued row && is_free layout tables initiator && may_hold tables row) _ follow))) is_placed) its.begun; passed = passed-as row _ refl its.passed; changes = its.changes };
+    kept = λ begun. goes-through tables.sets tables.sets _ (λ E through each. each);
+    passed = λ begun own. record {
+      passed = own.passed;
+      points = λ ends. own.points (queued-on (and-first (is_in_state Queued row) _ (and-first (is_in_state Queued row && is_free layout tables initiator) _ (and-first (is_in_state Queued row && is_free layout tables initiator && may_hold tables row) _ follow))));
+      effect = λ effect is. no-effect own (queued-free row.state (and-first (is_in_state Queued row) _ (and-first (is_in_state Queued row && is_free layout tables initiator) _ (and-first (is_in_state Queued row && is_free layout tables initiator && may_hold tables row) _ follow)))) effect is;
+    };
+    still = λ was name. refl;
+    outside = λ own name out. refl;
+    changed = λ has owned name holding within found among. absurd (false≢true within);
+  }
 
   cancelled : is_holder row.state ≡ true → Goes (after_cancelled row tables)
   cancelled holds = record {
@@ -367,9 +366,9 @@ module _ (tables : TablesModel) (rows : AllByRecursion IsAcceptedRow tables.runs
           ∙ has other name holding (and-second (is_in_state On row) (is_within (place_of row)) runs) its among;
     }
 
-    checkpointed : (kept : Kept) (place bytes taken writes : ℕ) (id : Name) (lengths : List ℕ) → is_running row ≡ true → is_checkpoint tables id lengths place bytes row owned ≡ true → kept.id ≡ id
+    checkpointed : (kept : Kept) (place bytes taken writes : ℕ) (id : Name) (lengths : List ℕ) → is_running row ≡ true → is_checkpoint tables id lengths place bytes row owned ≡ true → kept.id ≡ id → kept.run ≡ job
         → Goes (after_checkpointed row owned (step_in (place_of row)) kept taken writes lengths tables)
-    checkpointed kept place bytes taken writes id lengths runs checks its_id =
+    checkpointed kept place bytes taken writes id lengths runs checks its_id its_run =
         let set : Name = name_with_role row.job.root owned is_checkpoints in
         let output : is_among (output_names row.job.root owned) set ≡ true =
         length-among set (place + records_of bytes) (output_names row.job.root owned) lengths
@@ -403,6 +402,7 @@ module _ (tables : TablesModel) (rows : AllByRecursion IsAcceptedRow tables.runs
                   changes = λ other there.
                       subst (λ (own : OwnedStep). is_among (changed_names row.job.root own) set ≡ true) (some-one owned other (own_step row) found there) (outputs-changed row.job.root owned set output);
                 };
+                named = record { run = its_run ∙ sym mine; job = refl; owned = owned; found = found; name = refl; executed = from };
               });
           passed = λ begun own. record {
             passed = own.passed;
@@ -735,13 +735,19 @@ module _ (tables : TablesModel) (rows : AllByRecursion IsAcceptedRow tables.runs
 
 -- ---- each event
 
-goes-in : (layout : Layout) (tables : TablesModel) → AllByRecursion IsAcceptedRow tables.runs → AreNumbered 1 tables.runs → AllByRecursion IsPlacedRow tables.runs → (event : Event) (deck : Option Job) → is_forward_event event ≡ true → is_submission event ≡ false → follows layout tables event deck ≡ true → RunGoesOn tables (after_event event deck tables) (job_of event)
+goes-in : (layout : Layout) (tables : TablesModel) → AllByRecursion IsAcceptedRow tables.runs → AreNumbered 1 tables.runs → AllByRecursion IsPlacedRow tables.runs → (event : Event) (deck : Option Job) → continues event ≡ false → is_submission event ≡ false → follows layout tables event deck ≡ true → RunGoesOn tables (after_event event deck tables) (job_of event)
 goes-in layout tables rows numbered placed (Submitted job cards) deck plain other follow = absurd (false≢true (sym other))
-goes-in layout tables rows numbered placed (Selected job initiator earlier step id) deck plain other follow =
-    tested-run tables job (selected_follows layout tables initiator earlier step id) follow
+goes-in layout tables rows numbered placed (Selected job initiator zero step id) deck plain other follow =
+    tested-run tables job (selected_follows layout tables initiator zero step id) follow
     (λ row at passes.
-    by-row (λ after. RunGoesOn tables after job) tables job (λ row. after_chosen row initiator earlier step id tables) row at
-    (selected tables rows numbered placed job row at layout initiator earlier step id (equal-true earlier 0 plain) passes))
+    by-row (λ after. RunGoesOn tables after job) tables job (λ row. after_selected row initiator tables) row at
+    (selected tables rows numbered placed job row at layout initiator step id passes))
+goes-in layout tables rows numbered placed (Selected job initiator (suc before) step id) deck plain other follow = absurd (false≢true (sym plain))
+goes-in layout tables rows numbered placed (Denied job rule name) deck plain other follow =
+    tested-run tables job (λ row. is_in_state Queued row && is_some row.deck.restart) follow
+    (λ row at passes.
+    by-row (λ after. RunGoesOn tables after job) tables job (λ row. with_run (record row { state = DeniedRun }) tables) row at
+    (denied tables rows numbered placed job row at (and-first (is_in_state Queued row) _ passes)))
 goes-in layout tables rows numbered placed (Started job step items) deck plain other follow =
     tested-run tables job (started_follows layout tables step items.items) follow
     (λ row at passes.
@@ -763,7 +769,7 @@ goes-in layout tables rows numbered placed (Checkpointed job id taken writes len
     let kept : Kept = record { id = id; run = job; place = place; bytes = bytes } in
     by-row (λ after. RunGoesOn tables after job) tables job (λ row. by_step (λ owned step. after_checkpointed row owned step kept taken writes lengths.items tables) row tables) row at
     (by-own (λ after. RunGoesOn tables after job) tables (λ owned step. after_checkpointed row owned step kept taken writes lengths.items tables) row owned found
-    (checkpointed tables rows numbered placed job row at owned found kept place bytes taken writes id lengths.items (and-first (is_running row) _ (and-first (is_running row && lengths_follow tables row lengths.items) _ passes)) checks refl))))
+    (checkpointed tables rows numbered placed job row at owned found kept place bytes taken writes id lengths.items (and-first (is_running row) _ (and-first (is_running row && lengths_follow tables row lengths.items) _ passes)) checks refl refl))))
 goes-in layout tables rows numbered placed (Cancelled job) deck plain other follow =
     tested-run tables job is_running follow
     (λ row at passes. by-row (λ after. RunGoesOn tables after job) tables job (λ row. after_cancelled row tables) row at (cancelled tables rows numbered placed job row at (running-holds row passes)))
@@ -800,10 +806,9 @@ goes-in layout tables rows numbered placed (Ended job ending) deck plain other f
 goes-in layout tables rows numbered placed (Purged job) deck plain other follow =
     tested-run tables job (is_in_state Queued) follow
     (λ row at passes. by-row (λ after. RunGoesOn tables after job) tables job (λ row. with_run (record row { state = PurgedRun }) tables) row at (purged tables rows numbered placed job row at passes))
-goes-in layout tables rows numbered placed _ deck plain other follow = absurd (false≢true plain)
 
--- by each event but a submission one run goes on
-pub goes-on : (layout : Layout) (tables : TablesModel) (event : Event) (deck : Option Job) → AllByRecursion IsAcceptedRow tables.runs → AreNumbered 1 tables.runs → AllByRecursion IsPlacedRow tables.runs → is_forward_event event ≡ true → is_submission event ≡ false → follows layout tables event deck ≡ true → RowGoesOn tables (after_event event deck tables) (job_of event)
+-- by each event but a submission, and the selection of a run that continues another one, one run goes on
+pub goes-on : (layout : Layout) (tables : TablesModel) (event : Event) (deck : Option Job) → AllByRecursion IsAcceptedRow tables.runs → AreNumbered 1 tables.runs → AllByRecursion IsPlacedRow tables.runs → continues event ≡ false → is_submission event ≡ false → follows layout tables event deck ≡ true → RowGoesOn tables (after_event event deck tables) (job_of event)
 goes-on layout tables event deck rows numbered placed plain other follow =
     run-goes tables (after_event event deck tables) (job_of event) rows numbered (goes-in layout tables rows numbered placed event deck plain other follow)
 
@@ -822,6 +827,7 @@ holders-none = record {
   orderly = tt;
   kin = λ number row at. absurd (some-not-none row (sym at ∙ no-row number));
   named = λ number row at. absurd (some-not-none row (sym at ∙ no-row number));
+  steps = λ number row at. absurd (some-not-none row (sym at ∙ no-row number));
   apart = λ one other row next here. absurd (some-not-none row (sym here ∙ no-row one));
   passed = λ number row at. absurd (some-not-none row (sym at ∙ no-row number));
   changed = λ number row at. absurd (some-not-none row (sym at ∙ no-row number));
@@ -835,24 +841,17 @@ submission-cases layout _ deck tables are accepted may follow rest = rest refl
 -- by each event but a submission one run goes on, also where it continues another one or is denied
 pub any-goes : (layout : Layout) (tables : TablesModel) (event : Event) (deck : Option Job) → AllByRecursion IsAcceptedRow tables.runs → AreNumbered 1 tables.runs → AllByRecursion IsPlacedRow tables.runs → AreHolders tables → is_submission event ≡ false → follows layout tables event deck ≡ true
     → RowGoesOn tables (after_event event deck tables) (job_of event)
-any-goes layout tables (Submitted job cards) deck rows numbered placed are other follow = absurd (false≢true (sym other))
-any-goes layout tables (Selected job initiator zero step id) deck rows numbered placed are other follow = goes-on layout tables (Selected job initiator zero step id) deck rows numbered placed refl refl follow
 any-goes layout tables (Selected job initiator (suc before) step id) deck rows numbered placed are other follow = continued-goes layout tables numbered placed are job initiator before step id deck follow
-any-goes layout tables (Denied job rule name) deck rows numbered placed are other follow =
-    tested-run tables job (λ row. is_in_state Queued row && is_some row.deck.restart) follow
-    (λ row at passes.
-    by-row (λ after. RowGoesOn tables after job) tables job (λ row. with_run (record row { state = DeniedRun }) tables) row at
-    (run-goes tables (with_run (record row { state = DeniedRun }) tables) job rows numbered (denied tables rows numbered placed job row at (and-first (is_in_state Queued row) _ passes))))
-any-goes layout tables (Started job step items) deck rows numbered placed are other follow = goes-on layout tables (Started job step items) deck rows numbered placed refl refl follow
-any-goes layout tables (Rewritten job taken writes lengths place image) deck rows numbered placed are other follow = goes-on layout tables (Rewritten job taken writes lengths place image) deck rows numbered placed refl refl follow
-any-goes layout tables (Checkpointed job id taken writes lengths place bytes) deck rows numbered placed are other follow = goes-on layout tables (Checkpointed job id taken writes lengths place bytes) deck rows numbered placed refl refl follow
-any-goes layout tables (Cancelled job) deck rows numbered placed are other follow = goes-on layout tables (Cancelled job) deck rows numbered placed refl refl follow
-any-goes layout tables (StepEnded job step rc writes lengths) deck rows numbered placed are other follow = goes-on layout tables (StepEnded job step rc writes lengths) deck rows numbered placed refl refl follow
-any-goes layout tables (Restarted job initiator code checkpoint) deck rows numbered placed are other follow = goes-on layout tables (Restarted job initiator code checkpoint) deck rows numbered placed refl refl follow
-any-goes layout tables (Held job code writes lengths) deck rows numbered placed are other follow = goes-on layout tables (Held job code writes lengths) deck rows numbered placed refl refl follow
-any-goes layout tables (Released job) deck rows numbered placed are other follow = goes-on layout tables (Released job) deck rows numbered placed refl refl follow
-any-goes layout tables (Ended job ending) deck rows numbered placed are other follow = goes-on layout tables (Ended job ending) deck rows numbered placed refl refl follow
-any-goes layout tables (Purged job) deck rows numbered placed are other follow = goes-on layout tables (Purged job) deck rows numbered placed refl refl follow
+any-goes layout tables event deck rows numbered placed are other follow = goes-on layout tables event deck rows numbered placed refl other follow
+
+-- and the others have their rows
+pub others-stay : (layout : Layout) (tables : TablesModel) (event : Event) (deck : Option Job) → AllByRecursion IsAcceptedRow tables.runs → AreNumbered 1 tables.runs → AllByRecursion IsPlacedRow tables.runs → is_submission event ≡ false → follows layout tables event deck ≡ true
+    → (number : ℕ) → number ≢ job_of event → run_of (after_event event deck tables) number ≡ run_of tables number
+others-stay layout tables (Selected job initiator (suc before) step id) deck rows numbered placed other follow number apart =
+    by-continuation layout tables job initiator before step deck (λ after. run_of after number ≡ run_of tables number) id follow
+    (λ its. run-other tables _ number (λ e. apart (e ∙ row-number tables job its.row numbered its.row_at)))
+    (λ id its entry. run-other tables _ number (λ e. apart (e ∙ row-number tables job its.row numbered its.row_at)))
+others-stay layout tables event deck rows numbered placed other follow number apart = (goes-on layout tables event deck rows numbered placed refl other follow).rows.others number apart
 
 -- holders stay apart by each event that follows
 pub holders-stay : (layout : Layout) (tables : TablesModel) (event : Event) (deck : Option Job) → AreHolders tables → AllByRecursion IsAcceptedRow tables.runs → AreNumbered 1 tables.runs → AllByRecursion IsPlacedRow tables.runs → IsAnyAccepted event deck → MaySubmit event deck

@@ -9,7 +9,7 @@ use Rattle.ckr_base.proofs.Options.{some-one}
 use Rattle.ckr_base.proofs.Sequences.{each-implies}
 use Rattle.ckr_events.specs.Jobs.{job_of}
 use Rattle.ckr_events.specs.declared.event.Event.{Event}
-use Rattle.ckr_events.specs.declared.event.Event.TheVariants.{Cancelled, Checkpointed, Ended, Held, Purged, Released, Restarted, Rewritten, Selected, Started, StepEnded, Submitted}
+use Rattle.ckr_events.specs.declared.event.Event.TheVariants.{Cancelled, Checkpointed, Denied, Ended, Held, Purged, Released, Restarted, Rewritten, Selected, Started, StepEnded, Submitted}
 use Rattle.ckr_events.specs.declared.event.Made.{Made}
 use Rattle.ckr_jcl.specs.declared.deck.Job.{Job}
 use Rattle.ckr_library.specs.declared.sets.Kept.{Kept}
@@ -21,9 +21,8 @@ use Rattle.ckr_points.specs.Rows.{RunRow, TablesModel, run_of, step_of_run}
 use Rattle.ckr_points.specs.Tables.{after_cancelled, after_checkpointed, after_rewritten, after_started, after_submitted}
 use Rattle.ckr_points_invariant.proofs.WaitingRuns.{tested-run}
 use Rattle.ckr_points_tables.specs.Invariant.{is_submission}
-use Rattle.ckr_desk_memory.specs.ForwardEvents.{is_forward_event}
 use Rattle.ckr_volumes.specs.declared.layout.Layout.{Layout}
-use Rattle.ckr_desk_memory.proofs.Holders.Events.{by-some, goes-on, tested}
+use Rattle.ckr_desk_memory.proofs.Holders.Events.{by-some, others-stay, tested}
 use Rattle.ckr_desk_memory.proofs.Holders.Submissions.{row-more}
 use Rattle.ckr_desk_memory.proofs.Holders.Moves.{by-own, by-row, row-as_is, row-next, row-number}
 use Rattle.ckr_desk_memory.specs.EventChanges.{failed_in}
@@ -81,19 +80,19 @@ module _ (layout : Layout) (tables : TablesModel) (rows : AllByRecursion IsAccep
       absurd (omega (arith, three, two))
 
   -- a run whose event leaves it running, and the others
-  one_left : (event : Event) (deck : Option Job) → is_forward_event event ≡ true → is_submission event ≡ false → follows layout tables event deck ≡ true → (IsLeft tables (job_of event) → IsLeft (after_event event deck tables) (job_of event))
+  one_left : (event : Event) (deck : Option Job) → is_submission event ≡ false → follows layout tables event deck ≡ true → (IsLeft tables (job_of event) → IsLeft (after_event event deck tables) (job_of event))
       → (number : ℕ) → IsLeft tables number → IsLeft (after_event event deck tables) number
-  one_left event deck plain other follow own number left =
+  one_left event deck other follow own number left =
       number-cases number (job_of event) (λ here. subst (IsLeft (after_event event deck tables)) (sym here) (own (subst (IsLeft tables) here left)))
-      (λ apart. (left.0, (goes-on layout tables event deck rows numbered placed plain other follow).rows.others number apart ∙ left.1, left.2))
+      (λ apart. (left.0, others-stay layout tables event deck rows numbered placed other follow number apart ∙ left.1, left.2))
 
   -- those of which the event isn't
-  rest_left : (event : Event) (deck : Option Job) → is_forward_event event ≡ true → is_submission event ≡ false → follows layout tables event deck ≡ true → (failed : List FailedRun) → AllByRecursion (IsOther (job_of event)) failed → AllByRecursion (LeftIn tables) failed
+  rest_left : (event : Event) (deck : Option Job) → is_submission event ≡ false → follows layout tables event deck ≡ true → (failed : List FailedRun) → AllByRecursion (IsOther (job_of event)) failed → AllByRecursion (LeftIn tables) failed
       → AllByRecursion (LeftIn (after_event event deck tables)) failed
-  rest_left event deck plain other follow [] apart all = tt
-  rest_left event deck plain other follow (one ∷ rest) apart all = (
-    (all.0.0, (goes-on layout tables event deck rows numbered placed plain other follow).rows.others one.run apart.0 ∙ all.0.1, all.0.2),
-    rest_left event deck plain other follow rest apart.1 all.1,
+  rest_left event deck other follow [] apart all = tt
+  rest_left event deck other follow (one ∷ rest) apart all = (
+    (all.0.0, others-stay layout tables event deck rows numbered placed other follow one.run apart.0 ∙ all.0.1, all.0.2),
+    rest_left event deck other follow rest apart.1 all.1,
   )
 
   started_left : (job step : ℕ) (items : List Made) (row : RunRow) → run_of tables job ≡ Some row → started_follows layout tables step items row ≡ true → IsLeft (option_map_or (λ owned. after_started row owned step items tables) (step_of_run row step) tables) job
@@ -106,29 +105,33 @@ module _ (layout : Layout) (tables : TablesModel) (rows : AllByRecursion IsAccep
         and_from (is_in_state On row) true (and-first (is_in_state On row) _ follow) refl,
       ))
 
-  left_on : (event : Event) (deck : Option Job) (failed : List FailedRun) → is_forward_event event ≡ true → follows layout tables event deck ≡ true → LeavesLeft event failed → AllByRecursion (LeftIn tables) failed → AllByRecursion (LeftIn (after_event event deck tables)) (failed_behind event failed)
-  left_on (Submitted job cards) None failed plain follow leaves all = all
-  left_on (Submitted job cards) (Some deck) failed plain follow leaves all =
+  left_on : (event : Event) (deck : Option Job) (failed : List FailedRun) → follows layout tables event deck ≡ true → LeavesLeft event failed → AllByRecursion (LeftIn tables) failed → AllByRecursion (LeftIn (after_event event deck tables)) (failed_behind event failed)
+  left_on (Submitted job cards) None failed follow leaves all = all
+  left_on (Submitted job cards) (Some deck) failed follow leaves all =
       each-left tables (after_submitted job deck tables) failed (λ number left. (left.0, row-more tables job deck number left.0 left.1, left.2)) all
-  left_on (Selected job initiator earlier step id) deck failed plain follow leaves all =
+  left_on (Selected job initiator earlier step id) deck failed follow leaves all =
       each-left tables (after_event (Selected job initiator earlier step id) deck tables) failed
-      (one_left (Selected job initiator earlier step id) deck plain refl follow
+      (one_left (Selected job initiator earlier step id) deck refl follow
       (λ left.
       tested-run tables job (selected_follows layout tables initiator earlier step id) follow
       (λ row at passes.
       waits job row at left
       (and-first (is_in_state Queued row) (is_free layout tables initiator) (and-first (is_in_state Queued row && is_free layout tables initiator) (may_hold tables row) (and-first (is_in_state Queued row && is_free layout tables initiator && may_hold tables row) _ passes)))))) all
-  left_on (Started job step items) deck failed plain follow leaves all =
+  left_on (Denied job rule name) deck failed follow leaves all =
+      each-left tables (after_event (Denied job rule name) deck tables) failed
+      (one_left (Denied job rule name) deck refl follow
+      (λ left. tested-run tables job (λ row. is_in_state Queued row && is_some row.deck.restart) follow (λ row at passes. waits job row at left (and-first (is_in_state Queued row) _ passes)))) all
+  left_on (Started job step items) deck failed follow leaves all =
       each-left tables (after_event (Started job step items) deck tables) failed
-      (one_left (Started job step items) deck plain refl follow
+      (one_left (Started job step items) deck refl follow
       (λ left.
       tested-run tables job (started_follows layout tables step items.items) follow
       (λ row at passes.
       by-row (λ after. IsLeft after job) tables job (λ row. option_map_or (λ owned. after_started row owned step items.items tables) (step_of_run row step) tables) row at
       (started_left job step items.items row at passes)))) all
-  left_on (Rewritten job taken writes lengths place image) deck failed plain follow leaves all =
+  left_on (Rewritten job taken writes lengths place image) deck failed follow leaves all =
       each-left tables (after_event (Rewritten job taken writes lengths place image) deck tables) failed
-      (one_left (Rewritten job taken writes lengths place image) deck plain refl follow
+      (one_left (Rewritten job taken writes lengths place image) deck refl follow
       (λ left.
       tested-run tables job (λ row. is_running row && lengths_follow tables row lengths.items && of_step row (is_rewrite tables place image row)) follow
       (λ row at passes.
@@ -140,9 +143,9 @@ module _ (layout : Layout) (tables : TablesModel) (rows : AllByRecursion IsAccep
         (row-next tables tables job row _ (after_rewritten row owned (step_in (place_of row)) writes lengths.items tables).sets (row-as_is tables job row at) (row-number tables job row numbered at)).now,
         and_from (is_in_state On row) true (and-first (is_in_state On row) (is_within (place_of row)) (on_of job row at left)) refl,
       )))))) all
-  left_on (Checkpointed job id taken writes lengths place bytes) deck failed plain follow leaves all =
+  left_on (Checkpointed job id taken writes lengths place bytes) deck failed follow leaves all =
       each-left tables (after_event (Checkpointed job id taken writes lengths place bytes) deck tables) failed
-      (one_left (Checkpointed job id taken writes lengths place bytes) deck plain refl follow
+      (one_left (Checkpointed job id taken writes lengths place bytes) deck refl follow
       (λ left.
       tested-run tables job (λ row. is_running row && lengths_follow tables row lengths.items && of_step row (is_checkpoint tables id lengths.items place bytes row)) follow
       (λ row at passes.
@@ -155,34 +158,33 @@ module _ (layout : Layout) (tables : TablesModel) (rows : AllByRecursion IsAccep
         (row-next tables tables job row _ (after_checkpointed row owned (step_in (place_of row)) kept taken writes lengths.items tables).sets (row-as_is tables job row at) (row-number tables job row numbered at)).now,
         and_from (is_in_state On row) true (and-first (is_in_state On row) (is_within (place_of row)) (on_of job row at left)) refl,
       )))))) all
-  left_on (Cancelled job) deck failed plain follow leaves all =
+  left_on (Cancelled job) deck failed follow leaves all =
       each-left tables (after_event (Cancelled job) deck tables) failed
-      (one_left (Cancelled job) deck plain refl follow
+      (one_left (Cancelled job) deck refl follow
       (λ left.
       by-row (λ after. IsLeft after job) tables job (λ row. after_cancelled row tables) left.0 left.1
       (record left.0 { in_effect = None }, (row-next tables tables job left.0 _ tables.sets (row-as_is tables job left.0 left.1) (row-number tables job left.0 numbered left.1)).now, left.2))) all
-  left_on (StepEnded job step rc writes lengths) deck failed plain follow leaves all = rest_left (StepEnded job step rc writes lengths) deck plain refl follow failed leaves all
-  left_on (Restarted job initiator code checkpoint) deck failed plain follow leaves all =
-      rest_left (Restarted job initiator code checkpoint) deck plain refl follow (failed_behind (Restarted job initiator code checkpoint) failed) (others-marked job failed) (marks-kept (LeftIn tables) job failed all)
-  left_on (Held job code writes lengths) deck failed plain follow leaves all =
-      rest_left (Held job code writes lengths) deck plain refl follow (failed_behind (Held job code writes lengths) failed) (others-marked job failed) (marks-kept (LeftIn tables) job failed all)
-  left_on (Released job) deck failed plain follow leaves all =
+  left_on (StepEnded job step rc writes lengths) deck failed follow leaves all = rest_left (StepEnded job step rc writes lengths) deck refl follow failed leaves all
+  left_on (Restarted job initiator code checkpoint) deck failed follow leaves all =
+      rest_left (Restarted job initiator code checkpoint) deck refl follow (failed_behind (Restarted job initiator code checkpoint) failed) (others-marked job failed) (marks-kept (LeftIn tables) job failed all)
+  left_on (Held job code writes lengths) deck failed follow leaves all =
+      rest_left (Held job code writes lengths) deck refl follow (failed_behind (Held job code writes lengths) failed) (others-marked job failed) (marks-kept (LeftIn tables) job failed all)
+  left_on (Released job) deck failed follow leaves all =
       each-left tables (after_event (Released job) deck tables) failed
-      (one_left (Released job) deck plain refl follow
+      (one_left (Released job) deck refl follow
       (λ left. tested-run tables job (is_in_state HeldRun) follow (λ row at held. is_held job row at left held))) all
-  left_on (Ended job ending) deck failed plain follow leaves all =
-      rest_left (Ended job ending) deck plain refl follow (failed_behind (Ended job ending) failed) (others-marked job failed) (marks-kept (LeftIn tables) job failed all)
-  left_on (Purged job) deck failed plain follow leaves all =
+  left_on (Ended job ending) deck failed follow leaves all =
+      rest_left (Ended job ending) deck refl follow (failed_behind (Ended job ending) failed) (others-marked job failed) (marks-kept (LeftIn tables) job failed all)
+  left_on (Purged job) deck failed follow leaves all =
       each-left tables (after_event (Purged job) deck tables) failed
-      (one_left (Purged job) deck plain refl follow
+      (one_left (Purged job) deck refl follow
       (λ left. tested-run tables job (is_in_state Queued) follow (λ row at queued. waits job row at left queued))) all
-  left_on _ deck failed plain follow leaves all = absurd (false≢true plain)
 
-pub left-behind : (layout : Layout) (old : JobsView) (now : TablesModel) (marked : List FailedRun) (event : Event) (deck : Option Job) → AreJobs layout old → AreNumbered 1 old.tables.desk.runs → is_forward_event event ≡ true → now ≡ after_event event deck old.tables.desk → marked ≡ failed_behind event old.failed
+pub left-behind : (layout : Layout) (old : JobsView) (now : TablesModel) (marked : List FailedRun) (event : Event) (deck : Option Job) → AreJobs layout old → AreNumbered 1 old.tables.desk.runs → now ≡ after_event event deck old.tables.desk → marked ≡ failed_behind event old.failed
     → AreLeft old → follows layout old.tables.desk event deck ≡ true → LeavesLeft event old.failed → AllByRecursion (LeftIn now) marked
-left-behind layout old now marked event deck are numbered plain tables failed left follow leaves =
+left-behind layout old now marked event deck are numbered tables failed left follow leaves =
     subst (λ (t : TablesModel). AllByRecursion (LeftIn t) marked) (sym tables)
-    (subst (AllByRecursion (LeftIn (after_event event deck old.tables.desk))) (sym failed) (left_on layout old.tables.desk are.rows numbered are.placed event deck old.failed plain follow leaves left))
+    (subst (AllByRecursion (LeftIn (after_event event deck old.tables.desk))) (sym failed) (left_on layout old.tables.desk are.rows numbered are.placed event deck old.failed follow leaves left))
 
 -- none is
 pub left-none : (jobs : JobsView) → jobs.failed ≡ [] → AreLeft jobs

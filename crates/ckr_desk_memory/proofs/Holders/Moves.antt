@@ -1,5 +1,5 @@
 -- What holds of the holders stays where the row of one run changes, and with it data sets that its job names.
-use Rattle.std.proofs.Common.{◌≡◌, ◌≢◌, ◌+◌, ◌==◌, ℕ, zero, suc, pred, Bool, true, false, ◌&&◌, not, List, [], ◌∷◌, drop, filter, cond, inl, inr, ⊎_elim, refl, ap, sym, ◌∙◌, subst, Some, arith}
+use Rattle.std.proofs.Common.{◌≡◌, ◌≢◌, ◌≤◌, ◌+◌, ◌==◌, ℕ, zero, suc, pred, Bool, true, false, ◌&&◌, not, List, [], ◌∷◌, drop, filter, cond, inl, inr, ⊎_elim, refl, ap, sym, ◌∙◌, subst, Some, arith}
 use Rattle.std.specs.Prelude.{slice_get}
 use mathlib.Core.Logic.{◌⊎◌}
 use Rattle.std.specs.List.{AllByRecursion}
@@ -36,8 +36,9 @@ use Rattle.ckr_desk_memory.proofs.Holders.Names.{IsActing, changed-alone, step-f
 use Rattle.ckr_desk_memory.proofs.Starts.Steps.{row-among}
 use Rattle.ckr_desk_memory.specs.Invariant.{IsAcceptedRow, IsPlacedRow}
 use Rattle.ckr_desk_turn.proofs.OtherRuns.{every-by}
+use Rattle.ckr_desk_turn.specs.Invariant.{HasStepName}
 use Rattle.ckr_desk_turn.specs.Queue.{AreNumbered}
-use Rattle.ckr_desk_memory.specs.Holders.{AreHolders, AreOfDeck, AreSingleEntries, EachEntryKept, HasChanged, HasOwnEffect, HasStartPassed, HoldApart, IsOwnEntry, KeepsOwnEntries, PassesOnOwn, PassesOwn, changed_names, reached_names}
+use Rattle.ckr_desk_memory.specs.Holders.{AreHolders, AreOfDeck, AreSingleEntries, EachEntryKept, HasChanged, HasOwnEffect, HasStartPassed, HasStepNames, HoldApart, IsNamedEntry, IsOwnEntry, KeepsOwnEntries, PassesOnOwn, PassesOwn, changed_names, reached_names}
 
 -- ---- rows by number
 
@@ -100,6 +101,23 @@ named-same tables row next number deck job from named name own =
       (subst (λ (deck : Job). HasJobName tables its.0 deck.name) (sym deck) its.2.0, ap (λ n. keeps_points tables n its.0) number ∙ its.2.1),
     )
 
+-- its steps have the names of its deck
+steps-same : (row next : RunRow) → next.deck ≡ row.deck → next.job ≡ row.job → next.earlier_step ≡ row.earlier_step → HasStepNames row → HasStepNames next
+steps-same row next deck job from named number owned executed found =
+    subst (λ (deck : Job). HasStepName deck number owned.step.name) (sym deck)
+    (named number owned (subst (λ n. n ≤ number) from executed) (ap (λ (job : Effective). step_at job number) (sym job) ∙ found))
+
+-- and its entries those names
+entry-same : (row next : RunRow) (entry : KeptEntry) → next.number ≡ row.number → next.deck ≡ row.deck → next.job ≡ row.job → next.earlier_step ≡ row.earlier_step → IsNamedEntry row entry → IsNamedEntry next entry
+entry-same row next entry number deck job from its = record {
+  run = its.run ∙ sym number;
+  job = its.job ∙ ap (λ (deck : Job). deck.name) (sym deck);
+  owned = its.owned;
+  found = ap (λ (job : Effective). step_at job entry.point.step) job ∙ its.found;
+  name = its.name;
+  executed = subst (λ n. n ≤ entry.point.step) (sym from) its.executed;
+}
+
 -- the names that a run reaches are those of its deck
 pub reached-named : (tables : TablesModel) (row : RunRow) → IsKin tables row row.number → AreOfDeck tables row → (name : Name) → is_among (reached_names row) name ≡ true → IsNamedByDeck tables row name
 reached-named tables row itself named name among =
@@ -128,7 +146,7 @@ acts-itself tables number row at same on accepted are = record {
 -- ---- the entries of checkpoints
 
 abbrev pub IsOwnOf : RunRow → Name → KeptEntry → Type 0
-IsOwnOf row set entry = entry.point.run ≡ row.number → IsOwnEntry row set entry.point
+IsOwnOf row set entry = entry.point.run ≡ row.number → IsOwnEntry row set entry.point × IsNamedEntry row entry
 
 -- an entry that the data set of a name kept
 pub record WasKept (sets : Named TableSet) (set : Name) (entry : KeptEntry) : Type 0 where
@@ -141,6 +159,7 @@ pub record WasKept (sets : Named TableSet) (set : Name) (entry : KeptEntry) : Ty
 pub record IsNewEntry (row next : RunRow) (set : Name) (entry : KeptEntry) : Type 0 where
   pub run : entry.point.run ≡ row.number
   pub own : IsOwnEntry next set entry.point
+  pub named : IsNamedEntry next entry
 
 -- each entry was kept
 pub was-kept : (sets : Named TableSet) (New : Name → KeptEntry → Type 0) → EachEntryKept (λ set entry. WasKept sets set entry ⊎ New set entry) sets
@@ -209,6 +228,7 @@ pub record RowGoesOn (tables after : TablesModel) (job : ℕ) : Type 0 where
   pub acts : AreHolders tables → IsActing tables job acting
   pub kin : AreHolders tables → AreKin tables next
   pub named : AreHolders tables → AreOfDeck tables next
+  pub steps : AreHolders tables → HasStepNames next
   pub begins : is_holder row.state ≡ false → is_holder next.state ≡ true → may_hold tables row ≡ true
   pub passed : AreHolders tables → PassesOnOwn after.sets next
   pub start : AreHolders tables → HasStartPassed next
@@ -254,13 +274,16 @@ run-goes tables after job rows numbered goes = record {
   acts = acts-itself tables job goes.row goes.row_at (row-number tables job goes.row numbered goes.row_at) goes.on (row-accepted tables job goes.row rows goes.row_at);
   kin = λ are. kin-same tables goes.row goes.next goes.number goes.deck goes.job_is (are.kin job goes.row goes.row_at);
   named = λ are. named-same tables goes.row goes.next goes.number goes.deck goes.job_is goes.from_is (are.named job goes.row goes.row_at);
+  steps = λ are. steps-same goes.row goes.next goes.deck goes.job_is goes.from_is (are.steps job goes.row goes.row_at);
   begins = goes.begins;
   passed = λ are. goes.passed (are.begun job goes.row goes.row_at) (are.passed job goes.row goes.row_at);
   start = λ are. goes.start (are.begun job goes.row goes.row_at) (are.passed job goes.row goes.row_at);
   entries = λ are.
       let begun = are.begun job goes.row goes.row_at in
-      each-later (IsOwnOf goes.next) (IsNewEntry goes.row goes.next) tables.sets after.sets (goes.kept begun).each (λ set entry new run. new.own)
-      (each-entry (IsOwnOf goes.row) (IsOwnOf goes.next) tables.sets (λ set entry own run. goes.own begun set entry.point (own (run ∙ goes.number))) (are.entries job goes.row goes.row_at));
+      each-later (IsOwnOf goes.next) (IsNewEntry goes.row goes.next) tables.sets after.sets (goes.kept begun).each (λ set entry new run. (new.own, new.named))
+      (each-entry (IsOwnOf goes.row) (IsOwnOf goes.next) tables.sets (λ set entry own run.
+      let was = own (run ∙ goes.number) in
+      (goes.own begun set entry.point was.0, entry-same goes.row goes.next entry goes.number goes.deck goes.job_is goes.from_is was.1)) (are.entries job goes.row goes.row_at));
   single = λ are. (goes.kept (are.begun job goes.row goes.row_at)).single are.single;
   wrote = λ are.
       each-entry (λ set entry. WasKept tables.sets set entry ⊎ IsNewEntry goes.row goes.next set entry) (λ set entry. WasKept tables.sets set entry ⊎ (entry.point.run ≡ job)) after.sets
@@ -407,6 +430,7 @@ module _ (tables after : TablesModel) (job : ℕ) (goes : RowGoesOn tables after
     orderly = orderly-behind;
     kin = each-row (AreKin after) (kin-behind goes.next (goes.kin are)) (λ number its at. kin-behind its (are.kin number its at));
     named = each-row (AreOfDeck after) (named-behind goes.next (goes.named are)) (λ number its at. named-behind its (are.named number its at));
+    steps = each-row HasStepNames (goes.steps are) are.steps;
     apart = apart_so;
     passed = λ number its at.
         number-cases number job

@@ -137,10 +137,6 @@ changed-not_left root owned name formed left =
 pub accepted-plain : (row : RunRow) → IsAcceptedRow row → row.deck.restart ≡ None
 accepted-plain row accepted = is_none-true row.deck.restart (and-first (is_none row.deck.restart) _ accepted.is_run)
 
--- so its run's job is its deck alone
-pub plain-job : (row : RunRow) → IsAcceptedRow row → row.job ≡ plain_job row.number row.deck
-plain-job row accepted = accepted.plain (accepted-plain row accepted)
-
 -- a step of an accepted deck is formed, whatever the root
 admitted-formed : (root number : ℕ) (owned : OwnedStep) → IsAdmittedStep number owned → is_formed_step root owned ≡ true
 admitted-formed root number owned its =

@@ -29,7 +29,7 @@ use Rattle.ckr_library.proofs.Named.{each-at, name-itself}
 use Rattle.ckr_library.specs.Catalog.{Holding, set_of}
 use Rattle.ckr_library.specs.NameMaps.{Name, Named, entry_at, same_name}
 use Rattle.ckr_library.specs.declared.sets.DataSet.{DataSet}
-use Rattle.ckr_meaning.specs.EffectiveJob.{Effective, OwnedStep, is_among, name_of}
+use Rattle.ckr_meaning.specs.EffectiveJob.{OwnedStep, is_among}
 use Rattle.ckr_meaning.specs.StepRun.{input_names, output_dd}
 use Rattle.ckr_base.specs.declared.programs.Output.TheVariants.{InPlace}
 use Rattle.ckr_points.specs.Follows.{are_lengths, follows, is_free, is_in_state, is_rewrite, is_running, is_update, is_within, lengths_follow, may_restart_again, of_run, state_number, ended_follows}
@@ -42,13 +42,13 @@ use Rattle.ckr_points.specs.Tables.{is_updates, name_with_role}
 use Rattle.ckr_points.specs.declared.run.RunState.TheVariants.{On, Released}
 use Rattle.ckr_points_library.specs.Commit.{output_names}
 use Rattle.ckr_steps.specs.Files.{dd_in, files_of, set_of_source, source_by, source_in}
-use Rattle.ckr_uses.specs.SetNames.{library_name, origin_name}
+use Rattle.ckr_uses.specs.SetNames.{origin_name}
 use Rattle.ckr_volumes.specs.declared.layout.Layout.{Layout}
-use Rattle.ckr_desk_memory.proofs.Holders.Moves.{row-accepted, row-number}
-use Rattle.ckr_desk_memory.proofs.Holders.Names.{outputs-changed, plain-job, step-formed}
+use Rattle.ckr_desk_memory.proofs.Holders.Moves.{row-accepted}
+use Rattle.ckr_desk_memory.proofs.Holders.Names.{outputs-changed, step-formed}
 use Rattle.ckr_desk_memory.proofs.Holders.OwnSets.{up_to-itself}
 use Rattle.ckr_desk_memory.proofs.Holders.Rewrites.{AsksForRewrite, IsRewriteIn, rewrite-asked}
-use Rattle.ckr_desk_memory.proofs.Holders.Units.{step-owner, update-is}
+use Rattle.ckr_desk_memory.proofs.Holders.Units.{update-is}
 use Rattle.ckr_desk_memory.proofs.Holders.Masters.{updated-changed, updated-dd}
 use Rattle.ckr_desk_memory.proofs.Invariant.{begun-within, released-within}
 use Rattle.ckr_desk_memory.proofs.Queue.{on-is, released-is}
@@ -136,23 +136,20 @@ in_set Sysout root owner step dd name e = refl
 in_set Dummy root owner step dd name e = refl
 
 -- UPDATE's first input is what it updates
-module _ (run : ℕ) (owned : OwnedStep) (formed : is_formed_step run owned ≡ true) (updates : is_update owned.step.program ≡ true) (owner : owned.owner ≡ run) where
-  first-updated : set_of_source (files_of run run owned.step).first ≡ Some (name_with_role run owned is_updates)
+module _ (run : ℕ) (owned : OwnedStep) (formed : is_formed_step run owned ≡ true) (updates : is_update owned.step.program ≡ true) where
+  first-updated : set_of_source (files_of run owned.owner owned.step).first ≡ Some (name_with_role run owned is_updates)
   unfolding files_of
   first-updated =
       let t = updated-dd run owned formed updates in
-      ap (λ (o : Option Dd). set_of_source (source_in run run owned.step o))
+      ap (λ (o : Option Dd). set_of_source (source_in run owned.owner owned.step o))
       (ap (option_and_then (dd_in owned.step)) (first_name ∙ t.1.named) ∙ t.1.found)
-      ∙ ap (λ (o : Option Name). set_of_source (source_by t.0.origin o)) (has t.0 t.1.has)
-      ∙ in_set t.0.origin _ _ _ _ (name_with_role run owned is_updates) (has t.0 t.1.has)
+      ∙ ap (λ (o : Option Name). set_of_source (source_by t.0.origin o)) t.1.has
+      ∙ in_set t.0.origin _ _ _ _ (name_with_role run owned is_updates) t.1.has
     where
       first_name : slice_get (input_names owned.step.program) 0 ≡ output_dd owned.step.program (InPlace 0)
       first_name =
           ap (λ program. slice_get (input_names program) 0) (update-is owned.step.program updates)
           ∙ ap (λ program. output_dd program (InPlace 0)) (sym (update-is owned.step.program updates))
-
-      has : (dd : Dd) → name_of run owned dd ≡ Some (name_with_role run owned is_updates) → library_name dd run run owned.step.name ≡ Some (name_with_role run owned is_updates)
-      has dd e = ap (λ n. library_name dd run n owned.step.name) (sym owner) ∙ e
 
 rewrite_there : (entry : Option TableSet) (own : Option DataSet) (set : DataSet) (place : ℕ) (image : List ℕ) → AreCopies entry own → AreEven entry own → own ≡ Some set → IsRewriteIn set place image
     → option_map_or (λ table. nat_lt place table.set.length && length image == table.set.lrecl) entry false ≡ true
@@ -164,21 +161,12 @@ rewrite_there (Some table) (Some own) set place image are even is rewrites =
     (ap (nat_lt place) (sym even ∙ ap (λ (s : DataSet). s.length) e) ∙ rewrites.below)
     (equal-from (length image) table.set.lrecl (rewrites.long ∙ ap (λ (s : DataSet). s.lrecl) (sym e) ∙ are.lrecl))
 
-module _ (layout : Layout) (tables : TablesModel) (rows : AllByRecursion IsAcceptedRow tables.runs) (numbered : AreNumbered 1 tables.runs) (on : RunningStepView) (is : IsRunningOf tables on) where
+module _ (layout : Layout) (tables : TablesModel) (rows : AllByRecursion IsAcceptedRow tables.runs) (on : RunningStepView) (is : IsRunningOf tables on) where
   accepted : IsAcceptedRow is.row
   accepted = row-accepted tables on.run is.row rows is.row_at
 
-  number : is.row.number ≡ on.run
-  number = row-number tables on.run is.row numbered is.row_at
-
-  root : is.row.job.root ≡ on.run
-  root = ap (λ (job : Effective). job.root) (plain-job is.row accepted) ∙ number
-
   formed-so : is_formed_step is.row.job.root is.owned ≡ true
   formed-so = step-formed is.row (step_in (place_of is.row)) is.owned accepted is.found
-
-  owner : is.owned.owner ≡ on.run
-  owner = step-owner is.row (step_in (place_of is.row)) is.owned accepted is.found ∙ number
 
   rewrite_so : (place : ℕ) (image : List ℕ) → AsksForRewrite on.sets on.step place image → is_rewrite tables place image is.row is.owned ≡ true
   rewrite_so place image asks =
@@ -195,8 +183,7 @@ module _ (layout : Layout) (tables : TablesModel) (rows : AllByRecursion IsAccep
       first : set_of_source on.step.files.first ≡ Some (name_with_role is.row.job.root is.owned is_updates)
       first =
           ap (λ (files : Files). set_of_source files.first) is.files
-          ∙ first-updated on.run is.owned (ap (λ n. is_formed_step n is.owned) (sym root) ∙ formed-so) updates owner
-          ∙ ap (λ n. Some (name_with_role n is.owned is_updates)) (sym root)
+          ∙ first-updated is.row.job.root is.owned formed-so updates
 
   rewritten : (job taken writes : ℕ) (lengths : ArrayVec ℕ) (place : ℕ) (image : Rec) (deck : Option Job) → AllFit on.sets.sets → IsOwnRewrite tables on job lengths.items place image → follows layout tables (Rewritten job taken writes lengths place image) deck ≡ true
   rewritten job taken writes lengths place image deck fits own =
@@ -216,7 +203,7 @@ module _ (layout : Layout) (tables : TablesModel) (rows : AllByRecursion IsAccep
 
 -- an event that a running step brings about follows
 pub own-follows : (layout : Layout) (tables : TablesModel) (event : Event) (deck : Option Job) (on : RunningStepView) → AllByRecursion IsAcceptedRow tables.runs → AreNumbered 1 tables.runs → IsRunningOf tables on → AllFit on.sets.sets → IsOwnEvent event tables on → follows layout tables event deck ≡ true
-own-follows layout tables event deck on rows numbered is fits own = own_in layout tables rows numbered on is event deck fits own
+own-follows layout tables event deck on rows numbered is fits own = own_in layout tables rows on is event deck fits own
 
 -- ---- a run that was within a step when the system failed
 

@@ -224,7 +224,7 @@ module _ (layout : Layout) (jobs : JobsView) (numbered : AreNumbered 1 jobs.tabl
 pub plan-own : (layout : Layout) (jobs : JobsView) (turn : Turn) → AreNumbered 1 jobs.tables.desk.runs → AreJobs layout jobs → IsTurnOf layout turn → HoldTheirOwn jobs → AreLeft jobs → PlanFollows layout jobs.tables.desk (plan_of layout (jobs_of jobs) turn)
 unfolding jobs_of
 plan-own layout jobs turn numbered are its own left =
-    follows_both layout jobs.tables.desk (plan_of layout (jobs_of jobs) turn) (plan-follows layout jobs turn numbered are its)
+    follows_both layout jobs.tables.desk (plan_of layout (jobs_of jobs) turn) (plan-follows layout jobs turn numbered are own.holders its)
     (plan-cases layout (jobs_of jobs) turn (FollowsWithin layout jobs.tables.desk) (cases layout jobs numbered are own left turn.initiator its.above its.below))
 
 between_commits : (now : TablesModel) (running : List RunningStepView) (event : Event) → is_of_step event ≡ false → CommitsItsOwn event now running

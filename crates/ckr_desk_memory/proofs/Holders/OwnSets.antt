@@ -137,7 +137,7 @@ running-same tables after on is next at state place job sets = record {
   found = ap (λ (p : Place). step_of_run next (step_in p)) stands ∙ ap (λ job. step_at job (step_in (place_of is.row))) job ∙ is.found;
   program = is.program;
   parm = is.parm;
-  files = is.files;
+  files = is.files ∙ ap (λ (job : Effective). files_of job.root is.owned.owner is.owned.step) (sym job);
   changed = λ name among.
       subst (λ sets. AreCopies (entry_at sets name) (set_of on.sets name)) (sym sets)
       (is.changed name (ap (λ (job : Effective). is_among (changed_names job.root is.owned) name) (sym job) ∙ among));
@@ -235,10 +235,10 @@ even_new false None own is = tt
 even_new false (Some table) own is = subst (AreEven (Some table)) (sym is) tt
 
 -- at a place of its work, where what it may change is there
-running_at : (after : TablesModel) (job : ℕ) (row : RunRow) (owned : OwnedStep) (place : StepRun) (old new : List RunningStepView) → run_of after job ≡ Some row → row.state ≡ On → is_within (place_of row) ≡ true → own_step row ≡ Some owned → row.job.root ≡ job
-    → program_of place.state ≡ owned.step.program → place.parm ≡ owned.step.parm → place.files ≡ files_of job job owned.step
-    → ((name : Name) → is_among (changed_names row.job.root owned) name ≡ true → is_some (entry_at after.sets name) ≡ true) → (starts : HasNew job owned place after.sets old new) → IsRunningOf after starts.on
-running_at after job row owned place old new at state within found root program parm files there starts = record {
+running_at : (after : TablesModel) (job : ℕ) (row : RunRow) (owned : OwnedStep) (place : StepRun) (old new : List RunningStepView) → run_of after job ≡ Some row → row.state ≡ On → is_within (place_of row) ≡ true → own_step row ≡ Some owned
+    → program_of place.state ≡ owned.step.program → place.parm ≡ owned.step.parm → place.files ≡ files_of row.job.root owned.owner owned.step
+    → ((name : Name) → is_among (changed_names row.job.root owned) name ≡ true → is_some (entry_at after.sets name) ≡ true) → (starts : HasNew job row.job.root owned place after.sets old new) → IsRunningOf after starts.on
+running_at after job row owned place old new at state within found program parm files there starts = record {
   row = row;
   owned = owned;
   row_at = ap (run_of after) starts.run ∙ at;
@@ -247,24 +247,24 @@ running_at after job row owned place old new at state within found root program 
   found = found;
   program = ap (λ (step : StepRun). program_of step.state) starts.step ∙ program;
   parm = ap (λ (step : StepRun). step.parm) starts.step ∙ parm;
-  files = ap (λ (step : StepRun). step.files) starts.step ∙ files ∙ ap (λ n. files_of n n owned.step) (sym starts.run);
+  files = ap (λ (step : StepRun). step.files) starts.step ∙ files;
   changed = λ name among.
       copies_new (entry_at after.sets name) (set_of starts.on.sets name)
       (there name among)
-      (starts.sets name ∙ ap (λ b. if b then set_in_tables after.sets name else None) (ap (λ n. is_among (names_of n owned) name) (sym root) ∙ changed-named row.job.root owned name among));
-  updated = λ updates. even_new (is_among (names_of job owned) _) (entry_at after.sets _) (set_of starts.on.sets _) (starts.sets _);
+      (starts.sets name ∙ ap (λ b. if b then set_in_tables after.sets name else None) (changed-named row.job.root owned name among));
+  updated = λ updates. even_new (is_among (names_of row.job.root owned) _) (entry_at after.sets _) (set_of starts.on.sets _) (starts.sets _);
 }
 
 -- at its beginning
-pub running-new : (after : TablesModel) (job : ℕ) (row : RunRow) (owned : OwnedStep) (old new : List RunningStepView) → run_of after job ≡ Some row → row.state ≡ On → is_within (place_of row) ≡ true → own_step row ≡ Some owned → row.job.root ≡ job → AreHolders after
-    → (starts : HasNew job owned (begun job owned.step) after.sets old new) → IsRunningOf after starts.on
-running-new after job row owned old new at state within found root are starts =
-    running_at after job row owned (begun job owned.step) old new at state within found root (first_program owned.step.program) refl refl
+pub running-new : (after : TablesModel) (job : ℕ) (row : RunRow) (owned : OwnedStep) (old new : List RunningStepView) → run_of after job ≡ Some row → row.state ≡ On → is_within (place_of row) ≡ true → own_step row ≡ Some owned → AreHolders after
+    → (starts : HasNew job row.job.root owned (begun row.job.root owned) after.sets old new) → IsRunningOf after starts.on
+running-new after job row owned old new at state within found are starts =
+    running_at after job row owned (begun row.job.root owned) old new at state within found (first_program owned.step.program) refl refl
     (λ name among. are.changed job row at owned name (ap is_holder state) within found among) starts
 
 -- at the point of its run
-pub running-again : (after : TablesModel) (job : ℕ) (row : RunRow) (owned : OwnedStep) (point : PointView) (old new : List RunningStepView) → run_of after job ≡ Some row → row.state ≡ On → is_within (place_of row) ≡ true → own_step row ≡ Some owned → row.job.root ≡ job
-    → program_of point.state ≡ owned.step.program → has_sets after.sets (names_of job owned) ≡ true → (starts : HasNew job owned (resumed job owned.step point) after.sets old new) → IsRunningOf after starts.on
-running-again after job row owned point old new at state within found root program has starts =
-    running_at after job row owned (resumed job owned.step point) old new at state within found root program refl refl
-    (λ name among. has-among after.sets (names_of job owned) name has (ap (λ n. is_among (names_of n owned) name) (sym root) ∙ changed-named row.job.root owned name among)) starts
+pub running-again : (after : TablesModel) (job : ℕ) (row : RunRow) (owned : OwnedStep) (point : PointView) (old new : List RunningStepView) → run_of after job ≡ Some row → row.state ≡ On → is_within (place_of row) ≡ true → own_step row ≡ Some owned
+    → program_of point.state ≡ owned.step.program → has_sets after.sets (names_of row.job.root owned) ≡ true → (starts : HasNew job row.job.root owned (resumed row.job.root owned point) after.sets old new) → IsRunningOf after starts.on
+running-again after job row owned point old new at state within found program has starts =
+    running_at after job row owned (resumed row.job.root owned point) old new at state within found program refl refl
+    (λ name among. has-among after.sets (names_of row.job.root owned) name has (changed-named row.job.root owned name among)) starts

@@ -1,26 +1,25 @@
 -- The jobs in memory go on to hold their own.
-use Rattle.std.proofs.Common.{◌≡◌, ◌+◌, ◌==◌, ℕ, Bool, true, false, cond, not, List, [], ◌∷◌, find, refl, ap, sym, ◌∙◌, subst, Option, Some, None}
+use Rattle.std.proofs.Common.{◌≡◌, ◌+◌, ◌==◌, ℕ, zero, suc, Bool, true, false, cond, not, List, [], ◌∷◌, find, refl, ap, sym, ◌∙◌, subst, Option, Some, None}
 use Rattle.std.specs.List.{AllByRecursion}
 use Rattle.std.specs.Option.{option_map, option_map_or}
 use Rattle.std.specs.Prelude.{IfSome}
-use Rattle.std.proofs.lemmas.Bool.{false≢true}
 use Rattle.ckr_base.proofs.Bools.{and-second}
 use Rattle.ckr_base.proofs.Numbers.{equal-false, equal-true}
 use Rattle.ckr_base.proofs.Sequences.{find-holds, find-passes}
 use Rattle.ckr_events.specs.declared.event.Event.{Event}
-use Rattle.ckr_events.specs.declared.event.Event.TheVariants.{Cancelled, Checkpointed, Ended, Held, Purged, Released, Restarted, Rewritten, Selected, Started, StepEnded, Submitted}
+use Rattle.ckr_events.specs.declared.event.Event.TheVariants.{Cancelled, Checkpointed, Ended, Held, Restarted, Selected, Started, StepEnded}
 use Rattle.ckr_events.specs.declared.event.Made.{Made}
 use Rattle.ckr_jcl.specs.declared.deck.Job.{Job}
 use Rattle.ckr_library.specs.Catalog.{records_of}
 use Rattle.ckr_library.specs.NameMaps.{Name}
+use Rattle.ckr_meaning.specs.EffectiveJob.{OwnedStep}
 use Rattle.ckr_points.specs.declared.run.RunState.TheVariants.{On}
-use Rattle.ckr_points.specs.Follows.{follows, is_in_state, started_follows}
+use Rattle.ckr_points.specs.Follows.{follows, is_in_state, own_step, started_follows}
 use Rattle.ckr_points.specs.Restart.{after_event}
 use Rattle.ckr_points.specs.Rows.{RunRow, TablesModel, no_tables, run_of, step_of_run}
 use Rattle.ckr_points.specs.Tables.{after_started}
 use Rattle.ckr_points_invariant.proofs.WaitingRuns.{tested-run}
 use Rattle.ckr_points_tables.specs.Invariant.{MaySubmit}
-use Rattle.ckr_desk_memory.specs.ForwardEvents.{is_forward_event}
 use Rattle.ckr_points_tables.specs.View.{RoomyTables}
 use Rattle.ckr_volumes.specs.declared.layout.Layout.{Layout}
 use Rattle.ckr_desk_memory.proofs.Holders.Events.{by-some, holders-none, holders-stay, no-row, tested}
@@ -33,12 +32,13 @@ use Rattle.ckr_base.specs.declared.code.Code.{Code}
 use Rattle.ckr_base.proofs.Options.{some-not-none}
 use Rattle.ckr_desk_memory.proofs.Replays.{any_accepted, goes-on-with}
 use Rattle.ckr_desk_memory.proofs.RunningSteps.First.{all-without}
+use Rattle.ckr_desk_memory.proofs.RunningSteps.TakenSteps.{is-taken}
 use Rattle.ckr_desk_memory.specs.declared.jobs.RunningStep.{RunningStep}
 use Rattle.ckr_desk_memory.specs.EventChanges.{FirstEnters, HasEntered, check_name_in, is_of_run, is_point_of, points_behind, served_in, served_step, without_first, without_run}
 use Rattle.ckr_desk_memory.specs.Holders.{AreHolders}
 use Rattle.ckr_desk_memory.specs.Invariant.{AreJobs, IsAcceptedRow, IsAnyAccepted, IsPlacedRow}
 use Rattle.ckr_desk_memory.specs.OwnSets.{CommitsItsOwn, IsRunningOf}
-use Rattle.ckr_desk_memory.specs.OwnSteps.{AreSingle, HavePoints, HoldTheirOwn, IsOfOther}
+use Rattle.ckr_desk_memory.specs.OwnSteps.{AreSingle, HavePoints, HoldTheirOwn, IsOfOther, KnowsItsPoint}
 use Rattle.ckr_desk_memory.specs.Parts.{step_seen}
 use Rattle.ckr_desk_memory.specs.Replay.{IsBounded, deck_of, goes_on}
 use Rattle.ckr_desk_memory.specs.RunningSteps.{GoesOn, StepGoesBack, StepStarts}
@@ -110,6 +110,16 @@ single-entered run check most old new single goes = by (find (is_of_run run) old
           single-first run old single,
         )
 
+-- a step that goes on from its run's point is the only one of its run
+again-single : (after : TablesModel) (job : ℕ) (next : RunRow) (owned : OwnedStep) (points : List PointView) (old new : List RunningStepView) → run_of after job ≡ Some next → own_step next ≡ Some owned → AreSingle old
+    → StepGoesBack (find (is_point_of job) points) job after old new → AreSingle new
+again-single after job next owned points old new at found single goes =
+    again-cases after job next owned points old new at found goes
+    (λ gone. subst AreSingle (sym gone) (single-left job old single))
+    (λ point is new_one.
+    subst AreSingle (sym new_one.starts.first)
+    (subst (λ n. AllByRecursion (IsOfOther n) (without_run job old)) (sym new_one.starts.run) (others-left job old), single-left job old single))
+
 -- ---- each event
 
 module _ (layout : Layout) (tables : TablesModel) (rows : AllByRecursion IsAcceptedRow tables.runs) (numbered : AreNumbered 1 tables.runs) (placed : AllByRecursion IsPlacedRow tables.runs) where
@@ -125,39 +135,41 @@ module _ (layout : Layout) (tables : TablesModel) (rows : AllByRecursion IsAccep
       (λ starts.
       let after : TablesModel = after_started row owned step items tables in
       let now = (row-next tables tables job row _ after.sets (row-as_is tables job row at) (row-number tables job row numbered at)).now in
-      let new_one : HasNew job owned (begun job owned.step) after.sets old new = starts _ owned now found in
+      let new_one : HasNew job row.job.root owned (begun row.job.root owned) after.sets old new = starts _ owned now found in
       subst AreSingle (sym new_one.first)
       (subst (λ n. AllByRecursion (IsOfOther n) (without_run job old)) (sym new_one.run) (others-left job old), single-left job old single)))
 
   again : (job initiator : ℕ) (code : Code) (deck : Option Job) (points : List PointView) (old new : List RunningStepView) → follows layout tables (Restarted job initiator code true) deck ≡ true → AreSingle old
       → StepGoesBack (find (is_point_of job) points) job (after_event (Restarted job initiator code true) deck tables) old new → AreSingle new
   again job initiator code deck points old new follow single goes =
-      again-cases tables (after_event (Restarted job initiator code true) deck tables) job points old new (is-back layout tables job initiator code deck numbered placed follow) goes
-      (λ gone. subst AreSingle (sym gone) (single-left job old single))
-      (λ point is new_one.
-      subst AreSingle (sym new_one.starts.first)
-      (subst (λ n. AllByRecursion (IsOfOther n) (without_run job old)) (sym new_one.starts.run) (others-left job old), single-left job old single))
+      let back = is-back layout tables job initiator code deck numbered placed follow in
+      again-single (after_event (Restarted job initiator code true) deck tables) job back.next back.owned points old new back.next_at back.found single goes
 
-  single_on : (event : Event) (deck : Option Job) (points : List PointView) (old new : List RunningStepView) → is_forward_event event ≡ true → follows layout tables event deck ≡ true → AreSingle old → GoesOn event (after_event event deck tables) points old new → AreSingle new
-  single_on (Started job step items) deck points old new plain follow single goes =
+  -- so does a run that goes on with an earlier one at a checkpoint
+  taken : (job initiator before step : ℕ) (id : Name) (deck : Option Job) (points : List PointView) (old new : List RunningStepView) → follows layout tables (Selected job initiator (suc before) step (Some id)) deck ≡ true → AreSingle old
+      → StepGoesBack (find (is_point_of job) points) job (after_event (Selected job initiator (suc before) step (Some id)) deck tables) old new → AreSingle new
+  taken job initiator before step id deck points old new follow single goes =
+      let over = is-taken layout tables job initiator before step id deck numbered follow in
+      again-single (after_event (Selected job initiator (suc before) step (Some id)) deck tables) job over.next over.owned points old new over.next_at over.found single goes
+
+  single_on : (event : Event) (deck : Option Job) (points : List PointView) (old new : List RunningStepView) → follows layout tables event deck ≡ true → AreSingle old → GoesOn event (after_event event deck tables) points old new → AreSingle new
+  single_on (Started job step items) deck points old new follow single goes =
       tested-run tables job (started_follows layout tables step items.items) follow
       (λ row at passes.
       by-row (StartsAlone job step old new) tables job (λ row. option_map_or (λ owned. after_started row owned step items.items tables) (step_of_run row step) tables) row at
       (started job step items.items old new row single at passes) goes)
-  single_on (Checkpointed job id taken writes lengths place bytes) deck points old new plain follow single goes =
+  single_on (Checkpointed job id taken writes lengths place bytes) deck points old new follow single goes =
       single-entered job (check_name_in (after_event (Checkpointed job id taken writes lengths place bytes) deck tables) job) (place + records_of bytes) old new single goes
-  single_on (Cancelled job) deck points old new plain follow single goes = subst AreSingle (sym goes) (single-served job old single)
-  single_on (StepEnded job step rc writes lengths) deck points old new plain follow single goes = subst AreSingle (sym goes) (single-left job old single)
-  single_on (Restarted job initiator code true) deck points old new plain follow single goes = again job initiator code deck points old new follow single goes
-  single_on (Restarted job initiator code false) deck points old new plain follow single goes = subst AreSingle (sym goes) (single-left job old single)
-  single_on (Held job code writes lengths) deck points old new plain follow single goes = subst AreSingle (sym goes) (single-left job old single)
-  single_on (Released job) deck points old new plain follow single goes = subst AreSingle (sym goes) single
-  single_on (Ended job ending) deck points old new plain follow single goes = subst AreSingle (sym goes) (single-left job old single)
-  single_on (Submitted job cards) deck points old new plain follow single goes = subst AreSingle (sym goes) single
-  single_on (Selected job initiator earlier step id) deck points old new plain follow single goes = subst AreSingle (sym goes) single
-  single_on (Rewritten job taken writes lengths place image) deck points old new plain follow single goes = subst AreSingle (sym goes) single
-  single_on (Purged job) deck points old new plain follow single goes = subst AreSingle (sym goes) single
-  single_on _ deck points old new plain follow single goes = absurd (false≢true plain)
+  single_on (Cancelled job) deck points old new follow single goes = subst AreSingle (sym goes) (single-served job old single)
+  single_on (StepEnded job step rc writes lengths) deck points old new follow single goes = subst AreSingle (sym goes) (single-left job old single)
+  single_on (Restarted job initiator code true) deck points old new follow single goes = again job initiator code deck points old new follow single goes
+  single_on (Restarted job initiator code false) deck points old new follow single goes = subst AreSingle (sym goes) (single-left job old single)
+  single_on (Held job code writes lengths) deck points old new follow single goes = subst AreSingle (sym goes) (single-left job old single)
+  single_on (Ended job ending) deck points old new follow single goes = subst AreSingle (sym goes) (single-left job old single)
+  single_on (Selected job initiator (suc before) step (Some id)) deck points old new follow single goes = taken job initiator before step id deck points old new follow single goes
+  single_on (Selected job initiator (suc before) step None) deck points old new follow single goes = subst AreSingle (sym goes) single
+  single_on (Selected job initiator zero step id) deck points old new follow single goes = subst AreSingle (sym goes) single
+  single_on _ deck points old new follow single goes = subst AreSingle (sym goes) single
 
 -- ---- the jobs
 
@@ -186,20 +198,20 @@ own-alike old new tables running points own = record {
 }
 
 -- behind an event
-pub own-behind : (layout : Layout) (old new : JobsView) (event : Event) (deck : Option Job) → AllByRecursion IsAcceptedRow old.tables.desk.runs → AreNumbered 1 old.tables.desk.runs → AllByRecursion IsPlacedRow old.tables.desk.runs → IsAnyAccepted event deck → MaySubmit event deck → is_forward_event event ≡ true
-    → new.tables.desk ≡ after_event event deck old.tables.desk → GoesOn event new.tables.desk old.points old.running new.running → new.points ≡ points_behind event new.running old.points → HoldTheirOwn old → follows layout old.tables.desk event deck ≡ true → CommitsItsOwn event old.tables.desk old.running → HoldTheirOwn new
-own-behind layout old new event deck rows numbered placed accepted may plain tables goes points own follow commits =
+pub own-behind : (layout : Layout) (old new : JobsView) (event : Event) (deck : Option Job) → AllByRecursion IsAcceptedRow old.tables.desk.runs → AreNumbered 1 old.tables.desk.runs → AllByRecursion IsPlacedRow old.tables.desk.runs → IsAnyAccepted event deck → MaySubmit event deck
+    → new.tables.desk ≡ after_event event deck old.tables.desk → GoesOn event new.tables.desk old.points old.running new.running → new.points ≡ points_behind event new.running old.points → HoldTheirOwn old → follows layout old.tables.desk event deck ≡ true → KnowsItsPoint event old.tables.desk old.points → CommitsItsOwn event old.tables.desk old.running → HoldTheirOwn new
+own-behind layout old new event deck rows numbered placed accepted may tables goes points own follow knows commits =
     let gone : GoesOn event (after_event event deck old.tables.desk) old.points old.running new.running = subst (λ (t : TablesModel). GoesOn event t old.points old.running new.running) tables goes in
     let running : AllByRecursion (IsRunningOf (after_event event deck old.tables.desk)) new.running =
-    running-stay layout old.tables.desk event deck old.points old.running new.running own.holders rows numbered placed accepted may plain follow own.running own.points commits gone in
+    running-stay layout old.tables.desk event deck old.points old.running new.running own.holders rows numbered placed accepted may follow own.running own.points knows commits gone in
     record {
       holders = subst AreHolders (sym tables) (holders-stay layout old.tables.desk event deck own.holders rows numbered placed accepted may follow);
       running = subst (λ (t : TablesModel). AllByRecursion (IsRunningOf t) new.running) (sym tables) running;
-      single = single_on layout old.tables.desk rows numbered placed event deck old.points old.running new.running plain follow own.single gone;
+      single = single_on layout old.tables.desk rows numbered placed event deck old.points old.running new.running follow own.single gone;
       points =
           subst (λ (t : TablesModel). HavePoints t new.points) (sym tables)
           (subst (HavePoints (after_event event deck old.tables.desk)) (sym points)
-          (points-stay layout old.tables.desk event deck old.points old.running new.running rows numbered placed plain follow own.points commits gone running));
+          (points-stay layout old.tables.desk event deck old.points old.running new.running rows numbered placed follow own.points knows commits gone running));
     }
 
 -- with other running steps, and the same tables

@@ -1,5 +1,5 @@
 -- The points of the checkpoints in effect stay known, by each event that follows.
-use Rattle.std.proofs.Common.{◌≡◌, ◌==◌, ◌+◌, ◌&&◌, ◌||◌, ℕ, true, false, cond, List, find, refl, ap, sym, ◌∙◌, subst, Option, None, Some}
+use Rattle.std.proofs.Common.{◌≡◌, ◌==◌, ◌+◌, ◌&&◌, ◌||◌, ℕ, zero, suc, true, false, cond, List, find, refl, ap, sym, ◌∙◌, subst, Option, None, Some}
 use Rattle.std.specs.Prelude.{IsSome, nat_eq}
 use Rattle.std.specs.List.{AllByRecursion}
 use Rattle.std.specs.Option.{is_none, is_some, option_eq, option_map, option_map_or}
@@ -15,7 +15,7 @@ use Rattle.ckr_events.specs.Jobs.{job_of}
 use Rattle.ckr_events.specs.declared.event.Ending.{Ending}
 use Rattle.ckr_events.specs.declared.event.Ending.TheVariants.{Allocation, Coded, Completed}
 use Rattle.ckr_events.specs.declared.event.Event.{Event}
-use Rattle.ckr_events.specs.declared.event.Event.TheVariants.{Cancelled, Checkpointed, Ended, Held, Purged, Released as ReleasedEvent, Restarted, Rewritten, Selected, Started, StepEnded, Submitted}
+use Rattle.ckr_events.specs.declared.event.Event.TheVariants.{Cancelled, Checkpointed, Denied, Ended, Held, Purged, Released as ReleasedEvent, Restarted, Rewritten, Selected, Started, StepEnded, Submitted}
 use Rattle.ckr_events.specs.declared.event.Made.{Made}
 use Rattle.ckr_jcl.specs.declared.deck.Job.{Job}
 use Rattle.ckr_library.specs.Catalog.{records_of}
@@ -23,31 +23,33 @@ use Rattle.ckr_library.specs.NameMaps.{Name}
 use Rattle.ckr_meaning.specs.EffectiveJob.{OwnedStep, flaws_in, placed_in}
 use Rattle.ckr_meaning.specs.declared.place.Place.{Place}
 use Rattle.ckr_meaning.specs.declared.place.Place.TheVariants.{Before, Opened, Within}
-use Rattle.ckr_points.specs.declared.run.RunState.TheVariants.{Queued, On, Held as HeldRun, Released, Purged as PurgedRun}
+use Rattle.ckr_points.specs.declared.run.RunState.TheVariants.{Queued, On, Held as HeldRun, Released, Denied as DeniedRun, Purged as PurgedRun}
 use Rattle.ckr_points.specs.Follows.{ended_follows, follows, is_empty, is_free, is_in_state, is_rewrite, is_running, is_within, lengths_follow, may_restart_again, may_start, of_step, own_step, selected_follows, started_follows}
 use Rattle.ckr_points.specs.Marks.{point_at, with_point as with_start_point}
 use Rattle.ckr_points.specs.Office.{is_holder}
-use Rattle.ckr_points.specs.Restart.{after_abnormal, after_chosen, after_ended, after_event, after_passed_ended, after_put_back, after_restarted, back_to_start, by_step, place_of, point_restarted, row_on, step_in}
+use Rattle.ckr_points.specs.Restart.{after_abnormal, after_ended, after_event, after_passed_ended, after_put_back, after_restarted, after_start_continued, back_to_start, by_step, continued_row, place_of, point_restarted, row_on, step_in}
 use Rattle.ckr_points.specs.Rows.{EffectPoint, RunRow, StartPoint, TablesModel, run_of, standing_of, step_of_run, table_ways, with_run}
 use Rattle.ckr_points.specs.Tables.{after_cancelled, after_commit, after_dispositions, after_held, after_rewritten, after_selected, after_started, after_step_ended, after_submitted, effect_rewritten, row_rewritten}
+use Rattle.ckr_points_invariant.proofs.Continuations.Follows.{MayContinue}
 use Rattle.ckr_points_invariant.proofs.WaitingRuns.{tested-run}
+use Rattle.ckr_desk_memory.proofs.Continuations.{by-start}
 use Rattle.ckr_points_tables.specs.Invariant.{is_submission}
 use Rattle.ckr_volumes.specs.declared.layout.Layout.{Layout}
 use Rattle.ckr_desk_turn.specs.Queue.{AreNumbered}
 use Rattle.ckr_desk_memory.specs.EventChanges.{FirstEnters, HasEntered, check_name_in, is_of_run, is_point_of, point_of, points_behind, with_point, without_first}
-use Rattle.ckr_desk_memory.specs.ForwardEvents.{is_forward_event}
 use Rattle.ckr_desk_memory.specs.Invariant.{IsAcceptedRow, IsPlacedRow, is_in_step}
 use Rattle.ckr_desk_memory.specs.OwnSets.{CommitsItsOwn, IsRunningOf}
-use Rattle.ckr_desk_memory.specs.OwnSteps.{HasPoint, HavePoints}
+use Rattle.ckr_desk_memory.specs.OwnSteps.{HasPoint, HavePoints, KnowsItsPoint}
 use Rattle.ckr_desk_memory.specs.RunningSteps.{GoesOn}
 use Rattle.ckr_desk_memory.specs.View.{PointView, RunningStepView}
-use Rattle.ckr_desk_memory.proofs.Holders.Events.{by-some, goes-on, tested}
+use Rattle.ckr_desk_memory.proofs.Holders.Events.{by-some, others-stay, tested}
 use Rattle.ckr_desk_memory.proofs.Holders.Submissions.{row-before}
 use Rattle.ckr_desk_memory.proofs.Holders.Moves.{HasRow, by-own, by-row, row-as_is, row-next, row-number}
 use Rattle.ckr_desk_memory.proofs.Invariant.{hand-in_step, idle-between, in_step-within, not-within, restarts-in_step, running-in_step}
 use Rattle.ckr_desk_memory.proofs.Queue.{held-is}
 use Rattle.ckr_desk_memory.proofs.Points.{other-point, own-with}
 use Rattle.ckr_desk_memory.proofs.RunningSteps.Again.{is-back, step-of-within}
+use Rattle.ckr_desk_memory.proofs.RunningSteps.TakenSteps.{is-taken}
 use Rattle.ckr_desk_memory.proofs.Starts.Steps.{row-among}
 
 -- ---- a run that has no checkpoint in effect, or isn't running
@@ -142,10 +144,12 @@ module _ (layout : Layout) (tables : TablesModel) (rows : AllByRecursion IsAccep
         (gone-row (after_step_ended row owned step rc writes lengths tables) job _
         (row-next tables mid job _ _ (after_dispositions row owned step false mid).sets (row-next tables tables job row _ mid.sets as_is mine) mine).now (λ runs effect. false≢true effect)))
 
-    gone-selected : (initiator earlier step : ℕ) (id : Option Name) → earlier ≡ 0 → Gone job (after_chosen row initiator earlier step id tables)
-    gone-selected initiator earlier step id none =
-        subst (λ n. Gone job (after_chosen row initiator n step id tables)) (sym none)
-        (gone-row (after_selected row initiator tables) job _ (row-next tables tables job row _ tables.sets as_is mine).now (λ runs effect. false≢true runs))
+    gone-selected : (initiator : ℕ) → Gone job (after_selected row initiator tables)
+    gone-selected initiator = gone-row (after_selected row initiator tables) job _ (row-next tables tables job row _ tables.sets as_is mine).now (λ runs effect. false≢true runs)
+
+    -- a run that waited and leaves the queue
+    gone-denied : Gone job (with_run (record row { state = DeniedRun }) tables)
+    gone-denied = gone-row (with_run (record row { state = DeniedRun }) tables) job _ (row-next tables tables job row _ tables.sets as_is mine).now (λ runs effect. false≢true runs)
 
     -- a rewrite leaves it in effect
     abbrev StillKnown : List PointView → TablesModel → Type 0
@@ -185,6 +189,13 @@ module _ (layout : Layout) (tables : TablesModel) (rows : AllByRecursion IsAccep
         known job row other at (and_from (is_holder row.state) (is_within (place_of row)) (ap is_holder (held-is row.state held)) (in_step-within next_row (ap is_in_step same ∙ on)))
         (ap (λ (r : RunRow). is_some r.in_effect) same ∙ effect) (ap own_step same ∙ there)
 
+  -- a run that continues another one at the start of a step isn't within it
+  gone-continued : (job initiator before step : ℕ) (its : MayContinue layout tables job initiator (suc before) step None)
+      → Gone job (after_start_continued (continued_row its.row its.other step its.point initiator tables.sets) its.owned step its.point tables)
+  gone-continued job initiator before step its =
+      let after : TablesModel = after_start_continued (continued_row its.row its.other step its.point initiator tables.sets) its.owned step its.point tables in
+      gone-row after job _ (row-next tables tables job its.row _ after.sets (row-as_is tables job its.row its.row_at) (row-number tables job its.row numbered its.row_at)).now (λ runs effect. false≢true runs)
+
   -- ---- by its own run, and the others
 
   module _ (event : Event) (deck : Option Job) (new : List RunningStepView) where
@@ -195,21 +206,21 @@ module _ (layout : Layout) (tables : TablesModel) (rows : AllByRecursion IsAccep
     behind = points_behind event new points
 
     -- the points of other runs stay, and that of its own run is known
-    with-own : is_forward_event event ≡ true → is_submission event ≡ false → follows layout tables event deck ≡ true
+    with-own : is_submission event ≡ false → follows layout tables event deck ≡ true
         → ((row : RunRow) (owned : OwnedStep) → run_of after (job_of event) ≡ Some row → is_in_step row ≡ true → is_some row.in_effect ≡ true → own_step row ≡ Some owned → HasPoint behind (job_of event) owned)
         → HavePoints after behind
-    with-own plain other follow own number row owned at runs effect found =
+    with-own other follow own number row owned at runs effect found =
         number-cases number (job_of event)
         (λ here.
         let its = own row owned (ap (run_of after) (sym here) ∙ at) runs effect found in
         record { point = its.point; found = ap (λ n. find (is_point_of n) behind) here ∙ its.found; program = its.program })
         (λ apart.
-        let its = known number row owned (sym ((goes-on layout tables event deck rows numbered placed plain other follow).rows.others number apart) ∙ at) runs effect found in
+        let its = known number row owned (sym (others-stay layout tables event deck rows numbered placed other follow number apart) ∙ at) runs effect found in
         record { point = its.point; found = other-point event new points number apart ∙ its.found; program = its.program })
 
     -- none of its own has to be known
-    with-gone : is_forward_event event ≡ true → is_submission event ≡ false → follows layout tables event deck ≡ true → Gone (job_of event) after → HavePoints after behind
-    with-gone plain other follow gone = with-own plain other follow (λ row owned at runs effect found. absurd (gone row at runs effect))
+    with-gone : is_submission event ≡ false → follows layout tables event deck ≡ true → Gone (job_of event) after → HavePoints after behind
+    with-gone other follow gone = with-own other follow (λ row owned at runs effect found. absurd (gone row at runs effect))
 
   -- ---- a checkpoint
 
@@ -250,83 +261,103 @@ module _ (layout : Layout) (tables : TablesModel) (rows : AllByRecursion IsAccep
   known-submitted job deck number row owned at runs effect found =
       row-before tables job deck number row at (λ new. absurd (false≢true (ap is_in_step new ∙ runs))) (λ was. known number row owned was runs effect found)
 
-  stay : (event : Event) (deck : Option Job) (old new : List RunningStepView) → is_forward_event event ≡ true → follows layout tables event deck ≡ true → CommitsItsOwn event tables old → GoesOn event (after_event event deck tables) points old new
+  -- of a run that goes on with an earlier one at a checkpoint the point was known before
+  known-taken : (job initiator before step : ℕ) (id : Name) (deck : Option Job) (new : List RunningStepView) → follows layout tables (Selected job initiator (suc before) step (Some id)) deck ≡ true → KnowsItsPoint (Selected job initiator (suc before) step (Some id)) tables points
+      → StayKnown (Selected job initiator (suc before) step (Some id)) deck new
+  known-taken job initiator before step id deck new follow knows number row owned at runs effect found =
+      let after : TablesModel = after_event (Selected job initiator (suc before) step (Some id)) deck tables in
+      let over = is-taken layout tables job initiator before step id deck numbered follow in
+      number-cases number job
+      (λ here.
+      let same_row : over.next ≡ row = some-one over.next row (run_of after job) over.next_at (ap (run_of after) (sym here) ∙ at) in
+      let same : over.owned ≡ owned = same_Some over.owned owned (sym over.found ∙ ap own_step same_row ∙ found) in
+      let its = knows over.row over.owned over.row_at over.was in
+      record { point = its.point; found = ap (λ n. find (is_point_of n) points) here ∙ its.found; program = its.program ∙ ap (λ (o : OwnedStep). o.step.program) same })
+      (λ apart. known number row owned (sym (over.others number apart) ∙ at) runs effect found)
+
+  stay : (event : Event) (deck : Option Job) (old new : List RunningStepView) → follows layout tables event deck ≡ true → KnowsItsPoint event tables points → CommitsItsOwn event tables old → GoesOn event (after_event event deck tables) points old new
       → AllByRecursion (IsRunningOf (after_event event deck tables)) new → StayKnown event deck new
-  stay (Submitted job cards) None old new plain follow commits goes all = known
-  stay (Submitted job cards) (Some deck) old new plain follow commits goes all = known-submitted job deck
-  stay (Selected job initiator earlier step id) deck old new plain follow commits goes all =
-      with-gone (Selected job initiator earlier step id) deck new plain refl follow
-      (tested-run tables job (selected_follows layout tables initiator earlier step id) follow
-      (λ row at passes.
-      by-row (Gone job) tables job (λ row. after_chosen row initiator earlier step id tables) row at (gone-selected job row at initiator earlier step id (equal-true earlier 0 plain))))
-  stay (Started job step items) deck old new plain follow commits goes all =
-      with-gone (Started job step items) deck new plain refl follow
+  stay (Submitted job cards) None old new follow knows commits goes all = known
+  stay (Submitted job cards) (Some deck) old new follow knows commits goes all = known-submitted job deck
+  stay (Selected job initiator zero step id) deck old new follow knows commits goes all =
+      with-gone (Selected job initiator zero step id) deck new refl follow
+      (tested-run tables job (selected_follows layout tables initiator zero step id) follow
+      (λ row at passes. by-row (Gone job) tables job (λ row. after_selected row initiator tables) row at (gone-selected job row at initiator)))
+  stay (Selected job initiator (suc before) step None) deck old new follow knows commits goes all =
+      with-gone (Selected job initiator (suc before) step None) deck new refl follow
+      (by-start layout tables job initiator before step deck (Gone job) follow (gone-continued job initiator before step))
+  stay (Selected job initiator (suc before) step (Some id)) deck old new follow knows commits goes all = known-taken job initiator before step id deck new follow knows
+  stay (Denied job rule name) deck old new follow knows commits goes all =
+      with-gone (Denied job rule name) deck new refl follow
+      (tested-run tables job (λ row. is_in_state Queued row && is_some row.deck.restart) follow
+      (λ row at passes. by-row (Gone job) tables job (λ row. with_run (record row { state = DeniedRun }) tables) row at (gone-denied job row at)))
+  stay (Started job step items) deck old new follow knows commits goes all =
+      with-gone (Started job step items) deck new refl follow
       (tested-run tables job (started_follows layout tables step items.items) follow
       (λ row at passes.
       by-row (Gone job) tables job (λ row. option_map_or (λ owned. after_started row owned step items.items tables) (step_of_run row step) tables) row at (gone-started job row at step items.items passes)))
-  stay (Rewritten job taken writes lengths place image) deck old new plain follow commits goes all =
-      with-own (Rewritten job taken writes lengths place image) deck new plain refl follow
+  stay (Rewritten job taken writes lengths place image) deck old new follow knows commits goes all =
+      with-own (Rewritten job taken writes lengths place image) deck new refl follow
       (tested-run tables job (λ row. is_running row && lengths_follow tables row lengths.items && of_step row (is_rewrite tables place image row)) follow
       (λ row at passes.
       let both = and-first (is_running row && lengths_follow tables row lengths.items) _ passes in
       by-row (StillKnown job row at points) tables job (λ row. by_step (λ owned step. after_rewritten row owned step writes lengths.items tables) row tables) row at
       (known-rewritten job row at writes lengths.items (and-first (is_running row) _ both) (and-second (is_running row) _ both))))
-  stay (Checkpointed job id taken writes lengths place bytes) deck old new plain follow commits goes all =
-      with-own (Checkpointed job id taken writes lengths place bytes) deck new plain refl follow
+  stay (Checkpointed job id taken writes lengths place bytes) deck old new follow knows commits goes all =
+      with-own (Checkpointed job id taken writes lengths place bytes) deck new refl follow
       (λ row owned at runs effect found. known-checkpointed job taken writes place bytes id lengths deck old new commits.2 goes all row owned at found)
-  stay (Cancelled job) deck old new plain follow commits goes all =
-      with-gone (Cancelled job) deck new plain refl follow
+  stay (Cancelled job) deck old new follow knows commits goes all =
+      with-gone (Cancelled job) deck new refl follow
       (tested-run tables job is_running follow
       (λ row at passes.
       by-row (Gone job) tables job (λ row. after_cancelled row tables) row at
       (gone-row (after_cancelled row tables) job _ (row-next tables tables job row _ tables.sets (row-as_is tables job row at) (row-number tables job row numbered at)).now (λ runs effect. false≢true effect))))
-  stay (StepEnded job step rc writes lengths) deck old new plain follow commits goes all =
-      with-gone (StepEnded job step rc writes lengths) deck new plain refl follow
+  stay (StepEnded job step rc writes lengths) deck old new follow knows commits goes all =
+      with-gone (StepEnded job step rc writes lengths) deck new refl follow
       (tested-run tables job (λ row. is_running row && step_in (place_of row) == step && lengths_follow tables row lengths.items) follow
       (λ row at passes.
       by-row (Gone job) tables job (λ row. by_step (λ owned step. after_step_ended row owned step rc writes lengths.items tables) row tables) row at
       (gone-step job row at rc writes lengths.items (and-second (is_running row && step_in (place_of row) == step) _ passes))))
-  stay (Restarted job initiator code true) deck old new plain follow commits goes all =
+  stay (Restarted job initiator code true) deck old new follow knows commits goes all =
       let back = is-back layout tables job initiator code deck numbered placed follow in
-      with-own (Restarted job initiator code true) deck new plain refl follow
+      with-own (Restarted job initiator code true) deck new refl follow
       (λ row owned at runs effect found.
       let same_row : back.next ≡ row = some-one back.next row (run_of (after_event (Restarted job initiator code true) deck tables) job) back.next_at at in
       let same : back.owned ≡ owned = same_Some back.owned owned (sym back.found ∙ ap own_step same_row ∙ found) in
       subst (HasPoint points job) same (known job back.row back.owned back.row_at back.inside back.effect back.was))
-  stay (Restarted job initiator code false) deck old new plain follow commits goes all =
-      with-gone (Restarted job initiator code false) deck new plain refl follow
+  stay (Restarted job initiator code false) deck old new follow knows commits goes all =
+      with-gone (Restarted job initiator code false) deck new refl follow
       (tested-run tables job (λ row. (is_running row && option_eq nat_eq row.initiator (Some initiator) || is_in_state Released row && is_free layout tables initiator) && may_restart_again false row) follow
       (λ row at passes.
       by-row (Gone job) tables job (λ row. by_step (λ owned step. after_restarted row owned step initiator false tables) row tables) row at
       (gone-restarted job row at initiator (restarts-in_step layout tables initiator false row (row-among IsPlacedRow tables job row placed at) passes)
       (and-second (is_running row && option_eq nat_eq row.initiator (Some initiator) || is_in_state Released row && is_free layout tables initiator) _ passes))))
-  stay (Held job code writes lengths) deck old new plain follow commits goes all =
-      with-own (Held job code writes lengths) deck new plain refl follow
+  stay (Held job code writes lengths) deck old new follow knows commits goes all =
+      with-own (Held job code writes lengths) deck new refl follow
       (tested-run tables job (λ row. (is_running row || is_in_state Released row) && lengths_follow tables row lengths.items) follow
       (λ row at passes.
       by-row (StillKnown job row at points) tables job (λ row. by_step (λ owned step. after_held row owned step code writes lengths.items tables) row tables) row at
       (known-held job row at code writes lengths.items
       (hand-in_step row (and-first (is_running row || is_in_state Released row) _ passes) (row-among IsPlacedRow tables job row placed at))
       (and-second (is_running row || is_in_state Released row) _ passes))))
-  stay (ReleasedEvent job) deck old new plain follow commits goes all =
-      with-own (ReleasedEvent job) deck new plain refl follow
+  stay (ReleasedEvent job) deck old new follow knows commits goes all =
+      with-own (ReleasedEvent job) deck new refl follow
       (tested-run tables job (is_in_state HeldRun) follow
       (λ row at passes.
       by-row (StillKnown job row at points) tables job (λ row. with_run (record row { state = Released }) tables) row at (known-released job row at passes)))
-  stay (Ended job ending) deck old new plain follow commits goes all =
-      with-gone (Ended job ending) deck new plain refl follow
+  stay (Ended job ending) deck old new follow knows commits goes all =
+      with-gone (Ended job ending) deck new refl follow
       (tested-run tables job (λ row. ended_follows tables row ending) follow
       (λ row at passes. by-row (Gone job) tables job (λ row. after_ended row ending tables) row at (gone-end job row at ending passes)))
-  stay (Purged job) deck old new plain follow commits goes all =
-      with-gone (Purged job) deck new plain refl follow
+  stay (Purged job) deck old new follow knows commits goes all =
+      with-gone (Purged job) deck new refl follow
       (tested-run tables job (is_in_state Queued) follow
       (λ row at passes.
       by-row (Gone job) tables job (λ row. with_run (record row { state = PurgedRun }) tables) row at
       (gone-row (with_run (record row { state = PurgedRun }) tables) job _ (row-next tables tables job row _ tables.sets (row-as_is tables job row at) (row-number tables job row numbered at)).now (λ runs effect. false≢true runs))))
-  stay _ deck old new plain follow commits goes all = absurd (false≢true plain)
 
 -- the points that the jobs have to know they know behind an event
-pub points-stay : (layout : Layout) (tables : TablesModel) (event : Event) (deck : Option Job) (points : List PointView) (old new : List RunningStepView) → AllByRecursion IsAcceptedRow tables.runs → AreNumbered 1 tables.runs → AllByRecursion IsPlacedRow tables.runs → is_forward_event event ≡ true
-    → follows layout tables event deck ≡ true → HavePoints tables points → CommitsItsOwn event tables old → GoesOn event (after_event event deck tables) points old new → AllByRecursion (IsRunningOf (after_event event deck tables)) new
+pub points-stay : (layout : Layout) (tables : TablesModel) (event : Event) (deck : Option Job) (points : List PointView) (old new : List RunningStepView) → AllByRecursion IsAcceptedRow tables.runs → AreNumbered 1 tables.runs → AllByRecursion IsPlacedRow tables.runs
+    → follows layout tables event deck ≡ true → HavePoints tables points → KnowsItsPoint event tables points → CommitsItsOwn event tables old → GoesOn event (after_event event deck tables) points old new → AllByRecursion (IsRunningOf (after_event event deck tables)) new
     → HavePoints (after_event event deck tables) (points_behind event new points)
-points-stay layout tables event deck points old new rows numbered placed plain follow known commits goes all = stay layout tables rows numbered placed points known event deck old new plain follow commits goes all
+points-stay layout tables event deck points old new rows numbered placed follow known knows commits goes all = stay layout tables rows numbered placed points known event deck old new follow knows commits goes all

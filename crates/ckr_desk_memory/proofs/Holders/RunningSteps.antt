@@ -1,8 +1,8 @@
 -- The running steps stay those of their runs by each event that follows.
-use Rattle.std.proofs.Common.{arith, ◌≡◌, ◌≢◌, ◌≤◌, ◌+◌, ◌==◌, ℕ, Bool, true, false, cond, not, ◌&&◌, List, [], ◌∷◌, refl, ap, sym, ◌∙◌, subst, Option, Some, None}
+use Rattle.std.proofs.Common.{arith, ◌≡◌, ◌≢◌, ◌≤◌, ◌+◌, ◌==◌, ℕ, zero, suc, Bool, true, false, cond, not, ◌&&◌, List, [], ◌∷◌, refl, ap, sym, ◌∙◌, subst, Option, Some, None}
 use Rattle.std.specs.Prelude.{find}
 use Rattle.std.specs.List.{AllByRecursion}
-use Rattle.std.specs.Option.{is_none, option_map_or}
+use Rattle.std.specs.Option.{is_none, is_some, option_map_or}
 use Rattle.std.proofs.lemmas.Bool.{false≢true}
 use Rattle.arrayvec.specs.ArrayVec.{ArrayVec}
 use Rattle.ckr_base.specs.declared.record.Rec.{Rec}
@@ -12,13 +12,12 @@ use Rattle.ckr_base.proofs.Options.{some-one}
 use Rattle.ckr_base.proofs.Sequences.{each-implies, find-holds, find-passes}
 use Rattle.ckr_events.specs.Jobs.{job_of}
 use Rattle.ckr_events.specs.declared.event.Event.{Event}
-use Rattle.ckr_events.specs.declared.event.Event.TheVariants.{Cancelled, Checkpointed, Ended, Held, Purged, Released, Restarted, Rewritten, Selected, Started, StepEnded, Submitted}
+use Rattle.ckr_events.specs.declared.event.Event.TheVariants.{Cancelled, Checkpointed, Denied, Ended, Held, Purged, Released, Restarted, Rewritten, Selected, Started, StepEnded, Submitted}
 use Rattle.ckr_events.specs.declared.event.Made.{Made}
 use Rattle.ckr_jcl.specs.declared.deck.Job.{Job}
 use Rattle.ckr_library.specs.Catalog.{records_of}
 use Rattle.ckr_library.specs.NameMaps.{Name, entry_at}
 use Rattle.ckr_library.specs.declared.sets.Kept.{Kept}
-use Rattle.ckr_meaning.specs.EffectiveJob.{Effective}
 use Rattle.ckr_points.specs.declared.run.RunState.TheVariants.{Queued, On, Held as HeldRun}
 use Rattle.ckr_points.specs.Follows.{follows, is_checkpoint, is_free, is_in_state, is_length_of, is_running, lengths_follow, may_hold, of_step, own_step, selected_follows, started_follows, state_number}
 use Rattle.ckr_points.specs.Restart.{after_event, by_step, kept_at, place_of, step_in}
@@ -28,17 +27,18 @@ use Rattle.ckr_points_invariant.proofs.WaitingRuns.{tested-run}
 use Rattle.ckr_points_library.specs.Commit.{output_names}
 use Rattle.ckr_points_tables.specs.Checkpoint.{checkpoint_name}
 use Rattle.ckr_points_tables.specs.Invariant.{MaySubmit, is_submission}
-use Rattle.ckr_desk_memory.specs.ForwardEvents.{is_forward_event}
 use Rattle.ckr_volumes.specs.declared.layout.Layout.{Layout}
 use Rattle.ckr_desk_memory.proofs.Extents.{tested as tested-of, tested-step}
 use Rattle.ckr_desk_memory.proofs.Holders.Checkpoints.{check-behind, running-entered}
-use Rattle.ckr_desk_memory.proofs.Holders.Events.{by-some, goes-on, holders-stay, tested}
+use Rattle.ckr_desk_memory.proofs.Holders.Continuations.{continued-goes}
+use Rattle.ckr_desk_memory.proofs.Holders.Events.{any-goes, by-some, holders-stay, tested}
 use Rattle.ckr_desk_memory.proofs.Holders.Submissions.{row-more}
-use Rattle.ckr_desk_memory.proofs.Holders.Moves.{by-own, by-row, row-accepted, row-as_is, row-next, row-number}
+use Rattle.ckr_desk_memory.proofs.Holders.Moves.{by-own, by-row, row-as_is, row-next, row-number}
 use Rattle.ckr_desk_memory.proofs.Holders.OwnSets.{running-again, running-new, running-other, running-rewritten, running-same, running-served}
 use Rattle.ckr_desk_memory.proofs.Queue.{on-is}
 use Rattle.ckr_desk_memory.proofs.RunningSteps.Again.{again-cases, is-back}
 use Rattle.ckr_desk_memory.proofs.RunningSteps.Served.{without-none}
+use Rattle.ckr_desk_memory.proofs.RunningSteps.TakenSteps.{is-taken}
 use Rattle.ckr_desk_memory.specs.EventChanges.{FirstEnters, HasEntered, IsEntered, check_name_in, is_of_run, is_point_of, served_in, served_step, with_entry_end, without_first, without_run}
 use Rattle.ckr_desk_memory.specs.Invariant.{IsAcceptedRow, IsAnyAccepted, IsPlacedRow}
 use Rattle.ckr_desk_memory.specs.RunningSteps.{GoesOn, StepGoesBack, StepStarts}
@@ -46,11 +46,10 @@ use Rattle.ckr_desk_memory.specs.Start.{HasNew}
 use Rattle.ckr_desk_memory.specs.View.{PointView, RunningStepView, begun}
 use Rattle.ckr_desk_turn.specs.Queue.{AreNumbered}
 use Rattle.ckr_desk_memory.specs.Holders.{AreHolders}
-use Rattle.ckr_desk_memory.specs.OwnSteps.{HavePoints}
+use Rattle.ckr_desk_memory.specs.OwnSteps.{HavePoints, KnowsItsPoint}
 use Rattle.ckr_steps.specs.Units.{program_of}
 use Rattle.ckr_base.specs.declared.code.Code.{Code}
 use Rattle.ckr_desk_memory.specs.OwnSets.{AreUpTo, CommitsItsOwn, IsCommitted, IsCommittedWith, IsOfOther, IsRunningOf}
-use Rattle.ckr_desk_memory.proofs.Holders.Names.{plain-job}
 
 -- ---- lists of running steps
 
@@ -81,16 +80,16 @@ each-without_first Q job (on ∷ rest) all =
 
 module _ (layout : Layout) (tables : TablesModel) (are : AreHolders tables) (rows : AllByRecursion IsAcceptedRow tables.runs) (numbered : AreNumbered 1 tables.runs) (placed : AllByRecursion IsPlacedRow tables.runs) where
   -- those of other runs
-  other-steps : (event : Event) (deck : Option Job) → is_forward_event event ≡ true → is_submission event ≡ false → follows layout tables event deck ≡ true → (on : RunningStepView) → on.run ≢ job_of event → IsRunningOf tables on → IsRunningOf (after_event event deck tables) on
-  other-steps event deck plain other follow on apart is =
-      running-other tables (after_event event deck tables) (job_of event) (goes-on layout tables event deck rows numbered placed plain other follow) rows numbered placed are on is apart
+  other-steps : (event : Event) (deck : Option Job) → is_submission event ≡ false → follows layout tables event deck ≡ true → (on : RunningStepView) → on.run ≢ job_of event → IsRunningOf tables on → IsRunningOf (after_event event deck tables) on
+  other-steps event deck other follow on apart is =
+      running-other tables (after_event event deck tables) (job_of event) (any-goes layout tables event deck rows numbered placed are other follow) rows numbered placed are on is apart
 
   -- those of all runs, where the run's own go on too
-  all-steps : (event : Event) (deck : Option Job) → is_forward_event event ≡ true → is_submission event ≡ false → follows layout tables event deck ≡ true → ((on : RunningStepView) → on.run ≡ job_of event → IsRunningOf tables on → IsRunningOf (after_event event deck tables) on)
+  all-steps : (event : Event) (deck : Option Job) → is_submission event ≡ false → follows layout tables event deck ≡ true → ((on : RunningStepView) → on.run ≡ job_of event → IsRunningOf tables on → IsRunningOf (after_event event deck tables) on)
       → (old : List RunningStepView) → AllByRecursion (IsRunningOf tables) old → AllByRecursion (IsRunningOf (after_event event deck tables)) old
-  all-steps event deck plain other follow own old all =
+  all-steps event deck other follow own old all =
       each-implies (IsRunningOf tables) (IsRunningOf (after_event event deck tables)) old
-      (λ on is. number-cases on.run (job_of event) (λ here. own on here is) (λ apart. other-steps event deck plain other follow on apart is)) all
+      (λ on is. number-cases on.run (job_of event) (λ here. own on here is) (λ apart. other-steps event deck other follow on apart is)) all
 
   its_row : (job : ℕ) (on : RunningStepView) → on.run ≡ job → (is : IsRunningOf tables on) → run_of tables job ≡ Some is.row
   its_row job on here is = ap (run_of tables) (sym here) ∙ is.row_at
@@ -119,7 +118,7 @@ module _ (layout : Layout) (tables : TablesModel) (are : AreHolders tables) (row
       by (find (is_of_run job) old) refl
     where
       behind : AllByRecursion (IsRunningOf (after_event (Cancelled job) deck tables)) old
-      behind = all-steps (Cancelled job) deck refl refl follow (cancelled job deck) old all
+      behind = all-steps (Cancelled job) deck refl follow (cancelled job deck) old all
 
       by : (first : Option RunningStepView) → find (is_of_run job) old ≡ first → AllByRecursion (IsRunningOf (after_event (Cancelled job) deck tables)) (option_map_or (λ on. served_step on ∷ without_first job old) first old)
       by None e = behind
@@ -141,10 +140,9 @@ module _ (layout : Layout) (tables : TablesModel) (are : AreHolders tables) (row
       (λ starts holders others.
       let after : TablesModel = after_started row owned step items tables in
       let now = (row-next tables tables job row _ after.sets (row-as_is tables job row at) (row-number tables job row numbered at)).now in
-      let new_one : HasNew job owned (begun job owned.step) after.sets old new = starts _ owned now found in
+      let new_one : HasNew job row.job.root owned (begun row.job.root owned) after.sets old new = starts _ owned now found in
       subst (AllByRecursion (IsRunningOf after)) (sym new_one.first) (
-        running-new after job _ owned old new now (on-is row.state (and-first (is_in_state On row) _ follow)) refl found
-            (ap (λ (job : Effective). job.root) (plain-job row (row-accepted tables job row rows at)) ∙ row-number tables job row numbered at) holders new_one,
+        running-new after job _ owned old new now (on-is row.state (and-first (is_in_state On row) _ follow)) refl found holders new_one,
         others,
       )))
 
@@ -216,7 +214,7 @@ module _ (layout : Layout) (tables : TablesModel) (are : AreHolders tables) (row
         (others : AllByRecursion (IsOfOther job) (without_first job old)) where
       rest : AllByRecursion (IsRunningOf after) (without_first job old)
       rest =
-          each-both (IsRunningOf tables) (IsRunningOf after) (IsOfOther job) (without_first job old) (λ on is apart. other-steps event deck refl refl follow on apart is)
+          each-both (IsRunningOf tables) (IsRunningOf after) (IsOfOther job) (without_first job old) (λ on is apart. other-steps event deck refl follow on apart is)
           (each-without_first (IsRunningOf tables) job old all) others
 
       entered : (new : List RunningStepView) → HasEntered job (check_name_in after job) most old new → AllByRecursion (IsRunningOf after) new
@@ -238,74 +236,106 @@ module _ (layout : Layout) (tables : TablesModel) (are : AreHolders tables) (row
   again job initiator code deck points old new follow known goes others =
       let after : TablesModel = after_event (Restarted job initiator code true) deck tables in
       let back = is-back layout tables job initiator code deck numbered placed follow in
-      let root = ap (λ (j : Effective). j.root) (back.job_is ∙ plain-job back.row (row-accepted tables job back.row rows back.row_at)) ∙ row-number tables job back.row numbered back.row_at in
-      again-cases tables after job points old new back goes
+      again-cases after job back.next back.owned points old new back.next_at back.found goes
       (λ gone. subst (AllByRecursion (IsRunningOf after)) (sym gone) others)
       (λ point is new_one.
       let has = known job back.row back.owned back.row_at back.inside back.effect back.was in
       let program = ap (λ (p : PointView). program_of p.state) (some-one point has.point (find (is_point_of job) points) is has.found) ∙ has.program in
       subst (AllByRecursion (IsRunningOf after)) (sym new_one.starts.first) (
-        running-again after job back.next back.owned point old new back.next_at new_one.state back.within back.found root program new_one.has new_one.starts,
+        running-again after job back.next back.owned point old new back.next_at new_one.state back.within back.found program new_one.has new_one.starts,
         others,
       ))
 
-  stay : (event : Event) (deck : Option Job) (points : List PointView) (old new : List RunningStepView) → is_forward_event event ≡ true → follows layout tables event deck ≡ true → AreHolders (after_event event deck tables) → AllByRecursion (IsRunningOf tables) old → HavePoints tables points
-      → CommitsItsOwn event tables old → GoesOn event (after_event event deck tables) points old new → AllByRecursion (IsRunningOf (after_event event deck tables)) new
-  stay (Submitted job cards) None points old new plain follow holders all known commits goes = subst (AllByRecursion (IsRunningOf tables)) (sym goes) all
-  stay (Submitted job cards) (Some deck) points old new plain follow holders all known commits goes =
-      subst (AllByRecursion (IsRunningOf (after_submitted job deck tables))) (sym goes)
-      (each-implies (IsRunningOf tables) (IsRunningOf (after_submitted job deck tables)) old (submitted job deck) all)
-  stay (Selected job initiator earlier step id) deck points old new plain follow holders all known commits goes =
-      subst (AllByRecursion (IsRunningOf (after_event (Selected job initiator earlier step id) deck tables))) (sym goes)
-      (all-steps (Selected job initiator earlier step id) deck plain refl follow
+  -- so does one that goes on with an earlier run at a checkpoint, in the step of that run
+  taken : (job initiator before step : ℕ) (id : Name) (deck : Option Job) (points : List PointView) (old new : List RunningStepView) → follows layout tables (Selected job initiator (suc before) step (Some id)) deck ≡ true
+      → KnowsItsPoint (Selected job initiator (suc before) step (Some id)) tables points → AllByRecursion (IsRunningOf tables) old
+      → StepGoesBack (find (is_point_of job) points) job (after_event (Selected job initiator (suc before) step (Some id)) deck tables) old new
+      → AllByRecursion (IsRunningOf (after_event (Selected job initiator (suc before) step (Some id)) deck tables)) new
+  taken job initiator before step id deck points old new follow knows all goes =
+      let after : TablesModel = after_event (Selected job initiator (suc before) step (Some id)) deck tables in
+      let over = is-taken layout tables job initiator before step id deck numbered follow in
+      let others : AllByRecursion (IsRunningOf after) (without_run job old) =
+      each-without_run (IsRunningOf tables) (IsRunningOf after) job old
+      (λ on apart is. running-other tables after job (continued-goes layout tables numbered placed are job initiator before step (Some id) deck follow) rows numbered placed are on is apart) all in
+      again-cases after job over.next over.owned points old new over.next_at over.found goes
+      (λ gone. subst (AllByRecursion (IsRunningOf after)) (sym gone) others)
+      (λ point is new_one.
+      let has = knows over.row over.owned over.row_at over.was in
+      let program = ap (λ (p : PointView). program_of p.state) (some-one point has.point (find (is_point_of job) points) is has.found) ∙ has.program in
+      subst (AllByRecursion (IsRunningOf after)) (sym new_one.starts.first) (
+        running-again after job over.next over.owned point old new over.next_at new_one.state over.within over.found program new_one.has new_one.starts,
+        others,
+      ))
+
+  -- none of a run that is selected is running before
+  selected : (job initiator earlier step : ℕ) (id : Option Name) (deck : Option Job) (old : List RunningStepView) → follows layout tables (Selected job initiator earlier step id) deck ≡ true
+      → AllByRecursion (IsRunningOf tables) old → AllByRecursion (IsRunningOf (after_event (Selected job initiator earlier step id) deck tables)) old
+  selected job initiator earlier step id deck old follow all =
+      all-steps (Selected job initiator earlier step id) deck refl follow
       (λ on here is.
       tested-run tables job (selected_follows layout tables initiator earlier step id) follow
       (λ row at passes.
       not_queued job on here is row at
-      (and-first (is_in_state Queued row) (is_free layout tables initiator) (and-first (is_in_state Queued row && is_free layout tables initiator) (may_hold tables row) (and-first (is_in_state Queued row && is_free layout tables initiator && may_hold tables row) _ passes))))) old all)
-  stay (Started job step items) deck points old new plain follow holders all known commits goes =
+      (and-first (is_in_state Queued row) (is_free layout tables initiator) (and-first (is_in_state Queued row && is_free layout tables initiator) (may_hold tables row) (and-first (is_in_state Queued row && is_free layout tables initiator && may_hold tables row) _ passes))))) old all
+
+  stay : (event : Event) (deck : Option Job) (points : List PointView) (old new : List RunningStepView) → follows layout tables event deck ≡ true → AreHolders (after_event event deck tables) → AllByRecursion (IsRunningOf tables) old → HavePoints tables points
+      → KnowsItsPoint event tables points → CommitsItsOwn event tables old → GoesOn event (after_event event deck tables) points old new → AllByRecursion (IsRunningOf (after_event event deck tables)) new
+  stay (Submitted job cards) None points old new follow holders all known knows commits goes = subst (AllByRecursion (IsRunningOf tables)) (sym goes) all
+  stay (Submitted job cards) (Some deck) points old new follow holders all known knows commits goes =
+      subst (AllByRecursion (IsRunningOf (after_submitted job deck tables))) (sym goes)
+      (each-implies (IsRunningOf tables) (IsRunningOf (after_submitted job deck tables)) old (submitted job deck) all)
+  stay (Selected job initiator (suc before) step (Some id)) deck points old new follow holders all known knows commits goes = taken job initiator before step id deck points old new follow knows all goes
+  stay (Selected job initiator (suc before) step None) deck points old new follow holders all known knows commits goes =
+      subst (AllByRecursion (IsRunningOf (after_event (Selected job initiator (suc before) step None) deck tables))) (sym goes) (selected job initiator (suc before) step None deck old follow all)
+  stay (Selected job initiator zero step id) deck points old new follow holders all known knows commits goes =
+      subst (AllByRecursion (IsRunningOf (after_event (Selected job initiator zero step id) deck tables))) (sym goes) (selected job initiator zero step id deck old follow all)
+  stay (Denied job rule name) deck points old new follow holders all known knows commits goes =
+      subst (AllByRecursion (IsRunningOf (after_event (Denied job rule name) deck tables))) (sym goes)
+      (all-steps (Denied job rule name) deck refl follow
+      (λ on here is.
+      tested-run tables job (λ row. is_in_state Queued row && is_some row.deck.restart) follow (λ row at passes. not_queued job on here is row at (and-first (is_in_state Queued row) _ passes))) old all)
+  stay (Started job step items) deck points old new follow holders all known knows commits goes =
       tested-run tables job (started_follows layout tables step items.items) follow
       (λ row at passes.
       by-row (StartsWell job step old new) tables job (λ row. option_map_or (λ owned. after_started row owned step items.items tables) (step_of_run row step) tables) row at
       (started job step items.items old new row at passes) goes holders
-      (each-without_run (IsRunningOf tables) (IsRunningOf (after_event (Started job step items) deck tables)) job old (other-steps (Started job step items) deck plain refl follow) all))
-  stay (Rewritten job taken writes lengths place image) deck points old new plain follow holders all known commits goes =
+      (each-without_run (IsRunningOf tables) (IsRunningOf (after_event (Started job step items) deck tables)) job old (other-steps (Started job step items) deck refl follow) all))
+  stay (Rewritten job taken writes lengths place image) deck points old new follow holders all known knows commits goes =
       subst (AllByRecursion (IsRunningOf (after_event (Rewritten job taken writes lengths place image) deck tables))) (sym goes)
       (each-both (IsRunningOf tables) (IsRunningOf (after_event (Rewritten job taken writes lengths place image) deck tables)) (IsCommitted job lengths.items tables) old
       (λ on is up.
       number-cases on.run job
       (λ here. rewritten job taken writes lengths place image deck follow on here is up)
-      (λ apart. other-steps (Rewritten job taken writes lengths place image) deck plain refl follow on apart is)) all commits)
-  stay (Checkpointed job id taken writes lengths place bytes) deck points old new plain follow holders all known commits goes = entered job taken writes place bytes id lengths deck follow old all commits.0 commits.1 new goes
-  stay (Cancelled job) deck points old new plain follow holders all known commits goes =
+      (λ apart. other-steps (Rewritten job taken writes lengths place image) deck refl follow on apart is)) all commits)
+  stay (Checkpointed job id taken writes lengths place bytes) deck points old new follow holders all known knows commits goes = entered job taken writes place bytes id lengths deck follow old all commits.0 commits.1 new goes
+  stay (Cancelled job) deck points old new follow holders all known knows commits goes =
       subst (AllByRecursion (IsRunningOf (after_event (Cancelled job) deck tables))) (sym goes) (served job deck old follow all)
-  stay (StepEnded job step rc writes lengths) deck points old new plain follow holders all known commits goes =
+  stay (StepEnded job step rc writes lengths) deck points old new follow holders all known knows commits goes =
       subst (AllByRecursion (IsRunningOf (after_event (StepEnded job step rc writes lengths) deck tables))) (sym goes)
-      (each-without_run (IsRunningOf tables) (IsRunningOf (after_event (StepEnded job step rc writes lengths) deck tables)) job old (other-steps (StepEnded job step rc writes lengths) deck plain refl follow) all)
-  stay (Restarted job initiator code true) deck points old new plain follow holders all known commits goes =
+      (each-without_run (IsRunningOf tables) (IsRunningOf (after_event (StepEnded job step rc writes lengths) deck tables)) job old (other-steps (StepEnded job step rc writes lengths) deck refl follow) all)
+  stay (Restarted job initiator code true) deck points old new follow holders all known knows commits goes =
       again job initiator code deck points old new follow known goes
-      (each-without_run (IsRunningOf tables) (IsRunningOf (after_event (Restarted job initiator code true) deck tables)) job old (other-steps (Restarted job initiator code true) deck plain refl follow) all)
-  stay (Restarted job initiator code false) deck points old new plain follow holders all known commits goes =
+      (each-without_run (IsRunningOf tables) (IsRunningOf (after_event (Restarted job initiator code true) deck tables)) job old (other-steps (Restarted job initiator code true) deck refl follow) all)
+  stay (Restarted job initiator code false) deck points old new follow holders all known knows commits goes =
       subst (AllByRecursion (IsRunningOf (after_event (Restarted job initiator code false) deck tables))) (sym goes)
-      (each-without_run (IsRunningOf tables) (IsRunningOf (after_event (Restarted job initiator code false) deck tables)) job old (other-steps (Restarted job initiator code false) deck plain refl follow) all)
-  stay (Held job code writes lengths) deck points old new plain follow holders all known commits goes =
+      (each-without_run (IsRunningOf tables) (IsRunningOf (after_event (Restarted job initiator code false) deck tables)) job old (other-steps (Restarted job initiator code false) deck refl follow) all)
+  stay (Held job code writes lengths) deck points old new follow holders all known knows commits goes =
       subst (AllByRecursion (IsRunningOf (after_event (Held job code writes lengths) deck tables))) (sym goes)
-      (each-without_run (IsRunningOf tables) (IsRunningOf (after_event (Held job code writes lengths) deck tables)) job old (other-steps (Held job code writes lengths) deck plain refl follow) all)
-  stay (Released job) deck points old new plain follow holders all known commits goes =
+      (each-without_run (IsRunningOf tables) (IsRunningOf (after_event (Held job code writes lengths) deck tables)) job old (other-steps (Held job code writes lengths) deck refl follow) all)
+  stay (Released job) deck points old new follow holders all known knows commits goes =
       subst (AllByRecursion (IsRunningOf (after_event (Released job) deck tables))) (sym goes)
-      (all-steps (Released job) deck plain refl follow
+      (all-steps (Released job) deck refl follow
       (λ on here is. tested-run tables job (is_in_state HeldRun) follow (λ row at held. not_held job on here is row at held)) old all)
-  stay (Ended job ending) deck points old new plain follow holders all known commits goes =
+  stay (Ended job ending) deck points old new follow holders all known knows commits goes =
       subst (AllByRecursion (IsRunningOf (after_event (Ended job ending) deck tables))) (sym goes)
-      (each-without_run (IsRunningOf tables) (IsRunningOf (after_event (Ended job ending) deck tables)) job old (other-steps (Ended job ending) deck plain refl follow) all)
-  stay (Purged job) deck points old new plain follow holders all known commits goes =
+      (each-without_run (IsRunningOf tables) (IsRunningOf (after_event (Ended job ending) deck tables)) job old (other-steps (Ended job ending) deck refl follow) all)
+  stay (Purged job) deck points old new follow holders all known knows commits goes =
       subst (AllByRecursion (IsRunningOf (after_event (Purged job) deck tables))) (sym goes)
-      (all-steps (Purged job) deck plain refl follow
+      (all-steps (Purged job) deck refl follow
       (λ on here is. tested-run tables job (is_in_state Queued) follow (λ row at queued. not_queued job on here is row at queued)) old all)
-  stay _ deck points old new plain follow holders all known commits goes = absurd (false≢true plain)
 
 -- the running steps stay those of their runs
-pub running-stay : (layout : Layout) (tables : TablesModel) (event : Event) (deck : Option Job) (points : List PointView) (old new : List RunningStepView) → AreHolders tables → AllByRecursion IsAcceptedRow tables.runs → AreNumbered 1 tables.runs → AllByRecursion IsPlacedRow tables.runs → IsAnyAccepted event deck → MaySubmit event deck → is_forward_event event ≡ true → follows layout tables event deck ≡ true
-    → AllByRecursion (IsRunningOf tables) old → HavePoints tables points → CommitsItsOwn event tables old → GoesOn event (after_event event deck tables) points old new → AllByRecursion (IsRunningOf (after_event event deck tables)) new
-running-stay layout tables event deck points old new are rows numbered placed accepted may plain follow all known commits goes =
-    stay layout tables are rows numbered placed event deck points old new plain follow (holders-stay layout tables event deck are rows numbered placed accepted may follow) all known commits goes
+pub running-stay : (layout : Layout) (tables : TablesModel) (event : Event) (deck : Option Job) (points : List PointView) (old new : List RunningStepView) → AreHolders tables → AllByRecursion IsAcceptedRow tables.runs → AreNumbered 1 tables.runs → AllByRecursion IsPlacedRow tables.runs → IsAnyAccepted event deck → MaySubmit event deck → follows layout tables event deck ≡ true
+    → AllByRecursion (IsRunningOf tables) old → HavePoints tables points → KnowsItsPoint event tables points → CommitsItsOwn event tables old → GoesOn event (after_event event deck tables) points old new → AllByRecursion (IsRunningOf (after_event event deck tables)) new
+running-stay layout tables event deck points old new are rows numbered placed accepted may follow all known knows commits goes =
+    stay layout tables are rows numbered placed event deck points old new follow (holders-stay layout tables event deck are rows numbered placed accepted may follow) all known knows commits goes

@@ -17,6 +17,7 @@ use Rattle.ckr_points.specs.Payload.{is_orderly}
 use Rattle.ckr_points.specs.RuleCases.{is_ended}
 use Rattle.ckr_points.specs.Rows.{RunRow, TablesModel, run_of}
 use Rattle.ckr_points.specs.Tables.{after_submitted, queued_run}
+use Rattle.ckr_desk_turn.proofs.AdmittedSteps.{queued-admitted}
 use Rattle.ckr_desk_turn.proofs.OrderlyDecks.{deck-orderly}
 use Rattle.ckr_points_invariant.specs.JobNames.{AreKin, IsKin}
 use Rattle.ckr_points_invariant.proofs.Continuations.ReachedNames.OwnSteps.{owner-is}
@@ -25,7 +26,7 @@ use Rattle.ckr_points_invariant.proofs.Holders.JobNames.{KeepsJobNames, has_ende
 use Rattle.ckr_points_tables.specs.Invariant.{IsAnySubmittable, is_submittable}
 use Rattle.ckr_volumes.specs.declared.layout.Layout.{Layout}
 use Rattle.ckr_desk_memory.proofs.Holders.Moves.{each-entry, own-kin}
-use Rattle.ckr_desk_memory.specs.Holders.{AreHolders, AreOfDeck, HasStartPassed, IsOwnEntry, KeepsOwnEntries, PassesOnOwn}
+use Rattle.ckr_desk_memory.specs.Holders.{AreHolders, AreOfDeck, HasStartPassed, HasStepNames, IsNamedEntry, IsOwnEntry, KeepsOwnEntries, PassesOnOwn}
 use Rattle.ckr_desk_memory.specs.Invariant.{IsAcceptedDeck, IsAcceptedRow}
 
 last_row : (runs : List RunRow) (row : RunRow) → slice_get (runs ++ row ∷ []) (length runs) ≡ Some row
@@ -53,7 +54,7 @@ row-before tables job deck (suc place) row at new old =
     (λ apart. old (sym (front_row tables.runs (queued_run job deck) place apart) ∙ at))
 
 -- a run that was submitted holds nothing
-module _ (tables : TablesModel) (deck : Job) (job : ℕ) (next : job ≡ suc (length tables.runs)) (orderly : is_orderly job deck ≡ true) (are : AreHolders tables) where
+module _ (tables : TablesModel) (deck : Job) (job : ℕ) (next : job ≡ suc (length tables.runs)) (orderly : is_orderly job deck ≡ true) (titled : HasStepNames (queued_run job deck)) (are : AreHolders tables) where
   abbrev more : TablesModel
   more = after_submitted job deck tables
 
@@ -99,7 +100,7 @@ module _ (tables : TablesModel) (deck : Job) (job : ℕ) (next : job ≡ suc (le
   -- no entry is of the new run
   none-yet : KeepsOwnEntries more.sets new_run
   none-yet =
-      each-entry (λ set entry. is_some (run_of tables entry.point.run) ≡ true) (λ set entry. entry.point.run ≡ job → IsOwnEntry new_run set entry.point) tables.sets
+      each-entry (λ set entry. is_some (run_of tables entry.point.run) ≡ true) (λ set entry. entry.point.run ≡ job → IsOwnEntry new_run set entry.point × IsNamedEntry new_run entry) tables.sets
       (λ set entry there run.
       is_some-true (run_of tables entry.point.run) there
       (λ row at.
@@ -120,6 +121,7 @@ module _ (tables : TablesModel) (deck : Job) (job : ℕ) (next : job ≡ suc (le
         (λ new.
         subst (AreOfDeck more) new (λ name own. (job, deck-named deck job job name (ap (λ names. is_among names name) (sym (names-owned job job deck deck.steps)) ∙ own), itself)))
         (λ old. named-more row (are.named number row old));
+    steps = λ number row at. one_of number row at (λ new. subst HasStepNames new titled) (are.steps number row);
     apart = λ one other row next here there apart mine theirs.
         one_of one row here
         (λ new. no_holder row new mine)
@@ -144,4 +146,5 @@ submitted-orderly job deck accepted may =
 pub holders-submitted : (layout : Layout) (tables : TablesModel) (job : ℕ) (cards : List ℕ) (deck : Option Job) → AreHolders tables → IsAcceptedDeck job deck → IsAnySubmittable job deck → follows layout tables (Submitted job cards) deck ≡ true
     → AreHolders (option_map_or (λ deck. after_submitted job deck tables) deck tables)
 holders-submitted layout tables job cards None are accepted may follow = are
-holders-submitted layout tables job cards (Some deck) are accepted may follow = holders-more tables deck job (submitted-next layout tables job cards deck follow) (submitted-orderly job deck accepted may) are
+holders-submitted layout tables job cards (Some deck) are accepted may follow = holders-more tables deck job (submitted-next layout tables job cards deck follow) (submitted-orderly job deck accepted may)
+    (queued-admitted accepted.cards job deck accepted.accepted).named are

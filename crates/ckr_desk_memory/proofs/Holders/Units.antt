@@ -1,10 +1,9 @@
 -- A unit of its work leaves a running step that of its run: it goes on in its program, its outputs grow, and what it updates stays as long.
-use Rattle.std.proofs.Common.{◌≡◌, ℕ, zero, suc, Bool, true, false, cond, List, [], ◌∷◌, map, refl, ap, sym, ◌∙◌, subst, Option, Some, None, arith}
+use Rattle.std.proofs.Common.{◌≡◌, ℕ, Bool, true, false, cond, List, [], ◌∷◌, refl, ap, sym, ◌∙◌, subst, Option, Some, None, arith}
 use Rattle.std.specs.Prelude.{find, option_and_then, slice_get}
 use Rattle.std.specs.List.{AllByRecursion}
 use Rattle.std.specs.Option.{option_map}
 use Rattle.std.proofs.lemmas.Bool.{false≢true}
-use Rattle.std.proofs.lemmas.Option.{same_Some, slice_get-map}
 use Rattle.ckr_base.proofs.Bools.{bool-cases}
 use Rattle.ckr_base.proofs.Options.{some-not-none}
 use Rattle.ckr_base.specs.declared.programs.Heads.{Heads}
@@ -14,13 +13,11 @@ use Rattle.ckr_base.specs.declared.programs.Write.{Write}
 use Rattle.ckr_entry.specs.declared.point.State.{State}
 use Rattle.ckr_entry.specs.declared.point.State.TheVariants.{Matched, Plain}
 use Rattle.ckr_jcl.specs.declared.deck.Dd.{Dd}
-use Rattle.ckr_jcl.specs.declared.deck.Job.{Job}
 use Rattle.ckr_jcl.specs.Programs.{names_written}
 use Rattle.ckr_uses.specs.SetNames.{library_name}
 use Rattle.ckr_jcl.specs.declared.deck.Kind.{Kind}
 use Rattle.ckr_jcl.specs.declared.deck.Kind.TheVariants.{Br14, Copy, Master, Merge, Print, Select, Update}
 use Rattle.ckr_jcl.specs.declared.deck.Parm.{Parm}
-use Rattle.ckr_jcl.specs.declared.deck.Step.{Step}
 use Rattle.ckr_library.proofs.Named.{at-with_changed, at-with_changed-other, name-same}
 use Rattle.ckr_library.specs.Catalog.{Holding}
 use Rattle.ckr_library.specs.NameMaps.{Name, Named, entry_at, same_name}
@@ -30,12 +27,12 @@ use Rattle.ckr_match.specs.Images.{keys_of}
 use Rattle.ckr_match.specs.Steps as matched_steps
 use Rattle.ckr_match.specs.declared.state.MatchState.{MatchState}
 use Rattle.ckr_match.specs.declared.steps.RecordStep.{RecordStep}
-use Rattle.ckr_meaning.specs.EffectiveJob.{Effective, OwnedStep, is_among, owned_by, plain_job, step_at}
+use Rattle.ckr_meaning.specs.EffectiveJob.{OwnedStep, is_among}
 use Rattle.ckr_meaning.specs.StepRun.{StepStart, main_names, rejects_dd}
 use Rattle.ckr_points.specs.Follows.{is_update}
 use Rattle.ckr_points.specs.Payload.{is_formed_step}
 use Rattle.ckr_points.specs.Restart.{place_of, step_in}
-use Rattle.ckr_points.specs.Rows.{RunRow, TableSet, TablesModel, run_of, step_of_run}
+use Rattle.ckr_points.specs.Rows.{TableSet, TablesModel, run_of}
 use Rattle.ckr_points.specs.Tables.{is_updates, name_with_role}
 use Rattle.ckr_points_invariant.proofs.Writes.Roles.{chained, is_right, target-among}
 use Rattle.ckr_points_library.specs.Commit.{output_names}
@@ -49,8 +46,8 @@ use Rattle.ckr_steps.specs.Writes.{end_set, grown, grown_in, longer}
 use Rattle.ckr_steps.specs.declared.files.Files.{Files}
 use Rattle.ckr_steps.specs.declared.step_run.StepRun.{StepRun}
 use Rattle.ckr_steps.specs.declared.step_run.Worked.{Worked}
-use Rattle.ckr_desk_memory.proofs.Holders.Moves.{row-accepted, row-number}
-use Rattle.ckr_desk_memory.proofs.Holders.Names.{plain-job, step-formed}
+use Rattle.ckr_desk_memory.proofs.Holders.Moves.{row-accepted}
+use Rattle.ckr_desk_memory.proofs.Holders.Names.{step-formed}
 use Rattle.ckr_desk_memory.proofs.Holders.Masters.{updated-not_output}
 use Rattle.ckr_desk_memory.specs.Invariant.{IsAcceptedRow}
 use Rattle.ckr_desk_memory.specs.View.{RunningStepView}
@@ -133,44 +130,28 @@ update-is Update e = refl
 update-is Print e = absurd (false≢true e)
 update-is Br14 e = absurd (false≢true e)
 
-owner_at : (run : ℕ) (deck : Job) (place : ℕ) (owned : OwnedStep) → slice_get (map (owned_by run deck) deck.steps) place ≡ Some owned → owned.owner ≡ run
-owner_at run deck place owned found =
-    by (slice_get deck.steps place) (sym (slice_get-map (owned_by run deck) deck.steps place) ∙ found)
-  where
-    by : (step : Option Step) → option_map (owned_by run deck) step ≡ Some owned → owned.owner ≡ run
-    by None e = absurd (some-not-none owned (sym e))
-    by (Some step) e = ap (λ (o : OwnedStep). o.owner) (sym (same_Some (owned_by run deck step) owned e))
-
-step_owner : (run : ℕ) (deck : Job) (number : ℕ) (owned : OwnedStep) → step_at (plain_job run deck) number ≡ Some owned → owned.owner ≡ run
-step_owner run deck zero owned found = absurd (some-not-none owned (sym found))
-step_owner run deck (suc place) owned found = owner_at run deck place owned found
-
--- a run that continues none owns each of its steps
-pub step-owner : (row : RunRow) (number : ℕ) (owned : OwnedStep) → IsAcceptedRow row → step_of_run row number ≡ Some owned → owned.owner ≡ row.number
-step-owner row number owned accepted found = step_owner row.number row.deck number owned (ap (λ job. step_at job number) (sym (plain-job row accepted)) ∙ found)
-
-module _ (run : ℕ) (owned : OwnedStep) (formed : is_formed_step run owned ≡ true) (updates : is_update owned.step.program ≡ true) (owner : owned.owner ≡ run) where
+module _ (run : ℕ) (owned : OwnedStep) (formed : is_formed_step run owned ≡ true) (updates : is_update owned.step.program ≡ true) where
   abbrev the_start : StepStart
   the_start = record { root = run; owned = owned; number = 0; standing = record { sets = []; passed = [] }; earlier = [] }
 
-  main_none : (files_of run run owned.step).main ≡ None
+  main_none : (files_of run owned.owner owned.step).main ≡ None
   unfolding files_of
-  main_none = ap (λ program. set_in run run owned.step (option_and_then (dd_in owned.step) (slice_get (main_names program) 0))) (update-is owned.step.program updates)
+  main_none = ap (λ program. set_in run owned.owner owned.step (option_and_then (dd_in owned.step) (slice_get (main_names program) 0))) (update-is owned.step.program updates)
 
-  rejects_so : (other : Name) → (files_of run run owned.step).rejects ≡ Some other → is_among (output_names run owned) other ≡ true
+  rejects_so : (other : Name) → (files_of run owned.owner owned.step).rejects ≡ Some other → is_among (output_names run owned) other ≡ true
   unfolding files_of
   rejects_so other e =
-      let one = chained (λ (dd : Dd). library_name dd run run owned.step.name) (dd_of_rejects owned.step) other e in
+      let one = chained (λ (dd : Dd). library_name dd run owned.owner owned.step.name) (dd_of_rejects owned.step) other e in
       target-among the_start Rejects other one.0 formed
       (ap (λ program. is_right program Rejects) (update-is owned.step.program updates)) refl
       (record {
         dd_name = rejects_dd;
         named = refl;
         found = sym (ap (λ program. option_and_then (dd_in owned.step) (find (same_name rejects_dd) (names_written program))) (update-is owned.step.program updates)) ∙ one.1;
-        has = ap (λ n. library_name one.0 run n owned.step.name) owner ∙ one.2;
+        has = one.2;
       })
 
-  updated-elsewhere : GoesElsewhere (files_of run run owned.step) (name_with_role run owned is_updates)
+  updated-elsewhere : GoesElsewhere (files_of run owned.owner owned.step) (name_with_role run owned is_updates)
   updated-elsewhere Main other e = absurd (some-not-none other (sym e ∙ main_none))
   updated-elsewhere Rejects other e =
       bool-cases (same_name (name_with_role run owned is_updates) other)
@@ -192,7 +173,7 @@ running-unit tables old new heads worked rows numbered same done is = record {
   found = is.found;
   program = ap (λ (step : StepRun). program_of step.state) done.step ∙ program_stays old.step.parm old.step.state heads ∙ is.program;
   parm = ap (λ (step : StepRun). step.parm) done.step ∙ is.parm;
-  files = ap (λ (step : StepRun). step.files) done.step ∙ is.files ∙ ap (λ n. files_of n n is.owned.step) (sym same);
+  files = ap (λ (step : StepRun). step.files) done.step ∙ is.files;
   changed = λ name among.
       subst (λ sets. AreCopies (entry_at tables.sets name) (own_set sets name)) (sym done.lengths)
       (copies_grown (entry_at tables.sets name) old.step.files (done_for old.sets old.step heads) old.sets.sets name (is.changed name among));
@@ -208,18 +189,7 @@ running-unit tables old new heads worked rows numbered same done is = record {
     accepted : IsAcceptedRow is.row
     accepted = row-accepted tables old.run is.row rows is.row_at
 
-    number : is.row.number ≡ old.run
-    number = row-number tables old.run is.row numbered is.row_at
-
-    root : is.row.job.root ≡ old.run
-    root = ap (λ (job : Effective). job.root) (plain-job is.row accepted) ∙ number
-
-    owner : is.owned.owner ≡ old.run
-    owner = step-owner is.row (step_in (place_of is.row)) is.owned accepted is.found ∙ number
-
     elsewhere : (updates : is_update is.owned.step.program ≡ true) → GoesElsewhere old.step.files (name_with_role is.row.job.root is.owned is_updates)
     elsewhere updates =
         subst (λ files. GoesElsewhere files (name_with_role is.row.job.root is.owned is_updates)) (sym is.files)
-        (subst (λ n. GoesElsewhere (files_of old.run old.run is.owned.step) (name_with_role n is.owned is_updates)) (sym root)
-        (updated-elsewhere old.run is.owned
-        (ap (λ n. is_formed_step n is.owned) (sym root) ∙ step-formed is.row (step_in (place_of is.row)) is.owned accepted is.found) updates owner))
+        (updated-elsewhere is.row.job.root is.owned (step-formed is.row (step_in (place_of is.row)) is.owned accepted is.found) updates)

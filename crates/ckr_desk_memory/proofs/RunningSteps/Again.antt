@@ -115,22 +115,23 @@ is-back layout tables job initiator code deck numbered placed follow =
 -- its run is on its initiator, and it goes on from its point, with the data sets that the tables have
 pub record IsOnAgain (after : TablesModel) (job : ℕ) (next : RunRow) (owned : OwnedStep) (point : PointView) (old new : List RunningStepView) : Type 0 where
   pub state : next.state ≡ On
-  pub has : has_sets after.sets (names_of job owned) ≡ true
-  pub starts : HasNew job owned (resumed job owned.step point) after.sets old new
+  pub has : has_sets after.sets (names_of next.job.root owned) ≡ true
+  pub starts : HasNew job next.job.root owned (resumed next.job.root owned point) after.sets old new
 
 -- so it is, or no step of the run is running
-pub again-cases : {A : Type 0} (tables after : TablesModel) (job : ℕ) (points : List PointView) (old new : List RunningStepView) (back : IsBack tables after job) → StepGoesBack (find (is_point_of job) points) job after old new
-    → (new ≡ without_run job old → A) → ((point : PointView) → find (is_point_of job) points ≡ Some point → IsOnAgain after job back.next back.owned point old new → A) → A
-again-cases {A = A} tables after job points old new back goes gone again = by (find (is_point_of job) points) refl goes
+pub again-cases : {A : Type 0} (after : TablesModel) (job : ℕ) (next : RunRow) (owned : OwnedStep) (points : List PointView) (old new : List RunningStepView) → run_of after job ≡ Some next → own_step next ≡ Some owned
+    → StepGoesBack (find (is_point_of job) points) job after old new
+    → (new ≡ without_run job old → A) → ((point : PointView) → find (is_point_of job) points ≡ Some point → IsOnAgain after job next owned point old new → A) → A
+again-cases {A = A} after job next owned points old new next_at found goes gone again = by (find (is_point_of job) points) refl goes
   where
     by : (found : Option PointView) → find (is_point_of job) points ≡ found → StepGoesBack found job after old new → A
     by None is goes = gone goes
-    by (Some point) is goes = sets (may_go_back after job back.owned back.next) refl (goes back.next back.owned back.next_at back.found)
+    by (Some point) is goes = sets (may_go_back after owned next) refl (goes next owned next_at found)
       where
-        sets : (goes_on : Bool) → may_go_back after job back.owned back.next ≡ goes_on → GoesFrom goes_on job back.owned point after old new → A
+        sets : (goes_on : Bool) → may_go_back after owned next ≡ goes_on → GoesFrom goes_on job next.job.root owned point after old new → A
         sets true may starts = again point is (record {
-          state = on-is back.next.state (and-first (is_in_state On back.next) _ may);
-          has = and-second (is_in_state On back.next) _ may;
+          state = on-is next.state (and-first (is_in_state On next) _ may);
+          has = and-second (is_in_state On next) _ may;
           starts = starts;
         })
         sets false lacks leaves = gone leaves

@@ -10,34 +10,36 @@ use Rattle.ckr_base.proofs.Options.{some-not-none, some-one}
 use Rattle.ckr_base.specs.declared.code.Code.{Code}
 use Rattle.arrayvec.specs.ArrayVec.{ArrayVec}
 use Rattle.ckr_events.specs.declared.event.Event.{Event}
-use Rattle.ckr_events.specs.declared.event.Event.TheVariants.{Started, Checkpointed, Cancelled, StepEnded, Restarted, Held, Ended}
+use Rattle.ckr_events.specs.declared.event.Event.TheVariants.{Selected, Started, Checkpointed, Cancelled, StepEnded, Restarted, Held, Ended}
 use Rattle.ckr_events.specs.declared.event.Made.{Made}
 use Rattle.ckr_jcl.specs.declared.deck.Job.{Job}
 use Rattle.ckr_library.specs.Catalog.{records_of}
 use Rattle.ckr_library.specs.NameMaps.{Name}
-use Rattle.ckr_meaning.specs.EffectiveJob.{OwnedStep, flaws_in, names_of, placed_in, stamp_of, step_at}
+use Rattle.ckr_meaning.specs.EffectiveJob.{Effective, OwnedStep, flaws_in, names_of, placed_in, stamp_of, step_at}
 use Rattle.ckr_volumes.specs.declared.layout.Layout.{Layout}
 use Rattle.ckr_points.specs.declared.run.RunState.TheVariants.{On, Released}
-use Rattle.ckr_points.specs.Follows.{are_items, follows, is_empty, is_free, is_in_state, is_running, may_restart_again, may_start, own_step, started_follows}
+use Rattle.ckr_points.specs.Follows.{are_items, follows, is_empty, is_free, is_in_state, is_running, may_restart_again, may_start, own_step, selected_follows, started_follows}
 use Rattle.ckr_points.specs.Restart.{after_event, place_of, step_in}
 use Rattle.ckr_points.specs.Rows.{RunRow, TablesModel, holding_of, run_of, standing_of, step_of_run, table_ways}
 use Rattle.ckr_points.specs.Soundness.{AreLaidOut}
 use Rattle.ckr_steps.specs.StepUnit.{AreCounted}
-use Rattle.ckr_desk_memory.specs.ForwardEvents.{is_forward_event}
 use Rattle.ckr_points_tables.specs.View.{seen_by}
 use Rattle.ckr_desk_turn.specs.Queue.{AreNumbered}
 use Rattle.ckr_desk_memory.specs.declared.jobs.RunningStep.{RunningStep}
 use Rattle.ckr_desk_memory.specs.EventChanges.{check_name_in, is_point_of}
-use Rattle.ckr_desk_memory.specs.RunningSteps.{GoesOn, IsStartedFrom, MayGoBack, MayRun}
+use Rattle.ckr_desk_memory.specs.RunningSteps.{GoesOn, IsStartedFrom, MayGoBack, MayRun, StepGoesBack}
 use Rattle.ckr_desk_memory.specs.Invariant.{AreJobs, IsAcceptedRow, IsAnyAccepted, IsPlacedRow, IsRunnable}
-use Rattle.ckr_desk_memory.specs.Preparation.{HasAgain, HasStarted, HasStep, IsEmpty, StandsEmpty}
-use Rattle.ckr_desk_memory.specs.View.{JobsView, PointView, RunningStepView, resumed}
+use Rattle.ckr_desk_memory.specs.Preparation.{HasAgain, HasStarted, HasStep, HasTaken, IsEmpty, IsResumed, StandsEmpty}
+use Rattle.ckr_desk_memory.specs.Start.{HasNew, has_sets}
+use Rattle.ckr_desk_memory.specs.View.{JobsView, PointView, RunningStepView, begun as at_first, resumed}
 use Rattle.ckr_desk_memory.proofs.RunningSteps.Again.{again-cases, is-back}
-use Rattle.ckr_desk_memory.proofs.Invariant.{accepted-behind, all-filtered, numbered-behind, placed-behind}
+use Rattle.ckr_desk_memory.proofs.AcceptedRuns.{accepted-behind}
+use Rattle.ckr_desk_memory.proofs.Invariant.{all-filtered, numbered-behind, placed-behind}
 use Rattle.ckr_desk_memory.proofs.Extents.{laid-behind}
 use Rattle.ckr_desk_memory.proofs.Queue.{run-there, step-there}
 use Rattle.ckr_desk_memory.proofs.RunningSteps.Entries.{entered-all}
 use Rattle.ckr_desk_memory.proofs.RunningSteps.Served.{served-runnable}
+use Rattle.ckr_desk_memory.proofs.RunningSteps.TakenSteps.{is-taken, taken-accepted, taken-long, taken-numbered}
 use Rattle.ckr_desk_memory.proofs.Runs.{Kind, kind_of, long-stay, runs-stay}
 use Rattle.ckr_desk_memory.proofs.Starts.Names.{has-among}
 use Rattle.ckr_desk_memory.proofs.Starts.Sets.{is-runnable, runnable-at}
@@ -67,7 +69,8 @@ same_step one other step owned same at = ap (λ (k : Kind). step_at k.2 step) sa
 step_behind : (one other : TablesModel) → map kind_of one.runs ≡ map kind_of other.runs → (job step : ℕ) (begun : Option RunningStep) → HasStep other job step begun → HasStep one job step begun
 step_behind one other same job step begun has = λ row owned at there.
     let its = same_row_in other one (sym same) job row at in
-    has its.next owned its.at (same_step its.next row step owned its.same there)
+    subst (λ root. (on : RunningStep) × (begun ≡ Some on) × StandsEmpty job (at_first root owned) on) (ap (λ (k : Kind). k.2.root) its.same)
+    (has its.next owned its.at (same_step its.next row step owned its.same there))
 
 row_within : (tables : TablesModel) (job : ℕ) (row : RunRow) → run_of tables job ≡ Some row → job ≤ length tables.runs
 row_within tables zero row at = absurd (some-not-none row (sym at))
@@ -94,9 +97,9 @@ module _ (layout : Layout) (old : TablesModel) (numbered : AreNumbered 1 old.run
         few = omega arith;
         empty = empty;
         prepared = step_behind (after_event (Started job step items) deck old) old same job step begun has;
-        rows = accepted-behind old (Started job step items) deck numbered refl tt rows;
-        numbered = numbered-behind layout old (Started job step items) deck refl follow numbered;
-        fit = all-fit layout (after_event (Started job step items) deck old).sets (seen_by holding_of (after_event (Started job step items) deck old).sets) (laid-behind layout old laid (Started job step items) deck refl follow) refl;
+        rows = accepted-behind layout old (Started job step items) deck numbered tt follow rows;
+        numbered = numbered-behind layout old (Started job step items) deck follow numbered;
+        fit = all-fit layout (after_event (Started job step items) deck old).sets (seen_by holding_of (after_event (Started job step items) deck old).sets) (laid-behind layout old laid (Started job step items) deck follow) refl;
         some = some;
       }
 
@@ -109,9 +112,26 @@ module _ (layout : Layout) (old : TablesModel) (numbered : AreNumbered 1 old.run
         few = subst (λ n. n ≤ 9999999) (sym (long-stay old.runs (after_event (Restarted job initiator code true) deck old).runs (runs-stay old numbered (Restarted job initiator code true) deck refl refl))) few;
         within = omega arith;
         empty = empty;
-        rows = accepted-behind old (Restarted job initiator code true) deck numbered refl tt rows;
-        numbered = numbered-behind layout old (Restarted job initiator code true) deck refl follow numbered;
-        fit = all-fit layout (after_event (Restarted job initiator code true) deck old).sets (seen_by holding_of (after_event (Restarted job initiator code true) deck old).sets) (laid-behind layout old laid (Restarted job initiator code true) deck refl follow) refl;
+        rows = accepted-behind layout old (Restarted job initiator code true) deck numbered tt follow rows;
+        numbered = numbered-behind layout old (Restarted job initiator code true) deck follow numbered;
+        fit = all-fit layout (after_event (Restarted job initiator code true) deck old).sets (seen_by holding_of (after_event (Restarted job initiator code true) deck old).sets) (laid-behind layout old laid (Restarted job initiator code true) deck follow) refl;
+        some = some;
+      }
+
+  selected_may : (job initiator before step : ℕ) (id : Name) (deck : Option Job) (taken : Option RunningStep) (room : ℕ) → follows layout old (Selected job initiator (suc before) step (Some id)) deck ≡ true → length old.runs ≤ 9999999 → IfSome taken (IsEmpty job) → 0 < room
+      → MayGoBack job (after_event (Selected job initiator (suc before) step (Some id)) deck old) taken room
+  selected_may job initiator before step id deck taken room follow few empty some =
+      let after : TablesModel = after_event (Selected job initiator (suc before) step (Some id)) deck old in
+      let there = run-there old job (selected_follows layout old initiator (suc before) step (Some id)) follow in
+      let within = row_within old job there.0 there.1 in
+      let over = is-taken layout old job initiator before step id deck numbered follow in
+      record {
+        few = subst (λ n. n ≤ 9999999) (sym (taken-long layout old after job (suc before) step over)) few;
+        within = omega arith;
+        empty = empty;
+        rows = taken-accepted layout old after job (suc before) step over rows;
+        numbered = taken-numbered layout old after job (suc before) step over numbered;
+        fit = all-fit layout after.sets (seen_by holding_of after.sets) (over.laid laid) refl;
         some = some;
       }
 
@@ -120,17 +140,18 @@ module _ (layout : Layout) (old : TablesModel) (numbered : AreNumbered 1 old.run
   checkpointed_may job taken writes place bytes id lengths deck begun room follow few =
       record {
         few = subst (λ n. n ≤ 9999999) (sym (long-stay old.runs (after_event (Checkpointed job id taken writes lengths place bytes) deck old).runs (runs-stay old numbered (Checkpointed job id taken writes lengths place bytes) deck refl refl))) few;
-        rows = accepted-behind old (Checkpointed job id taken writes lengths place bytes) deck numbered refl tt rows;
-        numbered = numbered-behind layout old (Checkpointed job id taken writes lengths place bytes) deck refl follow numbered;
+        rows = accepted-behind layout old (Checkpointed job id taken writes lengths place bytes) deck numbered tt follow rows;
+        numbered = numbered-behind layout old (Checkpointed job id taken writes lengths place bytes) deck follow numbered;
       }
 
-  may : (event : Event) (deck : Option Job) (begun : Option RunningStep) (jobs : JobsView) → jobs.tables.desk ≡ old → is_forward_event event ≡ true → follows layout old event deck ≡ true → length old.runs ≤ 9999999 → HasStarted event jobs begun → MayRun event (after_event event deck old) begun jobs.running_room
-  may (Started job step items) deck begun jobs is plain follow few has =
+  may : (event : Event) (deck : Option Job) (begun : Option RunningStep) (jobs : JobsView) → jobs.tables.desk ≡ old → follows layout old event deck ≡ true → length old.runs ≤ 9999999 → HasStarted event jobs begun → MayRun event (after_event event deck old) begun jobs.running_room
+  may (Started job step items) deck begun jobs is follow few has =
       started_may job step items deck begun jobs.running_room follow few has.empty (subst (λ t. HasStep t job step begun) is has.step) has.room
-  may (Restarted job initiator code true) deck begun jobs is plain follow few has = restarted_may job initiator code deck begun jobs.running_room follow few has.empty has.room
-  may (Restarted job initiator code false) deck begun jobs is plain follow few has = tt
-  may (Checkpointed job id taken writes lengths place bytes) deck begun jobs is plain follow few has = checkpointed_may job taken writes place bytes id lengths deck begun jobs.running_room follow few
-  may _ deck begun jobs is plain follow few has = tt
+  may (Selected job initiator (suc before) step (Some id)) deck begun jobs is follow few has = selected_may job initiator before step id deck begun jobs.running_room follow few has.empty has.room
+  may (Restarted job initiator code true) deck begun jobs is follow few has = restarted_may job initiator code deck begun jobs.running_room follow few has.empty has.room
+  may (Restarted job initiator code false) deck begun jobs is follow few has = tt
+  may (Checkpointed job id taken writes lengths place bytes) deck begun jobs is follow few has = checkpointed_may job taken writes place bytes id lengths deck begun jobs.running_room follow few
+  may _ deck begun jobs is follow few has = tt
 
   -- ---- the running steps behind it can go on
 
@@ -141,42 +162,79 @@ module _ (layout : Layout) (old : TablesModel) (numbered : AreNumbered 1 old.run
       let after : TablesModel = after_event (Started job step items) deck old in
       let owned = started_step layout old step items.items there.0 there.2 in
       let next = same_row_in after old (runs-stay old numbered (Started job step items) deck refl refl) job there.0 there.1 in
-      let new = goes next.next owned.0 next.at (same_step next.next there.0 step owned.0 next.same owned.1) in
+      let new = subst (λ root. HasNew job root owned.0 (at_first root owned.0) after.sets before now) (ap (λ (k : Kind). k.2.root) next.same) (goes next.next owned.0 next.at (same_step next.next there.0 step owned.0 next.same owned.1)) in
       let prepared = has there.0 owned.0 there.1 owned.1 in
       subst (AllByRecursion (IsRunnable layout)) (sym new.first) (
-        is-runnable layout old job step items deck there.0 owned.0 new.on numbered rows there.1 owned.1 there.2 (laid-behind layout old laid (Started job step items) deck refl follow) new.step
+        is-runnable layout old job step items deck there.0 owned.0 new.on rows there.1 owned.1 there.2 (laid-behind layout old laid (Started job step items) deck follow) new.step
             (subst AreCounted (prepared.2.step ∙ sym new.step) prepared.2.counted) new.sets new.code,
         all-filtered (IsRunnable layout) _ before all,
       )
 
-  -- one that goes on from its run's point
+  -- one that goes on from its run's point, in a step of a run as it was before the event
+  resumed_runnable : (after : TablesModel) (job from number : ℕ) (row next : RunRow) (owned : OwnedStep) (again : Option RunningStep) (points : List PointView) (before now : List RunningStepView) → run_of old from ≡ Some row → step_of_run row number ≡ Some owned
+      → run_of after job ≡ Some next → own_step next ≡ Some owned → next.job.root ≡ row.job.root → AreLaidOut layout after.sets → ((point : PointView) → find (is_point_of job) points ≡ Some point → IsResumed job row.job.root owned point again)
+      → StepGoesBack (find (is_point_of job) points) job after before now → AllByRecursion (IsRunnable layout) before → AllByRecursion (IsRunnable layout) now
+  resumed_runnable after job from number row next owned again points before now row_at was next_at found root stands has goes all =
+      let others = all-filtered (IsRunnable layout) (λ (on : RunningStepView). not (on.run == job)) before all in
+      again-cases after job next owned points before now next_at found goes
+      (λ gone. subst (AllByRecursion (IsRunnable layout)) (sym gone) others)
+      (λ point is new.
+      let starts = subst (λ n. HasNew job n owned (resumed n owned point) after.sets before now) root new.starts in
+      let all_there = subst (λ n. has_sets after.sets (names_of n owned) ≡ true) root new.has in
+      let prepared = has point is in
+      subst (AllByRecursion (IsRunnable layout)) (sym starts.first) (
+        runnable-at layout old from number row owned starts.on after.sets rows row_at was stands
+            (ap (λ (s : StepRun). s.files) starts.step) (subst AreCounted (prepared.2.step ∙ sym starts.step) prepared.2.counted) (λ name among. has-among after.sets (names_of row.job.root owned) name all_there among) starts.sets starts.code,
+        others,
+      ))
+
   again_runnable : (job initiator : ℕ) (code : Code) (deck : Option Job) (again : Option RunningStep) (points : List PointView) (before now : List RunningStepView) → follows layout old (Restarted job initiator code true) deck ≡ true
       → HasAgain (find (is_point_of job) points) old job again → GoesOn (Restarted job initiator code true) (after_event (Restarted job initiator code true) deck old) points before now → AllByRecursion (IsRunnable layout) before → AllByRecursion (IsRunnable layout) now
   again_runnable job initiator code deck again points before now follow has goes all =
       let after : TablesModel = after_event (Restarted job initiator code true) deck old in
-      let others = all-filtered (IsRunnable layout) (λ (on : RunningStepView). not (on.run == job)) before all in
       let back = is-back layout old job initiator code deck numbered placed follow in
-      again-cases old after job points before now back goes
-      (λ gone. subst (AllByRecursion (IsRunnable layout)) (sym gone) others)
-      (λ point is new.
-      let prepared = subst (λ (found : Option PointView). HasAgain found old job again) is has back.row back.owned back.row_at back.was in
-      subst (AllByRecursion (IsRunnable layout)) (sym new.starts.first) (
-        runnable-at layout old job (step_in (place_of back.row)) back.row back.owned new.starts.on after.sets numbered rows back.row_at back.was (laid-behind layout old laid (Restarted job initiator code true) deck refl follow)
-            (ap (λ (s : StepRun). s.files) new.starts.step) (subst AreCounted (prepared.2.step ∙ sym new.starts.step) prepared.2.counted) (λ name among. has-among after.sets (names_of job back.owned) name new.has among) new.starts.sets new.starts.code,
-        others,
-      ))
+      resumed_runnable after job job (step_in (place_of back.row)) back.row back.next back.owned again points before now back.row_at back.was back.next_at back.found (ap (λ (j : Effective). j.root) back.job_is)
+      (laid-behind layout old laid (Restarted job initiator code true) deck follow)
+      (λ point is. subst (λ (found : Option PointView). HasAgain found old job again) is has back.row back.owned back.row_at back.was) goes all
+
+  -- one that goes on in the step of an earlier run
+  taken_runnable : (job initiator before step : ℕ) (id : Name) (deck : Option Job) (taken : Option RunningStep) (points : List PointView) (running now : List RunningStepView) → follows layout old (Selected job initiator (suc before) step (Some id)) deck ≡ true
+      → HasTaken (find (is_point_of job) points) old (suc before) step job taken → GoesOn (Selected job initiator (suc before) step (Some id)) (after_event (Selected job initiator (suc before) step (Some id)) deck old) points running now
+      → AllByRecursion (IsRunnable layout) running → AllByRecursion (IsRunnable layout) now
+  taken_runnable job initiator before step id deck taken points running now follow has goes all =
+      let after : TablesModel = after_event (Selected job initiator (suc before) step (Some id)) deck old in
+      let over = is-taken layout old job initiator before step id deck numbered follow in
+      resumed_runnable after job (suc before) step over.row over.next over.owned taken points running now over.row_at over.was over.next_at over.found over.root (over.laid laid)
+      (λ point is. subst (λ (found : Option PointView). HasTaken found old (suc before) step job taken) is has over.row over.owned over.row_at over.was) goes all
 
   -- the step that goes on is prepared by the tables behind the event too
+  resumed_behind : (after : TablesModel) (job : ℕ) (was next : RunRow) (its : OwnedStep) (point : PointView) (again : Option RunningStep) → run_of after job ≡ Some next → own_step next ≡ Some its → next.job.root ≡ was.job.root
+      → IsResumed job was.job.root its point again → (row : RunRow) (owned : OwnedStep) → run_of after job ≡ Some row → own_step row ≡ Some owned → IsResumed job row.job.root owned point again
+  resumed_behind after job was next its point again next_at is root has row owned at found =
+      let same_row : next ≡ row = some-one next row (run_of after job) next_at at in
+      let same : its ≡ owned = same_Some _ _ (sym is ∙ ap own_step same_row ∙ found) in
+      let same_root : was.job.root ≡ row.job.root = sym root ∙ ap (λ (r : RunRow). r.job.root) same_row in
+      subst (λ n. IsResumed job n owned point again) same_root (subst (λ (o : OwnedStep). IsResumed job was.job.root o point again) same has)
+
   again_behind : (job initiator : ℕ) (code : Code) (deck : Option Job) (again : Option RunningStep) (point : Option PointView) → follows layout old (Restarted job initiator code true) deck ≡ true → HasAgain point old job again
       → HasAgain point (after_event (Restarted job initiator code true) deck old) job again
   again_behind job initiator code deck again None follow has = has
   again_behind job initiator code deck again (Some point) follow has = λ row owned at found.
       let after : TablesModel = after_event (Restarted job initiator code true) deck old in
       let back = is-back layout old job initiator code deck numbered placed follow in
-      let same : back.owned ≡ owned = same_Some _ _ (sym back.found ∙ ap own_step (some-one back.next row (run_of after job) back.next_at at) ∙ found) in
-      subst (λ (o : OwnedStep). (on : RunningStep) × (again ≡ Some on) × StandsEmpty job (resumed job o.step point) on) same (has back.row back.owned back.row_at back.was)
+      resumed_behind after job back.row back.next back.owned point again back.next_at back.found (ap (λ (j : Effective). j.root) back.job_is) (has back.row back.owned back.row_at back.was) row owned at found
+
+  taken_behind : (job initiator before step : ℕ) (id : Name) (deck : Option Job) (taken : Option RunningStep) (point : Option PointView) → follows layout old (Selected job initiator (suc before) step (Some id)) deck ≡ true → HasTaken point old (suc before) step job taken
+      → HasAgain point (after_event (Selected job initiator (suc before) step (Some id)) deck old) job taken
+  taken_behind job initiator before step id deck taken None follow has = has
+  taken_behind job initiator before step id deck taken (Some point) follow has = λ row owned at found.
+      let after : TablesModel = after_event (Selected job initiator (suc before) step (Some id)) deck old in
+      let over = is-taken layout old job initiator before step id deck numbered follow in
+      resumed_behind after job over.row over.next over.owned point taken over.next_at over.found over.root (has over.row over.owned over.row_at over.was) row owned at found
 
   pub started-from : (event : Event) (deck : Option Job) (begun : Option RunningStep) (jobs : JobsView) → jobs.tables.desk ≡ old → follows layout old event deck ≡ true → HasStarted event jobs begun → IsStartedFrom event (after_event event deck old) jobs.points begun
+  started-from (Selected job initiator (suc before) step (Some id)) deck begun jobs is follow has =
+      taken_behind job initiator before step id deck begun (find (is_point_of job) jobs.points) follow (subst (λ t. HasTaken (find (is_point_of job) jobs.points) t (suc before) step job begun) is has.step)
   started-from (Restarted job initiator code true) deck begun jobs is follow has =
       again_behind job initiator code deck begun (find (is_point_of job) jobs.points) follow (subst (λ t. HasAgain (find (is_point_of job) jobs.points) t job begun) is has.step)
   started-from (Restarted job initiator code false) deck begun jobs is follow has = tt
@@ -184,6 +242,8 @@ module _ (layout : Layout) (old : TablesModel) (numbered : AreNumbered 1 old.run
 
   runnable : (event : Event) (deck : Option Job) (begun : Option RunningStep) (jobs : JobsView) (before now : List RunningStepView) → jobs.tables.desk ≡ old → follows layout old event deck ≡ true → HasStarted event jobs begun
       → GoesOn event (after_event event deck old) jobs.points before now → AllByRecursion (IsRunnable layout) before → AllByRecursion (IsRunnable layout) now
+  runnable (Selected job initiator (suc before) step (Some id)) deck begun jobs running now is follow has goes all =
+      taken_runnable job initiator before step id deck begun jobs.points running now follow (subst (λ t. HasTaken (find (is_point_of job) jobs.points) t (suc before) step job begun) is has.step) goes all
   runnable (Started job step items) deck begun jobs before now is follow has goes all = started_runnable job step items deck begun jobs.points before now follow (subst (λ t. HasStep t job step begun) is has.step) goes all
   runnable (Checkpointed job id taken writes lengths place bytes) deck begun jobs before now is follow has goes all =
       entered-all layout job (check_name_in (after_event (Checkpointed job id taken writes lengths place bytes) deck old) job) (place + records_of bytes) before now goes all
@@ -199,12 +259,12 @@ module _ (layout : Layout) (old : TablesModel) (numbered : AreNumbered 1 old.run
 -- ---- all of the jobs
 
 -- what holds of the jobs holds behind an event that follows
-pub jobs-behind : (layout : Layout) (old new : JobsView) (event : Event) (deck : Option Job) (begun : Option RunningStep) → AreNumbered 1 old.tables.desk.runs → is_forward_event event ≡ true → IsAnyAccepted event deck → follows layout old.tables.desk event deck ≡ true
+pub jobs-behind : (layout : Layout) (old new : JobsView) (event : Event) (deck : Option Job) (begun : Option RunningStep) → AreNumbered 1 old.tables.desk.runs → IsAnyAccepted event deck → follows layout old.tables.desk event deck ≡ true
     → HasStarted event old begun → new.tables.desk ≡ after_event event deck old.tables.desk → GoesOn event new.tables.desk old.points old.running new.running → AreJobs layout old → AreJobs layout new
-jobs-behind layout old new event deck begun numbered plain is follow has tables goes are = record {
-  laid = subst (λ (t : TablesModel). AreLaidOut layout t.sets) (sym tables) (laid-behind layout old.tables.desk are.laid event deck plain follow);
-  rows = subst (λ (t : TablesModel). AllByRecursion IsAcceptedRow t.runs) (sym tables) (accepted-behind old.tables.desk event deck numbered plain is are.rows);
-  placed = subst (λ (t : TablesModel). AllByRecursion IsPlacedRow t.runs) (sym tables) (placed-behind layout old.tables.desk event deck plain is follow are.placed);
+jobs-behind layout old new event deck begun numbered is follow has tables goes are = record {
+  laid = subst (λ (t : TablesModel). AreLaidOut layout t.sets) (sym tables) (laid-behind layout old.tables.desk are.laid event deck follow);
+  rows = subst (λ (t : TablesModel). AllByRecursion IsAcceptedRow t.runs) (sym tables) (accepted-behind layout old.tables.desk event deck numbered is follow are.rows);
+  placed = subst (λ (t : TablesModel). AllByRecursion IsPlacedRow t.runs) (sym tables) (placed-behind layout old.tables.desk event deck is follow are.placed);
   running =
       runnable layout old.tables.desk numbered are.rows are.laid are.placed event deck begun old old.running new.running refl follow has
       (subst (λ (t : TablesModel). GoesOn event t old.points old.running new.running) tables goes) are.running;
@@ -218,8 +278,7 @@ started-behind layout seen event deck begun after numbered are follow has is =
     (started-from layout seen.tables.desk numbered are.rows are.laid are.placed event deck begun seen refl follow has)
 
 -- the step that is prepared may start, by the tables behind the event
-pub may-run : (layout : Layout) (seen : JobsView) (event : Event) (deck : Option Job) (begun : Option RunningStep) (after : TablesModel) → AreNumbered 1 seen.tables.desk.runs → length seen.tables.desk.runs ≤ 9999999 → AreJobs layout seen → is_forward_event event ≡ true
-    → follows layout seen.tables.desk event deck ≡ true → HasStarted event seen begun → after ≡ after_event event deck seen.tables.desk → MayRun event after begun seen.running_room
-may-run layout seen event deck begun after numbered few are plain follow has is =
+pub may-run : (layout : Layout) (seen : JobsView) (event : Event) (deck : Option Job) (begun : Option RunningStep) (after : TablesModel) → AreNumbered 1 seen.tables.desk.runs → length seen.tables.desk.runs ≤ 9999999 → AreJobs layout seen → follows layout seen.tables.desk event deck ≡ true → HasStarted event seen begun → after ≡ after_event event deck seen.tables.desk → MayRun event after begun seen.running_room
+may-run layout seen event deck begun after numbered few are follow has is =
     subst (λ (t : TablesModel). MayRun event t begun seen.running_room) (sym is)
-    (may layout seen.tables.desk numbered are.rows are.laid are.placed event deck begun seen refl plain follow few has)
+    (may layout seen.tables.desk numbered are.rows are.laid are.placed event deck begun seen refl follow few has)

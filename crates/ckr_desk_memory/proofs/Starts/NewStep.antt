@@ -27,18 +27,19 @@ use Rattle.ckr_desk_memory.specs.EventChanges.{without_run}
 use Rattle.ckr_desk_memory.specs.View.{PointView, RunningStepView}
 use Rattle.ckr_desk_memory.specs.RunningSteps.{GoesFrom, StepGoesBack, StepStarts, may_go_back}
 use Rattle.ckr_desk_memory.specs.Start.{HasNew, has_all, has_any, has_sets, with_all_taken}
-use Rattle.ckr_desk_memory.proofs.Starts.Steps.{IsNumberOf, IsStepAt, number-in, own-found, owned-is}
+use Rattle.ckr_desk_memory.proofs.Starts.Steps.{IsNumberOf, IsStepAt, number-in, own-found, owned-is, root-is}
 use Rattle.ckr_desk_memory.proofs.Invariant.{seen-without}
 use Rattle.ckr_desk_memory.proofs.SetCopies.{taken-sets}
 
 module _ (tables : TablesModel) (job step : ℕ) (table : RunTable) (known : IsKnown tables job table) (own : OwnStep) (is : IsStepAt job table step (Some own)) (on : RunningStep) where
-  pub has-new : (sets : Catalog) (from : Named Holding) (before after : List RunningStep) → IsEmpty job on
-      → from ≡ seen_by holding_of tables.sets → sets.sets ≡ with_all_taken (name_of job (own_of own)) from own.step.now.dds on.sets.sets
+  pub has-new : (root : ℕ) (sets : Catalog) (from : Named Holding) (before after : List RunningStep) → root ≡ table.job.root → IsEmpty job on
+      → from ≡ seen_by holding_of tables.sets → sets.sets ≡ with_all_taken (name_of root (own_of own)) from own.step.now.dds on.sets.sets
       → after ≡ record on { sets = sets } ∷ filter (λ (other : RunningStep). not (other.run == job)) before
-      → (row : RunRow) (owned : OwnedStep) → run_of tables job ≡ Some row → step_of_run row step ≡ Some owned → HasNew job owned on.step tables.sets (map step_seen before) (map step_seen after)
-  has-new sets from before after empty from_is sets_is after_is row its at there =
-      subst (λ (o : OwnedStep). HasNew job o on.step tables.sets (map step_seen before) (map step_seen after))
+      → (row : RunRow) (owned : OwnedStep) → run_of tables job ≡ Some row → step_of_run row step ≡ Some owned → HasNew job row.job.root owned on.step tables.sets (map step_seen before) (map step_seen after)
+  has-new root sets from before after root_is empty from_is sets_is after_is row its at there =
+      subst (λ (o : OwnedStep). HasNew job row.job.root o on.step tables.sets (map step_seen before) (map step_seen after))
       (sym (owned-is tables job table known step own is row its at there))
+      (subst (λ n. HasNew job n (own_of own) on.step tables.sets (map step_seen before) (map step_seen after)) (root_is ∙ sym (root-is tables job table known row at))
       (record {
         on = step_seen (record on { sets = sets });
         first =
@@ -47,8 +48,8 @@ module _ (tables : TablesModel) (job step : ℕ) (table : RunTable) (known : IsK
         run = empty.run;
         step = refl;
         code = empty.code;
-        sets = taken-sets (name_of job (own_of own)) own.step.now.dds tables.sets from sets from_is (sets_is ∙ ap (with_all_taken (name_of job (own_of own)) from own.step.now.dds) empty.empty);
-      })
+        sets = taken-sets (name_of root (own_of own)) own.step.now.dds tables.sets from sets from_is (sets_is ∙ ap (with_all_taken (name_of root (own_of own)) from own.step.now.dds) empty.empty);
+      }))
 
 -- ---- the step that a run is in
 
@@ -70,21 +71,23 @@ has-all sets name (dd ∷ dds) = by (name dd) (has-all sets name dds)
     by (Some one) same = ap (λ b. b && has_all name (seen_by holding_of sets) dds) (seen-has sets one) ∙ ap (λ b. is_some (entry_at sets one) && b) same
 
 -- a run that isn't on an initiator doesn't go back
-pub off-there : (tables : TablesModel) (job : ℕ) → of_run tables job (is_in_state On) ≡ false → (row : RunRow) (owned : OwnedStep) → run_of tables job ≡ Some row → own_step row ≡ Some owned → None ≡ (if may_go_back tables job owned row then Some (step_in (place_of row)) else None)
+pub off-there : (tables : TablesModel) (job : ℕ) → of_run tables job (is_in_state On) ≡ false → (row : RunRow) (owned : OwnedStep) → run_of tables job ≡ Some row → own_step row ≡ Some owned → None ≡ (if may_go_back tables owned row then Some (step_in (place_of row)) else None)
 off-there tables job off row owned at found =
-    ap (λ b. if b && has_sets tables.sets (names_of job owned) then Some (step_in (place_of row)) else None)
+    ap (λ b. if b && has_sets tables.sets (names_of row.job.root owned) then Some (step_in (place_of row)) else None)
     (sym off ∙ ap (λ (o : Option RunRow). option_map_or (is_in_state On) o false) at)
 
 -- one that is has its step found, and its number
-pub found-there : (tables : TablesModel) (job step : ℕ) (table : RunTable) (known : IsKnown tables job table) (own : OwnStep) (from : Named Holding) (there : Bool) → of_run tables job (is_in_state On) ≡ true
-    → IsStepAt job table step (Some own) → IsNumberOf table step → from ≡ seen_by holding_of tables.sets → there ≡ has_all (name_of job (own_of own)) from own.step.now.dds
-    → (row : RunRow) (owned : OwnedStep) → run_of tables job ≡ Some row → own_step row ≡ Some owned → (if there then Some step else None) ≡ (if may_go_back tables job owned row then Some (step_in (place_of row)) else None)
-found-there tables job step table known own from there on is number from_is there_is row its at found =
+pub found-there : (tables : TablesModel) (job root step : ℕ) (table : RunTable) (known : IsKnown tables job table) (own : OwnStep) (from : Named Holding) (there : Bool) → of_run tables job (is_in_state On) ≡ true → root ≡ table.job.root
+    → IsStepAt job table step (Some own) → IsNumberOf table step → from ≡ seen_by holding_of tables.sets → there ≡ has_all (name_of root (own_of own)) from own.step.now.dds
+    → (row : RunRow) (owned : OwnedStep) → run_of tables job ≡ Some row → own_step row ≡ Some owned → (if there then Some step else None) ≡ (if may_go_back tables owned row then Some (step_in (place_of row)) else None)
+found-there tables job root step table known own from there on root_is is number from_is there_is row its at found =
     let same = owned-is tables job table known step own is row its at (own-found tables job table known step number row its at found) in
     ap (λ n. if there then Some n else None) (number-in tables job table known step number row at)
     ∙ ap (λ b. if b then Some (step_in (place_of row)) else None)
-    (there_is ∙ ap (λ sets. has_all (name_of job (own_of own)) sets own.step.now.dds) from_is ∙ has-all tables.sets (name_of job (own_of own)) own.step.now.dds ∙ ap (λ (o : OwnedStep). has_sets tables.sets (names_of job o)) (sym same)
-    ∙ ap (λ b. b && has_sets tables.sets (names_of job its)) (sym on ∙ ap (λ (o : Option RunRow). option_map_or (is_in_state On) o false) at))
+    (there_is ∙ ap (λ sets. has_all (name_of root (own_of own)) sets own.step.now.dds) from_is ∙ has-all tables.sets (name_of root (own_of own)) own.step.now.dds
+    ∙ ap (λ n. has_sets tables.sets (names_of n (own_of own))) (root_is ∙ sym (root-is tables job table known row at))
+    ∙ ap (λ (o : OwnedStep). has_sets tables.sets (names_of row.job.root o)) (sym same)
+    ∙ ap (λ b. b && has_sets tables.sets (names_of row.job.root its)) (sym on ∙ ap (λ (o : Option RunRow). option_map_or (is_in_state On) o false) at))
 
 -- what its number says of its data sets
 pub is-there : (has : Bool) (number step : ℕ) → Some step ≡ (if has then Some number else None) → (has ≡ true) × (step ≡ number)
@@ -99,11 +102,11 @@ isnt-there false number is = refl
 
 -- at its beginning
 pub starts-prepared : (tables : TablesModel) (job step : ℕ) (old new : List RunningStepView) (begun : Option RunningStep) (on : RunningStep) → begun ≡ Some on → HasStep tables job step begun
-    → ((row : RunRow) (owned : OwnedStep) → run_of tables job ≡ Some row → step_of_run row step ≡ Some owned → HasNew job owned on.step tables.sets old new) → StepStarts job step tables old new
+    → ((row : RunRow) (owned : OwnedStep) → run_of tables job ≡ Some row → step_of_run row step ≡ Some owned → HasNew job row.job.root owned on.step tables.sets old new) → StepStarts job step tables old new
 starts-prepared tables job step old new begun on is has goes row owned at there =
     let prepared = has row owned at there in
     let same : on.step ≡ prepared.0.step = ap (λ (o : RunningStep). o.step) (same_Some _ _ (sym is ∙ prepared.1)) in
-    subst (λ (place : StepRun). HasNew job owned place tables.sets old new) (same ∙ prepared.2.step) (goes row owned at there)
+    subst (λ (place : StepRun). HasNew job row.job.root owned place tables.sets old new) (same ∙ prepared.2.step) (goes row owned at there)
 
 -- none is prepared exactly where there is none to start
 pub starts-none : (tables : TablesModel) (job step : ℕ) (old new : List RunningStepView) (begun : Option RunningStep) → begun ≡ None → HasStep tables job step begun → StepStarts job step tables old new
@@ -121,19 +124,19 @@ module _ (tables : TablesModel) (job : ℕ) (old new : List RunningStepView) whe
 
   -- the run isn't on an initiator, or the tables don't have all its data sets
   pub again-left : (on : RunningStep) (point : Option PointView) (again : Option RunningStep) → again ≡ Some on → HasAgain point tables job again → new ≡ without_run job old
-      → ((row : RunRow) (owned : OwnedStep) → run_of tables job ≡ Some row → own_step row ≡ Some owned → may_go_back tables job owned row ≡ false) → StepGoesBack point job tables old new
+      → ((row : RunRow) (owned : OwnedStep) → run_of tables job ≡ Some row → own_step row ≡ Some owned → may_go_back tables owned row ≡ false) → StepGoesBack point job tables old new
   again-left on None again is has leaves lacks = leaves
   again-left on (Some point) again is has leaves lacks = λ row owned at found.
-      subst (λ b. GoesFrom b job owned point tables old new) (sym (lacks row owned at found)) leaves
+      subst (λ b. GoesFrom b job row.job.root owned point tables old new) (sym (lacks row owned at found)) leaves
 
   -- it is, they have, and it goes on from there
   pub again-some : (on : RunningStep) (point : Option PointView) (again : Option RunningStep) → again ≡ Some on → HasAgain point tables job again
-      → ((row : RunRow) (owned : OwnedStep) → run_of tables job ≡ Some row → own_step row ≡ Some owned → (may_go_back tables job owned row ≡ true) × HasNew job owned on.step tables.sets old new)
+      → ((row : RunRow) (owned : OwnedStep) → run_of tables job ≡ Some row → own_step row ≡ Some owned → (may_go_back tables owned row ≡ true) × HasNew job row.job.root owned on.step tables.sets old new)
       → StepGoesBack point job tables old new
   again-some on None again is has goes = absurd (some-not-none on (sym is ∙ has))
   again-some on (Some point) again is has goes = λ row owned at found.
       let prepared = has row owned at found in
       let gone = goes row owned at found in
       let same : on.step ≡ prepared.0.step = ap (λ (o : RunningStep). o.step) (same_Some _ _ (sym is ∙ prepared.1)) in
-      subst (λ b. GoesFrom b job owned point tables old new) (sym gone.0)
-      (subst (λ (place : StepRun). HasNew job owned place tables.sets old new) (same ∙ prepared.2.step) gone.1)
+      subst (λ b. GoesFrom b job row.job.root owned point tables old new) (sym gone.0)
+      (subst (λ (place : StepRun). HasNew job row.job.root owned place tables.sets old new) (same ∙ prepared.2.step) gone.1)

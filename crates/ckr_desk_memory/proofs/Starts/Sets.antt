@@ -1,10 +1,9 @@
 -- A step that has started can go on: its data sets are there, and stand apart.
-use Rattle.std.proofs.Common.{◌≡◌, ◌&&◌, ℕ, zero, suc, Bool, true, cond, List, [], ◌∷◌, map, refl, ap, sym, ◌∙◌, subst, Option, None, Some, arith, slice_get}
+use Rattle.std.proofs.Common.{◌≡◌, ◌&&◌, ℕ, Bool, true, cond, List, [], refl, ap, sym, ◌∙◌, subst, Option, None, Some, arith, slice_get}
 use Rattle.std.specs.Prelude.{option_and_then}
 use Rattle.std.proofs.lemmas.Bool.{false≢true}
 use Rattle.std.specs.List.{AllByRecursion}
 use Rattle.std.specs.Option.{is_some, option_map, option_map_or}
-use Rattle.std.proofs.lemmas.Option.{same_Some}
 use Rattle.ckr_base.proofs.Bools.{and-first, and-second}
 use Rattle.ckr_base.proofs.Options.{some-not-none}
 use Rattle.ckr_base.proofs.Sequences.{find-holds}
@@ -22,7 +21,7 @@ use Rattle.ckr_library.specs.declared.sets.DataSet.{DataSet}
 use Rattle.ckr_library.specs.Catalog.{set_of}
 use Rattle.ckr_library.specs.NameMaps.{Name, Named, entry_at, same_name}
 use Rattle.ckr_meaning.specs.Allotments.{DdAllotment}
-use Rattle.ckr_meaning.specs.EffectiveJob.{Effective, OwnedStep, flaws_in, is_among, names_of, owned_by, placed_in, plain_job, stamp_of, step_at}
+use Rattle.ckr_meaning.specs.EffectiveJob.{OwnedStep, flaws_in, is_among, names_of, placed_in, stamp_of}
 use Rattle.ckr_meaning.specs.StepRun.{StepStart, input_names}
 use Rattle.ckr_volumes.specs.declared.layout.Layout.{Layout}
 use Rattle.ckr_points.specs.Tables.{after_started}
@@ -38,8 +37,6 @@ use Rattle.ckr_steps.specs.Places.{HasFewCards, files_at}
 use Rattle.ckr_steps.specs.StepUnit.{AreCounted}
 use Rattle.ckr_desk_turn.specs.Model.DeckLimits.{HasNamesOnce}
 use Rattle.ckr_desk_turn.proofs.JobForm.{steps_once}
-use Rattle.ckr_desk_turn.specs.Queue.{AreNumbered}
-use Rattle.ckr_desk_turn.proofs.Queue.Events.{run_number}
 use Rattle.ckr_desk_memory.specs.Plans.{IsAnyCode}
 use Rattle.ckr_desk_memory.specs.Invariant.{IsAcceptedRow, IsRunnable}
 use Rattle.ckr_desk_memory.specs.View.{RunningStepView, begun}
@@ -50,7 +47,6 @@ use Rattle.ckr_desk_memory.proofs.Extents.{tested-step}
 use Rattle.ckr_desk_memory.proofs.Starts.Names.{names-there}
 use Rattle.ckr_desk_memory.proofs.SetCopies.{are-stored}
 use Rattle.ckr_desk_memory.proofs.Starts.ProgramSets.{are-there}
-use Rattle.ckr_desk_memory.proofs.Holders.Names.{plain-job}
 
 -- ---- the records in the deck are few
 
@@ -72,34 +68,17 @@ few_of_input root owner step input few = few_in root owner step (input_dd step i
 
 -- ---- a run's step, by its deck
 
--- a step of a run that is accepted, which owns it
-record IsOwn (job : ℕ) (row : RunRow) (owned : OwnedStep) : Type 0 where
-  root : row.job.root ≡ job
-  owner : owned.owner ≡ job
+-- a step of a run that is accepted
+record IsOwn (row : RunRow) (owned : OwnedStep) : Type 0 where
   few : IsStepFew 100000 owned.step
-  distinct : are_distinct (names_of job owned) ≡ true
+  distinct : are_distinct (names_of row.job.root owned) ≡ true
 
-owner_is : (run : ℕ) (deck : Job) (step : ℕ) (owned : OwnedStep) → step_at (plain_job run deck) step ≡ Some owned → owned.owner ≡ run
-owner_is run deck zero owned at = absurd (some-not-none owned (sym at))
-owner_is run deck (suc place) owned at = each deck.steps place at
-  where
-    each : (steps : List Step) (place : ℕ) → slice_get (map (owned_by run deck) steps) place ≡ Some owned → owned.owner ≡ run
-    each [] place at = absurd (some-not-none owned (sym at))
-    each (first ∷ steps) zero at = sym (ap (λ (o : OwnedStep). o.owner) (same_Some _ _ at))
-    each (first ∷ steps) (suc place) at = each steps place at
-
-is_own : (tables : TablesModel) (job step : ℕ) (row : RunRow) (owned : OwnedStep) → AreNumbered 1 tables.runs → AllByRecursion IsAcceptedRow tables.runs → run_of tables job ≡ Some row → step_of_run row step ≡ Some owned → IsOwn job row owned
-is_own tables job step row owned numbered rows at there =
-    let accepted = row-among IsAcceptedRow tables job row rows at in
-    let number = run_number tables job row numbered at in
-    let found : step_at (plain_job row.number row.deck) step ≡ Some owned = ap (λ (j : Effective). step_at j step) (sym (plain-job row accepted)) ∙ there in
-    let owner = owner_is row.number row.deck step owned found ∙ number in
+is_own : (tables : TablesModel) (job step : ℕ) (row : RunRow) (owned : OwnedStep) → AllByRecursion IsAcceptedRow tables.runs → run_of tables job ≡ Some row → step_of_run row step ≡ Some owned → IsOwn row owned
+is_own tables job step row owned rows at there =
+    let its = (row-among IsAcceptedRow tables job row rows at).steps step owned there in
     record {
-      root = ap (λ (j : Effective). j.root) (plain-job row accepted) ∙ number;
-      owner = owner;
-      few = step-among (IsStepFew 100000) row.number row.deck step owned (steps-few accepted.cards row.deck accepted.accepted) found;
-      distinct =
-          step-among HasNamesOnce row.number row.deck step owned (steps_once accepted.cards row.deck accepted.accepted) found job owned.owner owned.tests;
+      few = step-among (IsStepFew 100000) owned.owner its.deck step owned (steps-few its.cards its.deck its.accepted) its.owned_so;
+      distinct = step-among HasNamesOnce owned.owner its.deck step owned (steps_once its.cards its.deck its.accepted) its.owned_so row.job.root owned.owner owned.tests;
     }
 
 -- ---- behind the start
@@ -134,40 +113,38 @@ unfolding files_of
 few_second job owned few = few_of_input job owned.owner owned.step 1 few
 
 -- a running step can go on whose data sets the tables have
-pub runnable-at : (layout : Layout) (tables : TablesModel) (job step : ℕ) (row : RunRow) (owned : OwnedStep) (on : RunningStepView) (after : Named TableSet) → AreNumbered 1 tables.runs → AllByRecursion IsAcceptedRow tables.runs
-    → run_of tables job ≡ Some row → step_of_run row step ≡ Some owned → AreLaidOut layout after → on.step.files ≡ files_of job job owned.step → AreCounted on.step
-    → ((name : Name) → is_among (names_of job owned) name ≡ true → is_some (entry_at after name) ≡ true)
-    → ((name : Name) → set_of on.sets name ≡ cond (is_among (names_of job owned) name) (set_in_tables after name) None)
+pub runnable-at : (layout : Layout) (tables : TablesModel) (job step : ℕ) (row : RunRow) (owned : OwnedStep) (on : RunningStepView) (after : Named TableSet) → AllByRecursion IsAcceptedRow tables.runs
+    → run_of tables job ≡ Some row → step_of_run row step ≡ Some owned → AreLaidOut layout after → on.step.files ≡ files_of row.job.root owned.owner owned.step → AreCounted on.step
+    → ((name : Name) → is_among (names_of row.job.root owned) name ≡ true → is_some (entry_at after name) ≡ true)
+    → ((name : Name) → set_of on.sets name ≡ cond (is_among (names_of row.job.root owned) name) (set_in_tables after name) None)
     → on.code ≡ None → IsRunnable layout on
-runnable-at layout tables job step row owned on after numbered rows at there laid is counted kept has code =
-    let own = is_own tables job step row owned numbered rows at there in
-    let start : StepStart = record { root = job; owned = owned; number = step; standing = record { sets = []; passed = [] }; earlier = [] } in
-    let names : (name : Name) → is_among (names_of job owned) name ≡ true → (set : DataSet) × (set_of on.sets name ≡ Some set) =
+runnable-at layout tables job step row owned on after rows at there laid is counted kept has code =
+    let own = is_own tables job step row owned rows at there in
+    let start : StepStart = record { root = row.job.root; owned = owned; number = step; standing = record { sets = []; passed = [] }; earlier = [] } in
+    let names : (name : Name) → is_among (names_of row.job.root owned) name ≡ true → (set : DataSet) × (set_of on.sets name ≡ Some set) =
     λ name among.
     let set = set_there after name (kept name among) in
     (set.0, has name ∙ ap (λ b. cond b (set_in_tables after name) None) among ∙ set.1) in
-    let first : HasFewCards (files_at start).first = few_first job owned own.few in
-    let second : HasFewCards (files_at start).second = few_second job owned own.few in
+    let first : HasFewCards (files_at start).first = few_first row.job.root owned own.few in
+    let second : HasFewCards (files_at start).second = few_second row.job.root owned own.few in
     record {
-      stored = are-stored layout after on.sets (is_among (names_of job owned)) laid has;
+      stored = are-stored layout after on.sets (is_among (names_of row.job.root owned)) laid has;
       there =
-          subst (λ files. AreThere files on.sets)
-          (ap (λ n. files_of job n owned.step) own.owner ∙ sym is)
+          subst (λ files. AreThere files on.sets) (sym is)
           (are-there start on.sets names own.distinct first second);
       counted = counted;
       coded = subst IsAnyCode (sym code) tt;
     }
 
 -- a step that has started can go on
-pub is-runnable : (layout : Layout) (tables : TablesModel) (job step : ℕ) (items : ArrayVec Made) (deck : Option Job) (row : RunRow) (owned : OwnedStep) (on : RunningStepView) → AreNumbered 1 tables.runs → AllByRecursion IsAcceptedRow tables.runs
+pub is-runnable : (layout : Layout) (tables : TablesModel) (job step : ℕ) (items : ArrayVec Made) (deck : Option Job) (row : RunRow) (owned : OwnedStep) (on : RunningStepView) → AllByRecursion IsAcceptedRow tables.runs
     → run_of tables job ≡ Some row → step_of_run row step ≡ Some owned → started_follows layout tables step items.items row ≡ true → AreLaidOut layout (after_event (Started job step items) deck tables).sets
-    → on.step ≡ begun job owned.step → AreCounted on.step
-    → ((name : Name) → set_of on.sets name ≡ cond (is_among (names_of job owned) name) (set_in_tables (after_event (Started job step items) deck tables).sets name) None)
+    → on.step ≡ begun row.job.root owned → AreCounted on.step
+    → ((name : Name) → set_of on.sets name ≡ cond (is_among (names_of row.job.root owned) name) (set_in_tables (after_event (Started job step items) deck tables).sets name) None)
     → on.code ≡ None → IsRunnable layout on
-is-runnable layout tables job step items deck row owned on numbered rows at there follow laid is counted has code =
-    let own = is_own tables job step row owned numbered rows at there in
+is-runnable layout tables job step items deck row owned on rows at there follow laid is counted has code =
     let after : Named TableSet = (after_event (Started job step items) deck tables).sets in
-    runnable-at layout tables job step row owned on after numbered rows at there laid (ap (λ (s : StepRun). s.files) is) counted
+    runnable-at layout tables job step row owned on after rows at there laid (ap (λ (s : StepRun). s.files) is) counted
     (λ name among.
     subst (λ (t : TablesModel). is_some (entry_at t.sets name) ≡ true) (sym (behind_start tables job step items deck row owned at there))
-    (names-there tables row owned step items.items (no_flaws layout tables step items.items row owned follow there) name (ap (λ n. is_among (names_of n owned) name) own.root ∙ among))) has code
+    (names-there tables row owned step items.items (no_flaws layout tables step items.items row owned follow there) name among)) has code

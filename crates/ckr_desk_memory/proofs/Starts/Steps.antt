@@ -1,14 +1,14 @@
 -- The step of a run that starts.
-use Rattle.std.proofs.Common.{◌≡◌, ◌≤◌, ◌<◌, ℕ, zero, suc, true, List, [], ◌∷◌, map, slice_get, refl, ap, sym, ◌∙◌, subst, Option, None, Some, length}
+use Rattle.std.proofs.Common.{◌≡◌, ◌≤◌, ◌<◌, ℕ, zero, suc, true, List, [], ◌∷◌, map, slice_get, refl, ap, sym, ◌∙◌, subst, Option, None, Some, length, Result, Ok, Err}
 use Rattle.std.proofs.lemmas.Option.{same_Some}
 use Rattle.std.specs.List.{AllByRecursion}
-use Rattle.std.specs.Prelude.{IfSome, find}
+use Rattle.std.specs.Prelude.{IfOk, IfSome, find}
 use Rattle.std.specs.Option.{option_map}
 use Rattle.ckr_base.proofs.Options.{some-not-none}
 use Rattle.arrayvec.specs.ArrayVec.{ArrayVec}
 use Rattle.ckr_base.specs.declared.code.Code.{Code}
 use Rattle.ckr_events.specs.declared.event.Event.{Event}
-use Rattle.ckr_events.specs.declared.event.Event.TheVariants.{Checkpointed, Restarted, Started}
+use Rattle.ckr_events.specs.declared.event.Event.TheVariants.{Checkpointed, Restarted, Selected, Started}
 use Rattle.ckr_events.specs.declared.event.Made.{Made}
 use Rattle.ckr_jcl.specs.declared.deck.Job.{Job}
 use Rattle.ckr_jcl.specs.declared.deck.Step.{Step}
@@ -30,11 +30,10 @@ use Rattle.ckr_points_tables.specs.View.{RunTableView}
 use Rattle.ckr_desk_memory.specs.declared.jobs.RunningStep.{RunningStep}
 use Rattle.ckr_desk_memory.specs.Invariant.{IsAcceptedRow}
 use Rattle.ckr_desk_memory.specs.EventChanges.{HasUses, is_point_of}
-use Rattle.ckr_desk_memory.specs.Preparation.{HasAgain, HasPointRoom, HasQueueRoom, HasStarted, HasStep, IsEmpty, IsPrepared, StandsEmpty}
+use Rattle.ckr_desk_memory.specs.Preparation.{HasAgain, HasPointRoom, HasQueueRoom, HasStarted, HasStep, HasTaken, IsEmpty, IsPrepared, StandsEmpty}
 use Rattle.ckr_desk_memory.specs.Plans.{IsKnown, row_for}
 use Rattle.ckr_desk_memory.specs.View.{JobsView, PointView, begun, resumed}
 use Rattle.ckr_desk_memory.proofs.FoundRuns.{known-by, known-row}
-use Rattle.ckr_desk_memory.proofs.Holders.Names.{accepted-plain}
 
 -- a row among rows
 pub row-among : (P : RunRow → Type 0) (tables : TablesModel) (job : ℕ) (row : RunRow) → AllByRecursion P tables.runs → run_of tables job ≡ Some row → P row
@@ -64,12 +63,6 @@ IsStepAt run table step own = option_map own_of own ≡ step_at (effective run t
 abbrev pub IsNumberOf : RunTable → ℕ → Type 0
 IsNumberOf table step = (run : ℕ) → step ≡ step_in (place_of (row_for run table))
 
--- a run that was accepted has no RESTART, and continues none
-pub known-first : (tables : TablesModel) (number : ℕ) (table : RunTable) → IsKnown tables number table → AllByRecursion IsAcceptedRow tables.runs → table.job.earlier_step ≡ 0
-known-first tables number table known rows =
-    let accepted = row-among IsAcceptedRow tables number known.row rows known.found in
-    ap (λ (facts : RunTableView). facts.job.earlier_step) (sym known.facts) ∙ accepted.first (accepted-plain known.row accepted)
-
 module _ (tables : TablesModel) (job : ℕ) (table : RunTable) (known : IsKnown tables job table) where
   -- its PARM is one that the deck reader gives
   pub begun-parm : (step : ℕ) (own : OwnStep) → AllByRecursion IsAcceptedRow tables.runs → IsStepAt job table step (Some own) → IsInRange own.step.now.parm
@@ -86,9 +79,17 @@ module _ (tables : TablesModel) (job : ℕ) (table : RunTable) (known : IsKnown 
   pub owned-is : (step : ℕ) (own : OwnStep) → IsStepAt job table step (Some own) → (row : RunRow) (owned : OwnedStep) → run_of tables job ≡ Some row → step_of_run row step ≡ Some owned → owned ≡ own_of own
   owned-is step own is row owned at there = same_Some _ _ (sym there ∙ step-is step (Some own) is row at)
 
-  pub has-step : (step : ℕ) (own : OwnStep) (on : RunningStep) → IsStepAt job table step (Some own) → StandsEmpty job (begun job own.step.now) on → HasStep tables job step (Some on)
-  has-step step own on is stands = λ row owned at there.
-      (on, refl, subst (λ (o : OwnedStep). StandsEmpty job (begun job o.step) on) (sym (owned-is step own is row owned at there)) stands)
+  -- the root of its job
+  pub root-is : (row : RunRow) → run_of tables job ≡ Some row → row.job.root ≡ table.job.root
+  root-is row at = ap (λ (r : RunRow). r.job.root) (sym (known-row tables job table known row at)) ∙ ap (λ (j : Effective). j.root) known.job
+
+  pub has-step : (root step : ℕ) (own : OwnStep) (on : RunningStep) → root ≡ table.job.root → IsStepAt job table step (Some own) → StandsEmpty job (begun root (own_of own)) on → HasStep tables job step (Some on)
+  has-step root step own on root_is is stands = λ row owned at there. (
+    on,
+    refl,
+    subst (λ (o : OwnedStep). StandsEmpty job (begun row.job.root o) on) (sym (owned-is step own is row owned at there))
+        (subst (λ n. StandsEmpty job (begun n (own_of own)) on) (root_is ∙ sym (root-is row at)) stands),
+  )
 
   -- where there is no such step, none starts
   pub none-starts : {A : Type 0} (step : ℕ) → IsStepAt job table step None → (row : RunRow) (owned : OwnedStep) → run_of tables job ≡ Some row → step_of_run row step ≡ Some owned → A
@@ -106,12 +107,27 @@ module _ (tables : TablesModel) (job : ℕ) (table : RunTable) (known : IsKnown 
   pub own-found : (step : ℕ) → IsNumberOf table step → (row : RunRow) (owned : OwnedStep) → run_of tables job ≡ Some row → own_step_of row ≡ Some owned → step_of_run row step ≡ Some owned
   own-found step is row owned at there = ap (step_of_run row) (number-in step is row at) ∙ there
 
-  pub has-again : (step : ℕ) (own : OwnStep) (point : PointView) (on : RunningStep) → IsStepAt job table step (Some own) → IsNumberOf table step → StandsEmpty job (resumed job own.step.now point) on → HasAgain (Some point) tables job (Some on)
-  has-again step own point on is number stands = λ row owned at there.
-      (on, refl, subst (λ (o : OwnedStep). StandsEmpty job (resumed job o.step point) on) (sym (owned-is step own is row owned at (own-found step number row owned at there))) stands)
+  -- what is prepared at its number is that step
+  pub taken-again : (step : ℕ) (point : Option PointView) (again : Option RunningStep) → IsNumberOf table step → HasTaken point tables job step job again → HasAgain point tables job again
+  taken-again step None again number has = has
+  taken-again step (Some point) again number has = λ row owned at there. has row owned at (own-found step number row owned at there)
 
-  pub no-again-step : (step : ℕ) (point : PointView) → IsStepAt job table step None → IsNumberOf table step → HasAgain (Some point) tables job None
-  no-again-step step point is number = λ row owned at there. none-starts step is row owned at (own-found step number row owned at there)
+  pub ok-again : {E : Type 0} (step : ℕ) (point : Option PointView) (result : Result (Option RunningStep) E) → IsNumberOf table step → IfOk result (HasTaken point tables job step job) → IfOk result (HasAgain point tables job)
+  ok-again step point (Ok again) number has = taken-again step point again number has
+  ok-again step point (Err error) number has = tt
+
+  -- ---- a step in which this run or another one goes on
+
+  pub has-taken : (root step run : ℕ) (own : OwnStep) (point : PointView) (on : RunningStep) → root ≡ table.job.root → IsStepAt job table step (Some own) → StandsEmpty run (resumed root (own_of own) point) on → HasTaken (Some point) tables job step run (Some on)
+  has-taken root step run own point on root_is is stands = λ row owned at there. (
+    on,
+    refl,
+    subst (λ (o : OwnedStep). StandsEmpty run (resumed row.job.root o point) on) (sym (owned-is step own is row owned at there))
+        (subst (λ n. StandsEmpty run (resumed n (own_of own) point) on) (root_is ∙ sym (root-is row at)) stands),
+  )
+
+  pub no-taken-step : (step run : ℕ) (point : PointView) → IsStepAt job table step None → HasTaken (Some point) tables job step run None
+  no-taken-step step run point is = λ row owned at there. none-starts step is row owned at there
 
   -- it has at most 16 DDs
   pub few-dds : (step : ℕ) (own : OwnStep) → IsStepAt job table step (Some own) → length own.step.now.dds ≤ 16
@@ -120,8 +136,12 @@ module _ (tables : TablesModel) (job : ℕ) (table : RunTable) (known : IsKnown 
 pub no-run : (tables : TablesModel) (job step : ℕ) → run_of tables job ≡ None → HasStep tables job step None
 no-run tables job step none = λ row owned at there. absurd (some-not-none row (sym at ∙ none))
 
-pub no-again-run : (tables : TablesModel) (job : ℕ) (point : PointView) → run_of tables job ≡ None → HasAgain (Some point) tables job None
-no-again-run tables job point none = λ row owned at there. absurd (some-not-none row (sym at ∙ none))
+pub no-taken-run : (tables : TablesModel) (job step run : ℕ) (point : PointView) → run_of tables job ≡ None → HasTaken (Some point) tables job step run None
+no-taken-run tables job step run point none = λ row owned at there. absurd (some-not-none row (sym at ∙ none))
+
+pub no-again-run : (tables : TablesModel) (job : ℕ) (point : Option PointView) → run_of tables job ≡ None → HasAgain point tables job None
+no-again-run tables job None none = refl
+no-again-run tables job (Some point) none = λ row owned at there. absurd (some-not-none row (sym at ∙ none))
 
 -- ---- the memory for a step
 
@@ -145,6 +165,33 @@ prepared-again jobs event deck job initiator code uses prepared is tables queue 
   queue = queue;
   uses = its;
   started = subst (λ (e : Event). HasStarted e jobs prepared) (sym is) (record { room = room; empty = empty; step = has });
+  points = subst (λ (e : Event). HasPointRoom e jobs.points_room) (sym is) tt;
+}
+
+-- for one that goes on with an earlier run at a checkpoint
+pub prepared-over : (jobs : JobsView) (event : Event) (deck : Option Job) (job initiator earlier step : ℕ) (id : Name) (uses : Option (List Use)) (prepared : Option RunningStep) → event ≡ Selected job initiator earlier step (Some id)
+    → HasRoom jobs.tables event → HasQueueRoom event jobs.queue_room → HasUses event deck uses → 0 < jobs.running_room → IfSome prepared (IsEmpty job)
+    → HasTaken (find (is_point_of job) jobs.points) jobs.tables.desk earlier step job prepared → IsPrepared jobs event deck (record { uses = uses; step = prepared })
+prepared-over jobs event deck job initiator earlier step id uses prepared is tables queue its room empty has = record {
+  tables = tables;
+  queue = queue;
+  uses = its;
+  started = subst (λ (e : Event). HasStarted e jobs prepared) (sym is) (by earlier has);
+  points = subst (λ (e : Event). HasPointRoom e jobs.points_room) (sym is) tt;
+}
+  where
+    by : (number : ℕ) → HasTaken (find (is_point_of job) jobs.points) jobs.tables.desk number step job prepared → HasStarted (Selected job initiator number step (Some id)) jobs prepared
+    by zero has = tt
+    by (suc before) has = record { room = room; empty = empty; step = has }
+
+-- for one that continues none
+pub prepared-alone : (jobs : JobsView) (event : Event) (deck : Option Job) (job initiator step : ℕ) (id : Name) (uses : Option (List Use)) → event ≡ Selected job initiator 0 step (Some id)
+    → HasRoom jobs.tables event → HasQueueRoom event jobs.queue_room → HasUses event deck uses → IsPrepared jobs event deck (record { uses = uses; step = None })
+prepared-alone jobs event deck job initiator step id uses is tables queue its = record {
+  tables = tables;
+  queue = queue;
+  uses = its;
+  started = subst (λ (e : Event). HasStarted e jobs None) (sym is) tt;
   points = subst (λ (e : Event). HasPointRoom e jobs.points_room) (sym is) tt;
 }
 

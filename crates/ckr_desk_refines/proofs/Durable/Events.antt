@@ -3,7 +3,7 @@ use Rattle.std.proofs.Common.{◌≡◌, ℕ, Bool, true, false, List, refl, ap,
 use Rattle.std.specs.Option.{option_map_or}
 use Rattle.arrayvec.specs.ArrayVec.{ArrayVec}
 use Rattle.ckr_base.specs.declared.code.Code.{Code}
-use Rattle.ckr_events.specs.declared.event.Event.TheVariants.{Submitted, Cancelled, StepEnded, Held, Released, Ended, Purged}
+use Rattle.ckr_events.specs.declared.event.Event.TheVariants.{Submitted, Cancelled, Denied, StepEnded, Held, Released, Ended, Purged}
 use Rattle.ckr_events.specs.declared.event.Ending.{Ending}
 use Rattle.ckr_events.specs.declared.event.Ending.TheVariants.{Completed, Coded, Allocation}
 use Rattle.ckr_jcl.specs.declared.deck.Job.{Job}
@@ -58,6 +58,11 @@ submitted-stays layout office image job cards deck kept next had =
 pub purged-stays : (layout : Layout) (office : Office) (image : List ℕ) (job : ℕ) (deck : Option Job) → IsKept layout office → IsKept layout (office_after (Purged job, deck) office) → HasCommitted layout office image → HasCommitted layout (office_after (Purged job, deck) office) image
 purged-stays layout office image job deck kept next had =
     same-sets layout office (office_after (Purged job, deck) office) image kept next (λ run led. refl) had
+    (by-run-sets _ (run_of office.tables job) office.tables (λ row. refl))
+
+pub denied-stays : (layout : Layout) (office : Office) (image : List ℕ) (job rule : ℕ) (name : Option Name) (deck : Option Job) → IsKept layout office → IsKept layout (office_after (Denied job rule name, deck) office) → HasCommitted layout office image → HasCommitted layout (office_after (Denied job rule name, deck) office) image
+denied-stays layout office image job rule name deck kept next had =
+    same-sets layout office (office_after (Denied job rule name, deck) office) image kept next (λ run led. refl) had
     (by-run-sets _ (run_of office.tables job) office.tables (λ row. refl))
 
 pub cancelled-stays : (layout : Layout) (office : Office) (image : List ℕ) (job : ℕ) (deck : Option Job) → IsKept layout office → IsKept layout (office_after (Cancelled job, deck) office) → HasCommitted layout office image → HasCommitted layout (office_after (Cancelled job, deck) office) image

@@ -6,7 +6,7 @@ use Rattle.ckr_base.specs.declared.code.Code.{Code}
 use Rattle.ckr_base.specs.declared.programs.Output.TheVariants.{InPlace}
 use Rattle.ckr_base.proofs.Bools.{and-first}
 use Rattle.ckr_points_library.specs.Commit.{output_names}
-use Rattle.ckr_events.specs.declared.event.Event.TheVariants.{Cancelled, Ended, Held, Purged, Released, Rewritten, Selected, Started, StepEnded, Submitted}
+use Rattle.ckr_events.specs.declared.event.Event.TheVariants.{Cancelled, Denied, Ended, Held, Purged, Released, Rewritten, Selected, Started, StepEnded, Submitted}
 use Rattle.ckr_events.specs.declared.event.Ending.{Ending}
 use Rattle.ckr_events.specs.declared.event.Ending.TheVariants.{Allocation, Coded, Completed}
 use Rattle.ckr_events.specs.declared.event.Made.{Made}
@@ -58,6 +58,10 @@ others-submitted now job cards deck = same-tables now (office_after (Submitted j
 pub others-purged : (now : Office) (job : ℕ) (deck : Option Job) → LeavesOthers now job (office_after (Purged job, deck) now)
 others-purged now job deck =
     same-tables now (office_after (Purged job, deck) now) job (by-run-sets _ (run_of now.tables job) now.tables (λ row. refl))
+
+pub others-denied : (now : Office) (job rule : ℕ) (name : Option Name) (deck : Option Job) → LeavesOthers now job (office_after (Denied job rule name, deck) now)
+others-denied now job rule name deck =
+    same-tables now (office_after (Denied job rule name, deck) now) job (by-run-sets _ (run_of now.tables job) now.tables (λ row. refl))
 
 pub others-cancelled : (now : Office) (job : ℕ) (deck : Option Job) → LeavesOthers now job (office_after (Cancelled job, deck) now)
 others-cancelled now job deck =

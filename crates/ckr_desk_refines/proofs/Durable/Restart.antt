@@ -68,7 +68,7 @@ catalogs-from marks (other ∷ names) sets name table e =
     twice-from sets (option_map_or change (present_at marks other) sets) name table (catalogs-from marks names (option_map_or change (present_at marks other) sets) name table e)
     (λ one. by-present (present_at marks other) change sets name one (λ present. marked-from name other present.cataloged sets one))
 
-back-from : (row : RunRow) (owned : OwnedStep) (back : Back) (tables : TablesModel) (name : Name) (table : TableSet) → entry_at (after_put_back row owned back tables).sets name ≡ Some table → StaysFrom tables.sets name table
+pub back-from : (row : RunRow) (owned : OwnedStep) (back : Back) (tables : TablesModel) (name : Name) (table : TableSet) → entry_at (after_put_back row owned back tables).sets name ≡ Some table → StaysFrom tables.sets name table
 back-from row owned back tables name table e =
     twice-from tables.sets lengths name table (catalogs-from back.marks back.needed lengths name table e)
     (λ one there.

@@ -1,16 +1,15 @@
--- The step of a checkpoint that follows has a DD for checkpoints, where its deck is accepted: so only data sets for checkpoints keep the
--- entries of what the desk runs.
-use Rattle.std.proofs.Common.{◌≡◌, ℕ, zero, suc, Bool, true, false, ◌&&◌, List, [], ◌∷◌, ◌++◌, refl, ap, sym, ◌∙◌, subst, Option, Some, None, arith}
-use Rattle.std.specs.Prelude.{◌+◌, ◌==◌, find}
+-- The step of a checkpoint that follows has a DD for checkpoints, where its deck is accepted: so only data sets for checkpoints keep entries
+-- where the decks are those of their cards.
+use Rattle.std.proofs.Common.{◌≡◌, ℕ, Bool, true, ◌&&◌, List, [], ◌∷◌, ◌++◌, refl, ap, sym, ◌∙◌, subst, Option, Some, None}
+use Rattle.std.specs.Prelude.{◌+◌, find}
 use Rattle.std.specs.Option.{option_map_or}
 use Rattle.std.proofs.lemmas.List.{append-nil, append_assoc}
 use Rattle.std.proofs.lemmas.Option.{same_Some}
 use Rattle.arrayvec.specs.ArrayVec.{ArrayVec}
 use Rattle.ckr_base.proofs.Bools.{and-second, false-not-true}
-use Rattle.ckr_base.proofs.Numbers.{equal-true}
 use Rattle.ckr_base.proofs.Options.{some-not-none}
 use Rattle.ckr_events.specs.declared.event.Event.{Event}
-use Rattle.ckr_events.specs.declared.event.Event.TheVariants.{Checkpointed, Selected}
+use Rattle.ckr_events.specs.declared.event.Event.TheVariants.{Checkpointed}
 use Rattle.ckr_jcl.specs.declared.deck.Dd.{Dd}
 use Rattle.ckr_jcl.specs.declared.deck.Job.{Job}
 use Rattle.ckr_library.specs.Catalog.{records_of}
@@ -25,15 +24,14 @@ use Rattle.ckr_points.specs.Rows.{RunRow, TablesModel}
 use Rattle.ckr_points.specs.Soundness.{may_come}
 use Rattle.ckr_points.specs.Tables.{is_checkpoints, name_with_role}
 use Rattle.ckr_points_invariant.specs.Invariant.{IsKept, step_now}
-use Rattle.ckr_points_invariant.specs.PlainRuns.{continues}
 use Rattle.ckr_points_invariant.proofs.EventList.{office-more, sound-front}
 use Rattle.ckr_points_invariant.proofs.Holders.Places.{outputs-among}
 use Rattle.ckr_points_invariant.proofs.WaitingRuns.{follows-of, tested-run}
 use Rattle.ckr_volumes.specs.declared.layout.Layout.{Layout}
 use Rattle.ckr_desk_memory.proofs.Starts.Steps.{row-among}
 use Rattle.ckr_desk_turn.specs.Invariant.{HasRuns, IsAdmitted}
-use Rattle.ckr_desk_turn.specs.RunEvents.{AreRunEvents, IsRunEvent}
-use Rattle.ckr_desk_turn.proofs.Runs.Lists.{events-kept, events-run, run-decks}
+use Rattle.ckr_desk_turn.specs.RunEvents.{AreDeckEvents}
+use Rattle.ckr_desk_turn.proofs.Runs.Lists.{events-kept, events-run}
 use Rattle.ckr_desk_refines.specs.Entries.{HasCheckDd, IsCheckDd, OnlyCheckSetsKeep}
 use Rattle.ckr_desk_refines.proofs.Entries.Checkpoint.{plain-taken}
 use Rattle.ckr_desk_refines.proofs.Entries.DeckNames.{admitted-named, among-named}
@@ -78,52 +76,38 @@ module _ (layout : Layout) (now : Office) (kept : IsKept layout now) (has : HasR
           dd-named row.job.root owned row refl
           (among-named row.job.root owned owned.step.dds set (admitted-named row.job.root (step_now row) owned (admitted.steps (step_now row) owned found)) among)
 
-  -- one more event of what the desk runs
-  plain-event : (event : Event) (deck : Option Job) → continues event ≡ false → IsNext layout now (event, deck) → OnlyCheckSetsKeep now.tables.sets → OnlyCheckSetsKeep (after_event event deck now.tables).sets
-  plain-event (Checkpointed job id taken writes lengths place bytes) deck on next only =
+  -- one more event
+  plain-event : (event : Event) (deck : Option Job) → IsNext layout now (event, deck) → OnlyCheckSetsKeep now.tables.sets → OnlyCheckSetsKeep (after_event event deck now.tables).sets
+  plain-event (Checkpointed job id taken writes lengths place bytes) deck next only =
       plain-taken now.tables kept.events.numbered id job taken writes place bytes lengths deck
       (checkpoint-checks layout now kept.events job taken writes place bytes id lengths deck next.may (check-dd job taken writes place bytes id lengths deck next.may)) only
-  plain-event (Selected job initiator earlier step id) deck on next only = plain-next now.tables kept.events.numbered only (Selected job initiator earlier step id) deck on refl
-  plain-event event deck on next only = plain-next now.tables kept.events.numbered only event deck on refl
+  plain-event event deck next only = plain-next now.tables kept.events.numbered only event deck refl
 
 -- ---- all events
-
-none-before : (before : ℕ) → (suc before == 0) ≡ true → ⊥
-none-before before e = let same : suc before ≡ 0 = equal-true (suc before) 0 e in omega (arith, same)
-
--- no run continues another one
-run-on : (event : Event) (deck : Option Job) → IsRunEvent event deck → continues event ≡ false
-run-on (Selected job initiator zero step id) deck is = refl
-run-on (Selected job initiator (suc before) step id) deck is = absurd (none-before before is)
-run-on _ deck is = refl
 
 next-at : (layout : Layout) (front more : List Decked) (event : Decked) (now : Office) → AreSoundFrom layout now (front ++ event ∷ more) → IsNext layout (office_from front now) event
 next-at layout [] more event now are = are.0
 next-at layout (first ∷ front) more event now are = next-at layout front more event (office_after first now) are.1
 
-run-front : (front more : List Decked) → AreRunEvents (front ++ more) → AreRunEvents front
-run-front [] more run = tt
-run-front (first ∷ front) more run = (run.0, run-front front more run.1)
-
-run-at : (front more : List Decked) (event : Decked) → AreRunEvents (front ++ event ∷ more) → IsRunEvent event.0 event.1
-run-at [] more event run = run.0
-run-at (first ∷ front) more event run = run-at front more event run.1
+deck-front : (front more : List Decked) → AreDeckEvents (front ++ more) → AreDeckEvents front
+deck-front [] more are = tt
+deck-front (first ∷ front) more are = (are.0, deck-front front more are.1)
 
 -- those behind a front of them
-plain-behind : (layout : Layout) (front more : List Decked) → AreSound layout (front ++ more) → AreRunEvents (front ++ more) → OnlyCheckSetsKeep (office front).tables.sets → OnlyCheckSetsKeep (office (front ++ more)).tables.sets
-plain-behind layout front [] are run only = subst (λ events. OnlyCheckSetsKeep (office events).tables.sets) (sym (append-nil front)) only
-plain-behind layout front (event ∷ more) are run only =
+plain-behind : (layout : Layout) (front more : List Decked) → AreSound layout (front ++ more) → AreDeckEvents (front ++ more) → OnlyCheckSetsKeep (office front).tables.sets → OnlyCheckSetsKeep (office (front ++ more)).tables.sets
+plain-behind layout front [] are decks only = subst (λ events. OnlyCheckSetsKeep (office events).tables.sets) (sym (append-nil front)) only
+plain-behind layout front (event ∷ more) are decks only =
     let seam : (front ++ event ∷ []) ++ more ≡ front ++ event ∷ more = append_assoc front (event ∷ []) more in
     let before : AreSound layout front = sound-front layout front (event ∷ more) are in
-    let ran : AreRunEvents front = run-front front (event ∷ more) run in
+    let theirs : AreDeckEvents front = deck-front front (event ∷ more) decks in
     let next : IsNext layout (office front) event = next-at layout front more event no_office are in
     let behind : OnlyCheckSetsKeep (after_event event.0 event.1 (office front).tables).sets =
-    plain-event layout (office front) (events-kept layout front before (run-decks front ran)) (events-run layout front before (run-decks front ran)) event.0 event.1 (run-on event.0 event.1 (run-at front more event run)) (record { may = next.may; carried = next.carried }) only in
+    plain-event layout (office front) (events-kept layout front before theirs) (events-run layout front before theirs) event.0 event.1 (record { may = next.may; carried = next.carried }) only in
     subst (λ events. OnlyCheckSetsKeep (office events).tables.sets) seam
-    (plain-behind layout (front ++ event ∷ []) more (subst (AreSound layout) (sym seam) are) (subst AreRunEvents (sym seam) run)
+    (plain-behind layout (front ++ event ∷ []) more (subst (AreSound layout) (sym seam) are) (subst AreDeckEvents (sym seam) decks)
     (subst (λ (office : Office). OnlyCheckSetsKeep office.tables.sets) (sym (office-more front event))
     (subst (λ (tables : TablesModel). OnlyCheckSetsKeep tables.sets) (sym (tables-behind (office front) event.0 event.1)) behind)))
 
 -- so it is at every prefix
-pub sound-plain : (layout : Layout) (front more : List Decked) → AreSound layout (front ++ more) → AreRunEvents (front ++ more) → OnlyCheckSetsKeep (office front).tables.sets
-sound-plain layout front more are run = plain-behind layout [] front (sound-front layout front more are) (run-front front more run) (λ name table e. absurd (some-not-none table (sym e)))
+pub sound-plain : (layout : Layout) (front more : List Decked) → AreSound layout (front ++ more) → AreDeckEvents (front ++ more) → OnlyCheckSetsKeep (office front).tables.sets
+sound-plain layout front more are decks = plain-behind layout [] front (sound-front layout front more are) (deck-front front more decks) (λ name table e. absurd (some-not-none table (sym e)))

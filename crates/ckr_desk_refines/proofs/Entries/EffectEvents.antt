@@ -20,35 +20,38 @@ use Rattle.ckr_library.specs.NameMaps.{Name, entry_at, same_name}
 use Rattle.ckr_library.proofs.Named.{name-turned, name-itself}
 use Rattle.ckr_meaning.specs.Dispositions.{Stock, passed_ended}
 use Rattle.ckr_meaning.specs.EffectiveJob.{Effective, OwnedStep, is_among, names_of, step_at}
+use Rattle.ckr_meaning.specs.JobRun.{start_at}
+use Rattle.ckr_meaning.specs.StepRun.{StepStart}
 use Rattle.ckr_meaning.specs.declared.place.Place.{Place}
 use Rattle.ckr_meaning.specs.declared.place.Place.TheVariants.{Before, Opened, Within}
 use Rattle.ckr_points_library.specs.Commit.{output_names}
 use Rattle.ckr_points.specs.declared.run.RunState.TheVariants.{Held as HeldRun, Released as ReleasedRun, Denied as DeniedRun, Ended as EndedRun, Purged as PurgedRun, On, Queued}
 use Rattle.ckr_points.specs.Follows.{are_lengths, follows, is_checkpoint, is_in_state, is_length_of, is_rewrite, is_running, is_within, lengths_follow, may_start, of_step, own_step, selected_follows, started_follows}
 use Rattle.ckr_points.specs.Marks.{marks_now, own_names, present_at, present_of, has_passed}
-use Rattle.ckr_points.specs.Office.{Office, is_holder}
+use Rattle.ckr_points.specs.Office.{Office, is_holder, leg_of}
 use Rattle.ckr_points.specs.Restart.{after_abnormal, after_ended, after_event, after_passed_ended, by_step, kept_at, place_of, step_in}
-use Rattle.ckr_points.specs.Rows.{EffectPoint, KeptEntry, RunRow, TableSet, TablesModel, run_of, step_of_run, with_run}
+use Rattle.ckr_points.specs.Rows.{EffectPoint, EntryPoint, KeptEntry, RunRow, TableSet, TablesModel, run_of, step_of_run, with_run}
 use Rattle.ckr_points.specs.Tables.{after_submitted, after_checkpointed, after_commit, after_dispositions, after_held, after_rewritten, after_started, after_step_ended, committed, effect_rewritten, fresh_effect, is_checkpoints, is_updates, name_with_role, queued_run, row_rewritten, table_rewritten}
 use Rattle.ckr_points_invariant.specs.Invariant.{IsAgreed, IsAtPlace, step_now}
 use Rattle.ckr_points_invariant.proofs.Holders.Places.{outputs-among}
 use Rattle.ckr_points_invariant.proofs.Holders.Rows.{holder-waits}
 use Rattle.ckr_points_invariant.proofs.Marks.Points.{present-now}
+use Rattle.ckr_points_invariant.proofs.Steps.Commits.{its_start}
 use Rattle.ckr_points_invariant.proofs.Steps.Events.{led-by, on-holds}
+use Rattle.ckr_points_invariant.proofs.Steps.Walks.{start_at-of}
 use Rattle.ckr_volumes.specs.declared.layout.Layout.{Layout}
 use Rattle.ckr_desk_turn.proofs.Checkpoints.Kept.{kept-then}
 use Rattle.ckr_desk_refines.specs.Entries.{AreWithin, entry_taken}
-use Rattle.ckr_desk_refines.specs.EntryRefusal.{AreInEffect, HasStepNames, IsInEffect, are_present}
+use Rattle.ckr_desk_refines.specs.EntryRefusal.{AreInEffect, HasSameCase, HasStepNames, IsInEffect, are_present}
 use Rattle.ckr_desk_refines.proofs.Entries.Effects as effects
 use Rattle.ckr_desk_refines.proofs.Entries.Effects.{passes-of}
 use Rattle.ckr_desk_refines.proofs.Entries.KeptEntries.{kept_at-same, there-committed}
-use Rattle.ckr_desk_refines.proofs.Entries.NewEntry.{program-now}
 
 -- ---- small facts
 
 -- a run that waits has no checkpoint in effect
-waits-none : {A : Type 0} (tables : TablesModel) (row : RunRow) (effect : EffectPoint) → is_in_state Queued row ≡ true → IsInEffect tables row effect → A
-waits-none tables row effect queued its = absurd (false≢true (sym (holder-waits row.state its.holds) ∙ queued))
+waits-none : {A : Type 0} (office : Office) (row : RunRow) (effect : EffectPoint) → is_in_state Queued row ≡ true → IsInEffect office row effect → A
+waits-none office row effect queued its = absurd (false≢true (sym (holder-waits row.state its.holds) ∙ queued))
 
 -- nor has one that is about to start a step
 starts-none : {A : Type 0} (step : ℕ) (place : Place) → may_start step place ≡ true → is_within place ≡ true → A
@@ -93,16 +96,19 @@ some-present : (entry : Option TableSet) → is_some entry ≡ true → is_some 
 some-present None there = there
 some-present (Some table) there = refl
 
-module _ (layout : Layout) (now : Office) (agreed : IsAgreed layout now) (job : ℕ) (are : AreInEffect now.tables) where
+module _ (layout : Layout) (now : Office) (agreed : IsAgreed layout now) (job : ℕ) (are : AreInEffect now) where
   abbrev Stays : TablesModel → Type 0
   Stays later = effects.StayInEffect layout now agreed job are later
 
   abbrev tables : TablesModel
   tables = now.tables
 
+  abbrev IsStill : TablesModel → RunRow → EffectPoint → Type 0
+  IsStill later row effect = effects.IsStill layout now agreed job are later row effect
+
   -- ---- a row changes alone
 
-  by-row : (change : RunRow → RunRow) → ((row : RunRow) → (change row).number ≡ row.number) → ((row : RunRow) → run_of tables job ≡ Some row → effects.KeepsPrograms layout now agreed job are (with_run (change row) tables) → (effect : EffectPoint) → (change row).in_effect ≡ Some effect → IsInEffect (with_run (change row) tables) (change row) effect)
+  by-row : (change : RunRow → RunRow) → ((row : RunRow) → (change row).number ≡ row.number) → ((row : RunRow) → run_of tables job ≡ Some row → (effect : EffectPoint) → (change row).in_effect ≡ Some effect → IsStill (with_run (change row) tables) (change row) effect)
       → Stays (option_map_or (λ row. with_run (change row) tables) (run_of tables job) tables)
   by-row change same own =
       effects.by-given layout now agreed job are (λ row. with_run (change row) tables) (run_of tables job)
@@ -113,7 +119,7 @@ module _ (layout : Layout) (now : Office) (agreed : IsAgreed layout now) (job : 
 
   queued-stays : (change : RunRow → RunRow) → ((row : RunRow) → (change row).number ≡ row.number) → ((row : RunRow) → (change row).in_effect ≡ row.in_effect) → ((row : RunRow) → run_of tables job ≡ Some row → is_in_state Queued row ≡ true) → Stays (option_map_or (λ row. with_run (change row) tables) (run_of tables job) tables)
   queued-stays change same effects_same queued =
-      by-row change same (λ row e keeps effect f. waits-none tables row effect (queued row e) (are job row effect e (sym (effects_same row) ∙ f)))
+      by-row change same (λ row e effect f. waits-none now row effect (queued row e) (are job row effect e (sym (effects_same row) ∙ f)))
 
   pub stays-selected : (initiator step : ℕ) (id : Option Name) (deck : Option Job) → follows layout tables (Selected job initiator 0 step id) deck ≡ true → Stays (after_event (Selected job initiator 0 step id) deck tables)
   stays-selected initiator step id deck may =
@@ -131,13 +137,13 @@ module _ (layout : Layout) (now : Office) (agreed : IsAgreed layout now) (job : 
       (λ row e. and-first (is_in_state Queued row) (is_some row.deck.restart) (passes-of tables job (λ row. is_in_state Queued row && is_some row.deck.restart) row may e))
 
   pub stays-cancelled : (deck : Option Job) → Stays (after_event (Cancelled job) deck tables)
-  stays-cancelled deck = by-row (λ row. record row { in_effect = None }) (λ row. refl) (λ row e keeps effect f. absurd (some-not-none effect (sym f)))
+  stays-cancelled deck = by-row (λ row. record row { in_effect = None }) (λ row. refl) (λ row e effect f. absurd (some-not-none effect (sym f)))
 
   pub stays-released : (deck : Option Job) → Stays (after_event (Released job) deck tables)
   stays-released deck =
       by-row (λ row. record row { state = ReleasedRun }) (λ row. refl)
-      (λ row e keeps effect f.
-      let its : IsInEffect tables row effect = are job row effect e f in
+      (λ row e effect f.
+      let its : IsInEffect now row effect = are job row effect e f in
       record {
         holds = refl;
         within = its.within;
@@ -147,10 +153,9 @@ module _ (layout : Layout) (now : Office) (agreed : IsAgreed layout now) (job : 
         entry = its.entry;
         at = its.at;
         kept = its.kept;
-        run = its.run;
+        same = its.same;
         owner = its.owner;
         step = its.step;
-        program = keeps its.entry.point.run its.entry.point.step its.owned.step.program its.program;
         present = its.present;
       })
 
@@ -165,7 +170,7 @@ module _ (layout : Layout) (now : Office) (agreed : IsAgreed layout now) (job : 
       effects.by-own layout now agreed job are (after_started row owned step items.items tables) _
       (effects.row-next layout now agreed job are _ row _ (agreed.numbered job row e)
       (effects.row-sets layout now agreed job are tables row _ (effects.row-first layout now agreed job are row e)))
-      (λ keeps effect f.
+      (λ effect f.
       let ready = of-found _ (step_of_run row step) owned (and-second (is_in_state On row) _ (passes-of tables job (started_follows layout tables step items.items) row may e)) found in
       starts-none step (place_of row) (and-first (may_start step (place_of row)) _ (and-first (may_start step (place_of row) && _) _ ready)) (are job row effect e f).within)))
 
@@ -173,10 +178,10 @@ module _ (layout : Layout) (now : Office) (agreed : IsAgreed layout now) (job : 
 
   module _ (within : AreWithin tables.sets) where
     -- behind the commit the row's effect is what it was
-    own-then : (row : RunRow) (owned : OwnedStep) (lengths : List ℕ) (writes : ℕ) (later : TablesModel) (next : RunRow) (effect other : EffectPoint) → (its : IsInEffect tables row effect) → own_step row ≡ Some owned → are_lengths tables.sets (output_names row.job.root owned) lengths ≡ true
-        → effects.KeepsPrograms layout now agreed job are later → is_holder next.state ≡ true → next.number ≡ row.number → next.job ≡ row.job → place_of next ≡ Within (step_now row) writes → other.set ≡ effect.set → other.kept ≡ effect.kept
-        → kept_at later.sets effect.set effect.kept.id ≡ kept_at (committed (output_names row.job.root owned) lengths tables.sets) effect.set effect.kept.id → IsInEffect later next other
-    own-then row owned lengths writes later next effect other its found lengths_are keeps holds number same stands set kept sets = record {
+    own-then : (row : RunRow) (owned : OwnedStep) (lengths : List ℕ) (writes : ℕ) (later : TablesModel) (next : RunRow) (effect other : EffectPoint) → (its : IsInEffect now row effect) → own_step row ≡ Some owned → are_lengths tables.sets (output_names row.job.root owned) lengths ≡ true
+        → is_holder next.state ≡ true → next.number ≡ row.number → next.job ≡ row.job → place_of next ≡ Within (step_now row) writes → other.set ≡ effect.set → other.kept ≡ effect.kept
+        → kept_at later.sets effect.set effect.kept.id ≡ kept_at (committed (output_names row.job.root owned) lengths tables.sets) effect.set effect.kept.id → IsStill later next other
+    own-then row owned lengths writes later next effect other its found lengths_are holds number same stands set kept sets = record {
       holds = holds;
       within = ap is_within stands;
       owned = its.owned;
@@ -186,10 +191,9 @@ module _ (layout : Layout) (now : Office) (agreed : IsAgreed layout now) (job : 
       at = ap (λ (set : Name). kept_at later.sets set other.kept.id) set ∙ ap (λ (kept : Kept). kept_at later.sets effect.set kept.id) kept
           ∙ sets ∙ effects.own-committed layout now agreed job are within row owned effect lengths its found lengths_are;
       kept = its.kept ∙ sym kept;
-      run = its.run ∙ sym number;
+      same = subst (λ run. HasSameCase now.legs run its.owned its.entry.point) (sym number) its.same;
       owner = its.owner;
       step = its.step ∙ sym (ap step_in stands);
-      program = keeps its.entry.point.run its.entry.point.step its.owned.step.program its.program;
       present = ap (λ (job : Effective). are_present its.entry.point.marks (names_of job.root its.owned)) same ∙ its.present;
     }
 
@@ -215,7 +219,7 @@ module _ (layout : Layout) (now : Office) (agreed : IsAgreed layout now) (job : 
         effects.by-own layout now agreed job are later next
         (effects.row-next layout now agreed job are _ row next (agreed.numbered job row e)
         (effects.row-sets layout now agreed job are tables row (committed (output_names row.job.root owned) lengths.items tables.sets) (effects.row-first layout now agreed job are row e)))
-        (λ keeps effect f. own-then row owned lengths.items writes later next effect effect (are job row effect e f) found lengths_are keeps refl refl refl refl refl refl refl))
+        (λ effect f. own-then row owned lengths.items writes later next effect effect (are job row effect e f) found lengths_are refl refl refl refl refl refl refl))
 
     pub stays-rewritten : (taken writes place : ℕ) (lengths : ArrayVec ℕ) (image : List ℕ) (deck : Option Job) → follows layout tables (Rewritten job taken writes lengths place image) deck ≡ true → Stays (after_event (Rewritten job taken writes lengths place image) deck tables)
     stays-rewritten taken writes place lengths image deck may =
@@ -229,14 +233,14 @@ module _ (layout : Layout) (now : Office) (agreed : IsAgreed layout now) (job : 
         (effects.row-sets layout now agreed job are done next _
         (effects.row-next layout now agreed job are _ row next (agreed.numbered job row e)
         (effects.row-sets layout now agreed job are tables row (committed (output_names row.job.root owned) lengths.items tables.sets) (effects.row-first layout now agreed job are row e))))
-        (λ keeps effect f.
+        (λ effect f.
         option-cases row.in_effect
         (λ none. absurd (some-not-none effect (sym f ∙ ap (option_map effect_rewritten) none)))
         (λ was at.
         let is : effect_rewritten was ≡ effect = same_Some (effect_rewritten was) effect (sym (ap (option_map effect_rewritten) at) ∙ f) in
-        let its : IsInEffect tables row was = are job row was e at in
-        subst (λ (effect : EffectPoint). IsInEffect later next effect) is
-        (own-then row owned lengths.items writes later next was (effect_rewritten was) its found lengths_are keeps its.holds refl refl refl refl refl
+        let its : IsInEffect now row was = are job row was e at in
+        subst (λ (effect : EffectPoint). IsStill later next effect) is
+        (own-then row owned lengths.items writes later next was (effect_rewritten was) its found lengths_are its.holds refl refl refl refl refl
         (kept_at-same (name_with_role row.job.root owned is_updates) was.set was.kept.id (table_rewritten owned.owner (step_now row)) done.sets (λ table. refl))))))
       where
         passes : (row : RunRow) → run_of tables job ≡ Some row → (is_running row && lengths_follow tables row lengths.items && of_step row (is_rewrite tables place image row)) ≡ true
@@ -262,8 +266,8 @@ module _ (layout : Layout) (now : Office) (agreed : IsAgreed layout now) (job : 
         (effects.row-sets layout now agreed job are done next _
         (effects.row-next layout now agreed job are _ row next (agreed.numbered job row e)
         (effects.row-sets layout now agreed job are tables row (committed (output_names row.job.root owned) lengths.items tables.sets) (effects.row-first layout now agreed job are row e))))
-        (λ keeps effect f.
-        subst (λ (effect : EffectPoint). IsInEffect later next effect) (same_Some (fresh_effect set kept) effect f)
+        (λ effect f.
+        subst (λ (effect : EffectPoint). IsStill later next effect) (same_Some (fresh_effect set kept) effect f)
         (record {
           holds = on-holds row.state on;
           within = refl;
@@ -276,10 +280,9 @@ module _ (layout : Layout) (now : Office) (agreed : IsAgreed layout now) (job : 
               kept-then (output_names row.job.root owned) lengths.items tables.sets set table new at
               (is_none-true (kept_at tables.sets set id) (tested-also _ (is_none (kept_at tables.sets set id)) (entry_at tables.sets set) free)));
           kept = refl;
-          run = refl;
+          same = own-case row owned e found on new.point refl refl;
           owner = refl;
           step = refl;
-          program = keeps row.number (step_now row) owned.step.program (program-now tables row owned (step_now row) (ap (run_of tables) (agreed.numbered job row e) ∙ e) found);
           present = all-present (marks_now row done.sets) (names_of row.job.root owned)
               (λ name among.
               ap is_some (present-now row done.sets name (own row owned e found on name among))
@@ -291,6 +294,29 @@ module _ (layout : Layout) (now : Office) (agreed : IsAgreed layout now) (job : 
 
         passes : (row : RunRow) → run_of tables job ≡ Some row → (is_running row && lengths_follow tables row lengths.items && of_step row (is_checkpoint tables id lengths.items place bytes row)) ≡ true
         passes row e = passes-of tables job (λ row. is_running row && lengths_follow tables row lengths.items && of_step row (is_checkpoint tables id lengths.items place bytes row)) row may e
+
+        -- it takes the checkpoint itself
+        own-case : (row : RunRow) (owned : OwnedStep) → run_of tables job ≡ Some row → own_step row ≡ Some owned → is_in_state On row ≡ true → (point : EntryPoint) → point.run ≡ row.number → point.step ≡ step_now row → HasSameCase now.legs row.number owned point
+        own-case row owned e found on point run step =
+            led-by layout now job row agreed e (on-holds row.state on)
+            (λ leg holder.
+            let start : StepStart = its_start leg owned (step_now row) in
+            let led : leg_of now row.number ≡ Some leg = ap (leg_of now) (agreed.numbered job row e) ∙ holder.leg_at in
+            let starts : start_at leg.job leg.start point.step ≡ Some start =
+            ap (start_at leg.job leg.start) step
+            ∙ start_at-of leg.job leg.start (step_now row) owned (ap (λ (job : Effective). step_at job (step_now row)) (agreed.places job row leg holder).job ∙ found) in
+            record {
+              leg = leg;
+              led = led;
+              start = start;
+              starts = starts;
+              program = refl;
+              taker = leg;
+              taker_led = ap (leg_of now) run ∙ led;
+              begun = start;
+              begins = starts;
+              same = refl;
+            })
 
         own : (row : RunRow) (owned : OwnedStep) → run_of tables job ≡ Some row → own_step row ≡ Some owned → is_in_state On row ≡ true → (name : Name) → is_among (names_of row.job.root owned) name ≡ true → is_among (own_names row) name ≡ true
         own row owned e found on name among =
@@ -359,15 +385,15 @@ module _ (layout : Layout) (now : Office) (agreed : IsAgreed layout now) (job : 
   -- ---- a deck is submitted
 
   pub stays-submitted : (cards : List ℕ) (deck : Option Job) → Stays (after_event (Submitted job cards) deck tables)
-  stays-submitted cards None = λ leaves keeps. are
-  stays-submitted cards (Some deck) = λ leaves keeps number row effect e f. by keeps number row effect e f
+  stays-submitted cards None = λ leaves. are
+  stays-submitted cards (Some deck) = λ leaves number row effect e f. by number row effect e f
     where
-      by : effects.KeepsPrograms layout now agreed job are (after_submitted job deck tables) → (number : ℕ) (row : RunRow) (effect : EffectPoint) → run_of (after_submitted job deck tables) number ≡ Some row → row.in_effect ≡ Some effect → IsInEffect (after_submitted job deck tables) row effect
-      by keeps zero row effect e f = absurd (some-not-none row (sym e))
-      by keeps (suc before) row effect e f =
+      by : (number : ℕ) (row : RunRow) (effect : EffectPoint) → run_of (after_submitted job deck tables) number ≡ Some row → row.in_effect ≡ Some effect → IsStill (after_submitted job deck tables) row effect
+      by zero row effect e f = absurd (some-not-none row (sym e))
+      by (suc before) row effect e f =
           ⊎_elim
           (λ was.
-          let its : IsInEffect tables row effect = are (suc before) row effect was f in
+          let its : IsInEffect now row effect = are (suc before) row effect was f in
           record {
             holds = its.holds;
             within = its.within;
@@ -377,10 +403,9 @@ module _ (layout : Layout) (now : Office) (agreed : IsAgreed layout now) (job : 
             entry = its.entry;
             at = its.at;
             kept = its.kept;
-            run = its.run;
+            same = its.same;
             owner = its.owner;
             step = its.step;
-            program = keeps its.entry.point.run its.entry.point.step its.owned.step.program its.program;
             present = its.present;
           })
           (λ last. absurd (some-not-none effect (sym f ∙ sym (ap (λ (row : RunRow). row.in_effect) last))))

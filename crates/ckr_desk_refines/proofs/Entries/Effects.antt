@@ -5,16 +5,15 @@ use Rattle.std.specs.Option.{option_map_or}
 use Rattle.std.proofs.lemmas.Option.{same_Some}
 use Rattle.ckr_base.proofs.Numbers.{number-cases}
 use Rattle.ckr_base.proofs.Options.{some-not-none}
-use Rattle.ckr_jcl.specs.declared.deck.Kind.{Kind}
 use Rattle.ckr_library.specs.Catalog.{ends_within}
 use Rattle.ckr_library.specs.NameMaps.{Named, entry_at}
 use Rattle.ckr_meaning.specs.EffectiveJob.{Effective, OwnedStep, is_among, names_of}
 use Rattle.ckr_points_library.specs.Commit.{output_names}
 use Rattle.ckr_points.specs.Follows.{are_lengths, of_run, own_step}
-use Rattle.ckr_points.specs.Office.{Office}
+use Rattle.ckr_points.specs.Office.{Office, no_office}
 use Rattle.ckr_points.specs.Payload.{writes_in}
 use Rattle.ckr_points.specs.Restart.{kept_at, place_of}
-use Rattle.ckr_points.specs.Rows.{EffectPoint, KeptEntry, RunRow, TableSet, TablesModel, no_tables, run_of, with_run}
+use Rattle.ckr_points.specs.Rows.{EffectPoint, KeptEntry, RunRow, TableSet, TablesModel, run_of, with_run}
 use Rattle.ckr_points.specs.Tables.{committed}
 use Rattle.ckr_points_invariant.specs.Invariant.{IsAgreed, step_now}
 use Rattle.ckr_points_invariant.proofs.Holders.Rows.{run-other, run-same}
@@ -22,16 +21,17 @@ use Rattle.ckr_points_invariant.proofs.Start.Event.{running-so}
 use Rattle.ckr_points_invariant.proofs.Steps.Commits.{in_reach}
 use Rattle.ckr_points_invariant.proofs.Steps.Events.{led-by}
 use Rattle.ckr_volumes.specs.declared.layout.Layout.{Layout}
-use Rattle.ckr_desk_refines.specs.Entries.{AreWithin, jobs_of, program_at}
+use Rattle.ckr_desk_refines.specs.Entries.{AreWithin}
 use Rattle.ckr_desk_refines.specs.EntryRefusal.{AreInEffect, IsInEffect, LeavesReach}
 use Rattle.ckr_desk_refines.proofs.Entries.KeptEntries.{kept_at-committed, kept_in}
+use Rattle.ckr_desk_refines.proofs.Entries.Legs.{KeepLegs}
 use Rattle.ckr_desk_refines.proofs.Entries.Refusal.{kept-table}
 
 -- a test of a run, of its row
 pub passes-of : (tables : TablesModel) (job : ℕ) (test : RunRow → Bool) (row : RunRow) → of_run tables job test ≡ true → run_of tables job ≡ Some row → test row ≡ true
 passes-of tables job test row passes e = sym (ap (λ (o : Option RunRow). option_map_or test o false) e) ∙ passes
 
-module _ (layout : Layout) (now : Office) (agreed : IsAgreed layout now) (job : ℕ) (are : AreInEffect now.tables) where
+module _ (layout : Layout) (now : Office) (agreed : IsAgreed layout now) (job : ℕ) (are : AreInEffect now) where
   -- the tables have the run's later row, and the other rows as they were
   pub record HasRow (later : TablesModel) (row : RunRow) : Type 0 where
     pub here : run_of later job ≡ Some row
@@ -49,31 +49,30 @@ module _ (layout : Layout) (now : Office) (agreed : IsAgreed layout now) (job : 
     others = λ number apart. run-other later next number (λ e. apart (e ∙ same)) ∙ has.others number apart;
   }
 
-  -- the programs of the runs stay
-  abbrev pub KeepsPrograms : TablesModel → Type 0
-  KeepsPrograms later = (run step : ℕ) (kind : Kind) → program_at (jobs_of now.tables) run step ≡ Some kind → program_at (jobs_of later) run step ≡ Some kind
+  -- a checkpoint in effect of later tables, of the same runs' jobs
+  abbrev pub IsStill : TablesModel → RunRow → EffectPoint → Type 0
+  IsStill later row effect = IsInEffect (record now { tables = later }) row effect
 
   -- ---- another run
 
-  pub other-stays : (later : TablesModel) → LeavesReach now job later.sets → KeepsPrograms later → (number : ℕ) (row : RunRow) (effect : EffectPoint) → number ≢ job → run_of now.tables number ≡ Some row → IsInEffect now.tables row effect → IsInEffect later row effect
-  other-stays later leaves keeps number row effect apart e its = record {
+  pub other-stays : (later : TablesModel) → LeavesReach now job later.sets → (number : ℕ) (row : RunRow) (effect : EffectPoint) → number ≢ job → run_of now.tables number ≡ Some row → IsInEffect now row effect → IsStill later row effect
+  other-stays later leaves number row effect apart e its = record {
     holds = its.holds;
     within = its.within;
     owned = its.owned;
     found = its.found;
     among = its.among;
     entry = its.entry;
-    at = ap (kept_in effect.kept.id) same ∙ its.at;
+    at = ap (kept_in effect.kept.id) there ∙ its.at;
     kept = its.kept;
-    run = its.run;
+    same = its.same;
     owner = its.owner;
     step = its.step;
-    program = keeps its.entry.point.run its.entry.point.step its.owned.step.program its.program;
     present = its.present;
   }
     where
-      same : entry_at later.sets effect.set ≡ entry_at now.tables.sets effect.set
-      same =
+      there : entry_at later.sets effect.set ≡ entry_at now.tables.sets effect.set
+      there =
           led-by layout now number row agreed e its.holds
           (λ leg holder.
           leaves number row leg effect.set holder apart
@@ -84,29 +83,29 @@ module _ (layout : Layout) (now : Office) (agreed : IsAgreed layout now) (job : 
 
   -- what is to be shown of the tables behind an event
   abbrev pub StayInEffect : TablesModel → Type 0
-  StayInEffect later = LeavesReach now job later.sets → KeepsPrograms later → AreInEffect later
+  StayInEffect later = LeavesReach now job later.sets → AreInEffect (record now { tables = later })
 
-  pub by-own : (later : TablesModel) (next : RunRow) → HasRow later next → (KeepsPrograms later → (effect : EffectPoint) → next.in_effect ≡ Some effect → IsInEffect later next effect) → StayInEffect later
-  by-own later next has own leaves keeps number row effect e f =
+  pub by-own : (later : TablesModel) (next : RunRow) → HasRow later next → ((effect : EffectPoint) → next.in_effect ≡ Some effect → IsStill later next effect) → StayInEffect later
+  by-own later next has own leaves number row effect e f =
       number-cases number job
       (λ same.
       let is : next ≡ row = same_Some next row (sym has.here ∙ ap (run_of later) (sym same) ∙ e) in
-      subst (λ (row : RunRow). IsInEffect later row effect) is (own keeps effect (ap (λ (row : RunRow). row.in_effect) is ∙ f)))
+      subst (λ (row : RunRow). IsStill later row effect) is (own effect (ap (λ (row : RunRow). row.in_effect) is ∙ f)))
       (λ apart.
       let was : run_of now.tables number ≡ Some row = sym (has.others number apart) ∙ e in
-      other-stays later leaves keeps number row effect apart was (are number row effect was f))
+      other-stays later leaves number row effect apart was (are number row effect was f))
 
   -- the run has none in effect any more
   pub by-none : (later : TablesModel) (next : RunRow) → HasRow later next → next.in_effect ≡ None → StayInEffect later
-  by-none later next has none = by-own later next has (λ keeps effect e. absurd (some-not-none effect (sym e ∙ none)))
+  by-none later next has none = by-own later next has (λ effect e. absurd (some-not-none effect (sym e ∙ none)))
 
   pub by-given : {A : Type 0} (change : A → TablesModel) (given : Option A) → ((its : A) → given ≡ Some its → StayInEffect (change its)) → StayInEffect (option_map_or change given now.tables)
-  by-given change None each = λ leaves keeps. are
+  by-given change None each = λ leaves. are
   by-given change (Some its) each = each its refl
 
   -- ---- its lengths are committed
 
-  pub own-committed : AreWithin now.tables.sets → (row : RunRow) (owned : OwnedStep) (effect : EffectPoint) (lengths : List ℕ) (its : IsInEffect now.tables row effect) → own_step row ≡ Some owned → are_lengths now.tables.sets (output_names row.job.root owned) lengths ≡ true
+  pub own-committed : AreWithin now.tables.sets → (row : RunRow) (owned : OwnedStep) (effect : EffectPoint) (lengths : List ℕ) (its : IsInEffect now row effect) → own_step row ≡ Some owned → are_lengths now.tables.sets (output_names row.job.root owned) lengths ≡ true
       → kept_at (committed (output_names row.job.root owned) lengths now.tables.sets) effect.set effect.kept.id ≡ Some its.entry
   own-committed within row owned effect lengths its found lengths_are =
       let there = kept-table now.tables.sets effect.set effect.kept.id its.entry its.at in
@@ -114,8 +113,43 @@ module _ (layout : Layout) (now : Office) (agreed : IsAgreed layout now) (job : 
       (there.2 (λ (entry : KeptEntry). IsTrue (ends_within there.0.set.length entry.kept)) (within effect.set there.0 there.1))
       (output_names row.job.root owned) lengths now.tables.sets lengths_are its.at
 
+-- ---- the legs of later runs
+
+-- each run keeps its leg
+pub effect-led : (one later : Office) (row : RunRow) (effect : EffectPoint) → later.tables.sets ≡ one.tables.sets → KeepLegs one.legs later.legs → IsInEffect one row effect → IsInEffect later row effect
+effect-led one later row effect sets keep its = record {
+  holds = its.holds;
+  within = its.within;
+  owned = its.owned;
+  found = its.found;
+  among = its.among;
+  entry = its.entry;
+  at = ap (λ sets. kept_at sets effect.set effect.kept.id) sets ∙ its.at;
+  kept = its.kept;
+  same = record {
+    leg = its.same.leg;
+    led = keep row.number its.same.leg its.same.led;
+    start = its.same.start;
+    starts = its.same.starts;
+    program = its.same.program;
+    taker = its.same.taker;
+    taker_led = keep its.entry.point.run its.same.taker its.same.taker_led;
+    begun = its.same.begun;
+    begins = its.same.begins;
+    same = its.same.same;
+  };
+  owner = its.owner;
+  step = its.step;
+  present = its.present;
+}
+
+pub effects-led : (one later : Office) → later.tables ≡ one.tables → KeepLegs one.legs later.legs → AreInEffect one → AreInEffect later
+effects-led one later same keep are number row effect e f =
+    effect-led one later row effect (ap (λ (tables : TablesModel). tables.sets) same) keep
+    (are number row effect (ap (λ (tables : TablesModel). run_of tables number) (sym same) ∙ e) f)
+
 -- ---- no events
 
-pub no-effects : AreInEffect no_tables
+pub no-effects : AreInEffect no_office
 no-effects zero row effect e f = absurd (some-not-none row (sym e))
 no-effects (suc before) row effect e f = absurd (some-not-none row (sym e))

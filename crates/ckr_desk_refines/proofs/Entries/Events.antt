@@ -1,4 +1,4 @@
--- One more event leaves what holds of each data set, where it takes no checkpoint and no run continues another one.
+-- One more event leaves what holds of each data set, where it takes no checkpoint.
 use Rattle.std.proofs.Common.{◌≡◌, ℕ, zero, suc, Bool, true, false, List, [], ◌∷◌, refl, sym, subst, Option, Some, None}
 use Rattle.std.specs.Option.{option_map_or}
 use Rattle.std.proofs.lemmas.Bool.{false≢true}
@@ -25,10 +25,11 @@ use Rattle.ckr_points_invariant.specs.Invariant.{IsAgreed, step_now}
 use Rattle.ckr_points_invariant.specs.PlainRuns.{continues}
 use Rattle.ckr_volumes.specs.declared.layout.Layout.{Layout}
 use Rattle.ckr_desk_refines.specs.Entries.{AreThere, AreWithin, EndWithin, KeepsNoneIfPlain, OnlyCheckSetsKeep, HasEntries, UnderEachName, jobs_of, takes_checkpoint}
+use Rattle.ckr_desk_refines.proofs.Entries.Continuation.{continued-stays, programs-continued}
 use Rattle.ckr_desk_refines.proofs.Entries.Legs.{legs-stay, tables-behind}
 use Rattle.ckr_desk_refines.proofs.Entries.Rows as rows
 use Rattle.ckr_desk_refines.proofs.Entries.Sets as sets
-use Rattle.ckr_desk_refines.proofs.Entries.There.{has-legs, has-more, plain-stays, there-stays, within-stays}
+use Rattle.ckr_desk_refines.proofs.Entries.There.{has-jobs, has-legs, has-more, plain-stays, there-stays, within-stays}
 
 -- each run has the number of its place
 abbrev pub AreNumbered : TablesModel → Type 0
@@ -102,7 +103,7 @@ module _ (E : TableSet → Type 0) (stays : sets.Stays E) (tables : TablesModel)
       now)
 
   -- no event but one that submits a deck brings a job
-  pub event-stays : (event : Event) (deck : Option Job) → continues event ≡ false → takes_checkpoint event ≡ false → brings_job event ≡ false → Hold (after_event event deck tables)
+  event-stays : (event : Event) (deck : Option Job) → continues event ≡ false → takes_checkpoint event ≡ false → brings_job event ≡ false → Hold (after_event event deck tables)
   event-stays (Submitted job cards) deck on plain old = absurd (false≢true (sym old))
   event-stays (Selected job initiator zero step id) deck on plain old = selected-stays job initiator step id deck
   event-stays (Selected job initiator (suc before) step id) deck on plain old = absurd (false≢true (sym on))
@@ -118,6 +119,15 @@ module _ (E : TableSet → Type 0) (stays : sets.Stays E) (tables : TablesModel)
   event-stays (Ended job ending) deck on plain old = ended-stays job ending deck
   event-stays (Purged job) deck on plain old = row-same job (λ row. record row { state = PurgedRun }) (λ row mine. mine)
 
+  -- one by which a run continues another one changes that run's job
+  pub event-each : (event : Event) (deck : Option Job) → takes_checkpoint event ≡ false → UnderEachName E (after_event event deck tables).sets
+  event-each (Submitted job cards) None plain = each
+  event-each (Submitted job cards) (Some deck) plain = each
+  event-each (Selected job initiator zero step id) deck plain = (selected-stays job initiator step id deck).each
+  event-each (Selected job initiator (suc before) step id) deck plain = continued-stays E stays tables each job initiator before step id deck
+  event-each (Checkpointed job id taken writes lengths place bytes) deck plain = absurd (false≢true (sym plain))
+  event-each event deck plain = (event-stays event deck refl plain refl).each
+
 -- ---- entries
 
 module _ (layout : Layout) (now : Office) (agreed : IsAgreed layout now) (image : List ℕ) (has : HasEntries layout now image) where
@@ -131,23 +141,27 @@ module _ (layout : Layout) (now : Office) (agreed : IsAgreed layout now) (image 
   event-has event deck on plain old may =
       let later : Office = office_after (event, deck) now in
       let holds = event-stays (AreThere layout now.legs (jobs_of now.tables) image) (there-stays layout now.legs (jobs_of now.tables) image) now.tables agreed.numbered has event deck on plain old in
-      has-legs layout now.legs later.legs (jobs_of later.tables) image later.tables.sets (legs-stay layout now agreed event deck on may)
+      has-legs layout now.legs later.legs (jobs_of later.tables) image later.tables.sets (legs-stay layout now agreed event deck may)
       (subst (λ (tables : TablesModel). UnderEachName (AreThere layout now.legs (jobs_of tables) image) tables.sets) (sym (tables-behind now event deck))
       (subst (λ jobs. UnderEachName (AreThere layout now.legs jobs image) (after_event event deck now.tables).sets) (sym holds.jobs_are) holds.each))
 
-  pub has-next : (event : Event) (deck : Option Job) → continues event ≡ false → takes_checkpoint event ≡ false → may_come layout now (event, deck) ≡ true → HasEntries layout (office_after (event, deck) now) image
-  has-next (Submitted job cards) deck on plain may = submitted-has job cards deck
-  has-next (Selected job initiator earlier step id) deck on plain may = event-has (Selected job initiator earlier step id) deck on plain refl may
-  has-next event deck on plain may = event-has event deck on plain refl may
+  continued-has : (job initiator before step : ℕ) (id : Option Name) (deck : Option Job) → may_come layout now (Selected job initiator (suc before) step id, deck) ≡ true → HasEntries layout (office_after (Selected job initiator (suc before) step id, deck) now) image
+  continued-has job initiator before step id deck may =
+      let later : Office = office_after (Selected job initiator (suc before) step id, deck) now in
+      has-legs layout now.legs later.legs (jobs_of later.tables) image later.tables.sets (legs-stay layout now agreed (Selected job initiator (suc before) step id) deck may)
+      (has-jobs layout now.legs (jobs_of now.tables) (jobs_of later.tables) image later.tables.sets (programs-continued layout now agreed job initiator before step id deck may)
+      (continued-stays (AreThere layout now.legs (jobs_of now.tables) image) (there-stays layout now.legs (jobs_of now.tables) image) now.tables has job initiator before step id deck))
+
+  pub has-next : (event : Event) (deck : Option Job) → takes_checkpoint event ≡ false → may_come layout now (event, deck) ≡ true → HasEntries layout (office_after (event, deck) now) image
+  has-next (Submitted job cards) deck plain may = submitted-has job cards deck
+  has-next (Selected job initiator zero step id) deck plain may = event-has (Selected job initiator zero step id) deck refl plain refl may
+  has-next (Selected job initiator (suc before) step id) deck plain may = continued-has job initiator before step id deck may
+  has-next event deck plain may = event-has event deck refl plain refl may
 
 -- entries within their data sets
-pub within-next : (tables : TablesModel) → AreNumbered tables → AreWithin tables.sets → (event : Event) (deck : Option Job) → continues event ≡ false → takes_checkpoint event ≡ false → AreWithin (after_event event deck tables).sets
-within-next tables numbered within (Submitted job cards) None on plain = within
-within-next tables numbered within (Submitted job cards) (Some deck) on plain = within
-within-next tables numbered within event deck on plain = (event-stays EndWithin within-stays tables numbered within event deck on plain refl).each
+pub within-next : (tables : TablesModel) → AreNumbered tables → AreWithin tables.sets → (event : Event) (deck : Option Job) → takes_checkpoint event ≡ false → AreWithin (after_event event deck tables).sets
+within-next tables numbered within event deck plain = event-each EndWithin within-stays tables numbered within event deck plain
 
 -- entries in data sets for checkpoints
-pub plain-next : (tables : TablesModel) → AreNumbered tables → OnlyCheckSetsKeep tables.sets → (event : Event) (deck : Option Job) → continues event ≡ false → takes_checkpoint event ≡ false → OnlyCheckSetsKeep (after_event event deck tables).sets
-plain-next tables numbered only (Submitted job cards) None on plain = only
-plain-next tables numbered only (Submitted job cards) (Some deck) on plain = only
-plain-next tables numbered only event deck on plain = (event-stays KeepsNoneIfPlain plain-stays tables numbered only event deck on plain refl).each
+pub plain-next : (tables : TablesModel) → AreNumbered tables → OnlyCheckSetsKeep tables.sets → (event : Event) (deck : Option Job) → takes_checkpoint event ≡ false → OnlyCheckSetsKeep (after_event event deck tables).sets
+plain-next tables numbered only event deck plain = event-each KeepsNoneIfPlain plain-stays tables numbered only event deck plain

@@ -1,15 +1,14 @@
 -- The entry of a checkpoint in effect is read with a state that stands for what it says in its run's own job.
 use Rattle.std.proofs.Common.{◌≡◌, ◌≤◌, ℕ, false, true, List, ap, sym, ◌∙◌, subst, Option, Some, None}
-use Rattle.std.specs.Prelude.{◌==◌, find, length, nat_le}
+use Rattle.std.specs.Prelude.{◌==◌, length, nat_le}
 use Rattle.std.specs.List.{AllByRecursion}
 use Rattle.std.specs.Option.{option_map_or}
 use Rattle.ckr_base.proofs.Bools.{and-first}
 use Rattle.ckr_base.proofs.Numbers.{nat_le-true}
 use Rattle.ckr_base.proofs.Options.{option-cases, some-not-none, some-one}
-use Rattle.ckr_entry.specs.declared.point.State.{State}
 use Rattle.ckr_library.specs.NameMaps.{entry_at}
 use Rattle.ckr_meaning.specs.JobRun.{start_at}
-use Rattle.ckr_meaning.specs.Program.{records_taken, upto}
+use Rattle.ckr_meaning.specs.Program.{ProgramCase, records_taken, upto}
 use Rattle.ckr_meaning.specs.States.{StandsFor}
 use Rattle.ckr_meaning.specs.StepRun.{StepStart, case_at}
 use Rattle.ckr_points.specs.Office.{Leg, Office, leg_of}
@@ -25,27 +24,19 @@ use Rattle.ckr_volumes.specs.declared.layout.Layout.{Layout}
 use Rattle.ckr_desk_turn.specs.Desk.{start_of}
 use Rattle.ckr_desk_turn.specs.Jobs.{effect_entry}
 use Rattle.ckr_desk_turn.specs.EntryStates.{checkpoint_state}
-use Rattle.ckr_desk_refines.specs.Entries.{HasEntries, IsReadBack, IsReadInEffect, IsStateOfJob, jobs_of}
-use Rattle.ckr_desk_refines.specs.EntryRefusal.{AreInEffect, IsInEffect}
+use Rattle.ckr_desk_refines.specs.Entries.{HasEntries, IsReadBack, IsReadInEffect, jobs_of}
+use Rattle.ckr_desk_refines.specs.EntryRefusal.{AreInEffect, HasSameCase, IsInEffect}
 use Rattle.ckr_desk_refines.proofs.Entries.Images.{read-back}
-use Rattle.ckr_desk_refines.proofs.Entries.Refusal.{kept-table}
+use Rattle.ckr_desk_refines.proofs.Entries.Refusal.{kept-table, state-of}
 use Rattle.ckr_desk_refines.proofs.Entries.States.{state-served, state-stands, state-unclosed}
 
--- a state of an entry's job at a step of that job
-state-of : (legs : List Leg) (entry : KeptEntry) (state : State) (leg : Leg) (start : StepStart) → find (λ (leg : Leg). leg.number == entry.point.run) legs ≡ Some leg → start_at leg.job leg.start entry.point.step ≡ Some start → (its : IsStateOfJob legs entry state) → state ≡ checkpoint_state (case_at start) entry.point.taken its.entries
-state-of legs entry state leg start led begun its =
-    its.is
-    ∙ ap (λ (s : StepStart). checkpoint_state (case_at s) entry.point.taken its.entries)
-    (some-one its.start start (start_at leg.job leg.start entry.point.step)
-    (ap (λ (leg : Leg). start_at leg.job leg.start entry.point.step) (some-one leg its.leg (find (λ (leg : Leg). leg.number == entry.point.run) legs) led its.led) ∙ its.begun) begun)
-
-module _ (layout : Layout) (office : Office) (image : List ℕ) (kept : IsKept layout office) (ready : AreReady office) (are : AreInEffect office.tables) (has : HasEntries layout office image) where
+module _ (layout : Layout) (office : Office) (image : List ℕ) (kept : IsKept layout office) (ready : AreReady office) (are : AreInEffect office) (has : HasEntries layout office image) where
   module _ (number : ℕ) (row : RunRow) (entry : KeptEntry) (start : StepStart) (e : run_of office.tables number ≡ Some row) (got : effect_entry office.tables row ≡ Some entry) (starts : start_of office row ≡ Some start) where
     read-by : (effect : EffectPoint) → row.in_effect ≡ Some effect → kept_at office.tables.sets effect.set effect.kept.id ≡ Some entry → IsReadInEffect layout office image row entry start
     read-by effect is there =
         led-by layout office number row kept.events e its.holds
         (λ leg holder.
-        let same : back.state ≡ checkpoint_state (case_at start) entry.point.taken back.of_job.entries = state-of office.legs entry back.state leg start (led leg holder) (begun leg holder) back.of_job in
+        let same : back.state ≡ checkpoint_state (case_at start) entry.point.taken back.of_job.entries = as-own leg holder in
         record {
           effect = effect;
           got = is;
@@ -58,7 +49,7 @@ module _ (layout : Layout) (office : Office) (image : List ℕ) (kept : IsKept l
           served = subst (AreServed true false) (sym same) (state-served (case_at start) entry.point.taken back.of_job.entries);
         })
       where
-        its : IsInEffect office.tables row effect
+        its : IsInEffect office row effect
         its = are number row effect e is
 
         same_entry : its.entry ≡ entry
@@ -76,15 +67,28 @@ module _ (layout : Layout) (office : Office) (image : List ℕ) (kept : IsKept l
         number_is : row.number ≡ number
         number_is = kept.events.numbered number row e
 
-        led : (leg : Leg) → IsHolder office number row leg → find (λ (leg : Leg). leg.number == entry.point.run) office.legs ≡ Some leg
-        led leg holder = ap (leg_of office) (ap (λ (entry : KeptEntry). entry.point.run) (sym same_entry) ∙ its.run ∙ number_is) ∙ holder.leg_at
-
         own_start : (leg : Leg) → IsHolder office number row leg → start_at leg.job leg.start (step_now row) ≡ Some start
         own_start leg holder =
             sym (ap (λ (o : Option Leg). option_map_or (λ leg. start_at leg.job leg.start (step_now row)) o None) (ap (leg_of office) number_is ∙ holder.leg_at)) ∙ starts
 
-        begun : (leg : Leg) → IsHolder office number row leg → start_at leg.job leg.start entry.point.step ≡ Some start
-        begun leg holder = ap (start_at leg.job leg.start) step_is ∙ own_start leg holder
+        -- the run's own job comes to the step so
+        same_case : HasSameCase office.legs number its.owned entry.point
+        same_case =
+            subst (λ run. HasSameCase office.legs run its.owned entry.point) number_is
+            (subst (λ (entry : KeptEntry). HasSameCase office.legs row.number its.owned entry.point) same_entry its.same)
+
+        start_is : (leg : Leg) → IsHolder office number row leg → same_case.start ≡ start
+        start_is leg holder =
+            some-one same_case.start start (start_at leg.job leg.start entry.point.step)
+            (ap (λ (leg : Leg). start_at leg.job leg.start entry.point.step) (some-one leg same_case.leg (leg_of office number) holder.leg_at same_case.led) ∙ same_case.starts)
+            (ap (start_at leg.job leg.start) step_is ∙ own_start leg holder)
+
+        -- so the state of the job that took it is one of the run's own
+        as-own : (leg : Leg) → IsHolder office number row leg → back.state ≡ checkpoint_state (case_at start) entry.point.taken back.of_job.entries
+        as-own leg holder =
+            state-of office.legs entry back.state same_case.taker same_case.begun same_case.taker_led same_case.begins back.of_job
+            ∙ ap (λ (case : ProgramCase). checkpoint_state case entry.point.taken back.of_job.entries) same_case.same
+            ∙ ap (λ (start : StepStart). checkpoint_state (case_at start) entry.point.taken back.of_job.entries) (start_is leg holder)
 
         -- its program takes so many records
         taken : (leg : Leg) → IsHolder office number row leg → entry.point.taken ≤ records_taken (case_at start)

@@ -1,8 +1,7 @@
--- What an office has behind an event: the tables of the event, and the legs of the runs, which stay where no run continues another one.
-use Rattle.std.proofs.Common.{◌≡◌, ◌≢◌, ℕ, zero, suc, false, true, List, refl, sym, ◌∙◌, ap, Option, Some}
+-- What an office has behind an event: the tables of the event, and the legs of the runs, which stay.
+use Rattle.std.proofs.Common.{◌≡◌, ◌≢◌, ℕ, zero, suc, true, List, refl, sym, ◌∙◌, ap, Option, Some}
 use Rattle.std.specs.Prelude.{find, ◌==◌}
-use Rattle.std.proofs.lemmas.Bool.{false≢true}
-use Rattle.ckr_base.proofs.Options.{some-not-none}
+use Rattle.ckr_base.proofs.Options.{is_some-from, some-not-none}
 use Rattle.ckr_events.specs.declared.event.Event.{Event}
 use Rattle.ckr_events.specs.declared.event.Event.TheVariants.{Ended, Selected}
 use Rattle.ckr_jcl.specs.declared.deck.Job.{Job}
@@ -11,10 +10,10 @@ use Rattle.ckr_points.specs.Office.{Leg, Office, leg_of, office_after}
 use Rattle.ckr_points.specs.Restart.{after_event}
 use Rattle.ckr_points.specs.Soundness.{may_come}
 use Rattle.ckr_points_invariant.specs.Invariant.{IsAgreed}
-use Rattle.ckr_points_invariant.specs.PlainRuns.{continues}
 use Rattle.ckr_points_invariant.proofs.Select.Invariant.{led_there, waits}
 use Rattle.ckr_points_invariant.proofs.WaitingRuns.{by-selected}
 use Rattle.ckr_volumes.specs.declared.layout.Layout.{Layout}
+use Rattle.ckr_desk_refines.proofs.Durable.Continuation.{apart-led, legs-behind}
 
 -- the tables of the office behind an event
 pub tables-behind : (now : Office) (event : Event) (deck : Option Job) → (office_after (event, deck) now).tables ≡ after_event event deck now.tables
@@ -35,8 +34,12 @@ module _ (layout : Layout) (now : Office) (agreed : IsAgreed layout now) where
       let apart : run ≢ row.number = λ same. some-not-none leg (sym led ∙ ap (leg_of now) same ∙ (waits layout now row initiator agreed row_at queued plain free).alone) in
       led_there layout now row initiator agreed row_at queued plain free run apart ∙ led)
 
-  pub legs-stay : (event : Event) (deck : Option Job) → continues event ≡ false → may_come layout now (event, deck) ≡ true → KeepLegs now.legs (office_after (event, deck) now).legs
-  legs-stay (Selected job initiator zero step id) deck on may = legs-selected job initiator step id deck may
-  legs-stay (Selected job initiator (suc before) step id) deck on may = absurd (false≢true (sym on))
-  legs-stay (Ended job ending) deck on may = λ run leg led. led
-  legs-stay event deck on may = λ run leg led. led
+  legs-continued : (job initiator before step : ℕ) (id : Option Name) (deck : Option Job) → may_come layout now (Selected job initiator (suc before) step id, deck) ≡ true → KeepLegs now.legs (office_after (Selected job initiator (suc before) step id, deck) now).legs
+  legs-continued job initiator before step id deck may run leg led =
+      legs-behind layout now agreed job initiator before step id deck may run (apart-led layout now agreed job initiator before step id deck may run (is_some-from (leg_of now run) leg led)) ∙ led
+
+  pub legs-stay : (event : Event) (deck : Option Job) → may_come layout now (event, deck) ≡ true → KeepLegs now.legs (office_after (event, deck) now).legs
+  legs-stay (Selected job initiator zero step id) deck may = legs-selected job initiator step id deck may
+  legs-stay (Selected job initiator (suc before) step id) deck may = legs-continued job initiator before step id deck may
+  legs-stay (Ended job ending) deck may = λ run leg led. led
+  legs-stay event deck may = λ run leg led. led

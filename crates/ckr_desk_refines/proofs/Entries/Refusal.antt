@@ -1,20 +1,23 @@
 -- Opening refuses no entry of a checkpoint in effect that the image has.
-use Rattle.std.proofs.Common.{◌≡◌, ℕ, suc, Bool, true, false, if◌then◌else◌, List, [], ◌∷◌, refl, ap, sym, ◌∙◌, Option, Some, None}
+use Rattle.std.proofs.Common.{◌≡◌, ℕ, suc, Bool, true, false, if◌then◌else◌, List, [], ◌∷◌, refl, ap, sym, ◌∙◌, subst, Option, Some, None}
 use Rattle.std.specs.Prelude.{slice_get, find, option_and_then, ◌==◌}
 use Rattle.std.specs.List.{AllByRecursion}
 use Rattle.std.specs.Option.{option_map_or}
 use Rattle.std.proofs.lemmas.Bool.{and_from}
-use Rattle.std.proofs.lemmas.Option.{same_Some}
 use Rattle.ckr_base.proofs.Bools.{bool-cases}
 use Rattle.ckr_base.proofs.Numbers.{equal-from}
-use Rattle.ckr_base.proofs.Options.{option-cases, some-not-none}
+use Rattle.ckr_base.proofs.Options.{option-cases, some-not-none, some-one}
 use Rattle.ckr_base.proofs.Sequences.{find-holds}
 use Rattle.ckr_entry.specs.Entry.{entry_in}
 use Rattle.ckr_entry.specs.Parts.{Entry}
+use Rattle.ckr_entry.specs.declared.point.State.{State}
 use Rattle.ckr_library.specs.declared.sets.Kept.{Kept}
 use Rattle.ckr_library.specs.NameMaps.{Name, Named, entry_at, same_name}
 use Rattle.ckr_meaning.specs.EffectiveJob.{OwnedStep, names_of}
-use Rattle.ckr_points.specs.Office.{Office, is_holder}
+use Rattle.ckr_meaning.specs.JobRun.{start_at}
+use Rattle.ckr_meaning.specs.Program.{ProgramCase}
+use Rattle.ckr_meaning.specs.StepRun.{StepStart, case_at}
+use Rattle.ckr_points.specs.Office.{Leg, Office, is_holder}
 use Rattle.ckr_points.specs.Restart.{kept_at, place_of, step_in}
 use Rattle.ckr_points.specs.Rows.{EffectPoint, KeptEntry, RunRow, TableSet, TablesModel}
 use Rattle.ckr_points.specs.Statements.{kind_number}
@@ -22,9 +25,19 @@ use Rattle.ckr_steps.specs.EntryRecords.{bytes_on}
 use Rattle.ckr_steps.specs.Units.{program_of}
 use Rattle.ckr_volumes.specs.declared.layout.Layout.{Layout}
 use Rattle.ckr_desk_turn.specs.Checkpoints.{entry_with}
-use Rattle.ckr_desk_refines.specs.Entries.{HasEntries, IsReadBack, jobs_of, program_at}
+use Rattle.ckr_desk_turn.specs.EntryStates.{checkpoint_state}
+use Rattle.ckr_desk_refines.specs.Entries.{HasEntries, IsReadBack, IsStateOfJob, jobs_of}
 use Rattle.ckr_desk_refines.specs.EntryRefusal.{AreInEffect, IsInEffect, are_present, effect_fault, entry_refusal, fault_in, first_fault, is_of_run, is_of_step, run_fault}
 use Rattle.ckr_desk_refines.proofs.Entries.Images.{read-back}
+use Rattle.ckr_desk_refines.proofs.Entries.States.{state-program}
+
+-- a state of an entry's job at a step of that job
+pub state-of : (legs : List Leg) (entry : KeptEntry) (state : State) (leg : Leg) (start : StepStart) → find (λ (leg : Leg). leg.number == entry.point.run) legs ≡ Some leg → start_at leg.job leg.start entry.point.step ≡ Some start → (its : IsStateOfJob legs entry state) → state ≡ checkpoint_state (case_at start) entry.point.taken its.entries
+state-of legs entry state leg start led begun its =
+    its.is
+    ∙ ap (λ (s : StepStart). checkpoint_state (case_at s) entry.point.taken its.entries)
+    (some-one its.start start (start_at leg.job leg.start entry.point.step)
+    (ap (λ (leg : Leg). start_at leg.job leg.start entry.point.step) (some-one leg its.leg (find (λ (leg : Leg). leg.number == entry.point.run) legs) led its.led) ∙ its.begun) begun)
 
 -- what is kept under a name is kept by its data set
 pub kept-table : (sets : Named TableSet) (set id : Name) (entry : KeptEntry) → kept_at sets set id ≡ Some entry → (table : TableSet) × (entry_at sets set ≡ Some table) × ((P : KeptEntry → Type 0) → AllByRecursion P table.entries → P entry)
@@ -39,11 +52,20 @@ kept-table sets set id entry at = by (entry_at sets set) refl
           (sym (ap (λ (o : Option TableSet). option_map_or (λ table. find (λ (one : KeptEntry). same_name one.kept.id id) table.entries) o None) e) ∙ at),
     )
 
-module _ (layout : Layout) (office : Office) (image : List ℕ) (has : HasEntries layout office image) (are : AreInEffect office.tables) where
+module _ (layout : Layout) (office : Office) (image : List ℕ) (has : HasEntries layout office image) (are : AreInEffect office) where
   abbrev tables : TablesModel
   tables = office.tables
 
-  module _ (row : RunRow) (effect : EffectPoint) (its : IsInEffect tables row effect) where
+  module _ (row : RunRow) (effect : EffectPoint) (its : IsInEffect office row effect) where
+    -- its program is that of the run's step
+    program-so : (entry : KeptEntry) → entry ≡ its.entry → (state : State) → IsStateOfJob office.legs entry state → program_of state ≡ its.owned.step.program
+    program-so entry is state of_job =
+        let told : IsStateOfJob office.legs its.entry state = subst (λ (entry : KeptEntry). IsStateOfJob office.legs entry state) is of_job in
+        ap program_of (state-of office.legs its.entry state its.same.taker its.same.begun its.same.taker_led its.same.begins told)
+        ∙ ap (λ (case : ProgramCase). program_of (checkpoint_state case its.entry.point.taken told.entries)) its.same.same
+        ∙ state-program its.same.start its.entry.point.taken told.entries
+        ∙ its.same.program
+
     right : (entry : KeptEntry) → entry ≡ its.entry → (read : Entry) → (set : TableSet) → (back : IsReadBack layout office.legs (jobs_of tables) image set.set entry) → read ≡ entry_with entry.kept.id back.state entry.point → is_of_run row read ≡ true
     right entry is read set back same =
         ap (λ (o : Option OwnedStep). option_map_or (λ owned. is_of_step row.job.root owned (step_in (place_of row)) read) o false) its.found
@@ -53,8 +75,7 @@ module _ (layout : Layout) (office : Office) (image : List ℕ) (has : HasEntrie
         (and_from (entry.point.owner == its.owned.owner) (entry.point.step == step_in (place_of row))
         (equal-from _ _ (ap (λ (e : KeptEntry). e.point.owner) is ∙ its.owner))
         (equal-from _ _ (ap (λ (e : KeptEntry). e.point.step) is ∙ its.step)))
-        (equal-from _ _
-        (ap kind_number (same_Some (program_of back.state) its.owned.step.program (sym back.program ∙ ap (λ (e : KeptEntry). program_at (jobs_of tables) e.point.run e.point.step) is ∙ its.program)))))
+        (equal-from _ _ (ap kind_number (program-so entry is back.state back.of_job))))
         (ap (λ (e : KeptEntry). are_present e.point.marks (names_of row.job.root its.owned)) is ∙ its.present)
 
     effect-right : effect_fault layout tables image row effect ≡ None
@@ -67,7 +88,7 @@ module _ (layout : Layout) (office : Office) (image : List ℕ) (has : HasEntrie
         ∙ ap (fault_in (is_of_run row)) back.read
         ∙ ap (λ (b : Bool). if b then None else Some 0) (right its.entry refl (entry_with its.entry.kept.id back.state its.entry.point) table back refl)
 
-  run-right : (row : RunRow) → ((effect : EffectPoint) → row.in_effect ≡ Some effect → IsInEffect tables row effect) → run_fault layout tables image row ≡ None
+  run-right : (row : RunRow) → ((effect : EffectPoint) → row.in_effect ≡ Some effect → IsInEffect office row effect) → run_fault layout tables image row ≡ None
   run-right row each =
       bool-cases (is_holder row.state)
       (λ holds.

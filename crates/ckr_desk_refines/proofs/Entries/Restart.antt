@@ -24,7 +24,7 @@ use Rattle.ckr_desk_refines.specs.EntryRefusal.{AreInEffect, IsInEffect}
 use Rattle.ckr_desk_refines.proofs.Entries.Effects as effects
 use Rattle.ckr_desk_refines.proofs.Entries.KeptEntries.{kept_at-put_back}
 
-module _ (layout : Layout) (now : Office) (agreed : IsAgreed layout now) (job : ℕ) (are : AreInEffect now.tables) where
+module _ (layout : Layout) (now : Office) (agreed : IsAgreed layout now) (job : ℕ) (are : AreInEffect now) where
   abbrev Stays : TablesModel → Type 0
   Stays later = effects.StayInEffect layout now agreed job are later
 
@@ -70,7 +70,7 @@ module _ (layout : Layout) (now : Office) (agreed : IsAgreed layout now) (job : 
     ends-back : (row : RunRow) (effect : EffectPoint) (entry : KeptEntry) → run_of tables job ≡ Some row → row.in_effect ≡ Some effect → kept_at tables.sets effect.set effect.kept.id ≡ Some entry
         → (present : Present) → present_at entry.point.marks effect.set ≡ Some present → ends_within present.length entry.kept ≡ true
     ends-back row effect entry e got there present has =
-        let its : IsInEffect tables row effect = are job row effect e got in
+        let its : IsInEffect now row effect = are job row effect e got in
         led-by layout now job row agreed e its.holds
         (λ leg holder.
         let check : IsCheck tables.sets row leg effect = (ready.runs job row leg holder).check effect its.within got in
@@ -82,7 +82,7 @@ module _ (layout : Layout) (now : Office) (agreed : IsAgreed layout now) (job : 
         → Stays (after_put_back (record (row_on initiator row) { in_effect = Some (effect_restarted effect) }) owned (back_to_entry row owned (step_now row) entry.point) tables)
     entry-back row owned effect entry initiator e got there =
         effects.by-own layout now agreed job are later (row_back next owned back) (has-back row next owned back e refl)
-        (λ keeps other f. subst (λ (effect : EffectPoint). IsInEffect later (row_back next owned back) effect) (same_Some (effect_restarted effect) other f) (stays-its keeps))
+        (λ other f. subst (λ (effect : EffectPoint). effects.IsStill layout now agreed job are later (row_back next owned back) effect) (same_Some (effect_restarted effect) other f) stays-its)
       where
         next : RunRow
         next = record (row_on initiator row) { in_effect = Some (effect_restarted effect) }
@@ -93,9 +93,9 @@ module _ (layout : Layout) (now : Office) (agreed : IsAgreed layout now) (job : 
         later : TablesModel
         later = after_put_back next owned back tables
 
-        stays-its : effects.KeepsPrograms layout now agreed job are later → IsInEffect later (row_back next owned back) (effect_restarted effect)
-        stays-its keeps =
-            let its : IsInEffect tables row effect = are job row effect e got in
+        stays-its : effects.IsStill layout now agreed job are later (row_back next owned back) (effect_restarted effect)
+        stays-its =
+            let its : IsInEffect now row effect = are job row effect e got in
             let same : entry ≡ its.entry = some-one entry its.entry (kept_at tables.sets effect.set effect.kept.id) there its.at in
             record {
               holds = refl;
@@ -108,10 +108,9 @@ module _ (layout : Layout) (now : Office) (agreed : IsAgreed layout now) (job : 
                   kept_at-put_back entry.point.marks (output_names row.job.root owned) (names_of row.job.root owned) tables.sets effect.set effect.kept.id entry (ends-back row effect entry e got there) there
                   ∙ ap Some same;
               kept = its.kept;
-              run = its.run;
+              same = its.same;
               owner = its.owner;
               step = its.step;
-              program = keeps its.entry.point.run its.entry.point.step its.owned.step.program its.program;
               present = its.present;
             }
 

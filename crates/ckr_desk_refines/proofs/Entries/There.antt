@@ -1,12 +1,12 @@
 -- An entry stays where its data set keeps its place, through a change of the data set and of the image.
 use Rattle.std.proofs.Common.{◌≡◌, ◌≢◌, ◌≤◌, ◌<◌, ℕ, zero, suc, ◌+◌, Bool, true, false, cond, List, [], ◌∷◌, ◌++◌, length, filter, refl, ap, sym, ◌∙◌, subst, arith, ⊎_elim, Some, Option}
-use Rattle.std.specs.Prelude.{IsTrue, option_and_then, slice_get}
+use Rattle.std.specs.Prelude.{IsTrue, ◌==◌, find, option_and_then, slice_get}
 use Rattle.std.specs.List.{AllByRecursion}
-use Rattle.std.specs.Option.{option_map}
+use Rattle.std.specs.Option.{is_some, option_map}
 use Rattle.std.proofs.lemmas.Bool.{cases_lt}
 use Rattle.std.proofs.lemmas.List.{same_from_push}
 use Rattle.ckr_base.proofs.Numbers.{nat_le-true}
-use Rattle.ckr_base.proofs.Options.{option-cases, some-not-none}
+use Rattle.ckr_base.proofs.Options.{is_some-from, option-cases, some-not-none}
 use Rattle.ckr_base.proofs.Sequences.{each-implies}
 use Rattle.ckr_jcl.specs.declared.deck.Kind.{Kind}
 use Rattle.ckr_library.specs.declared.sets.DataSet.{DataSet}
@@ -139,6 +139,22 @@ has-more layout legs jobs more image sets each name table e =
       bytes = its.bytes;
       there = its.there;
       program = program-more jobs more entry.point.run entry.point.step _ its.program;
+    })
+    (each name table e)
+
+-- with other jobs, of which the runs that were selected have the same programs
+pub has-jobs : (layout : Layout) (legs : List Leg) (jobs later : List Effective) (image : List ℕ) (sets : Named TableSet)
+    → ((run step : ℕ) (kind : Kind) → is_some (find (λ (leg : Leg). leg.number == run) legs) ≡ true → program_at jobs run step ≡ Some kind → program_at later run step ≡ Some kind)
+    → UnderEachName (AreThere layout legs jobs image) sets → UnderEachName (AreThere layout legs later image) sets
+has-jobs layout legs jobs later image sets keep each name table e =
+    each-implies (IsEntryThere layout legs jobs image table.set) (IsEntryThere layout legs later image table.set) table.entries
+    (λ entry its. record {
+      state = its.state;
+      of_job = its.of_job;
+      fits = its.fits;
+      bytes = its.bytes;
+      there = its.there;
+      program = keep entry.point.run entry.point.step _ (is_some-from (find (λ (leg : Leg). leg.number == entry.point.run) legs) its.of_job.leg its.of_job.led) its.program;
     })
     (each name table e)
 

@@ -160,7 +160,7 @@ restart-stands layout old new before after desk job initiator code false at is t
 restart-stands layout old new before after desk job initiator code true at is tables failed restartless differs points others moved records comes later committed =
     behind-stands layout old new after desk (Restarted job initiator code true) None at tables failed restartless tt moved refl later
     (subst (λ running. AllStand desk.layout office after new.running running) (sym running)
-    (again-stand desk is job initiator code comes old.points points later (restartless-behind desk.office.tables restartless (Restarted job initiator code true) None tt) after committed old.running new.running
+    (again-stand desk is job initiator code comes old.points points later after committed old.running new.running
     (subst (λ (tables : TablesModel). StepGoesBack (find (is_point_of job) old.points) job tables old.running new.running) (moved.tables ∙ ap (after_event (Restarted job initiator code true) None) tables) moved.running)
     (rest-stand desk is office job leaves lies before after records old.running desk.running is.going others)))
     (ap differ running ∙ and_from _ _ (ap not (left-none job desk.running)) (left-differ job desk.running differs))
@@ -197,7 +197,7 @@ module _ (layout : Layout) (old new : JobsView) (before after : List ℕ) (desk 
   step-started : (job step : ℕ) (items : ArrayVec Made) → BehindStands (Started job step items)
   step-started job step items comes later moved committed =
       behind-stands layout old new after desk (Started job step items) None stands.layout_is stands.tables stands.failed stands.restartless tt moved refl later
-      (new-stand (behind (Started job step items) None desk) later (restartless-behind desk.office.tables stands.restartless (Started job step items) None tt) job going after committed old.running new.running starts (steps_without job desk.running)
+      (new-stand (behind (Started job step items) None desk) later job going after committed old.running new.running starts (steps_without job desk.running)
       (rest-stand desk stands.is_desk (office_after (Started job step items, None) desk.office) job
       (started-leaves desk.layout desk.office job step items stands.is_desk.kept.events)
       (others-started desk.layout desk.office job step items None stands.is_desk.kept comes.may comes.carried)
@@ -219,9 +219,9 @@ module _ (layout : Layout) (old new : JobsView) (before after : List ℕ) (desk 
           ap step_in (sym (going-within (office_after (Started job step items, None) desk.office) (at_first job) going).place)
           ∙ ap step_in (started-place desk.layout desk.office job step items stands.is_desk.kept.events comes.may comes.carried going.row going.row_at)
 
-      starts : (owned : OwnedStep) → step_of_run going.row going.number ≡ Some owned → HasNew job owned (begun job owned.step) (office_after (Started job step items, None) desk.office).tables.sets old.running new.running
+      starts : (owned : OwnedStep) → step_of_run going.row going.number ≡ Some owned → HasNew job going.row.job.root owned (begun going.row.job.root owned) (office_after (Started job step items, None) desk.office).tables.sets old.running new.running
       starts owned found =
-          subst (λ (tables : TablesModel). HasNew job owned (begun job owned.step) tables.sets old.running new.running) same_tables
+          subst (λ (tables : TablesModel). HasNew job going.row.job.root owned (begun going.row.job.root owned) tables.sets old.running new.running) same_tables
           (moved.running going.row owned (ap (λ tables. run_of tables job) same_tables ∙ going.row_at) (ap (step_of_run going.row) (sym same_step) ∙ found))
 
   pub each-stands : OfEach desk before BehindStands

@@ -9,18 +9,18 @@ use Rattle.ckr_base.proofs.Options.{option-cases, some-not-none, some-one}
 use Rattle.arrayvec.specs.ArrayVec.{ArrayVec}
 use Rattle.ckr_events.specs.declared.event.Ending.{Ending}
 use Rattle.ckr_events.specs.declared.event.Ending.TheVariants.{Allocation, Coded, Completed}
-use Rattle.ckr_events.specs.declared.event.Event.TheVariants.{Cancelled, Ended, Held, Purged, Released, Restarted, Selected, Started, StepEnded, Submitted}
+use Rattle.ckr_events.specs.declared.event.Event.TheVariants.{Cancelled, Denied, Ended, Held, Purged, Released, Restarted, Selected, Started, StepEnded, Submitted}
 use Rattle.ckr_events.specs.declared.event.Made.{Made}
 use Rattle.ckr_jcl.specs.declared.deck.Job.{Job}
 use Rattle.ckr_points_library.specs.Commit.{output_names}
-use Rattle.ckr_library.specs.NameMaps.{Named}
+use Rattle.ckr_library.specs.NameMaps.{Name, Named}
 use Rattle.ckr_meaning.specs.Allotments.{opened_all}
 use Rattle.ckr_meaning.specs.Dispositions.{Stock, passed_ended}
 use Rattle.ckr_meaning.specs.EffectiveJob.{OwnedStep, placed_in, stamp_of}
 use Rattle.ckr_meaning.specs.declared.place.Place.{Place}
 use Rattle.ckr_meaning.specs.declared.place.Place.TheVariants.{Before, Opened, Within}
 use Rattle.ckr_points.specs.declared.run.RunState.{RunState}
-use Rattle.ckr_points.specs.declared.run.RunState.TheVariants.{Ended as EndedRun, Held as HeldRun, On, Purged as PurgedRun, Queued, Released as ReleasedRun}
+use Rattle.ckr_points.specs.declared.run.RunState.TheVariants.{Denied as DeniedRun, Ended as EndedRun, Held as HeldRun, On, Purged as PurgedRun, Queued, Released as ReleasedRun}
 use Rattle.ckr_points.specs.Tables.{after_commit, after_dispositions, after_held, after_started, after_step_ended, committed, made_tables, queued_run, start_point}
 use Rattle.ckr_points.specs.Follows.{state_number}
 use Rattle.ckr_points.specs.Marks.{point_at, put_back, removed_all, with_point, has_passed}
@@ -252,6 +252,17 @@ purged-enters layout now job row kept at queued = record {
     waits = λ one there on. queued-off one.state (ap (λ (r : RunRow). state_number r.state == 1) (same_Some one row (sym there ∙ at)) ∙ ap (λ (s : RunState). state_number s == 1) queued) on;
   };
   out = λ one there. ap is_in_step (sym (stated-is layout now kept job PurgedRun row at one there));
+}
+
+pub denied-enters : (layout : Layout) (now : Office) (job rule : ℕ) (name : Option Name) (row : RunRow) → IsAgreed layout now → run_of now.tables job ≡ Some row → row.state ≡ Queued → EntersOut now (office_after (Denied job rule name, None) now)
+denied-enters layout now job rule name row kept at queued = record {
+  enters = record {
+    run = job;
+    leaves = stated-leaves layout now kept job DeniedRun;
+    sets = stated-sets layout now kept job DeniedRun row at;
+    waits = λ one there on. queued-off one.state (ap (λ (r : RunRow). state_number r.state == 1) (same_Some one row (sym there ∙ at)) ∙ ap (λ (s : RunState). state_number s == 1) queued) on;
+  };
+  out = λ one there. ap is_in_step (sym (stated-is layout now kept job DeniedRun row at one there));
 }
 
 -- a held run that is released stays within its step

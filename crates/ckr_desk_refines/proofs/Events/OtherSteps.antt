@@ -235,7 +235,7 @@ module _ (desk : DeskModel) (is : IsDesk desk) (later : Office) (run : ℕ) (lea
       others-stand (seen_without run seen) (steps_without run running) (left-each (IsGoing desk.office) run running going) (left-none run running) all
 
 -- a running step isn't of a run that is on no initiator
-none-waits : (office : Office) (run : ℕ) (running : List DeskStep) → AllByRecursion (IsGoing office) running → ((row : RunRow) → run_of office.tables run ≡ Some row → row.state ≡ On → ⊥) → is_of_one run running ≡ false
+pub none-waits : (office : Office) (run : ℕ) (running : List DeskStep) → AllByRecursion (IsGoing office) running → ((row : RunRow) → run_of office.tables run ≡ Some row → row.state ≡ On → ⊥) → is_of_one run running ≡ false
 none-waits office run [] going waits = refl
 none-waits office run (step ∷ running) going waits =
     by (step.run == run) refl (none-waits office run running going.1 waits)

@@ -11,7 +11,7 @@ use Rattle.ckr_base.proofs.Options.{some-one}
 use Rattle.ckr_events.specs.declared.event.Event.TheVariants.{Restarted}
 use Rattle.ckr_library.specs.NameMaps.{Name, Named, entry_at, same_name}
 use Rattle.ckr_library.proofs.Named.{name-itself}
-use Rattle.ckr_meaning.specs.EffectiveJob.{Effective, OwnedStep, is_among, names_of}
+use Rattle.ckr_meaning.specs.EffectiveJob.{OwnedStep, is_among, names_of}
 use Rattle.ckr_meaning.specs.JobRun.{start_at}
 use Rattle.ckr_meaning.specs.StepRun.{StepStart, work_at}
 use Rattle.ckr_meaning.specs.declared.place.Place.{Place}
@@ -48,11 +48,10 @@ use Rattle.ckr_desk_turn.specs.NextEvents.{Comes, IsWithinStep}
 use Rattle.ckr_desk_turn.proofs.NextEvents.WithinStep.{by-step, runs}
 use Rattle.ckr_desk_turn.proofs.RunningSteps.{going-within}
 use Rattle.ckr_desk_refines.specs.Commits.{HasCommitted}
-use Rattle.ckr_desk_refines.specs.Restartless.{AreRestartless}
 use Rattle.ckr_desk_refines.specs.Standing.{AllStand, PointsStand, StandsForPoint, StandsForStep}
 use Rattle.ckr_desk_refines.proofs.Entries.KeptEntries.{kept_at-put_back}
 use Rattle.ckr_desk_refines.proofs.Entries.RunningStep.{has-names}
-use Rattle.ckr_desk_refines.proofs.Events.Start.{files_are, may-so, named_so, placed-stands, shows_so}
+use Rattle.ckr_desk_refines.proofs.Events.Start.{files_are, may-so, placed-stands, shows_so}
 use Rattle.ckr_desk_refines.proofs.Standing.Points.{OwnStands, check-by, entry_in_effect}
 
 -- a run that may be restarted is running, or was released
@@ -177,8 +176,8 @@ module _ (desk : DeskModel) (is : IsDesk desk) (job initiator : ℕ) (code : Cod
       opened : IsOpen going.start step_back.progress
       opened = going.come
 
-      module _ (restartless : AreRestartless later.tables) (image : List ℕ) (committed : HasCommitted desk.layout later image) (old new : List RunningStepView) (leg : Leg) (owned : OwnedStep) (running : IsRunning later job going.row leg owned going.number back.entry.point.writes) (same : going.start ≡ its_start leg owned going.number)
-          (has : HasNew job owned (resumed job owned.step point.point) later.tables.sets old new) where
+      module _ (image : List ℕ) (committed : HasCommitted desk.layout later image) (old new : List RunningStepView) (leg : Leg) (owned : OwnedStep) (running : IsRunning later job going.row leg owned going.number back.entry.point.writes) (same : going.start ≡ its_start leg owned going.number)
+          (has : HasNew job going.row.job.root owned (resumed going.row.job.root owned point.point) later.tables.sets old new) where
         abbrev start : StepStart
         start = its_start leg owned going.number
 
@@ -191,35 +190,33 @@ module _ (desk : DeskModel) (is : IsDesk desk) (job initiator : ℕ) (code : Cod
         has-within =
             subst (λ n. HasWithin desk.layout start n has.on.sets) (sym point.writes)
             (shows-within (Unit {0}) image desk.layout start back.entry.point.writes has.on.sets
-            (shows_so then kept restartless step_back going image committed old new leg owned running same (resumed job owned.step point.point) has))
+            (shows_so then kept step_back going image committed old new leg owned running same (resumed going.row.job.root owned point.point) has))
 
         stands_so : IsStepPlace start back.entry.point.taken false has.on.step has.on.sets
         stands_so =
             subst (λ (s : StepRun). IsStepPlace start back.entry.point.taken false s has.on.sets)
             (ap (λ (files : Files). (let step : StepRun = record { state = point.point.state; parm = owned.step.parm; files = files; writes = point.point.writes } in step))
-            (files_are then kept restartless step_back going image committed old new leg owned running same (resumed job owned.step point.point) has) ∙ sym has.step)
-            (stands-at_point desk.layout start (may-so then kept restartless step_back going image committed old new leg owned running same (resumed job owned.step point.point) has) has.on.sets
+            (files_are then kept step_back going image committed old new leg owned running same (resumed going.row.job.root owned point.point) has) ∙ sym has.step)
+            (stands-at_point desk.layout start (may-so then kept step_back going image committed old new leg owned running same (resumed going.row.job.root owned point.point) has) has.on.sets
             point.point.state point.point.writes has-within back.entry.point.taken is-point owned.step.parm refl)
 
         again-placed : StandsForStep desk.layout later image has.on step_back
         again-placed =
-            placed-stands then kept restartless step_back going image committed old new leg owned running same (resumed job owned.step point.point) has refl stands_so
+            placed-stands then kept step_back going image committed old new leg owned running same (resumed going.row.job.root owned point.point) has refl stands_so
             (subst (λ (s : StepRun). AreServed true false s.state) (sym has.step) point.served) refl
             (ap (λ (s : StepRun). s.writes) has.step ∙ point.writes)
 
-      module _ (restartless : AreRestartless later.tables) (image : List ℕ) (committed : HasCommitted desk.layout later image) (old new : List RunningStepView) (goes : StepGoesBack (find (is_point_of job) points) job later.tables old new) where
+      module _ (image : List ℕ) (committed : HasCommitted desk.layout later image) (old new : List RunningStepView) (goes : StepGoesBack (find (is_point_of job) points) job later.tables old new) where
         -- the step goes on from its point
-        has-new : (leg : Leg) (owned : OwnedStep) → IsRunning later job going.row leg owned going.number back.entry.point.writes → HasNew job owned (resumed job owned.step point.point) later.tables.sets old new
+        has-new : (leg : Leg) (owned : OwnedStep) → IsRunning later job going.row leg owned going.number back.entry.point.writes → HasNew job going.row.job.root owned (resumed going.row.job.root owned point.point) later.tables.sets old new
         has-new leg owned running =
-            subst (λ (b : Bool). GoesFrom b job owned point.point later.tables old new)
-            (and_from (is_in_state On going.row) (has_sets later.tables.sets (names_of job owned)) (ap (λ (state : RunState). state_number state == 2) going.on)
-            (sets-there later.tables.sets (names_of job owned)
+            subst (λ (b : Bool). GoesFrom b job going.row.job.root owned point.point later.tables old new)
+            (and_from (is_in_state On going.row) (has_sets later.tables.sets (names_of going.row.job.root owned)) (ap (λ (state : RunState). state_number state == 2) going.on)
+            (sets-there later.tables.sets (names_of going.row.job.root owned)
             (λ name among.
             has-names desk.layout later kept.kept.events job
             (λ row at. subst (λ (r : RunRow). is_running r ≡ true) (some-one going.row row (run_of later.tables job) going.row_at at) (runs then kept job going.row going.number going.committed going.start within))
-            going.row owned name going.row_at found
-            (ap (λ (job : Effective). is_among (names_of job.root owned) name) (sym (kept.kept.events.places job going.row leg running.holder).job)
-            ∙ sym (named_so then kept restartless step_back going image committed old new leg owned running name) ∙ among))))
+            going.row owned name going.row_at found among)))
             (subst (λ (o : Option PointView). StepGoesBack o job later.tables old new) point.found goes going.row owned going.row_at found)
           where
             found : own_step going.row ≡ Some owned
@@ -231,6 +228,6 @@ module _ (desk : DeskModel) (is : IsDesk desk) (job initiator : ℕ) (code : Cod
             by-step then kept job going.row going.number going.committed going.start within
             (λ leg owned its same spaced.
             let running : IsRunning later job going.row leg owned going.number back.entry.point.writes = subst (λ n. IsRunning later job going.row leg owned going.number n) writes-is its in
-            let has : HasNew job owned (resumed job owned.step point.point) later.tables.sets old new = has-new leg owned running in
+            let has : HasNew job going.row.job.root owned (resumed going.row.job.root owned point.point) later.tables.sets old new = has-new leg owned running in
             subst (λ seen. AllStand desk.layout later image seen (step_back ∷ without_steps job desk.running)) (sym has.first)
-            (again-placed restartless image committed old new leg owned running same has, rest))
+            (again-placed image committed old new leg owned running same has, rest))

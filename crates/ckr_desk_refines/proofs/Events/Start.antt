@@ -1,29 +1,25 @@
 -- A step that has started stands at its beginning.
-use Rattle.std.proofs.Common.{◌≡◌, ◌≤◌, ℕ, zero, suc, Bool, true, false, cond, List, ◌∷◌, slice_get, refl, ap, sym, ◌∙◌, subst, Option, Some, None, arith}
+use Rattle.std.proofs.Common.{◌≡◌, ◌≤◌, ℕ, Bool, true, false, cond, List, ◌∷◌, refl, ap, sym, ◌∙◌, subst, Option, Some, None, arith}
 use Rattle.std.specs.Option.{option_map}
-use Rattle.std.proofs.lemmas.Option.{same_Some, slice_get-map}
+use Rattle.std.proofs.lemmas.Option.{same_Some}
 use Rattle.ckr_base.proofs.Options.{option-cases, some-not-none}
 use Rattle.arrayvec.specs.ArrayVec.{ArrayVec}
 use Rattle.ckr_events.specs.declared.event.Event.TheVariants.{Started}
 use Rattle.ckr_events.specs.declared.event.Made.{Made}
-use Rattle.ckr_jcl.specs.declared.deck.Job.{Job}
-use Rattle.ckr_jcl.specs.declared.deck.Step.{Step}
 use Rattle.ckr_desk_memory.specs.View.{RunningStepView, begun}
 use Rattle.ckr_desk_memory.specs.Start.{HasNew, set_in_tables}
 use Rattle.ckr_desk_turn.specs.Invariant.{IsDesk, IsGoing}
 use Rattle.ckr_desk_turn.proofs.RunningSteps.{going-within}
 use Rattle.ckr_desk_turn.proofs.NextEvents.WithinStep.{by-step}
 use Rattle.ckr_desk_refines.specs.Commits.{HasCommitted}
-use Rattle.ckr_desk_refines.specs.Restartless.{AreRestartless}
 use Rattle.ckr_desk_refines.specs.StepSets.{HasSets}
 use Rattle.ckr_desk_refines.proofs.Durable.Start.{none-long}
 use Rattle.ckr_desk_refines.proofs.Durable.Stamps.{as-office}
-use Rattle.ckr_desk_refines.proofs.Standing.Restartless.{row-restartless}
 use Rattle.ckr_library.specs.declared.sets.Content.TheVariants.{Plain}
 use Rattle.ckr_library.specs.declared.sets.DataSet.{DataSet}
 use Rattle.ckr_library.specs.Catalog.{set_of}
 use Rattle.ckr_library.specs.NameMaps.{Name, Named, entry_at}
-use Rattle.ckr_meaning.specs.EffectiveJob.{Effective, OwnedStep, is_among, names_of, owned_by, placed_in, plain_job, stamp_of, step_at}
+use Rattle.ckr_meaning.specs.EffectiveJob.{Effective, OwnedStep, is_among, names_of, placed_in, stamp_of}
 use Rattle.ckr_meaning.specs.Allotments.{DdAllotment, opened_all}
 use Rattle.ckr_meaning.specs.declared.place.Place.TheVariants.{Within}
 use Rattle.ckr_meaning.specs.StepRun.{StepStart, within_at}
@@ -36,7 +32,7 @@ use Rattle.ckr_points.specs.Restart.{place_of}
 use Rattle.ckr_points.specs.Rows.{RunRow, TableSet, run_of, standing_of, step_of_run, table_ways}
 use Rattle.ckr_points.specs.Soundness.{may_come}
 use Rattle.ckr_points_invariant.specs.Invariant.{AreAlike, IsAgreed, Shape, set_shape, table_shape}
-use Rattle.ckr_points_invariant.proofs.Steps.Commits.{IsRunning, alike_within, formed_step, found_leg, in_reach, its_start, under_way}
+use Rattle.ckr_points_invariant.proofs.Steps.Commits.{IsRunning, alike_within, formed_step, in_reach, its_start, under_way}
 use Rattle.ckr_points_invariant.proofs.Holders.Rows.{run-same}
 use Rattle.ckr_points_invariant.proofs.Start.Event.{by-start}
 use Rattle.ckr_desk_refines.specs.Standing.{AllStand, StandsForStep}
@@ -53,16 +49,6 @@ use Rattle.ckr_volumes.specs.declared.layout.Layout.{Layout}
 use Rattle.ckr_desk_memory.specs.EventChanges.{without_run}
 use Rattle.ckr_desk_refines.proofs.Events.Commits.{within-begun}
 use Rattle.ckr_desk_refines.proofs.Events.StartNeeds.{may-start}
-
--- ---- a run owns the steps of its deck
-
-owns-step : (run : ℕ) (deck : Job) (number : ℕ) (owned : OwnedStep) → step_at (plain_job run deck) number ≡ Some owned → owned.owner ≡ run
-owns-step run deck zero owned found = absurd (some-not-none owned (sym found))
-owns-step run deck (suc place) owned found = by (slice_get deck.steps place) (sym (slice_get-map (owned_by run deck) deck.steps place) ∙ found)
-  where
-    by : (step : Option Step) → option_map (owned_by run deck) step ≡ Some owned → owned.owner ≡ run
-    by None e = absurd (some-not-none owned (sym e))
-    by (Some step) e = ap (λ (o : OwnedStep). o.owner) (sym (same_Some (owned_by run deck step) owned e))
 
 -- ---- the place behind its start
 
@@ -91,7 +77,7 @@ in-tables None true set e = absurd (some-not-none set (sym e))
 in-tables (Some table) true set e = record { table = table; at = refl; is = same_Some table.set set e; named = refl }
 in-tables tables false set e = absurd (some-not-none set (sym e))
 
-module _ (desk : DeskModel) (is : IsDesk desk) (restartless : AreRestartless desk.office.tables) (on : DeskStep) (going : IsGoing desk.office on) (image : List ℕ) (committed : HasCommitted desk.layout desk.office image) (old new : List RunningStepView) where
+module _ (desk : DeskModel) (is : IsDesk desk) (on : DeskStep) (going : IsGoing desk.office on) (image : List ℕ) (committed : HasCommitted desk.layout desk.office image) (old new : List RunningStepView) where
   abbrev run : ℕ
   run = on.run
 
@@ -102,38 +88,26 @@ module _ (desk : DeskModel) (is : IsDesk desk) (restartless : AreRestartless des
     abbrev start : StepStart
     start = its_start leg owned going.number
 
-    of_deck : leg.job ≡ plain_job going.row.number going.row.deck
-    of_deck =
-        (is.kept.events.uses run going.row leg running.holder).plain (row-restartless desk.office.tables restartless run going.row going.row_at)
+    root_is : leg.job.root ≡ going.row.job.root
+    root_is = ap (λ (job : Effective). job.root) (is.kept.events.places run going.row leg running.holder).job
 
-    root_is : leg.job.root ≡ run
-    root_is = ap (λ (job : Effective). job.root) of_deck ∙ is.kept.events.numbered run going.row going.row_at
-
-    step_there : step_at leg.job going.number ≡ Some owned
-    step_there = found_leg desk.layout desk.office run going.row leg owned going.number writes is.kept.events running
-
-    owner_is : owned.owner ≡ run
-    owner_is =
-        owns-step going.row.number going.row.deck going.number owned (ap (λ (job : Effective). step_at job going.number) (sym of_deck) ∙ step_there)
-        ∙ is.kept.events.numbered run going.row going.row_at
-
-    pub named_so : (name : Name) → is_among (names_of run owned) name ≡ is_among (names_of leg.job.root owned) name
+    named_so : (name : Name) → is_among (names_of going.row.job.root owned) name ≡ is_among (names_of leg.job.root owned) name
     named_so name = ap (λ n. is_among (names_of n owned) name) (sym root_is)
 
-    module _ (same : going.start ≡ its_start leg owned going.number) (place : StepRun) (has : HasNew run owned place desk.office.tables.sets old new) where
+    module _ (same : going.start ≡ its_start leg owned going.number) (place : StepRun) (has : HasNew run going.row.job.root owned place desk.office.tables.sets old new) where
       -- ---- its data sets
 
       set_there : (name : Name) → is_among (names_of leg.job.root owned) name ≡ true → set_of has.on.sets name ≡ set_in_tables desk.office.tables.sets name
       set_there name among =
           has.sets name ∙ ap (λ b. cond b (set_in_tables desk.office.tables.sets name) None) (named_so name ∙ among)
 
-      table_of : (name : Name) (set : DataSet) → set_of has.on.sets name ≡ Some set → IsInTables (entry_at desk.office.tables.sets name) (is_among (names_of run owned) name) set
-      table_of name set own = in-tables (entry_at desk.office.tables.sets name) (is_among (names_of run owned) name) set (sym (has.sets name) ∙ own)
+      table_of : (name : Name) (set : DataSet) → set_of has.on.sets name ≡ Some set → IsInTables (entry_at desk.office.tables.sets name) (is_among (names_of going.row.job.root owned) name) set
+      table_of name set own = in-tables (entry_at desk.office.tables.sets name) (is_among (names_of going.row.job.root owned) name) set (sym (has.sets name) ∙ own)
 
       has_sets : HasSets desk.office.tables.sets (names_of leg.job.root owned) has.on.sets
       has_sets = record {
         from = λ name set own.
-            let its : IsInTables (entry_at desk.office.tables.sets name) (is_among (names_of run owned) name) set = table_of name set own in (
+            let its : IsInTables (entry_at desk.office.tables.sets name) (is_among (names_of going.row.job.root owned) name) set = table_of name set own in (
               its.table,
               its.at,
               record {
@@ -179,8 +153,8 @@ module _ (desk : DeskModel) (is : IsDesk desk) (restartless : AreRestartless des
 
       -- ---- its place
 
-      pub files_are : files_at start ≡ files_of run run owned.step
-      files_are = ap (λ n. files_of n owned.owner owned.step) root_is ∙ ap (λ n. files_of run n owned.step) owner_is
+      pub files_are : files_at start ≡ files_of going.row.job.root owned.owner owned.step
+      files_are = ap (λ n. files_of n owned.owner owned.step) root_is
 
       pub may-so : MayStart start
       may-so = may-start start (formed_step desk.layout desk.office run going.row leg owned going.number writes is.kept.events running) (under_way desk.layout desk.office run going.row leg owned going.number writes is.kept.events running).flawless
@@ -203,15 +177,15 @@ module _ (desk : DeskModel) (is : IsDesk desk) (restartless : AreRestartless des
         named = λ name set own. sym (named_so name) ∙ (table_of name set own).named;
         shows = shows_so;
         checked = λ name table set e own content.
-            let its : IsInTables (entry_at desk.office.tables.sets name) (is_among (names_of run owned) name) set = table_of name set own in
+            let its : IsInTables (entry_at desk.office.tables.sets name) (is_among (names_of going.row.job.root owned) name) set = table_of name set own in
             ap (λ (s : DataSet). s.length) (sym its.is) ∙ ap (λ (t : TableSet). t.set.length) (same_Some its.table table (sym its.at ∙ e));
       }
 
 -- ---- a step at its beginning
 
-module _ (desk : DeskModel) (is : IsDesk desk) (restartless : AreRestartless desk.office.tables) (run : ℕ) (going : IsGoing desk.office (at_first run)) (image : List ℕ) (committed : HasCommitted desk.layout desk.office image) (old new : List RunningStepView) where
+module _ (desk : DeskModel) (is : IsDesk desk) (run : ℕ) (going : IsGoing desk.office (at_first run)) (image : List ℕ) (committed : HasCommitted desk.layout desk.office image) (old new : List RunningStepView) where
   module _ (leg : Leg) (owned : OwnedStep) (running : IsRunning desk.office run going.row leg owned going.number 0) (same : going.start ≡ its_start leg owned going.number)
-      (has : HasNew run owned (begun run owned.step) desk.office.tables.sets old new) where
+      (has : HasNew run going.row.job.root owned (begun going.row.job.root owned) desk.office.tables.sets old new) where
     abbrev first : StepStart
     first = its_start leg owned going.number
 
@@ -219,27 +193,27 @@ module _ (desk : DeskModel) (is : IsDesk desk) (restartless : AreRestartless des
     made_so =
         shows_made (Unit {0}) image desk.layout first has.on.sets
         (subst (λ library. Shows (Unit {0}) image desk.layout (names_at first) library has.on.sets) (within_at-none first)
-        (shows_so desk is restartless (at_first run) going image committed old new leg owned running same (begun run owned.step) has))
+        (shows_so desk is (at_first run) going image committed old new leg owned running same (begun going.row.job.root owned) has))
 
     stands_so : IsStepPlace first 0 false has.on.step has.on.sets
     stands_so =
         subst (λ (s : StepRun). IsStepPlace first 0 false s has.on.sets)
         (ap (λ (files : Files). (let step : StepRun = record { state = first_state owned.step.program; parm = owned.step.parm; files = files; writes = 0 } in step))
-        (files_are desk is restartless (at_first run) going image committed old new leg owned running same (begun run owned.step) has) ∙ sym has.step)
-        (begins desk.layout first (may-so desk is restartless (at_first run) going image committed old new leg owned running same (begun run owned.step) has) has.on.sets made_so owned.step.parm refl)
+        (files_are desk is (at_first run) going image committed old new leg owned running same (begun going.row.job.root owned) has) ∙ sym has.step)
+        (begins desk.layout first (may-so desk is (at_first run) going image committed old new leg owned running same (begun going.row.job.root owned) has) has.on.sets made_so owned.step.parm refl)
 
     step-stands : StandsForStep desk.layout desk.office image has.on (at_first run)
     step-stands =
-        placed-stands desk is restartless (at_first run) going image committed old new leg owned running same (begun run owned.step) has refl stands_so
+        placed-stands desk is (at_first run) going image committed old new leg owned running same (begun going.row.job.root owned) has refl stands_so
         (subst (λ (s : StepRun). AreServed false false s.state) (sym has.step) (first-fresh owned.step.program)) refl
         (ap (λ (s : StepRun). s.writes) has.step)
 
   -- it stands before the other ones
-  pub new-stand : ((owned : OwnedStep) → step_of_run going.row going.number ≡ Some owned → HasNew run owned (begun run owned.step) desk.office.tables.sets old new) → (running : List DeskStep) → AllStand desk.layout desk.office image (without_run run old) running → AllStand desk.layout desk.office image new (at_first run ∷ running)
+  pub new-stand : ((owned : OwnedStep) → step_of_run going.row going.number ≡ Some owned → HasNew run going.row.job.root owned (begun going.row.job.root owned) desk.office.tables.sets old new) → (running : List DeskStep) → AllStand desk.layout desk.office image (without_run run old) running → AllStand desk.layout desk.office image new (at_first run ∷ running)
   new-stand starts running rest =
       by-step desk is run going.row going.number going.committed going.start (going-within desk.office (at_first run) going)
       (λ leg owned its same spaced.
       let none : going.committed ≡ 0 = (let low : going.committed ≤ 0 = going.behind in omega (arith, low)) in
-      let has : HasNew run owned (begun run owned.step) desk.office.tables.sets old new = starts owned its.found in
+      let has : HasNew run going.row.job.root owned (begun going.row.job.root owned) desk.office.tables.sets old new = starts owned its.found in
       subst (λ seen. AllStand desk.layout desk.office image seen (at_first run ∷ running)) (sym has.first)
       (step-stands leg owned (subst (λ n. IsRunning desk.office run going.row leg owned going.number n) none its) same has, rest))

@@ -30,7 +30,7 @@ returns-clause-entry c tables seen =
     let row = row_for behind.on.now.run behind.table.now in
     let entries = step_entries row (step_now row) in
     let written : c.step_entries.result + 1 ≡ suc entries = add-one c.step_entries.result ∙ ap suc (c.step_entries.ensures.value behind.on.now.run) in
-    made-entry c.args.id behind tables _ seen refl c.requires.may.first (record {
+    made-entry c.args.id behind tables _ seen refl (record {
       job = c.copied.ensures ∙ ap (λ (deck : Job). deck.name) c.deck-deck.ensures;
       run = refl;
       owner = refl;

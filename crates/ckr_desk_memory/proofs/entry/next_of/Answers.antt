@@ -17,7 +17,7 @@ pub checkpoint_name-requires-clause-root : goal.checkpoint_name-requires-clause-
 checkpoint_name-requires-clause-root c = omega (arith, c.root.ensures, c.requires.fits.root)
 
 pub fitting-requires-clause-may : goal.fitting-requires-clause-may
-fitting-requires-clause-may c = record { fits = c.requires.fits; owner = c.requires.owner; first = c.requires.first }
+fitting-requires-clause-may c = record { fits = c.requires.fits; owner = c.requires.owner }
 
 pub returns-in_default-get-clause-entry : goal.returns-in_default-get-clause-entry
 returns-in_default-get-clause-entry c line tables owned seen same owns =

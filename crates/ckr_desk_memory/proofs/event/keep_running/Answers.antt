@@ -1,9 +1,11 @@
-use Rattle.std.proofs.Common.{◌≡◌, ℕ, List, ap, refl, sym, ◌∙◌, map, find, Bool, false, true, Option, inl, inr, subst, ◌+◌, ◌-◌, vec_len, vec_capacity}
+use Rattle.std.proofs.Common.{◌≡◌, ◌<◌, ℕ, zero, suc, None, Some, arith, List, ap, refl, sym, ◌∙◌, map, find, Bool, false, true, Option, inl, inr, subst, ◌+◌, ◌-◌, vec_len, vec_capacity}
+use Rattle.std.specs.Option.{is_some}
 use Rattle.std.proofs.lemmas.Bool.{false≢true}
 use Rattle.ckr_base.specs.declared.code.Code.{Code}
 use Rattle.ckr_events.specs.declared.event.Event.{Event}
-use Rattle.ckr_events.specs.declared.event.Event.TheVariants.{Restarted}
+use Rattle.ckr_events.specs.declared.event.Event.TheVariants.{Restarted, Selected}
 use Rattle.ckr_library.specs.Catalog.{records_of}
+use Rattle.ckr_library.specs.NameMaps.{Name}
 use Rattle.ckr_desk_memory.specs.EventChanges.{HasEntered, is_point_of, without_run}
 use Rattle.ckr_desk_memory.specs.Preparation.{HasAgain}
 use Rattle.ckr_desk_memory.specs.declared.jobs.RunningStep.{RunningStep}
@@ -50,6 +52,35 @@ returns-in-StepEnded c = λ points from.
         | inr end ↦ subst Goes (sym end.1) leaves
       ]
     ]
+
+module _ (tables : TablesModel) (job initiator step : ℕ) (begun : Option RunningStep) where
+  may-go-over : (earlier : ℕ) (id : Option Name) (room : ℕ) → MayRun (Selected job initiator earlier step id) tables begun room → 0 < earlier → is_some id ≡ true → MayGoBack job tables begun room
+  may-go-over zero id room may low there = absurd (omega (arith, low))
+  may-go-over (suc before) None room may low there = absurd (false≢true there)
+  may-go-over (suc before) (Some id) room may low there = may
+
+  goes-over : (earlier : ℕ) (id : Option Name) (points : List PointView) (old new : List RunningStepView) → (0 < earlier → is_some id ≡ true → (point : Option PointView) → HasAgain point tables job begun → StepGoesBack point job tables old new)
+      → (earlier ≡ 0 → new ≡ old) → (is_some id ≡ false → new ≡ old) → IsStartedFrom (Selected job initiator earlier step id) tables points begun → GoesOn (Selected job initiator earlier step id) tables points old new
+  goes-over zero id points old new over alone start from = alone refl
+  goes-over (suc before) None points old new over alone start from = start refl
+  goes-over (suc before) (Some id) points old new over alone start from = over (omega arith) refl (find (is_point_of job) points) from
+
+pub go_over-requires : goal.go_over-requires
+go_over-requires c = λ low there.
+    let its = c.in-Selected in
+    may-go-over c.args.tables.now.desk its.job its.initiator its.step c.args.begun its.earlier its.id (vec_capacity c.args.running.now - vec_len c.args.running.now)
+    (subst (λ event. MayRun event c.args.tables.now.desk c.args.begun (vec_capacity c.args.running.now - vec_len c.args.running.now)) its.is c.requires.may)
+    low (sym c.is_some.ensures ∙ there)
+
+pub returns-in-Selected : goal.returns-in-Selected
+returns-in-Selected c = λ points from.
+    let its = c.in-Selected in
+    let before = map step_seen c.args.running.now.items in
+    let after = map step_seen c.go_over.new.running.items in
+    subst (λ event. GoesOn event c.args.tables.now.desk points before after) (sym its.is)
+    (goes-over c.args.tables.now.desk its.job its.initiator its.step c.args.begun its.earlier its.id points before after (λ low there. c.go_over.ensures.over low (c.is_some.ensures ∙ there))
+    (λ none. ap (map step_seen) (c.go_over.ensures.alone none)) (λ none. ap (map step_seen) (c.go_over.ensures.start (c.is_some.ensures ∙ none)))
+    (subst (λ event. IsStartedFrom event c.args.tables.now.desk points c.args.begun) its.is from))
 
 module _ (tables : TablesModel) (job initiator : ℕ) (code : Code) (begun : Option RunningStep) where
   may-restart : (checkpoint : Bool) (room : ℕ) → MayRun (Restarted job initiator code checkpoint) tables begun room → checkpoint ≡ true → MayGoBack job tables begun room

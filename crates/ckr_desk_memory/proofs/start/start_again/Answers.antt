@@ -16,11 +16,11 @@ pub returns-in-None : goal.returns-in-None
 returns-in-None c = λ point has.
     again-left c.args.tables.now.desk c.args.job (map step_seen c.args.running.now.items) _ c.in-Some.on point c.args.again c.in-Some.is has
     (ap (map step_seen) c.leave-in-None.ensures.items ∙ seen-without c.args.job c.args.running.now.items)
-    (λ row owned at found. isnt-there (may_go_back c.args.tables.now.desk c.args.job owned row) (step_in (place_of row)) (sym c.in-None.is ∙ c.step_there.ensures row owned at found))
+    (λ row owned at found. isnt-there (may_go_back c.args.tables.now.desk owned row) (step_in (place_of row)) (sym c.in-None.is ∙ c.step_there.ensures row owned at found))
 
 pub returns-in-Some-step_there : goal.returns-in-Some-step_there
 returns-in-Some-step_there c = λ point has.
     again-some c.args.tables.now.desk c.args.job (map step_seen c.args.running.now.items) _ c.in-Some.on point c.args.again c.in-Some.is has
     (λ row owned at found.
-    let there = is-there (may_go_back c.args.tables.now.desk c.args.job owned row) (step_in (place_of row)) c.in-Some-step_there.step (sym c.in-Some-step_there.is ∙ c.step_there.ensures row owned at found) in
+    let there = is-there (may_go_back c.args.tables.now.desk owned row) (step_in (place_of row)) c.in-Some-step_there.step (sym c.in-Some-step_there.is ∙ c.step_there.ensures row owned at found) in
     (there.0, c.start_step.ensures row owned at (ap (step_of_run row) there.1 ∙ found)))

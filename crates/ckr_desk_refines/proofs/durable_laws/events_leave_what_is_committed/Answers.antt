@@ -1,4 +1,5 @@
-use Rattle.ckr_desk_refines.proofs.Durable.Events.{cancelled-stays, completed-stays, purged-stays, refused-stays, released-stays, submitted-stays}
+use Rattle.ckr_desk_refines.proofs.Durable.Continuation.{continued-stays}
+use Rattle.ckr_desk_refines.proofs.Durable.Events.{cancelled-stays, completed-stays, denied-stays, purged-stays, refused-stays, released-stays, submitted-stays}
 use Rattle.ckr_desk_refines.proofs.Durable.Restart.{restarted-stays}
 use Rattle.ckr_desk_refines.proofs.Durable.Start.{selected-stays, started-stays}
 use Rattle.ckr_desk_refines.proofs.durable_laws.events_leave_what_is_committed.Goals as goal
@@ -8,6 +9,12 @@ returns-clause-submitted c = submitted-stays
 
 pub returns-clause-selected : goal.returns-clause-selected
 returns-clause-selected c = selected-stays
+
+pub returns-clause-continued : goal.returns-clause-continued
+returns-clause-continued c = continued-stays
+
+pub returns-clause-denied : goal.returns-clause-denied
+returns-clause-denied c = denied-stays
 
 pub returns-clause-started : goal.returns-clause-started
 returns-clause-started c = started-stays

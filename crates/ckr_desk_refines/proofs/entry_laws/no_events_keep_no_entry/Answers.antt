@@ -8,5 +8,6 @@ returns c = record {
   there = λ layout image name table e. absurd (some-not-none table (sym e));
   within = λ name table e. absurd (some-not-none table (sym e));
   plain = λ name table e. absurd (some-not-none table (sym e));
+  owners = λ name table e. absurd (some-not-none table (sym e));
   effect = no-effects;
 }

@@ -1,3 +1,5 @@
+use Rattle.ckr_desk_refines.proofs.Events.Continuation.{continued-committed}
+use Rattle.ckr_desk_refines.proofs.Events.Deny.{denied-committed}
 use Rattle.ckr_desk_refines.proofs.Events.Turns.{code-committed, hold-committed, purged-committed, released-committed, restart-committed, submitted-committed, told-committed}
 use Rattle.ckr_desk_refines.proofs.event_laws.events_are_committed.Goals as goal
 
@@ -10,4 +12,6 @@ returns c = record {
   held = hold-committed;
   coded = code-committed;
   restarted = restart-committed;
+  denied = denied-committed;
+  continued = continued-committed;
 }

@@ -1,4 +1,5 @@
-use Rattle.ckr_desk_refines.proofs.Durable.Fellows.{others-cancelled, others-coded, others-completed, others-held, others-purged, others-refused, others-released, others-rewritten, others-selected, others-started, others-step-ended, others-submitted}
+use Rattle.ckr_desk_refines.proofs.Durable.Continuation.{others-continued}
+use Rattle.ckr_desk_refines.proofs.Durable.Fellows.{others-cancelled, others-coded, others-completed, others-denied, others-held, others-purged, others-refused, others-released, others-rewritten, others-selected, others-started, others-step-ended, others-submitted}
 use Rattle.ckr_desk_refines.proofs.Durable.Restart.{others-restarted}
 use Rattle.ckr_desk_refines.proofs.Durable.SharedSets.{step-others}
 use Rattle.ckr_desk_refines.proofs.shared_sets.events_leave_the_data_sets_of_other_steps.Goals as goal
@@ -8,6 +9,13 @@ returns-clause-submitted c = others-submitted
 
 pub returns-clause-selected : goal.returns-clause-selected
 returns-clause-selected c = others-selected
+
+pub returns-clause-continued : goal.returns-clause-continued
+returns-clause-continued c =
+    λ layout now job initiator before step id deck kept may next. others-continued layout now kept job initiator before step id deck may next
+
+pub returns-clause-denied : goal.returns-clause-denied
+returns-clause-denied c = others-denied
 
 pub returns-clause-started : goal.returns-clause-started
 returns-clause-started c = others-started

@@ -4,6 +4,7 @@ use Rattle.std.specs.Rc.{rc_value}
 use Rattle.std.proofs.lemmas.Bool.{and_from}
 use Rattle.ckr_book.specs.Book.{IsBeforeOrAfter, room_of}
 use Rattle.ckr_events.specs.Event.{spelling}
+use Rattle.ckr_desk_memory.proofs.ForwardEvents.{forward-knows}
 use Rattle.ckr_desk_memory.proofs.Invariant.{numbered-behind}
 use Rattle.ckr_desk_memory.proofs.RewriteCounts.{counted-may}
 use Rattle.ckr_desk_memory.specs.Model.RewriteCounts.{may_count}
@@ -90,10 +91,10 @@ invariant_of-self-2 g c =
     subst (λ (l : Layout). AreKept l c.keep.new.self) (sym (ap (λ s. s.layout) c.in_ok-append.ensures.kept ∙ ap (λ s. s.layout) c.in_ok-sync.ensures.kept))
     (record {
       are = c.keep.ensures.jobs layout kept.are follow;
-      own = c.keep.ensures.own layout kept.are kept.own follow (subst (λ (s : DeskView g.row.D.Denot). CommitsItsOwn event s.jobs.tables.desk s.jobs.running) (sym c.self.view_is) c.requires.commits);
+      own = c.keep.ensures.own layout kept.are kept.own follow (forward-knows event jobs.tables.desk jobs.points c.requires.plain) (subst (λ (s : DeskView g.row.D.Denot). CommitsItsOwn event s.jobs.tables.desk s.jobs.running) (sym c.self.view_is) c.requires.commits);
       left = c.keep.ensures.left layout kept.are kept.left follow (subst (λ (s : DeskView g.row.D.Denot). LeavesLeft event s.jobs.failed) (sym c.self.view_is) c.requires.leaves);
       numbered = subst (λ (tables : TablesModel). AreNumbered 1 tables.runs) (sym c.keep.ensures.tables)
-          (numbered-behind layout jobs.tables.desk event deck c.requires.plain follow kept.numbered);
+          (numbered-behind layout jobs.tables.desk event deck follow kept.numbered);
     })
 
 -- ---- where the disk fails

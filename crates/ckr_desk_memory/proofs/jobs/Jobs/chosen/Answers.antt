@@ -1,13 +1,13 @@
 use Rattle.std.proofs.Common.{◌≡◌, Some, ap, refl, subst, sym, ◌∙◌, IsSome}
 use Rattle.std.specs.Option.{is_some}
 use Rattle.ckr_points.specs.Follows.{own_step}
-use Rattle.ckr_desk_turn.specs.declared.plan.Plan.TheVariants.{Tell}
-use Rattle.ckr_desk_turn.specs.declared.reply.Reply.TheVariants.{Selected}
-use Rattle.ckr_desk_memory.specs.Invariant.{IsAcceptedRow, IsPlacedRow}
+use Rattle.ckr_points.specs.Rows.{TablesModel, run_of}
+use Rattle.ckr_desk_turn.specs.Deferred.{queued_plan}
+use Rattle.ckr_desk_memory.specs.Invariant.{IsPlacedRow}
 use Rattle.ckr_desk_memory.specs.Plans.{IsAnyCode}
+use Rattle.ckr_desk_memory.specs.View.{JobsView}
 use Rattle.ckr_desk_memory.proofs.FoundRuns.{known-is}
-use Rattle.ckr_desk_memory.proofs.Holders.Names.{accepted-plain}
-use Rattle.ckr_desk_memory.proofs.Plans.{chosen-coded, chosen-queued, code-kept, coded-there}
+use Rattle.ckr_desk_memory.proofs.Plans.{chosen-coded, chosen-queued, code-kept, coded-there, number-known}
 use Rattle.ckr_desk_memory.proofs.RunningSteps.Served.{counted-all}
 use Rattle.ckr_desk_memory.proofs.Starts.Steps.{row-among}
 use Rattle.ckr_desk_memory.proofs.jobs.Jobs.chosen.Goals as goal
@@ -41,6 +41,9 @@ returns-in-Some-code-clause-plan c = λ row at.
 
 pub returns-in-None-clause-plan : goal.returns-in-None-clause-plan
 returns-in-None-clause-plan c = λ row at.
-    let restartless = accepted-plain row (row-among IsAcceptedRow c.args.self.now.tables.desk c.args.job row c.requires.jobs.rows at) in
-    ap (Tell (Selected c.args.job)) c.selected_event.ensures.event
-    ∙ chosen-queued c.args.layout.now c.args.self.now c.args.initiator c.args.job c.in-Some.table.now c.in-Some.ensures.some row at restartless (sym c.in-None.is)
+    let layout = c.args.layout.now in
+    let desk = ap (λ (v : JobsView). v.tables.desk) c.self.view_is in
+    let numbered = number-known c.args.self.now.tables.desk c.args.job c.in-Some.table.now c.in-Some.ensures.some row at in
+    c.queued_plan.ensures.plan row (ap (λ (tables : TablesModel). run_of tables c.args.job) desk ∙ at) numbered
+    ∙ ap (λ (tables : TablesModel). queued_plan layout tables c.args.initiator row row.deck.restart) desk
+    ∙ chosen-queued layout c.args.self.now c.args.initiator c.args.job c.in-Some.table.now c.in-Some.ensures.some row at (sym c.in-None.is)

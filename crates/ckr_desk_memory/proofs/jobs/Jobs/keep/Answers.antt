@@ -15,6 +15,7 @@ use Rattle.ckr_desk_memory.specs.Plans.{HasCounts}
 use Rattle.ckr_desk_memory.specs.Rewrite.{HasRecordPlace}
 use Rattle.ckr_desk_memory.specs.View.{JobsView, RunningStepView}
 use Rattle.ckr_desk_turn.specs.Desk.{failed_behind}
+use Rattle.ckr_desk_memory.proofs.ForwardEvents.{may-continue}
 use Rattle.ckr_desk_memory.proofs.Holders.LeftRuns.{left-behind}
 use Rattle.ckr_desk_memory.proofs.Holders.OwnSteps.{own-behind}
 use Rattle.ckr_desk_memory.proofs.Rewrites.{place-behind}
@@ -27,12 +28,15 @@ use Rattle.ckr_desk_memory.proofs.jobs.Jobs.keep.Goals.{After-keep_running}
 pub go_on-requires-clause-follows : goal.go_on-requires-clause-follows
 go_on-requires-clause-follows c = (c.requires.follows.0, c.requires.follows.2)
 
+pub go_on-requires-clause-continues : goal.go_on-requires-clause-continues
+go_on-requires-clause-continues c = may-continue c.args.event.now c.args.self.now.tables.desk c.requires.follows.1.rows
+
 pub keep_running-requires-clause-may : goal.keep_running-requires-clause-may
 keep_running-requires-clause-may c =
     subst (λ (j : JobsView). MayRun c.args.event.now j.tables.desk c.args.prepared.step j.running_room) (sym c.self.view_is)
     (subst (MayRun c.args.event.now c.go_on.new.self.tables.desk c.args.prepared.step) (sym c.go_on.ensures.room)
     (may-run c.requires.follows.0 c.args.self.now c.args.event.now (option_map rc_value c.args.deck) c.args.prepared.step c.go_on.new.self.tables.desk c.go_on.ensures.numbered c.go_on.ensures.few c.requires.follows.1
-    c.requires.plain c.requires.follows.2 c.requires.prepared.started c.go_on.ensures.tables))
+    c.requires.follows.2 c.requires.prepared.started c.go_on.ensures.tables))
 
 pub keep_running-requires-clause-counted : goal.keep_running-requires-clause-counted
 keep_running-requires-clause-counted c =
@@ -57,7 +61,7 @@ goes-on c =
 jobs-after : (c : After-keep_running) (layout : Layout) (new : JobsView) → new.tables.desk ≡ c.self.inside.tables.desk → new.running ≡ running_after c → AreJobs layout c.args.self.now
     → follows layout c.args.self.now.tables.desk c.args.event.now (option_map rc_value c.args.deck) ≡ true → AreJobs layout new
 jobs-after c layout new desk running are follow =
-    jobs-behind layout c.args.self.now new c.args.event.now (option_map rc_value c.args.deck) c.args.prepared.step c.go_on.ensures.numbered c.requires.plain c.requires.accepted follow c.requires.prepared.started
+    jobs-behind layout c.args.self.now new c.args.event.now (option_map rc_value c.args.deck) c.args.prepared.step c.go_on.ensures.numbered c.requires.accepted follow c.requires.prepared.started
     (desk ∙ desk_is c)
     (subst (λ (t : TablesModel). GoesOn c.args.event.now t c.args.self.now.points c.args.self.now.running new.running) (sym desk)
     (subst (GoesOn c.args.event.now c.self.inside.tables.desk c.args.self.now.points c.args.self.now.running) (sym running) (goes-on c))) are
@@ -94,13 +98,13 @@ returns-clause-jobs c = λ layout are follow. jobs-after (goal.at.returns-clause
 
 pub returns-clause-own : goal.returns-clause-own
 returns-clause-own c = λ layout are.
-    own-behind layout c.args.self.now _ c.args.event.now (option_map rc_value c.args.deck) are.rows c.go_on.ensures.numbered are.placed c.requires.accepted c.requires.deck c.requires.plain
+    own-behind layout c.args.self.now _ c.args.event.now (option_map rc_value c.args.deck) are.rows c.go_on.ensures.numbered are.placed c.requires.accepted c.requires.deck
     (desk_is (goal.at.returns-clause-own c).After-keep_running) (goes-on (goal.at.returns-clause-own c).After-keep_running)
     (c.keep_points.ensures ∙ ap (λ (items : List RunningStep). points_behind c.args.event.now (map step_seen items) c.self.inside.points.items) c.as_slice.ensures.value
     ∙ ap (points_behind c.args.event.now (map step_seen c.keep_running.new.running.items)) (ap (λ (j : JobsView). j.points) c.self.view_is ∙ c.go_on.ensures.points))
 
 pub returns-clause-left : goal.returns-clause-left
 returns-clause-left c = λ layout are.
-    left-behind layout c.args.self.now _ _ c.args.event.now (option_map rc_value c.args.deck) are c.go_on.ensures.numbered c.requires.plain
+    left-behind layout c.args.self.now _ _ c.args.event.now (option_map rc_value c.args.deck) are c.go_on.ensures.numbered
     (ap (λ (j : JobsView). j.tables.desk) c.self.view_is ∙ c.go_on.ensures.tables)
     (c.keep_failed.ensures ∙ ap (failed_behind c.args.event.now) (ap (λ (j : JobsView). j.failed) c.self.view_is ∙ c.go_on.ensures.failed))

@@ -12,7 +12,6 @@ use Rattle.ckr_desk_memory.specs.Parts.{step_seen}
 use Rattle.ckr_desk_memory.specs.View.{JobsView}
 use Rattle.ckr_desk_memory.proofs.EntryPoints.{names-few, told-row}
 use Rattle.ckr_desk_memory.proofs.FoundRuns.{known-by}
-use Rattle.ckr_desk_memory.proofs.Starts.Steps.{known-first}
 use Rattle.ckr_desk_memory.proofs.jobs.Jobs.next_entry.Goals as goal
 
 pub returns-in_default-step_at-clause-entry : goal.returns-in_default-step_at-clause-entry
@@ -24,9 +23,6 @@ returns-in_default-step_at-clause-entry c row own at there =
 
 pub next_of-requires-clause-names : goal.next_of-requires-clause-names
 next_of-requires-clause-names c = names-few (effective c.args.on.now.run c.in-Some.table.now.job) c.in-Some.ensures.some.fits
-
-pub next_of-requires-clause-first : goal.next_of-requires-clause-first
-next_of-requires-clause-first c = known-first c.args.self.now.tables.desk c.args.on.now.run c.in-Some.table.now c.in-Some.ensures.some c.requires.rows
 
 pub next_of-requires-clause-owner : goal.next_of-requires-clause-owner
 next_of-requires-clause-owner c =

@@ -8,6 +8,7 @@ use Rattle.ckr_desk_turn.specs.Queue.{AreNumbered}
 use Rattle.ckr_desk_memory.specs.EventChanges.{HasUses}
 use Rattle.ckr_desk_memory.specs.Replay.{goes_on}
 use Rattle.ckr_desk_memory.specs.View.{JobsView}
+use Rattle.ckr_desk_memory.proofs.ForwardEvents.{forward-continues}
 use Rattle.ckr_desk_memory.proofs.Holders.OwnSteps.{holders-replayed}
 use Rattle.ckr_desk_memory.proofs.Replays.{goes-on-with, jobs-replayed, replayed-none, replayed-some}
 use Rattle.ckr_desk_memory.proofs.jobs.Jobs.replay.Goals as goal
@@ -37,7 +38,7 @@ go_on-requires c =
     sym (ap (λ (j : JobsView). goes_on c.args.layout.now j.tables.desk c.args.event.now c.in_ok-deck.deck) c.self.view_is) ∙ sym c.goes_on.ensures ∙ c.if-not-goes_on.false in
     let its = goes-on-with c.args.layout.now c.args.self.now.tables.desk c.args.event.now c.in_ok-deck.deck goes in
     record {
-      plain = its.plain;
+      continues = forward-continues c.args.event.now c.make_room.new.self.tables.desk its.plain;
       follows = subst (MayFollow c.make_room.new.self.tables.desk c.args.event.now) (sym c.in_ok-shared.ensures.value)
           (subst (λ (t : TablesModel). MayFollow t c.args.event.now c.in_ok-deck.deck) (sym c.make_room.ensures.desk) (c.args.layout.now, its.follow));
       deck = subst (MaySubmit c.args.event.now) (sym c.in_ok-shared.ensures.value) its.submits;
