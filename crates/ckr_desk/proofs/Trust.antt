@@ -2,3 +2,4 @@ pub mod Events
 pub mod Sameness
 pub mod Conditions
 pub mod Counts
+pub mod Restartless

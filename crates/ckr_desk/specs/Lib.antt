@@ -4,6 +4,7 @@ pub mod Requests
 pub mod Turn
 pub mod Errors
 pub mod Entries
+pub mod Restartless
 pub mod Opening
 pub mod Replay
 pub mod Soundness

@@ -5,10 +5,12 @@ pub mod OffRuns
 pub mod StartNeeds
 pub mod Commits
 pub mod Start
+pub mod EntrySteps
 pub mod Restarts
 pub mod Plans
 pub mod Cancel
 pub mod Desk
 pub mod Deny
 pub mod Continuation
+pub mod TurnEvents
 pub mod Turns

@@ -7,5 +7,4 @@ pub mod Served
 pub mod Points
 pub mod Openings
 pub mod Waits
-pub mod Restartless
 pub mod Continuation

@@ -20,7 +20,7 @@ use Rattle.ckr_meaning.specs.StepRun.{StepStart, case_at}
 use Rattle.ckr_meaning.specs.States.{StandsFor}
 use Rattle.ckr_points_library.specs.Commit.{output_names}
 use Rattle.ckr_points.specs.Office.{Leg, Office}
-use Rattle.ckr_points.specs.Restart.{place_of, step_in}
+use Rattle.ckr_points.specs.Restart.{kept_at, place_of, step_in, syschk_name}
 use Rattle.ckr_points.specs.Rows.{EffectPoint, KeptEntry, RunRow, TableSet, TablesModel, run_of, step_of_run}
 use Rattle.ckr_points.specs.Tables.{committed, entry_point, is_checkpoints, kept_entry, name_with_role}
 use Rattle.ckr_desk_memory.specs.Invariant.{is_in_step}
@@ -124,6 +124,12 @@ IsRead layout tables image points run =
 -- and with each run
 abbrev pub AreRead : Layout → TablesModel → List ℕ → List PointView → Type 0
 AreRead layout tables image points = (run : ℕ) → IsRead layout tables image points run
+
+-- So it is with a run that is to go on at a checkpoint of an earlier one, and the entry that its data set for checkpoints keeps under an identifier.
+abbrev pub IsWantedRead : Layout → TablesModel → List ℕ → List PointView → ℕ → Name → Type 0
+IsWantedRead layout tables image points run id =
+    (row : RunRow) (table : TableSet) (wanted : KeptEntry) (entry : Entry) → run_of tables run ≡ Some row → entry_at tables.sets (syschk_name row.deck) ≡ Some table → kept_at tables.sets (syschk_name row.deck) id ≡ Some wanted
+    → entry_in (bytes_on image layout table.set wanted.kept.place wanted.kept.bytes) ≡ Ok entry → IsPointOfEntry points run entry
 
 -- ---- entries within their data sets
 

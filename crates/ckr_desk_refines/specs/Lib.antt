@@ -6,7 +6,6 @@ pub mod Listing
 pub mod Lengths
 pub mod Holders
 pub mod Rewrite
-pub mod Restartless
 pub mod Standing
 pub mod Moves
 pub mod RewriteRecord

@@ -1,14 +1,16 @@
 -- The jobs in memory behind an event, and what the disk keeps meanwhile.
-use Rattle.std.specs.Prelude.{◌≡◌, ◌≢◌, ◌≤◌, ◌<◌, ℕ, IsTrue, List, Option, None, Some, slice_set}
+use Rattle.std.specs.Prelude.{◌≡◌, ◌≢◌, ◌≤◌, ◌<◌, ℕ, suc, IsTrue, List, Option, None, Some, slice_set}
 use Rattle.ckr_events.specs.declared.event.Event.{Event}
+use Rattle.ckr_events.specs.declared.event.Event.TheVariants.{Selected}
 use Rattle.ckr_jcl.specs.declared.deck.Job.{Job}
 use Rattle.ckr_base.specs.declared.code.Code.{Code}
 use Rattle.ckr_desk_memory.specs.EventChanges.{points_behind, with_code}
 use Rattle.ckr_desk_memory.specs.RunningSteps.{GoesOn}
-use Rattle.ckr_desk_memory.specs.View.{JobsView}
+use Rattle.ckr_desk_memory.specs.View.{JobsView, PointView}
 use Rattle.ckr_library.specs.declared.sets.DataSet.{DataSet}
 use Rattle.ckr_points.specs.Restart.{after_event}
-use Rattle.ckr_desk_turn.specs.Desk.{failed_behind, with_asked}
+use Rattle.ckr_desk_refines.specs.Standing.{OwnStands}
+use Rattle.ckr_desk_turn.specs.Desk.{DeskModel, behind, failed_behind, with_asked}
 use Rattle.ckr_desk_turn.specs.declared.plan.Plan.{Plan}
 use Rattle.ckr_desk_turn.specs.declared.plan.Plan.TheVariants.{Rest, Tell, Work, Pass, Take, Ask, Wait}
 use Rattle.ckr_desk_turn.specs.declared.reply.Reply.{Reply}
@@ -23,6 +25,11 @@ pub record HaveMoved (event : Event) (deck : Option Job) (old new : JobsView) : 
   pub running : GoesOn event new.tables.desk old.points old.running new.running
   pub failed : new.failed ≡ failed_behind event old.failed
   pub points : new.points ≡ points_behind event new.running old.points
+
+-- the point in memory of a run that goes on at a checkpoint of an earlier one stands for that entry, as the run has it in effect behind the event
+abbrev pub KnowsItsEntry : Event → DeskModel → List PointView → Type 0
+KnowsItsEntry (Selected job initiator (suc before) step (Some id)) desk points = OwnStands (behind (Selected job initiator (suc before) step (Some id)) None desk).office points job
+KnowsItsEntry _ desk points = Unit {0}
 
 -- the operator didn't answer, and a run waits on its initiator with its code
 pub record HasWaited (run : ℕ) (code : Code) (old new : JobsView) : Type 0 where

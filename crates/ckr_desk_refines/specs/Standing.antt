@@ -13,7 +13,6 @@ use Rattle.ckr_base.specs.declared.programs.NextDue.TheVariants.{Checkpoint}
 use Rattle.ckr_desk_turn.specs.Due.{next_due}
 use Rattle.ckr_desk_turn.specs.Invariant.{IsDesk}
 use Rattle.ckr_desk_refines.specs.Commits.{HasCommitted}
-use Rattle.ckr_desk_refines.specs.Restartless.{AreRestartless}
 use Rattle.ckr_desk_refines.specs.StepSets.{HasSets}
 use Rattle.ckr_meaning.specs.EffectiveJob.{is_among, names_of}
 use Rattle.ckr_meaning.specs.States.{StandsFor}
@@ -77,14 +76,18 @@ pub record StandsForPoint (points : List PointView) (run : ℕ) (start : StepSta
   pub unclosed : is_closed point.state ≡ false
   pub served : AreServed true false point.state
 
--- so it is with each run within its step that holds its names and has a checkpoint in effect
+-- so it is with a run, where it is within its step, holds its names and has a checkpoint in effect
+abbrev pub OwnStands : Office → List PointView → ℕ → Type 0
+OwnStands office points run =
+    (row : RunRow) (entry : KeptEntry) (start : StepStart) → run_of office.tables run ≡ Some row → is_in_step row ≡ true → effect_entry office.tables row ≡ Some entry → start_of office row ≡ Some start
+    → StandsForPoint points run start entry
+
+-- and with each run
 abbrev pub PointsStand : Office → List PointView → Type 0
-PointsStand office points =
-    (run : ℕ) (row : RunRow) (entry : KeptEntry) (start : StepStart) → run_of office.tables run ≡ Some row → is_in_step row ≡ true → effect_entry office.tables row ≡ Some entry
-    → start_of office row ≡ Some start → StandsForPoint points run start entry
+PointsStand office points = (run : ℕ) → OwnStands office points run
 
 -- The desk is kept, and the jobs in memory stand for it: their tables, their failed runs, their running steps and the points of their
--- checkpoints in effect are those of the desk, and the image has what the events have committed. No run has RESTART.
+-- checkpoints in effect are those of the desk, and the image has what the events have committed.
 pub record StandsForDesk (layout : Layout) (jobs : JobsView) (image : List ℕ) (desk : DeskModel) : Type 0 where
   pub layout_is : desk.layout ≡ layout
   pub is_desk : IsDesk desk
@@ -94,7 +97,6 @@ pub record StandsForDesk (layout : Layout) (jobs : JobsView) (image : List ℕ) 
   pub differ_so : differ desk.running ≡ true
   pub points : PointsStand desk.office jobs.points
   pub committed : HasCommitted desk.layout desk.office image
-  pub restartless : AreRestartless desk.office.tables
 
 -- ---- while a run ends
 
@@ -114,7 +116,6 @@ pub record StandsBut (run : ℕ) (layout : Layout) (jobs : JobsView) (image : Li
   pub differ_so : differ desk.running ≡ true
   pub points : PointsStand desk.office jobs.points
   pub committed : HasCommitted desk.layout desk.office image
-  pub restartless : AreRestartless desk.office.tables
 
 -- ---- what is seen of the desk in memory
 

@@ -1,5 +1,5 @@
 //! The jobs in memory behind an event. A law is the contract of a function that does nothing.
-ghost use Rattle.std.specs.Prelude.{◌≡◌, ◌≤◌, ℕ, suc, Bool, true, List, length, Option, None, Some, Ok};
+ghost use Rattle.std.specs.Prelude.{◌≡◌, ◌≤◌, ℕ, suc, Bool, List, length, Option, None, Some, Ok};
 ghost use Rattle.arrayvec.specs.ArrayVec.{ArrayVec};
 ghost use Rattle.ckr_base.specs.declared.code.Code.{Code};
 ghost use Rattle.ckr_console.specs.declared.question.Answer.{Answer};
@@ -9,16 +9,17 @@ ghost use Rattle.ckr_events.specs.declared.event.Event.TheVariants.{Denied as De
 ghost use Rattle.ckr_jcl.specs.declared.deck.Job.{Job};
 ghost use Rattle.ckr_jcl_decks.specs.Deck.{stored_deck};
 ghost use Rattle.ckr_library.specs.NameMaps.{Name};
-ghost use Rattle.ckr_desk_memory.specs.View.{JobsView};
+ghost use Rattle.ckr_desk_memory.specs.View.{JobsView, PointView};
 ghost use Rattle.ckr_desk_turn.specs.NextEvents.{Comes};
 ghost use Rattle.ckr_desk_turn.specs.Invariant.{IsDesk, IsTurnOf};
 ghost use Rattle.ckr_desk_refines.specs.Commits.{HasCommitted, HasWithinRun};
+ghost use Rattle.ckr_desk_refines.specs.Entries.{AreOwned, AreWithin, HasEntries, IsWantedRead};
+ghost use Rattle.ckr_desk_refines.specs.EntryRefusal.{AreInEffect};
 ghost use Rattle.ckr_points.specs.declared.run.RunState.TheVariants.{Held, Queued};
 ghost use Rattle.ckr_points.specs.Rows.{RunRow, run_of};
-ghost use Rattle.ckr_desk_refines.specs.Moves.{HasSameRecords, HasWaited, HaveMoved};
+ghost use Rattle.ckr_desk_refines.specs.Moves.{HasSameRecords, HasWaited, HaveMoved, KnowsItsEntry};
 ghost use Rattle.ckr_desk_refines.specs.Standing.{StandsForDesk, StandsBut};
 ghost use Rattle.ckr_desk_turn.specs.Model.Cards.{kept_of_stored};
-ghost use Rattle.ckr_desk_turn.specs.Model.Form.{is_run};
 ghost use Rattle.ckr_desk_turn.specs.declared.plan.Plan.TheVariants.{Tell, Wait};
 ghost use Rattle.ckr_desk_turn.specs.declared.reply.Reply.{Reply};
 ghost use Rattle.ckr_desk_turn.specs.declared.reply.Turn.{Turn};
@@ -28,11 +29,12 @@ ghost use Rattle.ckr_desk_turn.specs.Plans.{plan_of};
 ghost use Rattle.ckr_desk_turn.specs.Turns.{turn_of};
 ghost use Rattle.ckr_volumes.specs.declared.layout.Layout.{Layout};
 
-/// Behind the event of a turn, with the operator's answer if he is asked; and where he is asked and doesn't answer, so that the run waits.
+/// Behind the event of a turn, with the operator's answer if he is asked: where the event selects a run that goes on at a checkpoint of an earlier one, its point
+/// in memory is to stand for the entry. And where he is asked and doesn't answer, so that the run waits.
 pub fn desks_behind_turns_that_tell_stand()
     ensures told { (layout : Layout) (old new : JobsView) (before after : List ℕ) (desk : DeskModel) (turn : Turn) (answer : Answer) (reply : Reply) (event : Event)
         → StandsForDesk layout old before desk → IsTurnOf desk.layout turn → decide answer (plan_of desk.layout (jobs_of desk) turn) ≡ Tell reply event
-        → HaveMoved event None old new → HasSameRecords desk.layout before after → StandsForDesk layout new after (behind event None desk) }
+        → KnowsItsEntry event desk old.points → HaveMoved event None old new → HasSameRecords desk.layout before after → StandsForDesk layout new after (behind event None desk) }
     ensures waits { (layout : Layout) (old new : JobsView) (image : List ℕ) (desk : DeskModel) (turn : Turn) (answer : Answer) (job : ℕ) (code : Code)
         → StandsForDesk layout old image desk → IsTurnOf desk.layout turn → decide answer (plan_of desk.layout (jobs_of desk) turn) ≡ Wait job code
         → HasWaited job code old new → StandsForDesk layout new image (turn_of desk turn answer).desk }
@@ -41,7 +43,7 @@ pub fn desks_behind_turns_that_tell_stand()
 /// Behind a deck that is submitted, a run that is purged, and one that is released.
 pub fn desks_behind_calls_stand()
     ensures submitted { (layout : Layout) (old new : JobsView) (before after : List ℕ) (desk : DeskModel) (cards : List ℕ) (deck : Job)
-        → StandsForDesk layout old before desk → suc (length desk.office.tables.runs) ≤ 9999999 → 81 ≤ length cards → stored_deck cards ≡ Ok deck → is_run deck ≡ true
+        → StandsForDesk layout old before desk → suc (length desk.office.tables.runs) ≤ 9999999 → 81 ≤ length cards → stored_deck cards ≡ Ok deck
         → HaveMoved (SubmittedEvent (suc (length desk.office.tables.runs)) (kept_of_stored cards)) (Some deck) old new → HasSameRecords desk.layout before after
         → StandsForDesk layout new after (submitted_desk (kept_of_stored cards) deck desk) }
     ensures purged { (layout : Layout) (old new : JobsView) (before after : List ℕ) (desk : DeskModel) (job : ℕ) (row : RunRow)
@@ -88,13 +90,22 @@ pub fn desks_behind_denials_stand()
         → StandsForDesk layout new after (behind (DeniedEvent run rule name) None desk) }
 {}
 
-/// Behind the event by which a run is selected to continue another one at the start of a step: it has no running step and no point.
+/// Behind the event by which a run is selected to continue another one: at the start of a step, where it has no running step and no point, or at a
+/// checkpoint, where its step goes on from the point in memory that stands for the entry.
 pub fn desks_behind_continuations_stand()
-    ensures { (layout : Layout) (old new : JobsView) (before after : List ℕ) (desk : DeskModel) (run initiator earlier step : ℕ)
-        → StandsForDesk layout old before desk → Comes desk (SelectedEvent run initiator (suc earlier) step None)
-        → IsDesk (behind (SelectedEvent run initiator (suc earlier) step None) None desk)
-        → HaveMoved (SelectedEvent run initiator (suc earlier) step None) None old new → HasSameRecords desk.layout before after
-        → StandsForDesk layout new after (behind (SelectedEvent run initiator (suc earlier) step None) None desk) }
+    ensures { (layout : Layout) (old new : JobsView) (before after : List ℕ) (desk : DeskModel) (run initiator earlier step : ℕ) (id : Option Name)
+        → StandsForDesk layout old before desk → Comes desk (SelectedEvent run initiator (suc earlier) step id)
+        → IsDesk (behind (SelectedEvent run initiator (suc earlier) step id) None desk) → KnowsItsEntry (SelectedEvent run initiator (suc earlier) step id) desk old.points
+        → HaveMoved (SelectedEvent run initiator (suc earlier) step id) None old new → HasSameRecords desk.layout before after
+        → StandsForDesk layout new after (behind (SelectedEvent run initiator (suc earlier) step id) None desk) }
+{}
+
+/// The point in memory of a run that goes on at a checkpoint of an earlier one stands for the entry behind the event, if it was read of the entry that its data
+/// set for checkpoints keeps, in an image that has the entries of the tables.
+pub fn points_of_wanted_entries_stand()
+    ensures { (desk : DeskModel) (image : List ℕ) (points : List PointView) (run initiator earlier step : ℕ) (id : Name)
+        → IsDesk desk → AreWithin desk.office.tables.sets → AreOwned desk.office → AreInEffect desk.office → Comes desk (SelectedEvent run initiator (suc earlier) step (Some id))
+        → HasEntries desk.layout desk.office image → IsWantedRead desk.layout desk.office.tables image points run id → KnowsItsEntry (SelectedEvent run initiator (suc earlier) step (Some id)) desk points }
 {}
 
 /// The event is committed on each image that has the records.
@@ -103,7 +114,7 @@ pub fn events_are_committed()
         → StandsForDesk layout jobs before desk → IsTurnOf desk.layout turn → decide answer (plan_of desk.layout (jobs_of desk) turn) ≡ Tell reply event
         → (image : List ℕ) → HasSameRecords desk.layout before image → HasCommitted desk.layout (behind event None desk).office image }
     ensures submitted { (layout : Layout) (jobs : JobsView) (before : List ℕ) (desk : DeskModel) (cards : List ℕ) (deck : Job)
-        → StandsForDesk layout jobs before desk → suc (length desk.office.tables.runs) ≤ 9999999 → 81 ≤ length cards → stored_deck cards ≡ Ok deck → is_run deck ≡ true
+        → StandsForDesk layout jobs before desk → suc (length desk.office.tables.runs) ≤ 9999999 → 81 ≤ length cards → stored_deck cards ≡ Ok deck
         → (image : List ℕ) → HasSameRecords desk.layout before image → HasCommitted desk.layout (submitted_desk (kept_of_stored cards) deck desk).office image }
     ensures purged { (layout : Layout) (jobs : JobsView) (before : List ℕ) (desk : DeskModel) (job : ℕ) (row : RunRow)
         → StandsForDesk layout jobs before desk → run_of desk.office.tables job ≡ Some row → row.state ≡ Queued

@@ -10,7 +10,6 @@ ghost use Rattle.ckr_volumes.specs.declared.layout.Layout.{Layout};
 ghost use Rattle.ckr_desk_refines.specs.Commits.{HasCommitted};
 ghost use Rattle.ckr_desk_refines.specs.Entries.{AreRead, HasEntries};
 ghost use Rattle.ckr_desk_refines.specs.EntryRefusal.{AreInEffect};
-ghost use Rattle.ckr_desk_refines.specs.Restartless.{AreRestartless};
 ghost use Rattle.ckr_desk_refines.specs.Standing.{StandsForDesk, desk_seen};
 
 /// What a turn comes to by the jobs in memory is what it comes to at the desk that they stand for.
@@ -25,9 +24,9 @@ pub fn desks_are_seen_in_memory()
 {}
 
 /// Jobs in memory with no running step stand for the desk that is opened, where the image has what is committed, and the points are those that
-/// were read of the entries in effect, in this image or in an earlier one that had the entries that the tables keep, and no run has RESTART.
+/// were read of the entries in effect, in this image or in an earlier one that had the entries that the tables keep.
 pub fn opened_desks_stand()
     ensures { (layout : Layout) (office : Office) (jobs : JobsView) (earlier image : List ℕ) → IsDesk (opened layout office) → AreInEffect office → HasCommitted layout office image → HasEntries layout office earlier
-        → jobs.tables.desk ≡ office.tables → jobs.failed ≡ (opened layout office).failed → jobs.running ≡ [] → AreRead layout office.tables earlier jobs.points → AreRestartless office.tables
+        → jobs.tables.desk ≡ office.tables → jobs.failed ≡ (opened layout office).failed → jobs.running ≡ [] → AreRead layout office.tables earlier jobs.points
         → StandsForDesk layout jobs image (opened layout office) }
 {}

@@ -154,11 +154,11 @@ module _ {D : Type 0} (told : Type 0) (content : D → List ℕ) (may_leave : D 
             (stored-keeps desk trusted.stands.is_desk cards deck few some accepted);
         stand = λ new moved records.
             subst (λ n. StandsForDesk layout new.jobs (content new.store.disk) (behind (Submitted n (kept_of_stored cards)) (Some deck) desk)) (sym number)
-            (submitted-stands layout old.jobs new.jobs (content old.store.disk) (content new.store.disk) desk cards deck trusted.stands few some accepted runs
+            (submitted-stands layout old.jobs new.jobs (content old.store.disk) (content new.store.disk) desk cards deck trusted.stands few some accepted
             (subst (λ n. HaveMoved (Submitted n (kept_of_stored cards)) (Some deck) old.jobs new.jobs) number moved) records);
         commits = λ image records.
             subst (λ n. HasCommitted layout (behind (Submitted n (kept_of_stored cards)) (Some deck) desk).office image) (sym number)
-            (submitted-committed layout old.jobs (content old.store.disk) desk cards deck trusted.stands few some accepted runs image records);
+            (submitted-committed layout old.jobs (content old.store.disk) desk cards deck trusted.stands few some accepted image records);
       }
 
   -- ---- a run that is purged

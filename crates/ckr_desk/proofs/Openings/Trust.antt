@@ -15,10 +15,8 @@ use Rattle.ckr_desk_turn.specs.RunEvents.{AreRunEvents}
 use Rattle.ckr_desk_refines.proofs.Entries.There.{has-then}
 use Rattle.ckr_desk_refines.specs.Commits.{HasCommitted}
 use Rattle.ckr_desk_refines.proofs.Standing.Openings.{opened-stands}
-use Rattle.ckr_desk_refines.proofs.Standing.Restartless.{events-restartless}
 use Rattle.ckr_desk_refines.specs.Entries.{AreRead, HasEntries, OnlyCheckSetsKeep, SameKept}
 use Rattle.ckr_desk_refines.specs.EntryRefusal.{AreInEffect}
-use Rattle.ckr_desk_refines.specs.Restartless.{AreRestartless}
 use Rattle.ckr_outside.specs.Disk.{EachSince, Only, part}
 use Rattle.ckr_outside.specs.Moments.{and_then}
 use Rattle.ckr_points.specs.Events.{AreSound}
@@ -141,10 +139,6 @@ module _ (image : List ℕ) (size : ℕ) (opened : Opened) (sound : Sound size i
   unfolding office_on
   runs-so = events-run opened.layout (events_in (event_records opened.layout image)) events-so (run-decks (events_in (event_records opened.layout image)) run-so)
 
-  restartless-so : AreRestartless (office_on opened.layout image).tables
-  unfolding office_on
-  restartless-so = events-restartless (events_in (event_records opened.layout image)) run-so
-
   again-there : HasCommittedAgain opened.layout (office_on opened.layout image) (last_on opened.layout image) image
   again-there = subst (λ l. HasCommittedAgain l (office_on l image) (last_on l image) image) layout-same sound.committed
 
@@ -264,7 +258,6 @@ module _ {D : Type 0} (told : Type 0) (content : D → List ℕ) (may_leave : D 
         (sym tables-here) (is.failed ∙ ap failed_in (sym tables-here)) is.running
         (subst (λ (t : TablesModel). AreRead new.store.layout t (content disk) new.jobs.points) (sym tables-here)
         (points-read told new.store.layout new.jobs.tables.desk (content disk) tells new.jobs.points is.points))
-        (restartless-so (content disk) (size disk) (opened_of new) sound is.opens)
 
     pub trusted-opened : IsTrusted told content may_leave new
     trusted-opened = record {

@@ -31,7 +31,6 @@ stands-same layout old new image desk same stands = record {
   failed = same.failed ∙ stands.failed;
   running = subst (λ (r : List RunningStepView). AllStand desk.layout desk.office image r desk.running) (sym same.running) stands.running;
   differ_so = stands.differ_so;
-  restartless = stands.restartless;
   points = subst (PointsStand desk.office) (sym same.points) stands.points;
   committed = stands.committed;
 }

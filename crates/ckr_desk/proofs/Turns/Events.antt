@@ -18,7 +18,6 @@ use Rattle.ckr_points.specs.Restart.{after_event}
 use Rattle.ckr_points.specs.Rows.{TablesModel}
 use Rattle.ckr_desk_refines.proofs.Standing.Plans.{plans-so}
 use Rattle.ckr_desk_refines.specs.Entries.{HasEntries}
-use Rattle.ckr_desk_refines.specs.Restartless.{AreRestartless}
 use Rattle.ckr_desk_refines.specs.RewriteRecord.{RewriteRecord, rewrite_of}
 use Rattle.ckr_desk_refines.specs.Moves.{HasSameRecords}
 use Rattle.ckr_desk_store.specs.OpenImages.{Opens, event_records}
@@ -38,7 +37,8 @@ use Rattle.ckr_desk.proofs.Images.NextEvent.{deck-none}
 use Rattle.ckr_desk.proofs.Images.Entries.{HasNewOne, behind-same}
 use Rattle.ckr_desk.proofs.Images.Soundness.{again-so, kept-behind, kept-left, kept-same}
 use Rattle.ckr_desk.proofs.Images.WrittenRecord.{TellsRecord}
-use Rattle.ckr_desk.proofs.Turns.PlainEvents.{IsQuietPlan, decided-quiet, is_quiet, plan-quiet, quiet-plain, seen-restartless}
+use Rattle.ckr_desk.proofs.Trust.Restartless.{trusted-restartless}
+use Rattle.ckr_desk.proofs.Turns.PlainEvents.{IsQuietPlan, decided-quiet, is_quiet, plain-known, plan-quiet, quiet-plain, seen-restartless}
 use Rattle.ckr_desk.proofs.Trust.Events.{IsBehind, IsComing, desk-behind}
 use Rattle.ckr_desk.specs.Requests.{has_room, room_behind}
 use Rattle.ckr_desk.specs.Calls.{HasGoneOn, IsLeftBy, IsSettledBehind, may_keep}
@@ -113,7 +113,7 @@ module _ {D : Type 0} (told : Type 0) (content : D → List ℕ) (may_leave : D 
 
   module _ (answer : Answer) (reply : Reply) (event : Event) (planned : decide answer (plan_of layout (jobs_of old.jobs) turn) ≡ Tell reply event) (shape : IsSpelled event) where
     pub quiet-so : is_quiet event ≡ true
-    quiet-so = subst IsQuietPlan planned (decided-quiet answer (plan_of layout (jobs_of old.jobs) turn) (plan-quiet layout (jobs_of old.jobs) (seen-restartless old.jobs (subst AreRestartless (sym trusted.stands.tables) trusted.stands.restartless)) turn))
+    quiet-so = subst IsQuietPlan planned (decided-quiet answer (plan_of layout (jobs_of old.jobs) turn) (plan-quiet layout (jobs_of old.jobs) (seen-restartless old.jobs (trusted-restartless told content may_leave old trusted)) turn))
 
     pub told-so : turn_of desk turn answer ≡ done_so (Tell reply event) (is_ask (plan_of layout (jobs_of old.jobs) turn)) desk
     told-so = turned-settled answer (Tell reply event) planned (quiet-plain event quiet-so)
@@ -162,7 +162,8 @@ module _ {D : Type 0} (told : Type 0) (content : D → List ℕ) (may_leave : D 
           layout = same;
           events = written.events;
           tables = gone.0.moved.tables ∙ ap (λ d. after_event event d old.jobs.tables.desk) (sym none);
-          stands = told-stands layout old.jobs new.jobs (content old.store.disk) (content new.store.disk) desk turn answer reply event trusted.stands its at-desk gone.0.moved same_records;
+          stands = told-stands layout old.jobs new.jobs (content old.store.disk) (content new.store.disk) desk turn answer reply event trusted.stands its at-desk
+              (plain-known event (quiet-plain event quiet-so) desk old.jobs.points) gone.0.moved same_records;
           entries = entries-so gone.0.might (content new.store.disk) same_records;
           settled = settled;
         }

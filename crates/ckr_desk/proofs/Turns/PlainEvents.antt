@@ -1,5 +1,5 @@
 -- What a turn tells is a forward event.
-use Rattle.std.proofs.Common.{◌≡◌, ℕ, Bool, true, false, cond, List, refl, subst, sym, Option, Some, None, Result, Ok, Err}
+use Rattle.std.proofs.Common.{◌≡◌, ℕ, suc, Bool, true, false, cond, List, refl, subst, sym, Option, Some, None, Result, Ok, Err}
 use Rattle.std.proofs.lemmas.Bool.{false≢true}
 use Rattle.std.specs.List.{AllByRecursion}
 use Rattle.std.specs.Option.{option_map_or}
@@ -8,16 +8,17 @@ use Rattle.ckr_base.specs.declared.code.Code.{Code}
 use Rattle.ckr_console.specs.declared.question.Answer.{Answer}
 use Rattle.ckr_base.specs.declared.programs.NextDue.{NextDue}
 use Rattle.ckr_base.specs.declared.programs.NextDue.TheVariants.{Unit as OneUnit, Checkpoint, Cancel, Finished}
+use Rattle.ckr_base.proofs.Numbers.{equal-true, zero-not-suc}
 use Rattle.ckr_base.proofs.Sequences.{each-implies, find-holds}
 use Rattle.ckr_events.specs.declared.event.Event.{Event}
-use Rattle.ckr_events.specs.declared.event.Event.TheVariants.{Checkpointed, Submitted, Rewritten}
+use Rattle.ckr_events.specs.declared.event.Event.TheVariants.{Checkpointed, Selected, Submitted, Rewritten}
 use Rattle.ckr_events.specs.declared.event.Made.{Made}
 use Rattle.ckr_jcl.specs.declared.deck.Restart.{Restart}
 use Rattle.ckr_desk_memory.specs.Invariant.{IsAcceptedRow}
 use Rattle.ckr_desk_memory.specs.Plans.{told_by}
-use Rattle.ckr_desk_memory.specs.View.{JobsView, jobs_of}
+use Rattle.ckr_desk_memory.specs.View.{JobsView, PointView, jobs_of}
 use Rattle.ckr_desk_memory.proofs.Holders.Names.{accepted-plain}
-use Rattle.ckr_desk_refines.specs.Restartless.{AreRestartless, IsRestartless}
+use Rattle.ckr_desk_refines.specs.Moves.{KnowsItsEntry}
 use Rattle.ckr_meaning.specs.EffectiveJob.{OwnedStep}
 use Rattle.ckr_meaning.specs.declared.place.Place.{Place}
 use Rattle.ckr_meaning.specs.declared.place.Place.TheVariants.{Before, Opened, Within}
@@ -36,11 +37,13 @@ use Rattle.ckr_desk_turn.specs.declared.reply.Turn.{Turn}
 use Rattle.ckr_desk_turn.specs.Allocation.{allocation_of}
 use Rattle.ckr_desk_turn.specs.Select.{may_select, next_run, run_on_initiator}
 use Rattle.ckr_desk_turn.specs.Deferred.{queued_plan}
+use Rattle.ckr_desk_turn.specs.Desk.{DeskModel}
 use Rattle.ckr_desk_turn.specs.Inquiries.{decide}
 use Rattle.ckr_desk_turn.specs.Jobs.{TurnJobs, TurnStep, is_failed, running_in, waiting_code}
 use Rattle.ckr_desk_turn.specs.Plans.{between_plan, chosen_plan, due_plan, fail_plan, free_plan, is_within, placed_plan, plan_of, run_plan, running_plan, start_plan, suppressed_plan, system_failure, unmarked_plan, waiting_plan}
 use Rattle.ckr_volumes.specs.declared.layout.Layout.{Layout}
 use Rattle.ckr_desk.proofs.Turns.Decided.{by-answer, by-decide}
+use Rattle.ckr_desk.specs.Restartless.{AreRestartless, IsRestartless}
 use Rattle.ckr_desk.specs.Units.{IsPlainPlan}
 
 -- the event of a plan, if it has one, is plain, rewrites nothing and takes no checkpoint
@@ -156,6 +159,11 @@ quiet-plain (Submitted job cards) quiet = refl
 quiet-plain (Rewritten job taken writes lengths place image) quiet = refl
 quiet-plain (Checkpointed job id taken writes lengths place bytes) quiet = absurd (false≢true quiet)
 quiet-plain _ quiet = quiet
+
+-- and goes on at no checkpoint of an earlier run
+pub plain-known : (event : Event) → is_forward_event event ≡ true → (desk : DeskModel) (points : List PointView) → KnowsItsEntry event desk points
+plain-known (Selected job initiator (suc before) step (Some id)) plain desk points = absurd (zero-not-suc before (sym (equal-true (suc before) 0 plain)))
+plain-known _ plain desk points = tt
 
 plain-by : (plan : Plan) → IsQuietPlan plan → IsPlainPlan plan
 plain-by (Rest reply) quiet = tt

@@ -51,7 +51,6 @@ use Rattle.ckr_desk_refines.proofs.Entries.CheckSets.{check-dd as has-check-dd}
 use Rattle.ckr_desk_refines.proofs.Entries.RunningStep.{checkpoint-checks}
 use Rattle.ckr_desk_refines.proofs.Events.OtherSteps.{step-stands, still-stands}
 use Rattle.ckr_desk_refines.proofs.Rewrites.OwnStep.{shown-again}
-use Rattle.ckr_desk_refines.proofs.Standing.Restartless.{restartless-behind, submits-none}
 use Rattle.ckr_desk_refines.proofs.Standing.StepViews.{place-due}
 use Rattle.ckr_desk_refines.proofs.Rewrites.StepLists.{others-stand}
 use Rattle.ckr_desk_refines.proofs.Units.OtherSteps.{fits-so, other-stays, same-start}
@@ -297,6 +296,5 @@ module _ (layout : Layout) (old new : JobsView) (before written after : List ℕ
                 (its.same ∙ sym (number_is layout old before desk turn run on to)) (all-then entered.0 entered.2).0
                 (its.stands.ordered (none layout old before desk turn run on to) (sym (place-due its.stands.start its.step.progress on (its.stands.stands (none layout old before desk turn run on to)) (its.stands.served (none layout old before desk turn run on to))) ∙ due-so layout old before desk turn run on to)) entered.1 old.points to.stands.points);
             committed = committed-then;
-            restartless = restartless-behind desk.office.tables to.stands.restartless event_now None (submits-none event_now);
           })
           (taken-kept layout old before desk turn run on to)

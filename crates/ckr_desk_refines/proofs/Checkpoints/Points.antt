@@ -22,9 +22,9 @@ use Rattle.ckr_desk_turn.specs.Checkpoints.{check_set, checkpoint_fits, entry_wi
 use Rattle.ckr_desk_turn.specs.Desk.{DeskModel, DeskStep, checkpoint_done, start_of}
 use Rattle.ckr_desk_turn.specs.Invariant.{IsDesk, IsGoing}
 use Rattle.ckr_desk_turn.specs.Jobs.{effect_entry}
-use Rattle.ckr_desk_refines.specs.Standing.{PointsStand, StandsForStep}
+use Rattle.ckr_desk_refines.specs.Standing.{OwnStands, PointsStand, StandsForStep}
 use Rattle.ckr_desk_refines.proofs.Checkpoints.Office.{its-dd, leaves, leaves-others, may, office_then}
-use Rattle.ckr_desk_refines.proofs.Standing.Points.{OwnStands, entry_in_effect, points-next}
+use Rattle.ckr_desk_refines.proofs.Standing.Points.{entry_in_effect, points-next}
 
 -- the entry of which a whole entry is made tells its records taken and its writes
 told-by : (made : Entry) (kept : Option KeptEntry) (entry : KeptEntry) → option_map (λ (entry : KeptEntry). entry_with entry.kept.id made.state entry.point) kept ≡ Some made → kept ≡ Some entry → (entry.point.taken ≡ made.taken) × (entry.point.writes ≡ made.writes)

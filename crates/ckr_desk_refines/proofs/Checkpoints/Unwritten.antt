@@ -49,6 +49,5 @@ module _ (layout : Layout) (old new : JobsView) (image : List ℕ) (desk : DeskM
         differ_so = differ-put own desk.running to.stands.differ_so;
         points = subst (PointsStand desk.office) (sym passed.points) to.stands.points;
         committed = to.stands.committed;
-        restartless = to.stands.restartless;
       })
       (taken-kept layout old image desk turn run on to)

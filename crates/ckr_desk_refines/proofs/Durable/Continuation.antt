@@ -16,7 +16,7 @@ use Rattle.ckr_points_library.specs.Commit.{output_names}
 use Rattle.ckr_points.specs.Marks.{deck_names, is_marked_absent, lost_names, mark_at, own_names, removed_all, sysout_names}
 use Rattle.ckr_points.specs.Office.{Leg, Office, continued_leg, is_holder, leg_by, leg_of, office_after, office_selected, plain_leg, with_leg}
 use Rattle.ckr_points.specs.Restart.{Back, after_continued_at, after_entry_continued, after_event, after_put_back, continued_row, deferred_entry, deferred_start, kept_at, needed_names, sets_back, spliced, step_in, syschk_name}
-use Rattle.ckr_points.specs.Rows.{EffectPoint, KeptEntry, RunRow, TablesModel, run_of}
+use Rattle.ckr_points.specs.Rows.{EffectPoint, KeptEntry, RunRow, TableSet, TablesModel, run_of}
 use Rattle.ckr_points.specs.Tables.{fresh_effect}
 use Rattle.ckr_points.specs.Soundness.{may_come}
 use Rattle.ckr_points_invariant.specs.Invariant.{IsAgreed, IsAtPlace, IsHolder, IsKept}
@@ -192,14 +192,19 @@ module _ (layout : Layout) (now : Office) (kept : IsAgreed layout now) (job init
 
 -- ---- the data sets
 
+-- each is part of an earlier one
+pub continued-from : (layout : Layout) (now : Office) → IsAgreed layout now → (job initiator before step : ℕ) (id : Option Name) (deck : Option Job) → may_come layout now (Selected job initiator (suc before) step id, deck) ≡ true
+    → (name : Name) (table : TableSet) → entry_at (office_after (Selected job initiator (suc before) step id, deck) now).tables.sets name ≡ Some table → StaysFrom now.tables.sets name table
+continued-from layout now kept job initiator before step id deck may name table =
+    by-continued layout now kept job initiator before step id deck may (λ tables. entry_at tables.sets name ≡ Some table → StaysFrom now.tables.sets name table)
+    (λ row back goes. back-from row (may-so layout now kept job initiator before step id deck may).owned back now.tables name table)
+
 -- what is committed stays so
 pub continued-stays : (layout : Layout) (now : Office) (image : List ℕ) (job initiator before step : ℕ) (id : Option Name) (deck : Option Job) → IsKept layout now → may_come layout now (Selected job initiator (suc before) step id, deck) ≡ true
     → IsKept layout (office_after (Selected job initiator (suc before) step id, deck) now) → HasCommitted layout now image → HasCommitted layout (office_after (Selected job initiator (suc before) step id, deck) now) image
 continued-stays layout now image job initiator before step id deck kept may next had =
     all-stay layout now (office_after (Selected job initiator (suc before) step id, deck) now) image kept next stay had
-    (λ name table.
-    by-continued layout now kept.events job initiator before step id deck may (λ tables. entry_at tables.sets name ≡ Some table → StaysFrom now.tables.sets name table)
-    (λ row back goes. back-from row (may-so layout now kept.events job initiator before step id deck may).owned back now.tables name table))
+    (continued-from layout now kept.events job initiator before step id deck may)
   where
     stay : LegsStay now (office_after (Selected job initiator (suc before) step id, deck) now)
     stay run led =

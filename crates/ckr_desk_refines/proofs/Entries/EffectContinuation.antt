@@ -40,7 +40,16 @@ use Rattle.ckr_desk_refines.proofs.Entries.Refusal.{kept-table}
 
 -- ---- at a checkpoint
 
-module _ (layout : Layout) (now : Office) (are : AreKept layout now) (owners : AreOwned now) (job initiator before step : ℕ) (id : Name) (its : MayContinue layout now.tables job initiator (suc before) step (Some id))
+-- a run has the entry in effect behind the event that its data set for checkpoints kept under an identifier before
+pub record HasWanted (now after : TablesModel) (job : ℕ) (set id : Name) : Type 0 where
+  pub entry : KeptEntry
+  pub found : kept_at now.sets set id ≡ Some entry
+  pub next : RunRow
+  pub next_at : run_of after job ≡ Some next
+  pub got : next.in_effect ≡ Some (fresh_effect set entry.kept)
+  pub still : kept_at after.sets set entry.kept.id ≡ Some entry
+
+module _ (layout : Layout) (now : Office) (are : AreKept layout now) (job initiator before step : ℕ) (id : Name) (its : MayContinue layout now.tables job initiator (suc before) step (Some id))
     (entry : KeptEntry) (kept_so : kept_at now.tables.sets (syschk_name its.row.deck) id ≡ Some entry) (of_run : IsEntryOf its.other step (Some id) (Some entry)) where
   abbrev set : Name
   set = syschk_name its.row.deck
@@ -105,9 +114,13 @@ module _ (layout : Layout) (now : Office) (are : AreKept layout now) (owners : A
       kept_at-put_back entry.point.marks (output_names its.other.job.root its.owned) back.needed now.tables.sets set entry.kept.id entry written.of_run.back
       (kept-entry now.tables.sets set entry.kept.id entry (kept-so now set id entry are.written kept_so).0)
 
+  -- the run has it in effect
+  has-wanted : HasWanted now.tables tables job set id
+  has-wanted = record { entry = entry; found = kept_so; next = mine; next_at = here; got = refl; still = still-kept }
+
   -- ---- the jobs of both runs
 
-  module _ (taker : Leg) (led : leg_of now (suc before) ≡ Some taker) where
+  module _ (owners : AreOwned now) (taker : Leg) (led : leg_of now (suc before) ≡ Some taker) where
     abbrev leg : Leg
     leg = continued_leg now mine taker
 
@@ -185,15 +198,27 @@ module _ (layout : Layout) (now : Office) (are : AreKept layout now) (owners : A
       present = sym (ap (λ (o : Option KeptEntry). option_map_or (λ entry. has_present_marks its.other its.owned entry.point) o false) kept_so) ∙ its.marks;
     }
 
-  own-effect : IsInEffect behind mine effect
-  own-effect = is_some-true (leg_of now (suc before)) (are.begun.led (suc before) its.other its.other_at its.selected) in-effect
+  own-effect : AreOwned now → IsInEffect behind mine effect
+  own-effect owners = is_some-true (leg_of now (suc before)) (are.begun.led (suc before) its.other its.other_at its.selected) (in-effect owners)
 
   -- so it is with the run's row, which has it in effect
-  pub entry-effect : (row : RunRow) (other : EffectPoint) → run_of tables job ≡ Some row → row.in_effect ≡ Some other → IsInEffect behind row other
-  entry-effect row other e f =
+  pub entry-effect : AreOwned now → (row : RunRow) (other : EffectPoint) → run_of tables job ≡ Some row → row.in_effect ≡ Some other → IsInEffect behind row other
+  entry-effect owners row other e f =
       let same : mine ≡ row = some-one mine row (run_of tables job) here e in
       let same_effect : effect ≡ other = some-one effect other row.in_effect (ap (λ (row : RunRow). row.in_effect) (sym same)) f in
-      subst (λ (row : RunRow). IsInEffect behind row other) same (subst (IsInEffect behind mine) same_effect own-effect)
+      subst (λ (row : RunRow). IsInEffect behind row other) same (subst (IsInEffect behind mine) same_effect (own-effect owners))
+
+-- so it is behind the event
+pub wanted-behind : (layout : Layout) (now : Office) → AreKept layout now → (job initiator before step : ℕ) (id : Name) (deck : Option Job) (its : MayContinue layout now.tables job initiator (suc before) step (Some id))
+    → HasWanted now.tables (office_after (Selected job initiator (suc before) step (Some id), deck) now).tables job (syschk_name its.row.deck) id
+wanted-behind layout now are job initiator before step id deck its =
+    subst (λ tables. HasWanted now.tables tables job (syschk_name its.row.deck) id) (sym (after-selected layout now.tables job initiator before step (Some id) deck its))
+    (by (kept_at now.tables.sets (syschk_name its.row.deck) id) refl its.entry)
+  where
+    by : (entry : Option KeptEntry) → kept_at now.tables.sets (syschk_name its.row.deck) id ≡ entry → IsEntryOf its.other step (Some id) entry
+        → HasWanted now.tables (option_map_or (λ entry. after_entry_continued (continuation.row_before layout now are.kept.events job initiator before step (Some id) its) its.owned step (syschk_name its.row.deck) entry now.tables) entry now.tables) job (syschk_name its.row.deck) id
+    by None kept_so of_run = absurd of_run
+    by (Some entry) kept_so of_run = has-wanted layout now are job initiator before step id its entry kept_so of_run
 
 -- ---- the event
 
@@ -221,7 +246,7 @@ module _ (layout : Layout) (now : Office) (are : AreKept layout now) (owners : A
       by : (entry : Option KeptEntry) → kept_at now.tables.sets (syschk_name its.row.deck) id ≡ entry → IsEntryOf its.other step (Some id) entry
           → HasOwnEffect (option_map_or (λ entry. after_entry_continued (continuation.row_before layout now are.kept.events job initiator before step (Some id) its) its.owned step (syschk_name its.row.deck) entry now.tables) entry now.tables)
       by None kept_so of_run = absurd of_run
-      by (Some entry) kept_so of_run = entry-effect layout now are owners job initiator before step id its entry kept_so of_run
+      by (Some entry) kept_so of_run = entry-effect layout now are job initiator before step id its entry kept_so of_run owners
 
   module _ (id : Option Name) (deck : Option Job) (next : IsNext layout now (Selected job initiator (suc before) step id, deck)) (in_effect : AreInEffect now) where
     abbrev agreed : IsAgreed layout now

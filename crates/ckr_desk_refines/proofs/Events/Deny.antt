@@ -34,6 +34,6 @@ denied-stands layout old new before after desk run rule name stands comes later 
     (λ row at passes.
     let out : EntersOut desk.office (behind (Denied run rule name) None desk).office =
     denied-enters desk.layout desk.office run rule name row stands.is_desk.kept.events at (queued-is row.state (and-first (is_in_state Queued row) (is_some row.deck.restart) passes)) in
-    entered-stands layout old new before after desk (Denied run rule name) None stands tt moved same refl later out.enters moved.running refl moved.points
+    entered-stands layout old new before after desk (Denied run rule name) None stands moved same refl later out.enters moved.running refl moved.points
     (out-stands desk.office (behind (Denied run rule name) None desk).office out old.points)
     (denied-committed layout old before desk run rule name stands later after same))

@@ -26,11 +26,11 @@ use Rattle.ckr_volumes.specs.declared.layout.Layout.{Layout}
 use Rattle.ckr_desk_memory.specs.Invariant.{is_in_step}
 use Rattle.ckr_desk_memory.specs.View.{PointView}
 use Rattle.ckr_desk_turn.specs.Desk.{start_of}
-use Rattle.ckr_desk_refines.specs.Standing.{PointsStand}
+use Rattle.ckr_desk_refines.specs.Standing.{OwnStands, PointsStand}
 use Rattle.ckr_desk_refines.proofs.Durable.Office.{CommitsNow, behind_hold, by-held}
 use Rattle.ckr_desk_refines.proofs.Entries.KeptEntries.{kept_at-committed}
 use Rattle.ckr_desk_refines.proofs.Events.OtherRows.{released-enters, released-row}
-use Rattle.ckr_desk_refines.proofs.Standing.Points.{OwnStands, by-effect, check-by, entry_in_effect}
+use Rattle.ckr_desk_refines.proofs.Standing.Points.{by-effect, check-by, entry_in_effect}
 
 module _ (layout : Layout) (now : Office) (agreed : IsAgreed layout now) (ready : AreReady now) (points : List PointView) (stand : PointsStand now points) where
   -- ---- held

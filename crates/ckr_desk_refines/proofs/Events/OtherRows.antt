@@ -204,9 +204,9 @@ held-off state held on = false≢true (ap (λ (s : RunState). state_number s == 
 out-of : (tables : TablesModel) (row next one : RunRow) → run_of tables row.number ≡ Some row → next.number ≡ row.number → run_of (with_run next tables) row.number ≡ Some one → is_in_step one ≡ is_in_step next
 out-of tables row next one at same there = ap is_in_step (sym (some-one next one (run_of (with_run next tables) row.number) (run-same tables next row row.number at same) there))
 
-pub selected-enters : (layout : Layout) (now : Office) (job initiator step : ℕ) → IsAgreed layout now → may_come layout now (Selected job initiator 0 step None, None) ≡ true → EntersOut now (office_after (Selected job initiator 0 step None, None) now)
-selected-enters layout now job initiator step kept may =
-    by-selected (EntersOut now) layout now job initiator step None None kept may
+pub selected-enters : (layout : Layout) (now : Office) (job initiator step : ℕ) (id : Option Name) → IsAgreed layout now → may_come layout now (Selected job initiator 0 step id, None) ≡ true → EntersOut now (office_after (Selected job initiator 0 step id, None) now)
+selected-enters layout now job initiator step id kept may =
+    by-selected (EntersOut now) layout now job initiator step id None kept may
     (λ row at queued plain free. record {
       enters = record {
         run = row.number;

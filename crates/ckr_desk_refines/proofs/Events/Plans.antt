@@ -12,17 +12,18 @@ use Rattle.ckr_base.specs.declared.programs.NextDue.{NextDue}
 use Rattle.ckr_base.specs.declared.programs.NextDue.TheVariants.{Unit as OneUnit, Checkpoint, Cancel, Finished}
 use Rattle.ckr_base.proofs.Bools.{bool-cases, or-first-false, or-second-false}
 use Rattle.ckr_base.proofs.Options.{is_none-true, is_some-true, option-cases}
-use Rattle.ckr_base.proofs.Sequences.{find-all, find-holds}
+use Rattle.ckr_base.proofs.Sequences.{find-all}
 use Rattle.ckr_console.specs.declared.question.Answer.{Answer}
 use Rattle.ckr_console.specs.declared.question.Answer.TheVariants.{Yes, No, Hold, Silent}
 use Rattle.ckr_events.specs.declared.event.Ending.TheVariants.{Allocation, Coded, Completed}
 use Rattle.ckr_events.specs.declared.event.Event.{Event}
-use Rattle.ckr_events.specs.declared.event.Event.TheVariants.{Cancelled, Ended, Held, Restarted, Selected, Started, StepEnded}
+use Rattle.ckr_events.specs.declared.event.Event.TheVariants.{Cancelled, Denied, Ended, Held, Restarted, Selected, Started, StepEnded}
 use Rattle.ckr_events.specs.declared.event.Made.{Made}
 use Rattle.ckr_desk_memory.specs.View.{RunningStepView}
 use Rattle.ckr_desk_turn.specs.NextEvents.{IsWithinStep}
 use Rattle.ckr_desk_turn.specs.Invariant.{IsDesk, IsTurnOf, has_code_while_off, is_accounted}
 use Rattle.ckr_desk_turn.proofs.Codes.{by-verdict}
+use Rattle.ckr_desk_turn.proofs.Deferred.Plans.{by-queued}
 use Rattle.ckr_desk_turn.proofs.NextEvents.BetweenSteps.{free-there, next_cases, row_of_found, state_found, state_on}
 use Rattle.ckr_desk_turn.proofs.NextEvents.Holders.{HoldsStep, on-holder}
 use Rattle.ckr_desk_turn.proofs.Opening.{running-stands}
@@ -47,7 +48,6 @@ use Rattle.ckr_library.specs.NameMaps.{Name}
 use Rattle.ckr_rules.specs.RuleTables.{rule_number}
 use Rattle.ckr_rules.specs.declared.cases.Rule.{Rule}
 use Rattle.ckr_rules.specs.declared.cases.Rule.TheVariants.{A6}
-use Rattle.ckr_desk_refines.specs.Restartless.{AreRestartless, IsRestartless}
 use Rattle.ckr_desk_refines.specs.Standing.{AllStand}
 use Rattle.ckr_rules.specs.RuleTables.{suppresses}
 use Rattle.ckr_desk_turn.specs.declared.plan.Plan.{Plan}
@@ -70,7 +70,8 @@ use Rattle.ckr_desk_refines.proofs.Units.Plans.{step-uncoded}
 
 -- what is shown of each event that a turn may tell
 pub record OfEach (desk : DeskModel) (image : List ℕ) (Q : Event → Type 0) : Type 0 where
-  pub selected : (job initiator : ℕ) → Q (Selected job initiator 0 0 None)
+  pub selected : (job initiator earlier step : ℕ) (id : Option Name) → Q (Selected job initiator earlier step id)
+  pub denied : (job rule : ℕ) (name : Option Name) → Q (Denied job rule name)
   pub started : (job step : ℕ) (items : ArrayVec Made) → Q (Started job step items)
   pub cancelled : (job : ℕ) (step : TurnStep) → running_in (jobs_of desk) job ≡ Some step → step.due ≡ Cancel → step.code ≡ None → Q (Cancelled job)
   pub step_ended : (job step rc writes : ℕ) (lengths : ArrayVec ℕ) → HasWithinRun desk.layout desk.office job writes image → Q (StepEnded job step rc writes lengths)
@@ -123,7 +124,7 @@ fewer-marked (first ∷ rest) run also none =
     ap (λ b. b && also first || list_any (λ (one : FailedRun). one.run == run && also one) rest) (or-first-false (first.run == run) (list_any (λ (one : FailedRun). one.run == run) rest) none)
     ∙ fewer-marked rest run also (or-second-false (first.run == run) (list_any (λ (one : FailedRun). one.run == run) rest) none)
 
-module _ (desk : DeskModel) (is : IsDesk desk) (restartless : AreRestartless desk.office.tables) (image : List ℕ) (seen : List RunningStepView) (all : AllStand desk.layout desk.office image seen desk.running) (had : HasCommitted desk.layout desk.office image)
+module _ (desk : DeskModel) (is : IsDesk desk) (image : List ℕ) (seen : List RunningStepView) (all : AllStand desk.layout desk.office image seen desk.running) (had : HasCommitted desk.layout desk.office image)
     (Q : Event → Type 0) (each : OfEach desk image Q) where
   -- ---- a run within a step
 
@@ -291,7 +292,7 @@ module _ (desk : DeskModel) (is : IsDesk desk) (restartless : AreRestartless des
         next_cases desk.office.tables row next
         (λ queued.
         subst (λ o. OfPlan Q (chosen_by row o)) (sym (is_none-true row.code (ap (λ s. code_while s row.code) (sym queued) ∙ coded)))
-        (subst (λ r. OfPlan Q (queued_plan desk.layout desk.office.tables i row r)) (sym (find-holds IsRestartless selects desk.office.tables.runs row restartless next)) (each.selected row.number i)))
+        (by-queued (OfPlan Q) desk.layout desk.office.tables i row tt (λ reply rule name. each.denied row.number rule name) (λ reply earlier step id. each.selected row.number i earlier step id) row.deck.restart))
         (λ released.
         is_some-true row.code (ap (λ s. code_while s row.code) (sym released) ∙ coded)
         (λ code its. subst (λ o. OfPlan Q (chosen_by row o)) (sym its) (released-tells row next released code)))

@@ -1,6 +1,6 @@
 -- The jobs in memory stand for the desk behind the event of a turn, or the wait for the operator's word, of another call, and of a code: the end of a run,
 -- its hold and its restart.
-use Rattle.std.proofs.Common.{◌≡◌, ◌≤◌, ℕ, suc, Bool, true, List, length, refl, ap, sym, subst, Some, None, Ok}
+use Rattle.std.proofs.Common.{◌≡◌, ◌≤◌, ℕ, suc, Bool, List, length, refl, ap, sym, subst, Some, None, Ok}
 use Rattle.arrayvec.specs.ArrayVec.{ArrayVec}
 use Rattle.ckr_base.specs.declared.code.Code.{Code}
 use Rattle.ckr_base.proofs.Options.{some-not-none}
@@ -22,10 +22,9 @@ use Rattle.ckr_desk_refines.proofs.Durable.Restart.{restarted-stays}
 use Rattle.ckr_points.specs.declared.run.RunState.TheVariants.{Held as HeldRun, Queued}
 use Rattle.ckr_points.specs.Office.{office_after}
 use Rattle.ckr_points.specs.Rows.{RunRow, run_of}
-use Rattle.ckr_desk_refines.specs.Moves.{HasSameRecords, HasWaited, HaveMoved, event_in}
-use Rattle.ckr_desk_refines.specs.Standing.{StandsForDesk, StandsBut}
+use Rattle.ckr_desk_refines.specs.Moves.{HasSameRecords, HasWaited, HaveMoved, KnowsItsEntry, event_in}
+use Rattle.ckr_desk_refines.specs.Standing.{OwnStands, StandsBut, StandsForDesk}
 use Rattle.ckr_desk_turn.specs.Model.Cards.{kept_of_stored}
-use Rattle.ckr_desk_turn.specs.Model.Form.{is_run}
 use Rattle.ckr_desk_turn.specs.declared.plan.Plan.{Plan}
 use Rattle.ckr_desk_turn.specs.declared.plan.Plan.TheVariants.{Rest, Tell, Work, Pass, Take, Ask, Wait}
 use Rattle.ckr_desk_turn.specs.declared.reply.Reply.{Reply}
@@ -35,13 +34,13 @@ use Rattle.ckr_desk_turn.specs.Inquiries.{decide}
 use Rattle.ckr_desk_turn.specs.Turns.{carried_out, turn_of}
 use Rattle.ckr_desk_turn.specs.Plans.{plan_of}
 use Rattle.ckr_volumes.specs.declared.layout.Layout.{Layout}
-use Rattle.ckr_desk_refines.proofs.Events.Desk.{BehindStands, IsCommitted, coded-committed, each-committed, each-stands, ended-stands, entered-stands, held-committed, hold-stands, out-stands, restart-stands}
+use Rattle.ckr_desk_refines.proofs.Events.Desk.{ended-stands, entered-stands, hold-stands, out-stands, restart-stands}
+use Rattle.ckr_desk_refines.proofs.Events.TurnEvents.{BehindStands, IsCommitted, coded-committed, each-committed, each-stands, held-committed}
 use Rattle.ckr_desk_refines.proofs.Events.Commits.{committed-moves}
 use Rattle.ckr_desk_refines.proofs.Events.Plans.{OfPlan, answer-tells, turn-tells}
 use Rattle.ckr_desk_refines.proofs.Events.OtherRows.{EntersOut, ended-leaves, purged-enters, released-enters, released-run, submitted-enters}
 use Rattle.ckr_desk_refines.proofs.Events.OffRuns.{released-stands}
-use Rattle.ckr_desk_refines.proofs.Standing.Points.{OwnStands, idle-stands}
-use Rattle.ckr_desk_refines.proofs.Standing.Restartless.{run-restartless}
+use Rattle.ckr_desk_refines.proofs.Standing.Points.{idle-stands}
 use Rattle.ckr_desk_refines.proofs.Standing.Waits.{waited-stands}
 use Rattle.ckr_desk_refines.proofs.Events.IdleRuns.{ended-idle}
 
@@ -80,18 +79,18 @@ told-committed layout jobs before desk turn answer reply event stands its tells 
     let so : IsCommitted desk before event =
     subst (OfPlan (IsCommitted desk before)) tells
     (answer-tells (IsCommitted desk before) answer (plan_of desk.layout (jobs_of desk) turn)
-    (turn-tells desk stands.is_desk stands.restartless before jobs.running stands.running stands.committed (IsCommitted desk before) (each-committed desk stands.is_desk before stands.committed) turn its)) in
+    (turn-tells desk stands.is_desk before jobs.running stands.running stands.committed (IsCommitted desk before) (each-committed desk stands.is_desk before stands.committed) turn its)) in
     committed-moves desk.layout (behind event None desk).office before image comes.1.kept same (so comes.0 comes.1)
 
 pub told-stands : (layout : Layout) (old new : JobsView) (before after : List ℕ) (desk : DeskModel) (turn : Turn) (answer : Answer) (reply : Reply) (event : Event) → StandsForDesk layout old before desk → IsTurnOf desk.layout turn → decide answer (plan_of desk.layout (jobs_of desk) turn) ≡ Tell reply event
-    → HaveMoved event None old new → HasSameRecords desk.layout before after → StandsForDesk layout new after (behind event None desk)
-told-stands layout old new before after desk turn answer reply event stands its tells moved same =
+    → KnowsItsEntry event desk old.points → HaveMoved event None old new → HasSameRecords desk.layout before after → StandsForDesk layout new after (behind event None desk)
+told-stands layout old new before after desk turn answer reply event stands its tells knows moved same =
     let comes = turn-comes desk turn answer reply event stands.is_desk its tells in
     let so : BehindStands layout old new before after desk stands same event =
     subst (OfPlan (BehindStands layout old new before after desk stands same)) tells
     (answer-tells (BehindStands layout old new before after desk stands same) answer (plan_of desk.layout (jobs_of desk) turn)
-    (turn-tells desk stands.is_desk stands.restartless before old.running stands.running stands.committed (BehindStands layout old new before after desk stands same) (each-stands layout old new before after desk stands same) turn its)) in
-    so comes.0 comes.1 moved (told-committed layout old before desk turn answer reply event stands its tells after same)
+    (turn-tells desk stands.is_desk before old.running stands.running stands.committed (BehindStands layout old new before after desk stands same) (each-stands layout old new before after desk stands same) turn its)) in
+    so comes.0 comes.1 knows moved (told-committed layout old before desk turn answer reply event stands its tells after same)
 
 -- and one by which the run waits
 carried-waits : (answer : Answer) (plan : Plan) (desk : DeskModel) (job : ℕ) (code : Code) → decide answer plan ≡ Wait job code → (carried_out answer plan desk).desk ≡ waiting job code desk
@@ -111,21 +110,21 @@ turn-waits layout old new image desk turn answer job code stands its waits waite
 
 -- ---- the other calls
 
-pub submitted-committed : (layout : Layout) (jobs : JobsView) (before : List ℕ) (desk : DeskModel) (cards : List ℕ) (deck : Job) → StandsForDesk layout jobs before desk → suc (length desk.office.tables.runs) ≤ 9999999 → 81 ≤ length cards → stored_deck cards ≡ Ok deck → is_run deck ≡ true
+pub submitted-committed : (layout : Layout) (jobs : JobsView) (before : List ℕ) (desk : DeskModel) (cards : List ℕ) (deck : Job) → StandsForDesk layout jobs before desk → suc (length desk.office.tables.runs) ≤ 9999999 → 81 ≤ length cards → stored_deck cards ≡ Ok deck
     → (image : List ℕ) → HasSameRecords desk.layout before image → HasCommitted desk.layout (submitted (kept_of_stored cards) deck desk).office image
-submitted-committed layout jobs before desk cards deck stands few some accepted runs image same =
+submitted-committed layout jobs before desk cards deck stands few some accepted image same =
     let later : IsDesk (submitted (kept_of_stored cards) deck desk) = stored-keeps desk stands.is_desk cards deck few some accepted in
     committed-moves desk.layout (submitted (kept_of_stored cards) deck desk).office before image later.kept same
     (submitted-stays desk.layout desk.office before (suc (length desk.office.tables.runs)) (kept_of_stored cards) (Some deck) stands.is_desk.kept later.kept stands.committed)
 
-pub submitted-stands : (layout : Layout) (old new : JobsView) (before after : List ℕ) (desk : DeskModel) (cards : List ℕ) (deck : Job) → StandsForDesk layout old before desk → suc (length desk.office.tables.runs) ≤ 9999999 → 81 ≤ length cards → stored_deck cards ≡ Ok deck → is_run deck ≡ true
+pub submitted-stands : (layout : Layout) (old new : JobsView) (before after : List ℕ) (desk : DeskModel) (cards : List ℕ) (deck : Job) → StandsForDesk layout old before desk → suc (length desk.office.tables.runs) ≤ 9999999 → 81 ≤ length cards → stored_deck cards ≡ Ok deck
     → HaveMoved (Submitted (suc (length desk.office.tables.runs)) (kept_of_stored cards)) (Some deck) old new → HasSameRecords desk.layout before after → StandsForDesk layout new after (submitted (kept_of_stored cards) deck desk)
-submitted-stands layout old new before after desk cards deck stands few some accepted runs moved same =
+submitted-stands layout old new before after desk cards deck stands few some accepted moved same =
     let out : EntersOut desk.office (submitted (kept_of_stored cards) deck desk).office = submitted-enters desk.office (kept_of_stored cards) deck in
-    entered-stands layout old new before after desk (Submitted (suc (length desk.office.tables.runs)) (kept_of_stored cards)) (Some deck) stands (run-restartless deck runs) moved same refl
+    entered-stands layout old new before after desk (Submitted (suc (length desk.office.tables.runs)) (kept_of_stored cards)) (Some deck) stands moved same refl
     (stored-keeps desk stands.is_desk cards deck few some accepted) out.enters moved.running refl moved.points
     (out-stands desk.office (submitted (kept_of_stored cards) deck desk).office out old.points)
-    (submitted-committed layout old before desk cards deck stands few some accepted runs after same)
+    (submitted-committed layout old before desk cards deck stands few some accepted after same)
 
 pub purged-committed : (layout : Layout) (jobs : JobsView) (before : List ℕ) (desk : DeskModel) (job : ℕ) (row : RunRow) → StandsForDesk layout jobs before desk → run_of desk.office.tables job ≡ Some row → row.state ≡ Queued
     → (image : List ℕ) → HasSameRecords desk.layout before image → HasCommitted desk.layout (purged job desk).office image
@@ -138,7 +137,7 @@ pub purged-stands : (layout : Layout) (old new : JobsView) (before after : List 
     → HaveMoved (Purged job) None old new → HasSameRecords desk.layout before after → StandsForDesk layout new after (purged job desk)
 purged-stands layout old new before after desk job row stands at queued moved same =
     let out : EntersOut desk.office (purged job desk).office = purged-enters desk.layout desk.office job row stands.is_desk.kept.events at queued in
-    entered-stands layout old new before after desk (Purged job) None stands tt moved same refl
+    entered-stands layout old new before after desk (Purged job) None stands moved same refl
     (purged-keeps desk stands.is_desk job row at queued) out.enters moved.running refl moved.points (out-stands desk.office (purged job desk).office out old.points)
     (purged-committed layout old before desk job row stands at queued after same)
 
@@ -152,7 +151,7 @@ released-committed layout jobs before desk job row stands at held image same =
 pub release-stands : (layout : Layout) (old new : JobsView) (before after : List ℕ) (desk : DeskModel) (job : ℕ) (row : RunRow) → StandsForDesk layout old before desk → run_of desk.office.tables job ≡ Some row → row.state ≡ HeldRun
     → HaveMoved (Released job) None old new → HasSameRecords desk.layout before after → StandsForDesk layout new after (released job desk)
 release-stands layout old new before after desk job row stands at held moved same =
-    entered-stands layout old new before after desk (Released job) None stands tt moved same refl
+    entered-stands layout old new before after desk (Released job) None stands moved same refl
     (released-keeps desk stands.is_desk job row at held) (released-enters desk.layout desk.office job row stands.is_desk.kept.events at held) moved.running refl moved.points
     (subst (OwnStands (office_after (Released job, None) desk.office) old.points) (sym (released-run desk.layout desk.office job row stands.is_desk.kept.events at held))
     (released-stands desk.layout desk.office stands.is_desk.kept.events stands.is_desk.ready old.points stands.points job row at held))
@@ -171,7 +170,7 @@ pub code-stands : (layout : Layout) (old new : JobsView) (before after : List �
     → IsDesk (behind (Ended run (Coded code rule writes lengths)) None desk) → HasWithinRun desk.layout desk.office run writes before
     → HaveMoved (Ended run (Coded code rule writes lengths)) None old new → HasSameRecords desk.layout before after → StandsForDesk layout new after (behind (Ended run (Coded code rule writes lengths)) None desk)
 code-stands layout old new before after desk run rule writes code lengths stands comes later has moved same =
-    ended-stands layout old new before after desk (Ended run (Coded code rule writes lengths)) run refl stands.layout_is stands.is_desk stands.tables stands.failed stands.restartless stands.differ_so stands.points
+    ended-stands layout old new before after desk (Ended run (Coded code rule writes lengths)) run refl stands.layout_is stands.is_desk stands.tables stands.failed stands.differ_so stands.points
     (idle-stands (office_after (Ended run (Coded code rule writes lengths), None) desk.office) new.points run
     (ended-idle desk.layout desk.office stands.is_desk.kept.events stands.is_desk.ready run (Coded code rule writes lengths))) stands.running moved same refl later
     (ended-leaves desk.layout desk.office run (Coded code rule writes lengths) stands.is_desk.kept.events)
@@ -191,7 +190,7 @@ pub held-stands : (layout : Layout) (old new : JobsView) (before after : List �
     → IsDesk (behind (Held run code writes lengths) None desk) → HasWithinRun desk.layout desk.office run writes before
     → HaveMoved (Held run code writes lengths) None old new → HasSameRecords desk.layout before after → StandsForDesk layout new after (behind (Held run code writes lengths) None desk)
 held-stands layout old new before after desk run writes code lengths stands comes later has moved same =
-    hold-stands layout old new before after desk run writes code lengths stands.layout_is stands.is_desk stands.tables stands.failed stands.restartless stands.differ_so stands.points stands.running moved same comes later
+    hold-stands layout old new before after desk run writes code lengths stands.layout_is stands.is_desk stands.tables stands.failed stands.differ_so stands.points stands.running moved same comes later
     (hold-committed layout old before desk run writes code lengths stands comes later has after same)
 
 -- ---- a restart, whatever the step has come to
@@ -207,5 +206,5 @@ pub restarted-stands : (layout : Layout) (old new : JobsView) (before after : Li
     → IsDesk (behind (Restarted run initiator code checkpoint) None desk)
     → HaveMoved (Restarted run initiator code checkpoint) None old new → HasSameRecords desk.layout before after → StandsForDesk layout new after (behind (Restarted run initiator code checkpoint) None desk)
 restarted-stands layout old new before after desk run initiator code checkpoint stands comes later moved same =
-    restart-stands layout old new before after desk run initiator code checkpoint stands.layout_is stands.is_desk stands.tables stands.failed stands.restartless stands.differ_so stands.points stands.running moved same comes later
+    restart-stands layout old new before after desk run initiator code checkpoint stands.layout_is stands.is_desk stands.tables stands.failed stands.differ_so stands.points stands.running moved same comes later
     (restart-committed layout old before desk run initiator code checkpoint stands comes later after same)

@@ -29,7 +29,6 @@ use Rattle.ckr_desk_refines.proofs.Rewrites.Legs.{led-step}
 use Rattle.ckr_desk_refines.proofs.Rewrites.StepLists.{others-stand, put-differ}
 use Rattle.ckr_desk_refines.proofs.Rewrites.OtherSteps.{other-stands}
 use Rattle.ckr_desk_refines.proofs.Rewrites.OwnStep.{goes-in-place, own-stands, stored, updated-shown}
-use Rattle.ckr_desk_refines.proofs.Standing.Restartless.{restartless-behind, submits-none}
 
 module _ (old : JobsView) (before after : List ℕ) (desk : DeskModel) (turn : Turn) (run : ℕ) (on moved : RunningStepView) (place : ℕ) (image : List ℕ) (taken : ℕ) (asks : AsksToRewrite desk.layout old before after desk turn run on moved place image taken) where
   abbrev is : IsDesk desk
@@ -90,7 +89,6 @@ module _ (old : JobsView) (before after : List ℕ) (desk : DeskModel) (turn : T
           subst (λ office. PointsStand office later.points) (sym (office-is before after desk is run on moved place image taken asked))
           (subst (PointsStand office_then) (sym (goes.points ∙ back.points)) (points-rewritten before after desk is run on moved place image taken asked old.points asks.stands.points));
       committed = subst (λ office. HasCommitted desk.layout office written) (sym (office-is before after desk is run on moved place image taken asked)) committed_then;
-      restartless = restartless-behind desk.office.tables asks.stands.restartless (event before after desk is run on moved place image taken asked) None (submits-none (event before after desk is run on moved place image taken asked));
     }
 
 -- the desk behind the unit

@@ -20,13 +20,13 @@ use Rattle.ckr_desk_memory.specs.Invariant.{is_in_step}
 use Rattle.ckr_desk_memory.specs.View.{PointView, RunningStepView}
 use Rattle.ckr_desk_turn.specs.Desk.{DeskModel, start_of}
 use Rattle.ckr_desk_turn.specs.Invariant.{IsDesk}
-use Rattle.ckr_desk_refines.specs.Standing.{PointsStand}
+use Rattle.ckr_desk_refines.specs.Standing.{OwnStands, PointsStand}
 use Rattle.ckr_desk_refines.proofs.Entries.Effects.{passes-of}
 use Rattle.ckr_desk_refines.proofs.Entries.KeptEntries.{kept_at-committed, kept_at-same}
 use Rattle.ckr_desk_refines.proofs.Events.OtherRows.{LeavesRuns}
 use Rattle.ckr_desk_refines.proofs.Rewrites.Office.{next, next-at, other-at}
 use Rattle.ckr_desk_refines.proofs.Rewrites.Requests.{IsAsked, comes, event, leaves, lengths, row-at, then}
-use Rattle.ckr_desk_refines.proofs.Standing.Points.{OwnStands, by-effect, check-by, entry_in_effect, points-next}
+use Rattle.ckr_desk_refines.proofs.Standing.Points.{by-effect, check-by, entry_in_effect, points-next}
 
 -- an effect behind a rewrite was one before
 effect-before : {A : Type 0} (was : Option EffectPoint) (effect : EffectPoint) → option_map effect_rewritten was ≡ Some effect → ((old : EffectPoint) → was ≡ Some old → effect_rewritten old ≡ effect → A) → A

@@ -21,10 +21,9 @@ use Rattle.ckr_desk_turn.specs.Invariant.{IsDesk}
 use Rattle.ckr_desk_refines.specs.Commits.{HasCommitted}
 use Rattle.ckr_desk_refines.specs.Entries.{AreRead, HasEntries, IsPointOfEntry, IsRead, IsReadInEffect}
 use Rattle.ckr_desk_refines.specs.EntryRefusal.{AreInEffect, IsInEffect}
-use Rattle.ckr_desk_refines.specs.Restartless.{AreRestartless}
-use Rattle.ckr_desk_refines.specs.Standing.{AllStand, StandsForDesk}
+use Rattle.ckr_desk_refines.specs.Standing.{AllStand, OwnStands, StandsForDesk}
 use Rattle.ckr_desk_refines.proofs.Entries.InEffect.{effect-read}
-use Rattle.ckr_desk_refines.proofs.Standing.Points.{OwnStands, entry_in_effect}
+use Rattle.ckr_desk_refines.proofs.Standing.Points.{entry_in_effect}
 
 -- a point that was read stands for its entry
 pub read-stands : (layout : Layout) (office : Office) (image : List ℕ) (points : List PointView) (run : ℕ) → IsKept layout office → AreReady office → AreInEffect office → HasEntries layout office image → IsRead layout office.tables image points run → OwnStands office points run
@@ -47,8 +46,7 @@ read-stands layout office image points run kept ready are has read row entry sta
     }
 
 module _ (layout : Layout) (office : Office) (jobs : JobsView) (earlier image : List ℕ) (is : IsDesk (opened layout office)) (are : AreInEffect office) (committed : HasCommitted layout office image) (has : HasEntries layout office earlier)
-    (tables : jobs.tables.desk ≡ office.tables) (failed : jobs.failed ≡ (opened layout office).failed) (running : jobs.running ≡ []) (read : AreRead layout office.tables earlier jobs.points)
-    (restartless : AreRestartless office.tables) where
+    (tables : jobs.tables.desk ≡ office.tables) (failed : jobs.failed ≡ (opened layout office).failed) (running : jobs.running ≡ []) (read : AreRead layout office.tables earlier jobs.points) where
   pub opened-stands : StandsForDesk layout jobs image (opened layout office)
   opened-stands = record {
     layout_is = refl;
@@ -59,5 +57,4 @@ module _ (layout : Layout) (office : Office) (jobs : JobsView) (earlier image : 
     differ_so = refl;
     points = λ run. read-stands layout office earlier jobs.points run is.kept is.ready are has (read run);
     committed = committed;
-    restartless = restartless;
   }

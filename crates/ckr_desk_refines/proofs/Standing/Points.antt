@@ -27,7 +27,7 @@ use Rattle.ckr_desk_memory.specs.View.{PointView}
 use Rattle.ckr_desk_turn.specs.Desk.{start_of}
 use Rattle.ckr_desk_turn.specs.Jobs.{effect_entry}
 use Rattle.ckr_desk_refines.specs.SharedSets.{LeavesOthers}
-use Rattle.ckr_desk_refines.specs.Standing.{PointsStand, StandsForPoint}
+use Rattle.ckr_desk_refines.specs.Standing.{OwnStands, PointsStand, StandsForPoint}
 use Rattle.ckr_desk_refines.proofs.Entries.KeptEntries.{kept_in}
 use Rattle.ckr_desk_refines.proofs.Events.OtherRows.{LeavesRuns}
 
@@ -52,12 +52,6 @@ point-moves old new run other start entry same stands = record {
   unclosed = stands.unclosed;
   served = stands.served;
 }
-
--- the point of one run stands
-abbrev pub OwnStands : Office → List PointView → ℕ → Type 0
-OwnStands office points run =
-    (row : RunRow) (entry : KeptEntry) (start : StepStart) → run_of office.tables run ≡ Some row → is_in_step row ≡ true → effect_entry office.tables row ≡ Some entry → start_of office row ≡ Some start
-    → StandsForPoint points run start entry
 
 -- a run isn't within a step with a checkpoint in effect
 abbrev pub IsIdle : TablesModel → ℕ → Type 0

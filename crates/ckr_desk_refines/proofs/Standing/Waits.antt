@@ -87,5 +87,4 @@ waited-stands layout old new image desk run code stands waited = record {
   differ_so = coded-differ run code desk.running ∙ stands.differ_so;
   points = subst (PointsStand desk.office) (sym waited.points) stands.points;
   committed = stands.committed;
-  restartless = stands.restartless;
 }

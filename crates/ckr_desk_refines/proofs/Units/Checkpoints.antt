@@ -83,5 +83,4 @@ module _ (layout : Layout) (old new : JobsView) (image : List ℕ) (desk : DeskM
     differ_so = ap (λ (running : List DeskStep). differ running) changed ∙ differ-put own desk.running stands.differ_so;
     points = subst (PointsStand desk.office) (sym passed.points) stands.points;
     committed = stands.committed;
-    restartless = stands.restartless;
   }

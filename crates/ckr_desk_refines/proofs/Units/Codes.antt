@@ -188,7 +188,6 @@ module _ (layout : Layout) (old : JobsView) (before after : List ℕ) (desk : De
     differ_so = unit.stands.differ_so;
     points = subst (PointsStand desk.office) (sym back.points) unit.stands.points;
     committed = committed-so layout old before after desk turn run on moved (Abend code) unit before after unit.stands.committed unit.keeps;
-    restartless = unit.stands.restartless;
   }
 
   -- the image has what the step has written

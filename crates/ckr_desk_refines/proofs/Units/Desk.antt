@@ -154,5 +154,4 @@ module _ (layout : Layout) (old : JobsView) (before after : List ℕ) (desk : De
         differ_so = differ-put (put_step p.stands.row.number) desk.running unit.stands.differ_so;
         points = subst (PointsStand desk.office) (sym back.points) unit.stands.points;
         committed = committed-so layout old before after desk turn run on moved (Went taken) unit before after unit.stands.committed unit.keeps;
-        restartless = unit.stands.restartless;
       })

@@ -104,5 +104,4 @@ module _ (layout : Layout) (old : JobsView) (before after : List ℕ) (desk : De
         differ_so = coded-differ run code (first ∷ without_run run desk.running) ∙ differ-put first desk.running unit.stands.differ_so;
         points = subst (PointsStand desk.office) (sym (has.points ∙ back.points)) unit.stands.points;
         committed = committed-so layout old before after desk turn run on moved (Abend code) unit before after unit.stands.committed unit.keeps;
-        restartless = unit.stands.restartless;
       })

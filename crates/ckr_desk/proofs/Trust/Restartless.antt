@@ -1,8 +1,10 @@
--- No run's deck has RESTART behind an event, if that of none that it submits has: the runs keep their decks.
+-- No run's deck has RESTART behind the events of what the desk runs: a deck that is submitted has none, and the runs keep their decks. So none has at a
+-- desk that is trusted.
 use Rattle.std.proofs.Common.{◌≡◌, ℕ, zero, suc, Bool, true, false, List, [], ◌∷◌, slice_set, sym, subst, Option, Some, None}
 use Rattle.std.specs.List.{AllByRecursion}
 use Rattle.std.specs.Option.{is_none}
 use Rattle.ckr_base.proofs.Bools.{and-first}
+use Rattle.ckr_base.proofs.Numbers.{equal-true, zero-not-suc}
 use Rattle.ckr_base.proofs.Options.{is_none-true}
 use Rattle.ckr_base.proofs.Sequences.{each-append}
 use Rattle.ckr_events.specs.declared.event.Event.{Event}
@@ -10,29 +12,31 @@ use Rattle.ckr_events.specs.declared.event.Event.TheVariants.{Submitted, Selecte
 use Rattle.ckr_events.specs.declared.event.Ending.{Ending}
 use Rattle.ckr_events.specs.declared.event.Ending.TheVariants.{Completed, Coded, Allocation}
 use Rattle.ckr_jcl.specs.declared.deck.Job.{Job}
-use Rattle.ckr_library.specs.NameMaps.{Name}
 use Rattle.ckr_meaning.specs.declared.place.Place.{Place}
 use Rattle.ckr_meaning.specs.declared.place.Place.TheVariants.{Before, Opened, Within}
-use Rattle.ckr_meaning.specs.EffectiveJob.{OwnedStep}
 use Rattle.ckr_points.specs.Marks.{point_at}
 use Rattle.ckr_points.specs.Office.{Office, no_office, office, office_after, office_from}
-use Rattle.ckr_points.specs.Restart.{Decked, after_abnormal, after_continued_at, after_ended, after_event, after_restarted, by_step, continued_row, kept_at, place_of, step_in, syschk_name}
-use Rattle.ckr_points.specs.Rows.{RunRow, StartPoint, TablesModel, run_of, step_of_run, with_row}
+use Rattle.ckr_points.specs.Restart.{Decked, after_abnormal, after_ended, after_event, after_restarted, by_step, kept_at, place_of, step_in}
+use Rattle.ckr_points.specs.Rows.{RunRow, TablesModel, no_tables, run_of, step_of_run, with_row}
 use Rattle.ckr_points.specs.Tables.{after_commit, queued_run}
 use Rattle.ckr_desk_turn.specs.Model.Form.{is_run}
 use Rattle.ckr_desk_memory.proofs.Runs.{by-run, by-step as by-found}
 use Rattle.ckr_desk_memory.proofs.Starts.Steps.{row-among}
 use Rattle.ckr_desk_turn.specs.RunEvents.{AreRunEvents, IsRunEvent}
 use Rattle.ckr_desk_refines.proofs.Entries.Legs.{tables-behind}
-use Rattle.ckr_desk_refines.specs.Restartless.{AreRestartless, IsRestartless}
+use Rattle.ckr_desk_store.specs.OpenImages.{event_records}
+use Rattle.ckr_desk.proofs.Openings.RunRecords.{run-records}
+use Rattle.ckr_desk.specs.Restartless.{AreRestartless, IsRestartless}
+use Rattle.ckr_desk.specs.Soundness.{IsTrusted, events_in, office_on}
+use Rattle.ckr_desk.specs.State.{DeskView}
 
 -- ---- one run
 
 -- a deck of the form that the desk runs has none
-pub run-restartless : (deck : Job) → is_run deck ≡ true → deck.restart ≡ None
+run-restartless : (deck : Job) → is_run deck ≡ true → deck.restart ≡ None
 run-restartless deck runs = is_none-true deck.restart (and-first (is_none deck.restart) _ runs)
 
-pub row-restartless : (tables : TablesModel) → AreRestartless tables → (number : ℕ) (row : RunRow) → run_of tables number ≡ Some row → row.deck.restart ≡ None
+row-restartless : (tables : TablesModel) → AreRestartless tables → (number : ℕ) (row : RunRow) → run_of tables number ≡ Some row → row.deck.restart ≡ None
 row-restartless tables all number row at = row-among IsRestartless tables number row all at
 
 -- a row that is put in the place of one
@@ -46,16 +50,6 @@ put rows (suc place) row is all = at rows place all
     at (first ∷ rest) (suc place) all = (all.0, at rest place all.1)
 
 -- ---- an event
-
--- no deck that it submits has RESTART
-abbrev pub SubmitsRestartless : Event → Option Job → Type 0
-SubmitsRestartless (Submitted job cards) None = Unit {0}
-SubmitsRestartless (Submitted job cards) (Some deck) = deck.restart ≡ None
-SubmitsRestartless _ deck = Unit {0}
-
-pub submits-none : (event : Event) → SubmitsRestartless event None
-submits-none (Submitted job cards) = tt
-submits-none _ = tt
 
 module _ (tables : TablesModel) (all : AreRestartless tables) where
   module _ (job : ℕ) (row : RunRow) (at : run_of tables job ≡ Some row) where
@@ -86,59 +80,49 @@ module _ (tables : TablesModel) (all : AreRestartless tables) where
         by-found AreRestartless tables (step_of_run row (step_in (place_of row))) _ all
         (λ owned there. by-found AreRestartless tables (point_at row.points (step_in (place_of row))) _ all (λ point began. put tables.runs row.number _ mine all))
 
-  -- a run that continues another one
-  continued : (row : RunRow) → IsRestartless row → (owned : OwnedStep) (step : ℕ) (point : StartPoint) (id : Option Name) → AreRestartless (after_continued_at row owned step point id tables)
-  continued row is owned step point None = put tables.runs row.number _ is all
-  continued row is owned step point (Some id) = by-found AreRestartless tables (kept_at tables.sets (syschk_name row.deck) id) _ all (λ entry kept. put tables.runs row.number _ is all)
-
-  pub restartless-behind : (event : Event) (deck : Option Job) → SubmitsRestartless event deck → AreRestartless (after_event event deck tables)
-  restartless-behind (Submitted job cards) None submits = all
-  restartless-behind (Submitted job cards) (Some deck) submits = each-append IsRestartless tables.runs (queued_run job deck ∷ []) all (submits, tt)
-  restartless-behind (Selected job initiator zero step id) deck submits = by-run AreRestartless tables job _ all (λ row at. put tables.runs row.number _ (mine job row at) all)
-  restartless-behind (Selected job initiator (suc before) step id) deck submits =
-      by-run AreRestartless tables job _ all
-      (λ row at.
-      by-run AreRestartless tables (suc before) _ all
-      (λ earlier there.
-      by-found AreRestartless tables (step_of_run earlier step) _ all
-      (λ owned found.
-      by-found AreRestartless tables (point_at earlier.points step) _ all
-      (λ point began. continued (continued_row row earlier step point initiator tables.sets) (mine job row at) owned step point id))))
-  restartless-behind (Denied job rule name) deck submits = by-run AreRestartless tables job _ all (λ row at. put tables.runs row.number _ (mine job row at) all)
-  restartless-behind (Started job step items) deck submits =
+  restartless-behind : (event : Event) (deck : Option Job) → IsRunEvent event deck → AreRestartless (after_event event deck tables)
+  restartless-behind (Submitted job cards) None run = absurd run
+  restartless-behind (Submitted job cards) (Some deck) run = each-append IsRestartless tables.runs (queued_run job deck ∷ []) all (run-restartless deck run.1, tt)
+  restartless-behind (Selected job initiator zero step id) deck run = by-run AreRestartless tables job _ all (λ row at. put tables.runs row.number _ (mine job row at) all)
+  restartless-behind (Selected job initiator (suc before) step id) deck run = absurd (zero-not-suc before (sym (equal-true (suc before) 0 run)))
+  restartless-behind (Denied job rule name) deck run = absurd run
+  restartless-behind (Started job step items) deck run =
       by-run AreRestartless tables job _ all (λ row at. by-found AreRestartless tables (step_of_run row step) _ all (λ owned there. put tables.runs row.number _ (mine job row at) all))
-  restartless-behind (Rewritten job taken writes lengths place image) deck submits =
+  restartless-behind (Rewritten job taken writes lengths place image) deck run =
       by-run AreRestartless tables job _ all
       (λ row at. by-found AreRestartless tables (step_of_run row (step_in (place_of row))) _ all (λ owned there. put tables.runs row.number _ (mine job row at) all))
-  restartless-behind (Checkpointed job id taken writes lengths place bytes) deck submits =
+  restartless-behind (Checkpointed job id taken writes lengths place bytes) deck run =
       by-run AreRestartless tables job _ all
       (λ row at. by-found AreRestartless tables (step_of_run row (step_in (place_of row))) _ all (λ owned there. put tables.runs row.number _ (mine job row at) all))
-  restartless-behind (Cancelled job) deck submits = by-run AreRestartless tables job _ all (λ row at. put tables.runs row.number _ (mine job row at) all)
-  restartless-behind (StepEnded job step rc writes lengths) deck submits =
+  restartless-behind (Cancelled job) deck run = by-run AreRestartless tables job _ all (λ row at. put tables.runs row.number _ (mine job row at) all)
+  restartless-behind (StepEnded job step rc writes lengths) deck run =
       by-run AreRestartless tables job _ all
       (λ row at.
       by-found AreRestartless tables (step_of_run row (step_in (place_of row))) _ all
       (λ owned there. put _ row.number _ (mine job row at) (put tables.runs row.number _ (mine job row at) all)))
-  restartless-behind (Restarted job initiator code checkpoint) deck submits = by-run AreRestartless tables job _ all (λ row at. restarted job row at initiator checkpoint)
-  restartless-behind (Held job code writes lengths) deck submits =
+  restartless-behind (Restarted job initiator code checkpoint) deck run = by-run AreRestartless tables job _ all (λ row at. restarted job row at initiator checkpoint)
+  restartless-behind (Held job code writes lengths) deck run =
       by-run AreRestartless tables job _ all
       (λ row at. by-found AreRestartless tables (step_of_run row (step_in (place_of row))) _ all (λ owned there. put tables.runs row.number _ (mine job row at) all))
-  restartless-behind (Released job) deck submits = by-run AreRestartless tables job _ all (λ row at. put tables.runs row.number _ (mine job row at) all)
-  restartless-behind (Ended job ending) deck submits = by-run AreRestartless tables job _ all (λ row at. ended job row at ending)
-  restartless-behind (Purged job) deck submits = by-run AreRestartless tables job _ all (λ row at. put tables.runs row.number _ (mine job row at) all)
+  restartless-behind (Released job) deck run = by-run AreRestartless tables job _ all (λ row at. put tables.runs row.number _ (mine job row at) all)
+  restartless-behind (Ended job ending) deck run = by-run AreRestartless tables job _ all (λ row at. ended job row at ending)
+  restartless-behind (Purged job) deck run = by-run AreRestartless tables job _ all (λ row at. put tables.runs row.number _ (mine job row at) all)
 
 -- ---- the events of what the desk runs
-
-submits-run : (event : Event) (deck : Option Job) → IsRunEvent event deck → SubmitsRestartless event deck
-submits-run (Submitted job cards) None run = absurd run
-submits-run (Submitted job cards) (Some deck) run = run-restartless deck run.1
-submits-run _ deck run = tt
 
 from-restartless : (events : List Decked) (now : Office) → AreRunEvents events → AreRestartless now.tables → AreRestartless (office_from events now).tables
 from-restartless [] now run all = all
 from-restartless (first ∷ rest) now run all =
     from-restartless rest (office_after first now) run.1
-    (subst AreRestartless (sym (tables-behind now first.0 first.1)) (restartless-behind now.tables all first.0 first.1 (submits-run first.0 first.1 run.0)))
+    (subst AreRestartless (sym (tables-behind now first.0 first.1)) (restartless-behind now.tables all first.0 first.1 run.0))
 
-pub events-restartless : (events : List Decked) → AreRunEvents events → AreRestartless (office events).tables
+events-restartless : (events : List Decked) → AreRunEvents events → AreRestartless (office events).tables
 events-restartless events run = from-restartless events no_office run tt
+
+-- ---- a trusted desk
+
+pub trusted-restartless : {D : Type 0} (told : Type 0) (content : D → List ℕ) (may_leave : D → List ℕ → Type 0) (old : DeskView D) → IsTrusted told content may_leave old → AreRestartless old.jobs.tables.desk
+unfolding office_on
+trusted-restartless told content may_leave old trusted =
+    let records : List (List ℕ) = event_records old.store.layout (content old.store.disk) in
+    subst AreRestartless (sym trusted.stands.tables) (events-restartless (events_in records) (run-records old.store.layout no_tables 0 records old.jobs.tables.desk trusted.opens))
