@@ -18,3 +18,4 @@ pub mod NoChange
 pub mod CallOutcomes
 pub mod Preparation
 pub mod Model
+pub mod Continuation
