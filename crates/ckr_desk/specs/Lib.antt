@@ -18,4 +18,3 @@ pub mod NoChange
 pub mod CallOutcomes
 pub mod Preparation
 pub mod Model
-pub mod Continuation
