@@ -1,25 +1,28 @@
 -- An accepted deck is within the limits of decks, and each PARM in the ranges that its program rests on.
-use Rattle.std.proofs.Common.{inl, inr, ◌≡◌, ◌≤◌, ℕ, List, [], ◌∷◌, length, Option, Some, None, Result, Ok, Err, refl, sym, ◌∙◌, subst, arith}
+use Rattle.std.proofs.Common.{inl, inr, ◌≡◌, ◌≤◌, ℕ, true, nat_le, List, [], ◌∷◌, length, map, Option, Some, None, Result, Ok, Err, refl, sym, ◌∙◌, subst, arith}
 use Rattle.std.proofs.lemmas.List.{length-map}
 use Rattle.std.proofs.lemmas.Grind.{common_steps}
 use Rattle.std.proofs.lemmas.Option.{none-some, slice_get_cases}
 use Rattle.std.specs.Prelude.{slice_get}
-use Rattle.std.specs.List.{AllByRecursion, cons_option, filter_map}
+use Rattle.std.specs.List.{AllByRecursion, cons_option, filter_map, list_all}
 use Rattle.std.specs.Option.{option_map}
 use Rattle.ckr_base.proofs.Sequences.{each-implies}
 use Rattle.ckr_jcl.specs.declared.deck.Job.{Job}
 use Rattle.ckr_jcl.specs.declared.deck.Kind.{Kind}
 use Rattle.ckr_jcl.specs.declared.deck.Parm.{Parm}
+use Rattle.ckr_jcl_decks.specs.Parts.DdText.{DdText}
 use Rattle.ckr_jcl_decks.specs.Parts.JobText.{JobText}
 use Rattle.ckr_jcl_decks.specs.Parts.StepText.{StepText}
+use Rattle.ckr_jcl_decks.specs.Parts.VolText.{VolText}
+use Rattle.ckr_jcl_decks.specs.Parts.VolText.TheVariants.{Serial, Private, Elsewhere}
 use Rattle.ckr_jcl.specs.declared.refusal.ParmError.{ParmError}
 use Rattle.ckr_jcl_decks.specs.DeckFaults.{card_beyond, dd_beyond, dd_card, lesser, limit_fault, no_step, parm_of, parm_or_none, step_beyond, step_card}
-use Rattle.ckr_jcl_decks.specs.Deck.{dd_of, job_of, step_of, step_with, stored_deck}
+use Rattle.ckr_jcl_decks.specs.Deck.{dd_of, job_of, step_of, step_with, stored_deck, volumes_of}
 use Rattle.ckr_jcl.specs.ParmGrammar.{read_parm_text}
 use Rattle.ckr_programs.specs.Ranges.{IsInRange}
 use Rattle.ckr_programs.proofs.Ranges.{read_parm_ranges}
-use Rattle.ckr_points_decks.specs.DeckLimits.{IsWithinLimits}
-use Rattle.ckr_points_decks.proofs.DeckTests.{OfStep, map_none, or_none, steps_hold}
+use Rattle.ckr_points_decks.specs.DeckLimits.{IsWithinLimits, has_few_volumes}
+use Rattle.ckr_points_decks.proofs.DeckTests.{OfStep, all_pass, map_none, or_none, steps_hold}
 use Rattle.ckr_points_decks.proofs.Texts.{IsReadFrom, read_from}
 
 -- ---- counts
@@ -64,6 +67,25 @@ are_few cards job none =
       dds = few_dds job.steps (lesser_none (dd_beyond job.steps) later both.1).0;
     }
 
+-- ---- volumes
+
+few_named : (volume : Option VolText) → nat_le (length (volumes_of volume)) 5 ≡ true
+few_named None = refl
+few_named (Some (Serial serial)) = refl
+few_named (Some Private) = refl
+few_named (Some Elsewhere) = refl
+
+few_at : (dd : DdText) → has_few_volumes (dd_of dd) ≡ true
+unfolding dd_of
+few_at dd = few_named dd.volume
+
+few_volumes : (dds : List DdText) → list_all has_few_volumes (map dd_of dds) ≡ true
+few_volumes dds = all_pass has_few_volumes dd_of dds (each dds)
+  where
+    each : (dds : List DdText) → AllByRecursion (λ dd. has_few_volumes (dd_of dd) ≡ true) dds
+    each [] = tt
+    each (dd ∷ rest) = (few_at dd, each rest)
+
 -- ---- PARM
 
 read_in_range : (kind : Kind) (text : List ℕ) (read : Result Parm ParmError) → read_parm_text kind text ≡ read → IsInRange (parm_or_none read)
@@ -80,6 +102,7 @@ step_within : (step : StepText) → length step.dds ≤ 16 → OfStep IsWithinLi
 unfolding step_with
 step_within step few kind is = record {
   few_dds = subst (λ (n : ℕ). n ≤ 16) (sym (length-map step.dds dd_of)) few;
+  few_volumes = few_volumes step.dds;
   parm = parm_in_range kind step.parm.items;
 }
 

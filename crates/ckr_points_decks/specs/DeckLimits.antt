@@ -13,9 +13,14 @@ use Rattle.ckr_points_library.specs.AllocationSteps.{fits_named}
 use Rattle.ckr_points.specs.Payload.{is_formed_step}
 use Rattle.ckr_points.specs.Tables.{is_checkpoints}
 
--- at most 16 DDs, and a PARM in the ranges that the programs rest on
+-- VOL names at most five volumes
+abbrev pub has_few_volumes : Dd → Bool
+has_few_volumes dd = nat_le (length dd.volumes.items) 5
+
+-- at most 16 DDs, each with few volumes, and a PARM in the ranges that the programs rest on
 pub record IsWithinLimits (step : Step) : Type 0 where
   pub few_dds : length step.dds ≤ 16
+  pub few_volumes : list_all has_few_volumes step.dds ≡ true
   pub parm : IsInRange step.parm
 
 -- IDS isn't given, or is at most 8 bytes of names

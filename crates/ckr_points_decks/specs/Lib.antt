@@ -1,3 +1,3 @@
 pub mod DeckLimits
 pub mod Cards
-pub mod Form
+pub mod Submissions

@@ -20,8 +20,8 @@ pub fn dds_of_accepted_decks_fit()
     ensures { (cards : List ℕ) (job : JobOfDeck) → stored_deck cards ≡ Ok job → AllByRecursion FitsAllocation job.steps }
 {}
 
-/// An accepted deck has at most 64 steps, each of at most 16 DDs, and each step's PARM is in the ranges that the programs rest on
-/// (this project's profile).
+/// An accepted deck has at most 64 steps, each of at most 16 DDs whose VOL names at most five volumes, and each step's PARM is in the ranges
+/// that the programs rest on (this project's profile).
 pub fn accepted_decks_are_within_limits()
     ensures steps { (cards : List ℕ) (job : JobOfDeck) → stored_deck cards ≡ Ok job → length job.steps ≤ 64 }
     ensures each { (cards : List ℕ) (job : JobOfDeck) → stored_deck cards ≡ Ok job → AllByRecursion IsWithinLimits job.steps }

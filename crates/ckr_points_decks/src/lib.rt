@@ -1,13 +1,11 @@
-//! Decks that are submitted: which of them the desk runs, and the event that keeps their cards.
+//! Decks that are submitted: what becomes of them, and the event that keeps their cards.
 #![tactic(auto)]
 
 mod cards;
-mod form;
 mod laws;
 mod submit;
 
 pub use cards::{job_of_kept, submitted_event};
-pub use form::is_run;
 pub use laws::{
     accepted_decks_are_formed, accepted_decks_are_within_limits, accepted_decks_have_check_parts,
     dds_of_accepted_decks_fit, names_stand_once_in_each_step, what_is_kept_is_the_deck,

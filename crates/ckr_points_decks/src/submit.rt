@@ -1,8 +1,7 @@
 //! What becomes of a deck.
 ghost use Rattle.std.specs.Prelude.{◌≡◌, ◌≤◌, ◌<◌, ◌*◌, ◌%◌, length, IfOk};
-ghost use Rattle.ckr_points_decks.specs.Form.{submission_of};
+ghost use Rattle.ckr_points_decks.specs.Submissions.{submission_of};
 
-use crate::form::is_run;
 use ckr_base::NoMemory;
 use ckr_jcl::{DeckError, Job};
 use ckr_jcl_decks::read_deck;
@@ -11,19 +10,17 @@ use std::alloc::Global;
 /// What becomes of a deck that is submitted.
 #[derive(Drop)]
 pub enum Submission {
-    /// It is refused by the rule of this number, at this card, counted from 1. Number 0 is that of an accepted deck which
-    /// the desk doesn't run.
+    /// It is refused by the rule of this number, at this card, counted from 1.
     Refused { number: u8, card: u32 },
-    /// It is a job that the desk runs.
+    /// It is this job.
     Accepted(Job),
 }
 
 /// Reads the cards of a deck that is submitted, of 81 bytes each: 80 columns, and 1 where the line was longer. There is
 /// at least one card, and there are fewer than 4,294,967,295.
 ///
-/// `Refused` comes exactly where the deck is refused by the rules J01 to J24, with the number of the rule and the card;
-/// and with number 0 at card 1 exactly where the deck is accepted, and the desk doesn't run its form (this project's profile).
-#[tactic(auto, unfolding(crate::specs::Form::submission_of))]
+/// `Refused` comes exactly where the deck is refused by the rules J01 to J24, with the number of the rule and the card.
+#[tactic(auto, unfolding(crate::specs::Submissions::submission_of))]
 pub fn submission_of(alloc: Global, cards: &[u8]) -> Result<Submission, NoMemory>
     requires whole { length cards.now % 81 ≡ 0 }
     requires some { 81 ≤ length cards.now }
@@ -31,11 +28,7 @@ pub fn submission_of(alloc: Global, cards: &[u8]) -> Result<Submission, NoMemory
     ensures { IfOk result (λ submission. submission ≡ submission_of cards.now) }
 {
     match read_deck(alloc, cards) {
-        Ok(job) => Ok(if is_run(&job) {
-            Submission::Accepted(job)
-        } else {
-            Submission::Refused { number: 0, card: 1 }
-        }),
+        Ok(job) => Ok(Submission::Accepted(job)),
         Err(DeckError::At { number, card }) => Ok(Submission::Refused { number, card }),
         Err(DeckError::NoMemory) => Err(NoMemory),
     }
