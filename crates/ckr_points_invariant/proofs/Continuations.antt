@@ -32,3 +32,4 @@ pub mod OfficeBehind
 pub mod OfficesBehind
 pub mod SelectedRuns
 pub mod ReadyRuns
+pub mod Tests

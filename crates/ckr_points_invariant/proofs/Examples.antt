@@ -11,7 +11,6 @@ use Rattle.ckr_volumes.specs.declared.layout.Layout.{Layout}
 use Rattle.ckr_points.specs.Events.{AreSound}
 use Rattle.ckr_points.specs.Restart.{Decked}
 use Rattle.ckr_points.proofs.Examples.Jobs.{deck, layout, step}
-use Rattle.ckr_points_invariant.specs.PlainRuns.{NoneContinues}
 
 -- a code after which a restart is permitted
 abbrev eligible : Layout
@@ -37,10 +36,6 @@ over = (StepEnded 1 1 0 0 (record { items = [] }), None) ∷ (Ended 1 Completed,
 restarted_once : AreSound eligible (begun ++ again 1 ++ over)
 unfolding jobs_open
 restarted_once = (record { may = refl; carried = refl }, (record { may = refl; carried = refl }, (record { may = refl; carried = refl }, (record { may = refl; carried = refl }, (record { may = refl; carried = refl }, (record { may = refl; carried = refl }, (record { may = refl; carried = refl }, tt)))))))
-
--- none continues another one
-none_continues : NoneContinues (begun ++ again 1 ++ over)
-none_continues = refl
 
 -- the third time it may go back still, the fourth time no more
 restarted_often : AreSound eligible (begun ++ again 3 ++ over)

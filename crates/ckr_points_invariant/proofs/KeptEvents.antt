@@ -1,5 +1,5 @@
 -- All that is kept from event to event: where there are no events, behind one more, and at every prefix of sound events.
-use Rattle.std.proofs.Common.{◌≡◌, ℕ, zero, suc, true, false, List, [], ◌∷◌, ◌++◌, refl, Option}
+use Rattle.std.proofs.Common.{◌≡◌, zero, suc, true, false, List, [], ◌∷◌, ◌++◌, refl, Option}
 use Rattle.ckr_events.specs.declared.event.Event.{Event}
 use Rattle.ckr_events.specs.declared.event.Event.TheVariants.{Restarted, Selected}
 use Rattle.ckr_jcl.specs.declared.deck.Job.{Job}
@@ -10,7 +10,7 @@ use Rattle.ckr_points.specs.Restart.{Decked}
 use Rattle.ckr_points.specs.Soundness.{IsSoundOffice}
 use Rattle.ckr_points_invariant.specs.Continuations.{goes_back}
 use Rattle.ckr_points_invariant.specs.KeptEvents.{AreKept}
-use Rattle.ckr_points_invariant.specs.PlainRuns.{continues}
+use Rattle.ckr_points_invariant.proofs.Continuations.Tests.{continues}
 use Rattle.ckr_points_invariant.proofs.Continuations.Events.{continued-kept}
 use Rattle.ckr_points_invariant.proofs.EventLaws.{no_events, sound}
 use Rattle.ckr_points_invariant.proofs.EventList.{sound-front}

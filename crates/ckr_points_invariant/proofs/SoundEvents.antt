@@ -1,21 +1,16 @@
 -- An event by which no run goes back keeps the events.
-use Rattle.std.proofs.Common.{◌≡◌, false, not, zero, suc, List, [], ◌∷◌, ◌++◌, refl, sym, Option}
-use Rattle.std.specs.List.{list_all}
-use Rattle.std.proofs.lemmas.Bool.{and_from, false≢true, not-true}
-use Rattle.ckr_base.proofs.Bools.{and-first, and-second}
+use Rattle.std.proofs.Common.{◌≡◌, false, zero, suc, sym, Option}
+use Rattle.std.proofs.lemmas.Bool.{false≢true}
 use Rattle.ckr_events.specs.declared.event.Event.{Event}
 use Rattle.ckr_events.specs.declared.event.Event.TheVariants.{Cancelled, Checkpointed, Denied, Ended, Held, Purged, Released, Restarted, Rewritten, Selected, Started, StepEnded, Submitted}
 use Rattle.ckr_events.specs.declared.event.Ending.TheVariants.{Allocation, Coded, Completed}
 use Rattle.ckr_jcl.specs.declared.deck.Job.{Job}
 use Rattle.ckr_volumes.specs.declared.layout.Layout.{Layout}
-use Rattle.ckr_points.specs.Events.{AreSound, AreSoundFrom, IsNext}
-use Rattle.ckr_points.specs.Office.{Office, no_office, office, office_after, office_from}
-use Rattle.ckr_points.specs.Restart.{Decked}
-use Rattle.ckr_points.specs.Soundness.{IsSoundOffice}
+use Rattle.ckr_points.specs.Events.{IsNext}
+use Rattle.ckr_points.specs.Office.{Office, office_after}
 use Rattle.ckr_points_invariant.specs.Invariant.{IsKept}
-use Rattle.ckr_points_invariant.specs.Continuations.{NoneGoesBack, goes_back}
-use Rattle.ckr_points_invariant.proofs.EventLaws.{allocation, coded, completed, denied, held, no_events, purged, rewritten, selected, sound, started, step_ended, submitted}
-use Rattle.ckr_points_invariant.proofs.EventList.{sound-front}
+use Rattle.ckr_points_invariant.specs.Continuations.{goes_back}
+use Rattle.ckr_points_invariant.proofs.EventLaws.{allocation, coded, completed, denied, held, purged, rewritten, selected, started, step_ended, submitted}
 use Rattle.ckr_points_invariant.proofs.RowChanges.{cancelled, checkpointed, released}
 
 module _ (layout : Layout) (now : Office) where

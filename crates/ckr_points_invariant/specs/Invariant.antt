@@ -1,5 +1,5 @@
 -- When the events are kept: what the tables keep from event to event beside what is sound, so that it follows for one more event.
-use Rattle.std.specs.Prelude.{◌≡◌, ◌≢◌, ◌≤◌, ◌<◌, ℕ, pred, ◌==◌, Bool, true, false, ◌||◌, List, [], flat_map, take, length, Option, None, Some}
+use Rattle.std.specs.Prelude.{◌≡◌, ◌≢◌, ◌≤◌, ◌<◌, ℕ, pred, Bool, true, false, List, [], flat_map, take, length, Option, None, Some}
 use Rattle.std.specs.Option.{option_map, option_map_or, is_some, is_none}
 use Rattle.std.specs.List.{list_all, AllByRecursion}
 use Rattle.ckr_uses.specs.Uses.{is_shared, leaves}

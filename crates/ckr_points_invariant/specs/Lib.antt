@@ -4,7 +4,6 @@ pub mod Continuations
 pub mod Points
 pub mod Counts
 pub mod Restorability
-pub mod PlainRuns
 pub mod Readiness
 pub mod StartedSteps
 pub mod WrittenEntries

@@ -1,15 +1,12 @@
 -- When runs are ready to restart: what the point of a run's step, and the entry of its checkpoint in effect, have beside what the points say.
-use Rattle.std.specs.Prelude.{◌≡◌, ℕ, true, false, List, find, None, Some}
+use Rattle.std.specs.Prelude.{◌≡◌, ℕ, true, false, find, None, Some}
 use Rattle.std.specs.Option.{is_some}
-use Rattle.ckr_entry.specs.declared.point.Mark.{Mark}
-use Rattle.ckr_entry.specs.declared.point.Passed.{Passed}
 use Rattle.ckr_entry.specs.declared.point.Present.{Present}
 use Rattle.ckr_library.specs.Catalog.{ends_within}
 use Rattle.ckr_library.specs.NameMaps.{Name, Named, entry_at, same_name}
-use Rattle.ckr_meaning.specs.EffectiveJob.{OwnedStep, is_among, names_of_job}
-use Rattle.ckr_meaning.specs.JobRun.{at, start_at}
+use Rattle.ckr_meaning.specs.EffectiveJob.{OwnedStep, is_among}
+use Rattle.ckr_meaning.specs.JobRun.{start_at}
 use Rattle.ckr_meaning.specs.StepRun.{StepStart}
-use Rattle.ckr_meaning.specs.declared.place.Place.{Place}
 use Rattle.ckr_meaning.specs.declared.place.Place.TheVariants.{Within}
 use Rattle.ckr_points_library.specs.Commit.{output_names}
 use Rattle.ckr_points.specs.declared.run.RunState.TheVariants.{Queued}
@@ -17,7 +14,7 @@ use Rattle.ckr_points.specs.Follows.{is_in_state, is_within, own_step}
 use Rattle.ckr_points.specs.Marks.{point_at, present_at}
 use Rattle.ckr_points.specs.Office.{Leg, Office}
 use Rattle.ckr_points.specs.Payload.{carries_taken}
-use Rattle.ckr_points.specs.Restart.{place_of, step_in}
+use Rattle.ckr_points.specs.Restart.{place_of}
 use Rattle.ckr_points.specs.Rows.{EffectPoint, KeptEntry, RunRow, StartPoint, TableSet, run_of}
 use Rattle.ckr_points_invariant.specs.Invariant.{IsHolder, step_now}
 use Rattle.ckr_points_invariant.specs.Restorability.{HasPoint, IsRestorable}

@@ -1,32 +1,30 @@
 -- All that is kept from event to event is kept behind the event that selects a run to continue another one, and the run stands at its place then.
-use Rattle.std.proofs.Common.{◌≡◌, ℕ, suc, true, false, List, refl, ap, sym, ◌∙◌, subst, Option, Some, None}
+use Rattle.std.proofs.Common.{◌≡◌, ℕ, suc, true, false, refl, ap, sym, ◌∙◌, subst, Option, Some, None}
 use Rattle.std.specs.List.{list_all}
 use Rattle.std.specs.Option.{is_some}
 use Rattle.std.proofs.lemmas.Bool.{false≢true}
-use Rattle.ckr_base.proofs.Bools.{and-first}
 use Rattle.ckr_base.proofs.Options.{is_some-true, some-one}
 use Rattle.ckr_events.specs.declared.event.Event.TheVariants.{Selected}
 use Rattle.ckr_jcl.specs.declared.deck.Job.{Job}
 use Rattle.ckr_library.specs.NameMaps.{Name, Named}
-use Rattle.ckr_meaning.specs.EffectiveJob.{Effective, is_among, names_of_job}
+use Rattle.ckr_meaning.specs.EffectiveJob.{is_among, names_of_job}
 use Rattle.ckr_meaning.specs.JobRun.{start_at}
 use Rattle.ckr_meaning.specs.StepRun.{StepStart}
 use Rattle.ckr_meaning.specs.declared.place.Place.TheVariants.{Opened, Within}
 use Rattle.ckr_volumes.specs.declared.layout.Layout.{Layout}
 use Rattle.ckr_points.specs.Events.{IsNext}
-use Rattle.ckr_points.specs.Follows.{of_run, selected_follows}
+use Rattle.ckr_points.specs.Follows.{of_run}
 use Rattle.ckr_points.specs.Marks.{deck_names, mark_at, point_at}
 use Rattle.ckr_points.specs.Office.{Leg, Office, leg_of, office_after}
 use Rattle.ckr_points.specs.Payload.{carries_taken, is_orderly_dd}
 use Rattle.ckr_points.specs.Restart.{Back, continued_row, kept_at, sets_back, syschk_name}
 use Rattle.ckr_points.specs.Rows.{KeptEntry, RunRow, StartPoint, TableSet, run_of}
-use Rattle.ckr_points.specs.Soundness.{may_come}
-use Rattle.ckr_points_invariant.specs.Invariant.{IsHolder, IsKept}
+use Rattle.ckr_points_invariant.specs.Invariant.{IsHolder}
 use Rattle.ckr_points_invariant.specs.JobNames.{AreKin}
 use Rattle.ckr_points_invariant.specs.KeptEvents.{AreKept}
 use Rattle.ckr_points_invariant.specs.Restorability.{StandsAt}
 use Rattle.ckr_points_invariant.specs.StartedSteps.{HasBegunSteps}
-use Rattle.ckr_points_invariant.proofs.Continuations.EarlierRun.{Coming, leg_from, row_then}
+use Rattle.ckr_points_invariant.proofs.Continuations.EarlierRun.{Coming, leg_from}
 use Rattle.ckr_points_invariant.proofs.Continuations.Follows.{IsEntryOf, MayContinue, may-continue}
 use Rattle.ckr_points_invariant.proofs.Continuations.OfficeBehind.{AgreesBehind}
 use Rattle.ckr_points_invariant.proofs.Continuations.OfficesBehind.{agrees-behind}

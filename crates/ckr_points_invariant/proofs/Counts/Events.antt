@@ -34,7 +34,7 @@ use Rattle.ckr_points.specs.Tables.{after_checkpointed, after_commit, after_held
 use Rattle.ckr_volumes.specs.declared.layout.Layout.{Layout}
 use Rattle.ckr_points_invariant.specs.Continuations.{NoneGoesBack, goes_back}
 use Rattle.ckr_points_invariant.specs.Counts.{AreCounted, AreEntriesCounted, ArePointsCounted, AreStepsCounted, ComesBehind, IsEntryCounted, IsRunCounted, IsStartOf, IsWritingOf, entries_by, is_entry_of}
-use Rattle.ckr_points_invariant.specs.Invariant.{IsAgreed, IsKept, step_now}
+use Rattle.ckr_points_invariant.specs.Invariant.{IsAgreed, step_now}
 use Rattle.ckr_points_invariant.proofs.Counts.Lists.{all-except, comes-last, counted-more, entries-one, entries-other, entries_kept-more, fewer, steps-more}
 use Rattle.ckr_points_invariant.proofs.Points.Rows as rows
 use Rattle.ckr_points_invariant.proofs.Points.Sets as sets

@@ -1,19 +1,15 @@
 -- An event by which no run goes back leaves each point as what its run's job has at that place.
-use Rattle.std.proofs.Common.{◌≡◌, zero, suc, false, not, List, [], ◌∷◌, ◌++◌, sym, Option}
-use Rattle.std.proofs.lemmas.Bool.{false≢true, not-true}
-use Rattle.ckr_base.proofs.Bools.{and-first, and-second}
+use Rattle.std.proofs.Common.{◌≡◌, zero, suc, false, sym, Option}
+use Rattle.std.proofs.lemmas.Bool.{false≢true}
 use Rattle.ckr_events.specs.declared.event.Event.{Event}
 use Rattle.ckr_events.specs.declared.event.Event.TheVariants.{Cancelled, Checkpointed, Denied, Ended, Held, Purged, Released, Restarted, Rewritten, Selected, Started, StepEnded, Submitted}
 use Rattle.ckr_jcl.specs.declared.deck.Job.{Job}
 use Rattle.ckr_volumes.specs.declared.layout.Layout.{Layout}
-use Rattle.ckr_points.specs.Events.{AreSound, AreSoundFrom, IsNext}
-use Rattle.ckr_points.specs.Office.{Office, no_office, office, office_after, office_from}
-use Rattle.ckr_points.specs.Restart.{Decked}
+use Rattle.ckr_points.specs.Events.{IsNext}
+use Rattle.ckr_points.specs.Office.{Office, office_after}
 use Rattle.ckr_points_invariant.specs.Continuations.{goes_back}
-use Rattle.ckr_points_invariant.specs.Invariant.{IsAgreed, IsKept}
+use Rattle.ckr_points_invariant.specs.Invariant.{IsAgreed}
 use Rattle.ckr_points_invariant.specs.Points.{ArePointed}
-use Rattle.ckr_points_invariant.proofs.EventLaws.{no_events}
-use Rattle.ckr_points_invariant.proofs.EventList.{sound-front}
 use Rattle.ckr_points_invariant.proofs.Points.Events.{pointed-cancelled, pointed-checked, pointed-denied, pointed-ended, pointed-held, pointed-purged, pointed-released, pointed-rewritten, pointed-selected, pointed-started, pointed-step_end, pointed-submitted}
 
 module _ (layout : Layout) (now : Office) where

@@ -1,32 +1,20 @@
 -- All runs are ready where there are no events, and behind one more by which no run continues another one.
-use Rattle.std.proofs.Common.{◌≡◌, ℕ, zero, suc, true, false, not, List, [], ◌∷◌, ◌++◌, refl, sym, Option, Some, None}
-use Rattle.std.specs.List.{list_all}
-use Rattle.std.proofs.lemmas.Bool.{and_from, false≢true, not-true}
-use Rattle.ckr_base.proofs.Bools.{and-first, and-second}
+use Rattle.std.proofs.Common.{◌≡◌, ℕ, zero, suc, true, false, sym, Option, Some, None}
+use Rattle.std.proofs.lemmas.Bool.{false≢true}
 use Rattle.ckr_base.proofs.Options.{some-not-none}
 use Rattle.ckr_events.specs.declared.event.Event.{Event}
 use Rattle.ckr_events.specs.declared.event.Event.TheVariants.{Cancelled, Checkpointed, Denied, Ended, Held, Purged, Released, Restarted, Rewritten, Selected, Started, StepEnded, Submitted}
 use Rattle.ckr_events.specs.declared.event.Ending.TheVariants.{Allocation, Coded, Completed}
 use Rattle.ckr_jcl.specs.declared.deck.Job.{Job}
 use Rattle.ckr_volumes.specs.declared.layout.Layout.{Layout}
-use Rattle.ckr_points.specs.Events.{AreSound, AreSoundFrom, IsNext}
-use Rattle.ckr_points.specs.Office.{Office, no_office, office, office_after, office_from}
-use Rattle.ckr_points.specs.Restart.{Decked}
+use Rattle.ckr_points.specs.Events.{IsNext}
+use Rattle.ckr_points.specs.Office.{Office, no_office, office_after}
 use Rattle.ckr_points.specs.Rows.{RunRow, run_of}
-use Rattle.ckr_points_invariant.specs.Continuations.{goes_back}
-use Rattle.ckr_points_invariant.specs.Invariant.{IsKept}
-use Rattle.ckr_points_invariant.specs.Points.{ArePointed}
-use Rattle.ckr_points_invariant.proofs.EventLaws.{no_events}
-use Rattle.ckr_points_invariant.proofs.EventList.{sound-front}
-use Rattle.ckr_points_invariant.proofs.Points.Lists.{pointed-next}
-use Rattle.ckr_points_invariant.proofs.SoundEvents.{kept-next}
 use Rattle.ckr_points_invariant.specs.KeptEvents.{AreKept}
 use Rattle.ckr_points_invariant.specs.Readiness.{AreReady}
-use Rattle.ckr_points_invariant.specs.PlainRuns.{NoneContinues, continues}
-use Rattle.ckr_points_invariant.proofs.Readiness.Office.{entries-restorable, steps-restorable}
+use Rattle.ckr_points_invariant.proofs.Continuations.Tests.{continues}
 use Rattle.ckr_points_invariant.proofs.Readiness.RunEvents.{ready-allocation, ready-cancel, ready-coded, ready-completed, ready-denied, ready-purged, ready-released, ready-selected, ready-submitted}
 use Rattle.ckr_points_invariant.proofs.Readiness.StepEvents.{ready-checkpointed, ready-entry, ready-held, ready-rewritten, ready-start, ready-started, ready-step_end}
-use Rattle.ckr_points_invariant.proofs.Restart.Event.{entry-keeps, entry-pointed, start-keeps, start-pointed}
 
 pub none-ready : AreReady no_office
 none-ready = record {

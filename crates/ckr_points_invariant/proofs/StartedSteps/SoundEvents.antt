@@ -1,26 +1,22 @@
 -- Runs keep what they had when they began their steps: where there are no events, and behind one more by which no run continues another one.
-use Rattle.std.proofs.Common.{◌≡◌, ℕ, zero, suc, true, false, not, List, [], ◌∷◌, ◌++◌, refl, sym, ◌∙◌, Option, None}
-use Rattle.std.proofs.lemmas.Bool.{false≢true, not-true}
-use Rattle.ckr_base.proofs.Bools.{and-first, and-second}
+use Rattle.std.proofs.Common.{◌≡◌, ℕ, zero, suc, true, false, refl, sym, ◌∙◌, Option, None}
+use Rattle.std.proofs.lemmas.Bool.{false≢true}
 use Rattle.ckr_base.proofs.Options.{some-not-none}
 use Rattle.ckr_events.specs.declared.event.Event.{Event}
 use Rattle.ckr_events.specs.declared.event.Event.TheVariants.{Cancelled, Checkpointed, Denied, Ended, Held, Purged, Released, Restarted, Rewritten, Selected, Started, StepEnded, Submitted}
 use Rattle.ckr_events.specs.declared.event.Ending.TheVariants.{Allocation, Coded, Completed}
 use Rattle.ckr_jcl.specs.declared.deck.Job.{Job}
 use Rattle.ckr_volumes.specs.declared.layout.Layout.{Layout}
-use Rattle.ckr_points.specs.Events.{AreSound, AreSoundFrom, IsNext}
-use Rattle.ckr_points.specs.Office.{Office, no_office, office, office_after, office_from}
-use Rattle.ckr_points.specs.Restart.{Decked}
+use Rattle.ckr_points.specs.Events.{IsNext}
+use Rattle.ckr_points.specs.Office.{Office, no_office, office_after}
 use Rattle.ckr_points.specs.Rows.{run_of}
 use Rattle.ckr_points_invariant.specs.Invariant.{IsKept}
 use Rattle.ckr_points_invariant.specs.Points.{ArePointed}
-use Rattle.ckr_points_invariant.specs.PlainRuns.{NoneContinues, continues}
+use Rattle.ckr_points_invariant.proofs.Continuations.Tests.{continues}
 use Rattle.ckr_points_invariant.specs.Readiness.{AreReady}
 use Rattle.ckr_points_invariant.specs.StartedSteps.{AreBegunSteps}
-use Rattle.ckr_points_invariant.proofs.EventList.{sound-front}
 use Rattle.ckr_points_invariant.proofs.StartedSteps.RunEvents.{begun-allocation, begun-cancelled, begun-coded, begun-completed, begun-denied, begun-purged, begun-released, begun-selected, begun-submitted}
 use Rattle.ckr_points_invariant.proofs.StartedSteps.StepEvents.{begun-checkpointed, begun-entry, begun-held, begun-rewritten, begun-start, begun-started, begun-step_end}
-use Rattle.ckr_points_invariant.specs.KeptEvents.{AreKept}
 
 pub none-begun : AreBegunSteps no_office
 none-begun = record {

@@ -1,26 +1,22 @@
 -- Data sets keep their entries as they were written: where there are no events, and behind one more by which no run continues another one.
-use Rattle.std.proofs.Common.{◌≡◌, zero, suc, true, false, not, List, [], ◌∷◌, ◌++◌, sym, Option}
-use Rattle.std.proofs.lemmas.Bool.{false≢true, not-true}
-use Rattle.ckr_base.proofs.Bools.{and-first, and-second}
+use Rattle.std.proofs.Common.{◌≡◌, zero, suc, true, false, sym, Option}
+use Rattle.std.proofs.lemmas.Bool.{false≢true}
 use Rattle.ckr_base.proofs.Options.{some-not-none}
 use Rattle.ckr_events.specs.declared.event.Event.{Event}
 use Rattle.ckr_events.specs.declared.event.Event.TheVariants.{Cancelled, Checkpointed, Denied, Ended, Held, Purged, Released, Restarted, Rewritten, Selected, Started, StepEnded, Submitted}
 use Rattle.ckr_events.specs.declared.event.Ending.TheVariants.{Allocation, Coded, Completed}
 use Rattle.ckr_jcl.specs.declared.deck.Job.{Job}
 use Rattle.ckr_volumes.specs.declared.layout.Layout.{Layout}
-use Rattle.ckr_points.specs.Events.{AreSound, AreSoundFrom, IsNext}
-use Rattle.ckr_points.specs.Office.{Office, no_office, office, office_after, office_from}
-use Rattle.ckr_points.specs.Restart.{Decked}
+use Rattle.ckr_points.specs.Events.{IsNext}
+use Rattle.ckr_points.specs.Office.{Office, no_office, office_after}
 use Rattle.ckr_points_invariant.specs.Invariant.{IsKept}
-use Rattle.ckr_points_invariant.specs.PlainRuns.{NoneContinues, continues}
+use Rattle.ckr_points_invariant.proofs.Continuations.Tests.{continues}
 use Rattle.ckr_points_invariant.specs.Points.{ArePointed}
 use Rattle.ckr_points_invariant.specs.Readiness.{AreReady}
 use Rattle.ckr_points_invariant.specs.WrittenEntries.{AreWrittenEntries}
-use Rattle.ckr_points_invariant.proofs.EventList.{sound-front}
 use Rattle.ckr_points_invariant.proofs.WrittenEntries.Restarts.{written-entry, written-start}
 use Rattle.ckr_points_invariant.proofs.WrittenEntries.RunEvents.{written-allocation, written-cancelled, written-coded, written-completed, written-denied, written-purged, written-released, written-selected, written-submitted}
 use Rattle.ckr_points_invariant.proofs.WrittenEntries.StepEvents.{written-checkpointed, written-held, written-rewritten, written-started, written-step_end}
-use Rattle.ckr_points_invariant.specs.KeptEvents.{AreKept}
 
 pub none-written : AreWrittenEntries no_office
 none-written = record {
