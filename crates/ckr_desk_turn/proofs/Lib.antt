@@ -33,4 +33,5 @@ pub use Rattle.ckr_points_decks.proofs.JobForm
 pub use Rattle.ckr_points_decks.proofs.KeptCards
 pub use Rattle.ckr_points_decks.proofs.OrderlyDecks
 pub use Rattle.ckr_points_decks.proofs.Origins
+pub use Rattle.ckr_points_decks.proofs.SyschkNames
 pub use Rattle.ckr_points_decks.proofs.Texts

@@ -11,7 +11,7 @@ pub mod Queue
 pub mod Spelling
 pub mod Units
 pub mod Due
-pub mod RunEvents
+pub mod DeckEvents
 pub mod EntryStates
 pub mod Checkpoints
 pub mod CheckSets

@@ -12,7 +12,7 @@ ghost use Rattle.ckr_desk_turn.specs.CheckSets.{HaveCheckRecords};
 ghost use Rattle.ckr_desk_turn.specs.Checkpoints.{check_set, is_in_range, next_entry, next_id};
 ghost use Rattle.ckr_desk_turn.specs.Desk.{DeskModel, DeskStep};
 ghost use Rattle.ckr_desk_turn.specs.Invariant.{IsDesk, IsGoing};
-ghost use Rattle.ckr_desk_turn.specs.RunEvents.{AreDeckEvents};
+ghost use Rattle.ckr_desk_turn.specs.DeckEvents.{AreDeckEvents};
 
 /// The identifier of the next entry of a running step is in the grammar of identifiers, where the run has written fewer than 9,999,999
 /// entries: so it is wherever the numbers of the entry are in the ranges that a checkpoint asks for. For IDS of an accepted deck has at most

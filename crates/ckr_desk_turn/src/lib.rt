@@ -58,4 +58,4 @@ pub use unit_laws::{
 };
 
 /// Decks, as the crates above this one take them.
-pub use ckr_points_decks::{Submission, is_run, job_of_kept, submission_of, submitted_event};
+pub use ckr_points_decks::{Submission, job_of_kept, submission_of, submitted_event};

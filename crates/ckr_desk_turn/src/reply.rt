@@ -19,8 +19,8 @@ pub struct Turn {
 pub enum Submitted {
     /// It is the job of this number, from 1.
     Job(u32),
-    /// It is refused by the rule of this number, at this card, counted from 1. Number 0 is that of a deck whose form the
-    /// desk doesn't run.
+    /// It is refused by the rule of this number, at this card, counted from 1. Number 0 is that of a deck whose job would
+    /// have a number of eight digits.
     Refused { number: u8, card: u32 },
 }
 

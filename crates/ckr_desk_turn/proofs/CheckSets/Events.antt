@@ -29,7 +29,7 @@ use Rattle.ckr_points_invariant.proofs.PutBack.Sets.{removed_all-holds}
 use Rattle.ckr_points_invariant.proofs.Start.Event.{by-start}
 use Rattle.ckr_volumes.specs.declared.layout.Layout.{Layout}
 use Rattle.ckr_desk_turn.specs.CheckSets.{HasCheckRecords, HaveCheckRecords}
-use Rattle.ckr_desk_turn.specs.RunEvents.{IsDeckEvent}
+use Rattle.ckr_desk_turn.specs.DeckEvents.{IsDeckEvent}
 use Rattle.ckr_desk_turn.proofs.CheckSets.Changes.{committed-have, disposed_all-have, made_all-have, opened_all-have, passed_ended-have, placed-right, put_back-have}
 use Rattle.ckr_desk_turn.proofs.AdmittedSteps.{admitted-parts}
 use Rattle.ckr_desk_turn.proofs.Runs.Rows.{HasRow, HasRows, has-row}

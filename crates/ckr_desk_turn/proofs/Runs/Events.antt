@@ -40,7 +40,7 @@ use Rattle.ckr_points_invariant.proofs.Steps.Events.{step-by}
 use Rattle.ckr_points_invariant.proofs.WaitingRuns.{by-selected, follows-of, tested-run}
 use Rattle.ckr_volumes.specs.declared.layout.Layout.{Layout}
 use Rattle.ckr_desk_turn.specs.Invariant.{IsAdmitted, has_its_step, is_in_its_state, is_off, is_on_one}
-use Rattle.ckr_desk_turn.specs.RunEvents.{IsKeptDeck}
+use Rattle.ckr_desk_turn.specs.DeckEvents.{IsKeptDeck}
 use Rattle.ckr_desk_turn.proofs.AdmittedSteps.{queued-admitted}
 use Rattle.ckr_desk_turn.proofs.OtherRuns.{between-steps}
 use Rattle.ckr_desk_turn.proofs.Runs.Rows.{HasRow, HasRows, Stands, has-row, runs-renewed, stands-more, stands-one}

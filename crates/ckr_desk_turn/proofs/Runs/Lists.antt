@@ -1,5 +1,5 @@
 -- Sound events of decks leave what a desk of its runs has.
-use Rattle.std.proofs.Common.{zero, suc, List, [], ◌∷◌, refl, Option, Some, None}
+use Rattle.std.proofs.Common.{zero, suc, List, [], ◌∷◌, refl, Option}
 use Rattle.ckr_events.specs.declared.event.Event.{Event}
 use Rattle.ckr_events.specs.declared.event.Event.TheVariants.{Cancelled, Checkpointed, Denied, Ended, Held, Purged, Released, Restarted, Rewritten, Selected, Started, StepEnded, Submitted}
 use Rattle.ckr_events.specs.declared.event.Ending.TheVariants.{Allocation, Coded, Completed}
@@ -13,7 +13,7 @@ use Rattle.ckr_points_invariant.proofs.KeptEvents.{next-kept, none-kept}
 use Rattle.ckr_desk_turn.specs.CheckSets.{HaveCheckRecords}
 use Rattle.ckr_desk_turn.specs.Desk.{opened}
 use Rattle.ckr_desk_turn.specs.Invariant.{HasRuns, IsDesk}
-use Rattle.ckr_desk_turn.specs.RunEvents.{AreDeckEvents, AreRunEvents, IsDeckEvent, IsRunEvent}
+use Rattle.ckr_desk_turn.specs.DeckEvents.{AreDeckEvents, IsDeckEvent}
 use Rattle.ckr_desk_turn.proofs.CheckSets.Events.{have-next}
 use Rattle.ckr_desk_turn.proofs.Opening.{opened-is}
 use Rattle.ckr_desk_turn.proofs.Runs.Continuations.{continued-runs}
@@ -41,16 +41,6 @@ module _ (layout : Layout) (now : Office) (are : AreKept layout now) (has : HasR
   runs-next (Ended job (Coded code rule writes lengths)) deck is next = coded-runs layout now are.kept.events has job rule writes code lengths deck next.may
   runs-next (Ended job (Allocation dd cause first second)) deck is next = refused-runs layout now are.kept.events has job dd cause first second deck next.may
   runs-next (Purged job) deck is next = purged-runs layout now are.kept.events has job deck next.may
-
--- the events of what the desk runs are such
-run-deck : (event : Event) (deck : Option Job) → IsRunEvent event deck → IsDeckEvent event deck
-run-deck (Submitted job cards) (Some deck) is = is.0
-run-deck (Submitted job cards) None is = is
-run-deck _ deck is = tt
-
-pub run-decks : (events : List Decked) → AreRunEvents events → AreDeckEvents events
-run-decks [] are = tt
-run-decks (event ∷ events) are = (run-deck event.0 event.1 are.0, run-decks events are.1)
 
 -- what the events have brought about, from some office on
 record AreLeft (layout : Layout) (office : Office) : Type 0 where
