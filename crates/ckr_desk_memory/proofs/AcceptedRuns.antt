@@ -15,7 +15,6 @@ use Rattle.ckr_points_invariant.proofs.Continuations.Follows.{MayContinue}
 use Rattle.ckr_points_tables.specs.Invariant.{is_submission}
 use Rattle.ckr_volumes.specs.declared.layout.Layout.{Layout}
 use Rattle.ckr_desk_turn.proofs.AdmittedSteps.{spliced-steps}
-use Rattle.ckr_desk_turn.specs.Model.Form.{is_run}
 use Rattle.ckr_desk_turn.specs.Queue.{AreNumbered}
 use Rattle.ckr_desk_memory.proofs.Continuations.{by-continuation}
 use Rattle.ckr_desk_memory.proofs.Runs.{Kind, by-submission, each-put, kind_of, rest_in, runs-stay}
@@ -26,7 +25,6 @@ accepted_as : (old new : RunRow) → kind_of new ≡ kind_of old → IsAcceptedR
 accepted_as old new same accepted = record {
   cards = accepted.cards;
   accepted = accepted.accepted ∙ sym (ap (λ (k : Kind). Ok k.1) same);
-  is_run = ap (λ (k : Kind). is_run k.1) same ∙ accepted.is_run;
   steps = λ number owned found. accepted.steps number owned (sym (ap (λ (k : Kind). step_at k.2 number) same) ∙ found);
   plain = λ none.
       ap (λ (k : Kind). k.2) same ∙ accepted.plain (sym (ap (λ (k : Kind). k.1.restart) same) ∙ none) ∙ sym (ap (λ (k : Kind). plain_job k.0 k.1) same);
@@ -57,7 +55,6 @@ continued_row_accepted layout tables job initiator before step id accepted its n
     record {
       cards = was.cards;
       accepted = was.accepted ∙ sym (ap Ok deck);
-      is_run = ap is_run deck ∙ was.is_run;
       steps = λ number owned found.
           spliced-steps was.cards its.row.number its.row.deck was.accepted its.other.job step its.owned its.found other.steps number owned (sym (ap (λ (job : Effective). step_at job number) same) ∙ found);
       plain = λ none. absurd (some-not-none its.restart (sym bound ∙ none));

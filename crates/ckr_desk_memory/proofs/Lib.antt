@@ -9,7 +9,7 @@ pub mod DeferredRestarts
 pub mod RuleCases
 pub mod FailedRuns
 pub mod Continuations
-pub mod ForwardEvents
+pub mod AcceptedDecks
 pub mod Masters
 pub mod RecordCounts
 pub mod Rewrites

@@ -3,6 +3,7 @@ use Rattle.std.proofs.Common.{◌≡◌, ℕ, Bool, true, false, cond, nat_le, L
 use Rattle.std.specs.List.{AllByRecursion}
 use Rattle.std.proofs.lemmas.Option.{same_Some}
 use Rattle.ckr_base.proofs.Bools.{and-first, and-second}
+use Rattle.ckr_base.proofs.Numbers.{nat_le-true}
 use Rattle.ckr_base.proofs.Options.{some-not-none}
 use Rattle.ckr_events.specs.declared.event.Event.{Event}
 use Rattle.ckr_events.specs.declared.event.Event.TheVariants.{Submitted, Held}
@@ -17,14 +18,13 @@ use Rattle.ckr_points.specs.Restart.{after_event}
 use Rattle.ckr_points.specs.Rows.{TablesModel}
 use Rattle.ckr_points.specs.Soundness.{AreLaidOut}
 use Rattle.ckr_desk_turn.specs.Model.Cards.{job_in, kept_deck, stored_of_kept}
-use Rattle.ckr_desk_turn.specs.Model.Form.{is_run}
-use Rattle.ckr_points_tables.specs.Invariant.{MayCount, MaySubmit, is_submittable}
-use Rattle.ckr_desk_memory.specs.ForwardEvents.{is_forward_event}
+use Rattle.ckr_points_tables.specs.Invariant.{IsAnySubmittable, MayCount, MaySubmit}
 use Rattle.ckr_desk_turn.specs.Queue.{AreNumbered}
 use Rattle.ckr_desk_memory.specs.Invariant.{AreJobs, IsAcceptedDeck, IsAcceptedRow, IsAnyAccepted, IsPlacedRow, IsRunnable}
-use Rattle.ckr_desk_memory.specs.Replay.{IsBounded, deck_of, goes_on, is_run_as, is_run_by, replayed}
+use Rattle.ckr_desk_memory.specs.Replay.{IsBounded, deck_of, goes_on, has_few_digits, replayed}
 use Rattle.ckr_desk_memory.specs.View.{JobsView}
 use Rattle.ckr_desk_turn.proofs.AdmittedSteps.{own-step}
+use Rattle.ckr_desk_memory.proofs.AcceptedDecks.{accepted-submits}
 use Rattle.ckr_desk_memory.proofs.AcceptedRuns.{accepted-behind}
 use Rattle.ckr_desk_memory.proofs.Invariant.{placed-behind}
 use Rattle.ckr_desk_memory.proofs.Extents.{laid-behind}
@@ -39,30 +39,19 @@ pub replayed-none : (layout : Layout) (tables : TablesModel) (event : Event) →
 unfolding replayed
 replayed-none layout tables event e = ap (λ b. cond b (Some (after_event event (deck_of event) tables)) None) e
 
-may_submit : (event : Event) (deck : Option Job) → is_run_by event deck ≡ true → MaySubmit event deck
-may_submit (Submitted job cards) None e = tt
-may_submit (Submitted job cards) (Some deck) e = and-second (is_run deck) (is_submittable job deck) e
-may_submit _ deck e = tt
-
 -- what an event that goes on has
 pub record GoesOnWith (layout : Layout) (tables : TablesModel) (event : Event) (deck : Option Job) : Type 0 where
-  pub plain : is_forward_event event ≡ true
+  pub few : has_few_digits event ≡ true
   pub follow : follows layout tables event deck ≡ true
-  pub submits : MaySubmit event deck
-  pub run : is_run_by event deck ≡ true
   pub count : MayCount event tables.sets
 
 pub goes-on-with : (layout : Layout) (tables : TablesModel) (event : Event) (deck : Option Job) → goes_on layout tables event deck ≡ true → GoesOnWith layout tables event deck
 goes-on-with layout tables event deck e =
-    let others = and-second (is_forward_event event) _ e in
-    let run = and-first (is_run_by event deck) _ others in
-    let last = and-second (is_run_by event deck) _ others in
+    let others = and-second (has_few_digits event) _ e in
     record {
-      plain = and-first (is_forward_event event) _ e;
-      follow = and-first (follows layout tables event deck) (may_count event tables.sets) last;
-      submits = may_submit event deck run;
-      run = run;
-      count = counted-may event tables.sets (and-second (follows layout tables event deck) (may_count event tables.sets) last);
+      few = and-first (has_few_digits event) _ e;
+      follow = and-first (follows layout tables event deck) (may_count event tables.sets) others;
+      count = counted-may event tables.sets (and-second (follows layout tables event deck) (may_count event tables.sets) others);
     }
 
 -- ---- the deck that is read again
@@ -76,21 +65,28 @@ read_again cards deck is = by (nat_le 80 (length cards)) (stored_deck (stored_of
     by true (Err fault) is = absurd (some-not-none deck (sym is))
     by true (Ok job) is = ap Ok (same_Some job deck is)
 
-deck_accepted : (job : ℕ) (cards : List ℕ) (found : Option Job) → kept_deck cards ≡ found → is_run_as job found ≡ true → IsAcceptedDeck job found
-deck_accepted job cards None is e = tt
-deck_accepted job cards (Some deck) is e = record {
+deck_accepted : (job : ℕ) (cards : List ℕ) (found : Option Job) → kept_deck cards ≡ found → IsAcceptedDeck job found
+deck_accepted job cards None is = tt
+deck_accepted job cards (Some deck) is = record {
   cards = stored_of_kept cards;
   accepted = read_again cards deck is;
-  is_run = and-first (is_run deck) (is_submittable job deck) e;
   steps = own-step (stored_of_kept cards) job deck (read_again cards deck is);
   plain = λ none. refl;
   first = λ none. refl;
 }
 
-pub any_accepted : (event : Event) → IsBounded event → is_run_by event (deck_of event) ≡ true → IsAnyAccepted event (deck_of event)
-any_accepted (Submitted job cards) bounded e = deck_accepted job cards (kept_deck cards) refl e
-any_accepted (Held job code writes lengths) bounded e = bounded
-any_accepted _ bounded e = tt
+pub any_accepted : (event : Event) → IsBounded event → IsAnyAccepted event (deck_of event)
+any_accepted (Submitted job cards) bounded = deck_accepted job cards (kept_deck cards) refl
+any_accepted (Held job code writes lengths) bounded = bounded
+any_accepted _ bounded = tt
+
+deck_submits : (job : ℕ) (cards : List ℕ) (found : Option Job) → kept_deck cards ≡ found → nat_le job 9999999 ≡ true → IsAnySubmittable job found
+deck_submits job cards None is few = tt
+deck_submits job cards (Some deck) is few = accepted-submits (stored_of_kept cards) job deck (read_again cards deck is) (nat_le-true job 9999999 few)
+
+pub any_submits : (event : Event) → has_few_digits event ≡ true → MaySubmit event (deck_of event)
+any_submits (Submitted job cards) few = deck_submits job cards (kept_deck cards) refl few
+any_submits _ few = tt
 
 -- ---- what holds of the jobs
 
@@ -106,7 +102,7 @@ pub jobs-replayed : (layout : Layout) (old new : JobsView) (event : Event) → I
     → AreJobs layout old → AreJobs layout new
 jobs-replayed layout old new event bounded numbered goes tables running are =
     let its = goes-on-with layout old.tables.desk event (deck_of event) goes in
-    let accepted = any_accepted event bounded its.run in
+    let accepted = any_accepted event bounded in
     record {
       laid = subst (λ (t : TablesModel). AreLaidOut layout t.sets) (sym tables) (laid-behind layout old.tables.desk are.laid event (deck_of event) its.follow);
       rows = subst (λ (t : TablesModel). AllByRecursion IsAcceptedRow t.runs) (sym tables) (accepted-behind layout old.tables.desk event (deck_of event) numbered accepted its.follow are.rows);

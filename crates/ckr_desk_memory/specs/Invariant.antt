@@ -21,16 +21,14 @@ use Rattle.ckr_desk_turn.specs.Spelling.{IsCode}
 use Rattle.ckr_desk_turn.specs.Invariant.{has_code_while_off, IsAdmittedStep, is_off, is_on_one}
 use Rattle.ckr_steps.specs.Inputs.{AreStored, AreThere}
 use Rattle.ckr_steps.specs.StepUnit.{AreCounted}
-use Rattle.ckr_desk_turn.specs.Model.Form.{is_run}
 use Rattle.ckr_volumes.specs.declared.layout.Layout.{Layout}
 use Rattle.ckr_desk_memory.specs.Plans.{IsAnyCode}
 use Rattle.ckr_desk_memory.specs.View.{JobsView, RunningStepView}
 
--- a run of a deck that was accepted, of a form that the desk runs: each step of its job is of an accepted deck, and without RESTART it runs its own deck alone
+-- a run of a deck that was accepted: each step of its job is of an accepted deck, and without RESTART it runs its own deck alone
 pub record IsAcceptedRow (row : RunRow) : Type 0 where
   pub cards : List ℕ
   pub accepted : stored_deck cards ≡ Ok row.deck
-  pub is_run : is_run row.deck ≡ true
   pub steps : (number : ℕ) (owned : OwnedStep) → step_at row.job number ≡ Some owned → IsAdmittedStep number owned
   pub plain : row.deck.restart ≡ None → row.job ≡ plain_job row.number row.deck
   pub first : row.deck.restart ≡ None → row.earlier_step ≡ 0

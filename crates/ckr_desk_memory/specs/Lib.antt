@@ -1,6 +1,5 @@
 pub mod EventChanges
 pub mod Extents
-pub mod ForwardEvents
 pub mod RunningSteps
 pub mod Invariant
 pub mod Parts

@@ -1,5 +1,5 @@
 -- The jobs as the events of a desk are read again, one after the other.
-use Rattle.std.specs.Prelude.{◌≤◌, ◌^◌, ℕ, Bool, true, false, ◌&&◌, if◌then◌else◌, length, Option, None, Some}
+use Rattle.std.specs.Prelude.{◌≤◌, ◌^◌, Bool, true, ◌&&◌, if◌then◌else◌, nat_le, length, Option, None, Some}
 use Rattle.ckr_events.specs.declared.event.Event.{Event}
 use Rattle.ckr_events.specs.declared.event.Event.TheVariants.{Submitted, Held}
 use Rattle.ckr_points_follows.specs.RewriteCounts.{may_count}
@@ -8,9 +8,6 @@ use Rattle.ckr_points.specs.Follows.{follows}
 use Rattle.ckr_points.specs.Restart.{after_event}
 use Rattle.ckr_points.specs.Rows.{TablesModel}
 use Rattle.ckr_desk_turn.specs.Model.Cards.{kept_deck}
-use Rattle.ckr_desk_turn.specs.Model.Form.{is_run}
-use Rattle.ckr_points_tables.specs.Invariant.{is_submittable}
-use Rattle.ckr_desk_memory.specs.ForwardEvents.{is_forward_event}
 use Rattle.ckr_desk_turn.specs.Spelling.{IsCode}
 use Rattle.ckr_volumes.specs.declared.layout.Layout.{Layout}
 
@@ -25,20 +22,15 @@ IsBounded (Submitted job cards) = length cards ≤ 2 ^ 28
 IsBounded (Held job code writes lengths) = IsCode code
 IsBounded _ = Unit {0}
 
--- a deck of a form that the desk runs, which may be submitted under its number
-abbrev pub is_run_as : ℕ → Option Job → Bool
-is_run_as job None = false
-is_run_as job (Some deck) = is_run deck && is_submittable job deck
+-- a deck that an event submits has a number of at most seven digits
+abbrev pub has_few_digits : Event → Bool
+has_few_digits (Submitted job cards) = nat_le job 9999999
+has_few_digits _ = true
 
--- an event submits such a deck or none at all
-abbrev pub is_run_by : Event → Option Job → Bool
-is_run_by (Submitted job cards) deck = is_run_as job deck
-is_run_by _ deck = true
-
--- whether an event follows in what the desk runs
+-- whether the desk goes on by an event: its deck has such a number, it follows, and its rewrite can be counted
 abbrev pub goes_on : Layout → TablesModel → Event → Option Job → Bool
-goes_on layout tables event deck = is_forward_event event && (is_run_by event deck && (follows layout tables event deck && may_count event tables.sets))
+goes_on layout tables event deck = has_few_digits event && (follows layout tables event deck && may_count event tables.sets)
 
--- the tables behind an event, where it follows in what the desk runs
+-- the tables behind an event, where the desk goes on by it
 unfoldable pub replayed : Layout → TablesModel → Event → Option TablesModel
 replayed layout tables event = if goes_on layout tables event (deck_of event) then Some (after_event event (deck_of event) tables) else None

@@ -286,8 +286,8 @@ fn keep_failed(failed: &mut Vec<FailedRun>, event: &Event)
 
 impl Jobs {
     /// Goes on by an event that follows, with the memory that `prepare` took for it. A deck is given exactly where the event is Submitted
-    /// and its cards are a deck, and it is that deck, accepted and of a form that the desk runs. It takes no memory, and doesn't fail. A
-    /// record that the event tells has its place then (this project's profile).
+    /// and its cards are a deck, and it is that deck, which was accepted. It takes no memory, and doesn't fail. A record that the event tells has its
+    /// place then (this project's profile).
     pub fn keep(&mut self, event: &Event, deck: Option<Rc<Job>>, prepared: Prepared)
         requires follows { MayGoOn self.old event.now (option_map rc_value deck) }
         requires deck { MaySubmit event.now (option_map rc_value deck) }

@@ -1,19 +1,18 @@
 //! The jobs go on by the events of the desk as they are read again.
-ghost use Rattle.std.specs.Prelude.{◌≡◌, IfOk, IsTrue, OnErr, OnOk, unwrap_or};
+ghost use Rattle.std.specs.Prelude.{◌≡◌, IfOk, OnErr, OnOk, unwrap_or};
 ghost use Rattle.std.specs.Option.{is_some};
 ghost use Rattle.ckr_desk_memory.specs.Holders.{AreHolders};
 ghost use Rattle.ckr_desk_memory.specs.Invariant.{AreJobs};
-ghost use Rattle.ckr_desk_memory.specs.Replay.{deck_of, goes_on, is_run_as, is_run_by, replayed, IsBounded};
+ghost use Rattle.ckr_desk_memory.specs.Replay.{deck_of, goes_on, has_few_digits, replayed, IsBounded};
 ghost use Rattle.ckr_points.specs.Follows.{follows};
-ghost use Rattle.ckr_desk_memory.specs.ForwardEvents.{is_forward_event};
 
 use crate::{Jobs, shared_deck};
 use ckr_base::NoMemory;
-use ckr_desk_turn::{is_run, job_of_kept};
+use ckr_desk_turn::job_of_kept;
 use ckr_events::Event;
 use ckr_jcl::Job;
 use ckr_points_follows::{follows, may_count};
-use ckr_points_tables::{Tables, is_submittable};
+use ckr_points_tables::Tables;
 use ckr_volumes::Layout;
 use std::alloc::Global;
 
@@ -28,50 +27,18 @@ fn deck_of(alloc: Global, event: &Event) -> Result<Option<Job>, NoMemory>
     }
 }
 
-/// Whether a deck is of a form that the desk runs, and may be submitted under a number.
-fn is_run_as(job: u32, deck: &Option<Job>) -> bool
-    ensures { result ≡ is_run_as job deck.now }
-{
-    match deck {
-        Some(deck) => is_run(deck) && is_submittable(job, deck),
-        None => false,
-    }
-}
-
-/// Whether an event submits such a deck, or none at all.
-fn is_run_by(event: &Event, deck: &Option<Job>) -> bool
-    ensures { result ≡ is_run_by event.now deck.now }
+/// Whether an event submits no deck, or one under a number of at most seven digits.
+fn has_few_digits(event: &Event) -> bool
+    ensures { result ≡ has_few_digits event.now }
 {
     match event {
-        Event::Submitted { job, .. } => is_run_as(*job, deck),
+        Event::Submitted { job, .. } => *job <= 9_999_999,
         _ => true,
     }
 }
 
-/// Whether an event is of those by which a desk goes on: none of a run that is denied, or continues another one.
-fn is_forward(event: &Event) -> bool
-    ensures { result ≡ is_forward_event event.now }
-{
-    match event {
-        Event::Selected { earlier, .. } => *earlier == 0,
-        Event::Submitted { .. }
-        | Event::Started { .. }
-        | Event::Rewritten { .. }
-        | Event::Checkpointed { .. }
-        | Event::Cancelled { .. }
-        | Event::StepEnded { .. }
-        | Event::Restarted { .. }
-        | Event::Held { .. }
-        | Event::Released { .. }
-        | Event::Ended { .. }
-        | Event::Purged { .. } => true,
-        _ => false,
-    }
-}
-
-/// Whether such an event follows, with the deck that it submits.
+/// Whether an event follows, with the deck that it submits.
 fn follows_with(tables: &Tables, layout: &Layout, event: &Event, deck: &Option<Job>) -> bool
-    requires { IsTrue (is_forward_event event.now) }
     ensures { result ≡ follows layout.now tables.now.desk event.now deck.now }
 {
     match deck {
@@ -80,33 +47,31 @@ fn follows_with(tables: &Tables, layout: &Layout, event: &Event, deck: &Option<J
     }
 }
 
-/// Whether an event follows in what the desk runs, with the deck that it submits.
+/// Whether the desk goes on by an event, with the deck that it submits.
 fn goes_on(tables: &Tables, layout: &Layout, event: &Event, deck: &Option<Job>) -> bool
     ensures { result ≡ goes_on layout.now tables.now.desk event.now deck.now }
 {
-    is_forward(event)
-        && is_run_by(event, deck)
-        && follows_with(tables, layout, event, deck)
-        && may_count(tables, event)
+    has_few_digits(event) && follows_with(tables, layout, event, deck) && may_count(tables, event)
 }
 
 impl Jobs {
-    /// Goes on by an event of the desk that is read again, and starts no step. False exactly where it doesn't follow in what the desk
-    /// runs by now: it is of a run that is denied, or continues another one, or its cards are no deck of a form that the desk runs, or it
-    /// doesn't follow, or its rewrite can't be counted; then the jobs are as before. An event keeps at most 3,355,443 cards, and the code of
-    /// a run that is held is at most 4095 (this project's profile). Where steps stand at their checkpoints `open` is told.
+    /// Goes on by an event of the desk that is read again, whichever it is, and starts no step. False exactly where it doesn't follow, its
+    /// deck has a number of more than seven digits, or its rewrite can't be counted; then the jobs are as before. An event keeps at most
+    /// 3,355,443 cards, and the code of a run that is held is at most 4095 (this project's profile). Where steps stand at their checkpoints
+    /// `open` is told.
     ///
     /// `NoMemory`: the jobs are as before.
     pub fn replay(&mut self, layout: &Layout, event: &Event) -> Result<bool, NoMemory>
-        requires { IsBounded event.now }
+        requires bounded { IsBounded event.now }
+        requires jobs { AreJobs layout.now self.old }
         ensures answer { IfOk result (λ goes. goes ≡ is_some (replayed layout.now self.old.tables.desk event.now)) }
         ensures ok { OnOk result (self.new.tables.desk ≡ unwrap_or (replayed layout.now self.old.tables.desk event.now) self.old.tables.desk) }
         ensures err { OnErr result (self.new.tables.desk ≡ self.old.tables.desk) }
         ensures running { self.new.running ≡ self.old.running }
         ensures failed { self.new.failed ≡ self.old.failed }
         ensures points { self.new.points ≡ self.old.points }
-        ensures jobs { AreJobs layout.now self.old → AreJobs layout.now self.new }
-        ensures holders { AreJobs layout.now self.old → AreHolders self.old.tables.desk → AreHolders self.new.tables.desk }
+        ensures jobs { AreJobs layout.now self.new }
+        ensures holders { AreHolders self.old.tables.desk → AreHolders self.new.tables.desk }
     {
         let deck = deck_of(self.alloc, event)?;
         if !goes_on(&self.tables, layout, event, &deck) {

@@ -40,7 +40,7 @@ use Rattle.ckr_points_invariant.proofs.Holders.Rows.{holder-ended, queued-is, ru
 use Rattle.ckr_points_invariant.proofs.Library.PassedList.{ended-stays, made-without}
 use Rattle.ckr_points_invariant.proofs.Steps.Events.{on-holds}
 use Rattle.ckr_points_invariant.proofs.Marks.Points.{point_at-new}
-use Rattle.ckr_points_invariant.specs.PlainRuns.{continues}
+use Rattle.ckr_points_invariant.proofs.Continuations.Tests.{continues}
 use Rattle.ckr_points_invariant.proofs.WaitingRuns.{tested-run}
 use Rattle.ckr_points_invariant.proofs.WrittenEntries.Sets.{EachHas, GoesOnThrough, committed-has, disposed_all-has, made_all-has, opened_all-has, passed_ended-has, put_back-has, removed_all-has, rewritten-has}
 use Rattle.ckr_points_library.specs.Commit.{output_names}

@@ -1,12 +1,12 @@
 -- What a step may change its run reaches, and another run that holds doesn't.
 use Rattle.std.proofs.Common.{◌≡◌, ◌≢◌, ◌≤◌, ◌==◌, ℕ, zero, suc, pred, Bool, true, false, ◌&&◌, ◌||◌, List, [], ◌∷◌, filter, refl, ap, sym, ◌∙◌, subst, Option, Some, None, arith}
 use Rattle.std.specs.List.{list_all, list_any}
-use Rattle.std.specs.Option.{is_none, option_map_or}
+use Rattle.std.specs.Option.{option_map_or}
 use Rattle.std.proofs.lemmas.Bool.{false≢true, or_left, or_right}
 use Rattle.std.proofs.lemmas.List.Folds.{list_any-append}
 use Rattle.ckr_base.proofs.Bools.{and-first, and-second, bool-cases, if-then, or-cases}
 use Rattle.ckr_base.proofs.Numbers.{equal-true}
-use Rattle.ckr_base.proofs.Options.{is_none-true, option-cases, some-not-none}
+use Rattle.ckr_base.proofs.Options.{option-cases, some-not-none}
 use Rattle.ckr_base.proofs.Sequences.{all-at, any-filter, each-get}
 use Rattle.ckr_jcl.specs.declared.deck.Dd.{Dd}
 use Rattle.ckr_jcl.specs.declared.deck.Job.{Job}
@@ -132,10 +132,6 @@ changed-not_left root owned name formed left =
         false≢true (sym (shared_role owned.step.program dd has (shared_leaves name (name_of root owned dd) (is_shared dd) same leaves_it)) ∙ changed_role dd.role changes)
 
 -- ---- the steps of a run
-
--- an accepted deck has no RESTART
-pub accepted-plain : (row : RunRow) → IsAcceptedRow row → row.deck.restart ≡ None
-accepted-plain row accepted = is_none-true row.deck.restart (and-first (is_none row.deck.restart) _ accepted.is_run)
 
 -- a step of an accepted deck is formed, whatever the root
 admitted-formed : (root number : ℕ) (owned : OwnedStep) → IsAdmittedStep number owned → is_formed_step root owned ≡ true

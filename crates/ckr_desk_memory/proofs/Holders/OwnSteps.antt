@@ -30,7 +30,7 @@ use Rattle.ckr_desk_memory.proofs.Holders.RunningSteps.{running-stay}
 use Rattle.ckr_desk_memory.proofs.RunningSteps.Again.{again-cases, is-back}
 use Rattle.ckr_base.specs.declared.code.Code.{Code}
 use Rattle.ckr_base.proofs.Options.{some-not-none}
-use Rattle.ckr_desk_memory.proofs.Replays.{any_accepted, goes-on-with}
+use Rattle.ckr_desk_memory.proofs.Replays.{any_accepted, any_submits, goes-on-with}
 use Rattle.ckr_desk_memory.proofs.RunningSteps.First.{all-without}
 use Rattle.ckr_desk_memory.proofs.RunningSteps.TakenSteps.{is-taken}
 use Rattle.ckr_desk_memory.specs.declared.jobs.RunningStep.{RunningStep}
@@ -259,4 +259,4 @@ pub holders-replayed : (layout : Layout) (old new : JobsView) (event : Event) �
     → AreJobs layout old → AreHolders old.tables.desk → AreHolders new.tables.desk
 holders-replayed layout old new event bounded numbered goes tables are holders =
     let its = goes-on-with layout old.tables.desk event (deck_of event) goes in
-    subst AreHolders (sym tables) (holders-stay layout old.tables.desk event (deck_of event) holders are.rows numbered are.placed (any_accepted event bounded its.run) its.submits its.follow)
+    subst AreHolders (sym tables) (holders-stay layout old.tables.desk event (deck_of event) holders are.rows numbered are.placed (any_accepted event bounded) (any_submits event its.few) its.follow)

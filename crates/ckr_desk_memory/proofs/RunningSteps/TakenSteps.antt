@@ -21,7 +21,6 @@ use Rattle.ckr_points_invariant.proofs.Continuations.Follows.{IsEntryOf, MayCont
 use Rattle.ckr_points_invariant.proofs.PutBack.Sets.{put_back-laid}
 use Rattle.ckr_volumes.specs.declared.layout.Layout.{Layout}
 use Rattle.ckr_desk_turn.proofs.AdmittedSteps.{spliced-here, spliced-steps}
-use Rattle.ckr_desk_turn.specs.Model.Form.{is_run}
 use Rattle.ckr_desk_turn.specs.Queue.{AreNumbered}
 use Rattle.ckr_desk_memory.proofs.Holders.Moves.{HasRow, row-as_is, row-next, row-number}
 use Rattle.ckr_desk_memory.proofs.Starts.Steps.{row-among}
@@ -55,7 +54,6 @@ accepted_then layout tables job initiator earlier step id its next deck steps ro
     record {
       cards = mine.cards;
       accepted = mine.accepted ∙ ap (λ (d : Job). Ok d) (sym deck);
-      is_run = ap is_run deck ∙ mine.is_run;
       steps = λ number owned found.
           spliced-steps mine.cards its.row.number its.row.deck mine.accepted its.other.job step its.owned its.found other.steps number owned (ap (λ (j : Effective). step_at j number) (sym steps) ∙ found);
       plain = λ none. absurd (some-not-none its.restart (sym its.has ∙ ap (λ (d : Job). d.restart) (sym deck) ∙ none));

@@ -15,7 +15,7 @@ use Rattle.ckr_desk_memory.specs.Plans.{HasCounts}
 use Rattle.ckr_desk_memory.specs.Rewrite.{HasRecordPlace}
 use Rattle.ckr_desk_memory.specs.View.{JobsView, RunningStepView}
 use Rattle.ckr_desk_turn.specs.Desk.{failed_behind}
-use Rattle.ckr_desk_memory.proofs.ForwardEvents.{may-continue}
+use Rattle.ckr_desk_memory.proofs.AcceptedDecks.{may-continue}
 use Rattle.ckr_desk_memory.proofs.Holders.LeftRuns.{left-behind}
 use Rattle.ckr_desk_memory.proofs.Holders.OwnSteps.{own-behind}
 use Rattle.ckr_desk_memory.proofs.Rewrites.{place-behind}
