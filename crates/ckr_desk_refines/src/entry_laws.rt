@@ -32,7 +32,7 @@ ghost use Rattle.ckr_desk_turn.specs.Checkpoints.{MayCheckpoint, check_set, entr
 ghost use Rattle.ckr_desk_turn.specs.Desk.{DeskStep, start_of};
 ghost use Rattle.ckr_desk_turn.specs.Jobs.{effect_entry};
 ghost use Rattle.ckr_desk_turn.specs.Invariant.{HasRuns};
-ghost use Rattle.ckr_desk_turn.specs.RunEvents.{AreDeckEvents};
+ghost use Rattle.ckr_desk_turn.specs.DeckEvents.{AreDeckEvents};
 ghost use Rattle.ckr_desk_refines.specs.StepSets.{HasSets};
 ghost use Rattle.ckr_desk_refines.specs.SharedSets.{LeavesOthers};
 ghost use Rattle.ckr_desk_refines.specs.Entries.{AreOwned, AreWithin, HasCheckDd, HasCheckSet, HasEntries, HasNewEntry, IsReadBack, IsReadInEffect, HasWritten, OnlyCheckSetsKeep, SameKept, entry_taken, jobs_of, takes_checkpoint};

@@ -30,7 +30,7 @@ use Rattle.ckr_points_invariant.proofs.WaitingRuns.{follows-of, tested-run}
 use Rattle.ckr_volumes.specs.declared.layout.Layout.{Layout}
 use Rattle.ckr_desk_memory.proofs.Starts.Steps.{row-among}
 use Rattle.ckr_desk_turn.specs.Invariant.{HasRuns, IsAdmitted}
-use Rattle.ckr_desk_turn.specs.RunEvents.{AreDeckEvents}
+use Rattle.ckr_desk_turn.specs.DeckEvents.{AreDeckEvents}
 use Rattle.ckr_desk_turn.proofs.Runs.Lists.{events-kept, events-run}
 use Rattle.ckr_desk_refines.specs.Entries.{HasCheckDd, IsCheckDd, OnlyCheckSetsKeep}
 use Rattle.ckr_desk_refines.proofs.Entries.Checkpoint.{plain-taken}
