@@ -1,3 +1,5 @@
 pub mod Lengths
 pub mod Holders
+pub mod HeldNames
 pub mod Lines
+mod Examples

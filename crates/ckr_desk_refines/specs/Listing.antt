@@ -1,16 +1,17 @@
 -- What is listed of the data sets of a desk: their lines, and the records of one that no run holds.
-use Rattle.std.specs.Prelude.{ℕ, Bool, ◌&&◌, max, if◌then◌else◌, List, [], ◌∷◌, length, map, Option, Some, None}
+use Rattle.std.specs.Prelude.{ℕ, Bool, max, if◌then◌else◌, List, [], ◌∷◌, length, map, Option, Some, None}
 use Rattle.std.specs.List.{list_any}
 use Rattle.std.specs.Option.{option_map_or}
 use Rattle.ckr_library.specs.declared.sets.Content.{Content}
 use Rattle.ckr_library.specs.declared.sets.Content.TheVariants.{Plain, Checkpoints}
 use Rattle.ckr_library.specs.declared.sets.DataSet.{DataSet}
 use Rattle.ckr_library.specs.NameMaps.{Name, entry_at}
-use Rattle.ckr_meaning.specs.EffectiveJob.{is_among, names_of, names_of_job}
+use Rattle.ckr_meaning.specs.EffectiveJob.{is_among, names_of}
 use Rattle.ckr_meaning.specs.StepRun.{StepStart, set_records, within_at}
-use Rattle.ckr_points.specs.Office.{Office, is_holder, model_records}
-use Rattle.ckr_points.specs.Rows.{RunRow, TableSet, TablesModel}
+use Rattle.ckr_points.specs.Office.{Office, model_records}
+use Rattle.ckr_points.specs.Rows.{TableSet, TablesModel}
 use Rattle.ckr_desk_turn.specs.Desk.{DeskModel, DeskStep, start_in_run}
+use Rattle.ckr_desk_refines.specs.Holders.{is_held_by}
 
 -- ---- the lines
 
@@ -41,11 +42,7 @@ listed desk = map (λ entry. line_of desk entry.0 entry.1) desk.office.tables.se
 
 -- ---- the records
 
--- whether a run holds a name: it is selected and not ended, and its job has it. The names are those of the steps of the run's job, as they
--- are in its reach; a deck that runs has neither RESTART nor SYSCHK, and uses no other names.
-abbrev pub is_held_by : Name → RunRow → Bool
-is_held_by name row = is_holder row.state && is_among (names_of_job row.job) name
-
+-- whether a run holds a name
 abbrev pub is_held : TablesModel → Name → Bool
 is_held tables name = list_any (is_held_by name) tables.runs
 

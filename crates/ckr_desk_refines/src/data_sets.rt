@@ -47,7 +47,8 @@ pub fn set_at(jobs: &Jobs, place: u32) -> Option<Listed>
     Some(line_of(jobs, name, set))
 }
 
-/// Whether a run holds the name of a data set: it is selected and not ended, and its job has the name. It takes no memory.
+/// Whether a run holds the name of a data set: it is selected and not ended, and its submitted deck has the name, SYSCHK's included, by the
+/// root of its job and the owners of its steps. It takes no memory.
 pub fn is_held(jobs: &Jobs, name: &DsName) -> bool
     ensures { result ≡ is_held jobs.now.tables.desk name.now }
 {

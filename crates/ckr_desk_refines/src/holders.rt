@@ -1,14 +1,22 @@
-//! Whether a run holds the name of a data set.
-ghost use Rattle.std.specs.Prelude.{◌≡◌, ℕ, Some};
+//! Whether a run holds the name of a data set: its submitted deck has it, SYSCHK's included, by the root of its job and the owners of its steps.
+ghost use Rattle.std.specs.Prelude.{◌≡◌, ◌≤◌, ◌<◌, ◌-◌, ℕ, Some, false, slice_get};
 ghost use Rattle.std.specs.List.{list_any};
+ghost use Rattle.std.specs.Option.{option_copied, option_map_or};
+ghost use Rattle.ckr_desk_memory.specs.Model.RunJobs.{effective, names_in, IsFitting};
 ghost use Rattle.ckr_desk_memory.specs.Model.RunRows.{IsRunRow};
+ghost use Rattle.ckr_library.specs.NameMaps.{same_name};
+ghost use Rattle.ckr_meaning.specs.EffectiveJob.{is_among, names_of_job, step_at};
 ghost use Rattle.ckr_points.specs.Office.{is_holder};
 ghost use Rattle.ckr_points.specs.Rows.{run_of, RunRow};
-ghost use Rattle.ckr_desk_refines.specs.Holders.{is_held_in};
+ghost use Rattle.ckr_uses.specs.SetNames.{library_name};
+ghost use Rattle.ckr_desk_refines.specs.Holders.{as_submitted, is_held_in, names_held, syschk_names};
 
 use ckr_base::DsName;
 use ckr_desk_memory::Tables;
-use ckr_points::{Run, RunState};
+use ckr_jcl::{Dd, Job, Step};
+use ckr_points::{Run, RunState, syschk_name};
+use ckr_points_tables::{EffectiveJob, step_at};
+use ckr_uses::library_name;
 
 /// Whether a run in this state holds its names: it is selected and not ended.
 fn is_holder(state: RunState) -> bool
@@ -17,13 +25,94 @@ fn is_holder(state: RunState) -> bool
     matches!(state, RunState::On | RunState::Held | RunState::Released)
 }
 
+/// Whether the data set of a DD of a step has this name, with these numbers of the run's root and of the step's owner.
+fn is_named(dd: &Dd, root: u32, owner: u32, step: &Step, name: &DsName) -> bool
+    requires root { root ≤ 9999999 }
+    requires owner { owner ≤ 9999999 }
+    ensures { result ≡ option_map_or (same_name name.now) (library_name dd.now root owner step.now.name) false }
+{
+    match library_name(dd, root, owner, &step.name) {
+        Some(other) => name.is_same(&other),
+        None => false,
+    }
+}
+
+/// Whether a step has the name, with these numbers.
+fn has_name(root: u32, owner: u32, step: &Step, name: &DsName) -> bool
+    requires root { root ≤ 9999999 }
+    requires owner { owner ≤ 9999999 }
+    ensures { result ≡ list_any (λ dd. option_map_or (same_name name.now) (library_name dd root owner step.now.name) false) step.now.dds }
+{
+    step.dds
+        .as_slice()
+        .iter()
+        .any(|dd| is_named(dd, root, owner, step, name))
+}
+
+/// The step of a number of a deck, from 1.
+fn step_of(deck: &Job, number: u8) -> Option<&Step>
+    requires { 0 < number }
+    ensures { option_copied result ≡ slice_get deck.now.steps (number - 1) }
+{
+    deck.steps.as_slice().get(usize::from(number) - 1)
+}
+
+/// Whether the step of a number of a run's deck has the name, with the root of its job and the owner of the job's step of this number.
+fn has_name_at(job: &EffectiveJob, run: u32, number: u8, name: &DsName) -> bool
+    requires fits { IsFitting (effective run job.now) }
+    requires first { 0 < number }
+    ensures { result ≡ is_among (names_in job.now.root (step_at (as_submitted job.now.deck (effective run job.now)) number)) name.now }
+{
+    let Some(step) = step_of(job.deck(), number) else {
+        return false;
+    };
+    match step_at(job, run, number) {
+        Some(own) => has_name(job.root(), own.owner, step, name),
+        None => false,
+    }
+}
+
+/// Whether one of the steps of a run's deck has the name. A job has at most 64 steps.
+fn has_name_in_steps(job: &EffectiveJob, run: u32, name: &DsName) -> bool
+    requires { IsFitting (effective run job.now) }
+    ensures { result ≡ is_among (names_of_job (as_submitted job.now.deck (effective run job.now))) name.now }
+{
+    for number in 1..65 {
+        if has_name_at(job, run, number, name) {
+            return true;
+        }
+    }
+    false
+}
+
+/// Whether the data set of a deck's SYSCHK has the name.
+fn is_of_syschk(deck: &Job, name: &DsName) -> bool
+    ensures { result ≡ is_among (syschk_names deck.now) name.now }
+{
+    let Some(dd) = &deck.syschk else {
+        return false;
+    };
+    match syschk_name(dd) {
+        Some(other) => name.is_same(other),
+        None => false,
+    }
+}
+
+/// Whether a run of this job holds the name, while it holds.
+fn holds_name(job: &EffectiveJob, run: u32, name: &DsName) -> bool
+    requires { IsFitting (effective run job.now) }
+    ensures { result ≡ is_among (names_held job.now.deck (effective run job.now)) name.now }
+{
+    has_name_in_steps(job, run, name) || is_of_syschk(job.deck(), name)
+}
+
 /// Whether the run of a line holds this name.
 fn is_held_in(tables: &Tables, line: &Run, name: &DsName) -> bool
     requires { (job : ℕ) (row : RunRow) → run_of tables.now.desk job ≡ Some row → IsRunRow job row }
     ensures { result ≡ is_held_in tables.now.desk name.now line.now }
 {
     match tables.run(line.number) {
-        Some(table) => is_holder(line.state) && table.job.has_name(line.number, name),
+        Some(table) => is_holder(line.state) && holds_name(&table.job, line.number, name),
         None => false,
     }
 }
