@@ -58,6 +58,7 @@ abbrev pub records_by : Content → Office → Name → Option (List (List ℕ))
 records_by Plain office name = if is_held office.tables name then None else Some (model_records office name)
 records_by Checkpoints office name = None
 
--- the records of a data set that no run holds, unless it is one for checkpoint entries
+-- The records of a data set that no run holds, unless it is one for checkpoint entries. They are what the ended jobs left: no run reaches a name
+-- that none holds.
 unfoldable pub records_of : DeskModel → Name → Option (List (List ℕ))
 records_of desk name = option_map_or (λ table. records_by table.set.content desk.office name) (entry_at desk.office.tables.sets name) None

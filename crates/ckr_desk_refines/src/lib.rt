@@ -7,6 +7,7 @@ mod data_sets;
 mod durable_laws;
 mod entry_laws;
 mod event_laws;
+mod holder_laws;
 mod holders;
 mod lengths;
 mod rewrite_laws;
@@ -35,6 +36,7 @@ pub use event_laws::{
     desks_behind_denials_stand, desks_behind_holds_stand, desks_behind_restarts_stand,
     desks_behind_turns_that_tell_stand, events_are_committed,
 };
+pub use holder_laws::runs_reach_names_that_they_hold;
 pub use rewrite_laws::{
     desks_behind_rewrites_stand, rewrites_are_committed_once_they_are_written, rewrites_are_told,
 };
